@@ -1,0 +1,5 @@
+pub mod Canonical
+pub mod Cuts
+pub mod Digits
+pub mod Grammar
+pub mod SameNumber

@@ -1,0 +1,15 @@
+-- An ISD-AS as 64 bits, and what a pattern with wildcards covers.
+use Rattle.std.specs.Prelude.{◌≡◌, ℕ, ◌+◌, ◌*◌, ◌^◌, ◌⊎◌}
+use Rattle.isd_as.specs.declared.number.IsdAs.{IsdAs}
+
+-- the 64 bits: the upper 16 are the ISD, the lower 48 the AS
+abbrev pub number_of : IsdAs → ℕ
+number_of ia = ia.isd * 2 ^ 48 + ia.asn
+
+-- a part of a pattern is 0, the wildcard, or the number itself
+abbrev pub PartCovers : ℕ → ℕ → Type 0
+PartCovers pattern n = (pattern ≡ 0) ⊎ (pattern ≡ n)
+
+-- both parts of the pattern cover those of the ISD-AS
+abbrev pub Covers : IsdAs → IsdAs → Type 0
+Covers pattern ia = PartCovers pattern.isd ia.isd × PartCovers pattern.asn ia.asn

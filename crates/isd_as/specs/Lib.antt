@@ -1,0 +1,4 @@
+pub mod IaError
+pub mod IsdAs
+pub mod Reading
+pub mod Text

@@ -1,0 +1,18 @@
+-- What the readers of a text, and of the AS in it, answer.
+use Rattle.std.specs.Prelude.{◌≡◌, ℕ, List, Result, Ok, Err}
+use Rattle.isd_as.specs.declared.fault.IaError.{IaError}
+use Rattle.isd_as.specs.declared.fault.IaError.TheVariants.{BadText, TooLarge}
+use Rattle.isd_as.specs.declared.number.IsdAs.{IsdAs}
+use Rattle.isd_as.specs.Text.{AsNumber, FitsAs, IsAsText, IsInGrammar, IsIsdAsText, IsLargeAs, IsTooLargeText, as_number}
+
+-- what reading an AS answers: a number that fits, or how the text fails
+abbrev pub ReadsAs : List ℕ → Result ℕ IaError → Type 0
+ReadsAs text (Ok n) = (number : AsNumber) × IsAsText text number × FitsAs number × (n ≡ as_number number)
+ReadsAs text (Err TooLarge) = (number : AsNumber) × IsAsText text number × IsLargeAs number
+ReadsAs text (Err BadText) = (number : AsNumber) → ¬ IsAsText text number
+
+-- what reading a text answers: the ISD-AS that it says, or how it fails
+abbrev pub Reads : List ℕ → Result IsdAs IaError → Type 0
+Reads text (Ok ia) = IsIsdAsText text ia
+Reads text (Err TooLarge) = IsTooLargeText text
+Reads text (Err BadText) = ¬ IsInGrammar text
