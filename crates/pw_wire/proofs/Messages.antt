@@ -1,0 +1,219 @@
+-- The fields and the fault of bytes that begin with a field.
+use Rattle.std.proofs.Common.{◌≡◌, ◌≢◌, ◌↔◌, ℕ, zero, suc, ◌+◌, ◌*◌, ◌^◌, ◌<◌, ◌≤◌, List, [], ◌∷◌, ◌++◌, length, drop, Option, Some, None, Result, Ok, Err, refl, sym, ap, subst, ◌∙◌, append_assoc, arith}
+use Rattle.std.proofs.lemmas.List.{length-append, length-drop, get_or-drop, drop_at}
+use Rattle.pw_wire.specs.declared.error.WireError.{WireError}
+use Rattle.pw_wire.specs.declared.error.WireError.TheVariants.{Truncated}
+use Rattle.pw_wire.specs.Reading.{◌>>=◌, IsBytes}
+use Rattle.pw_wire.specs.Varint.{IsVarint, BeginsWithVarint, varint_spelling}
+use Rattle.pw_wire.specs.Field.{Varint, Bytes, FieldView, varint_field, bytes_field, IsField, IsFieldFault, in_tag, at_tag, in_value, field_behind, field_at, varint_field_spelling, bytes_field_spelling}
+use Rattle.pw_wire.specs.Fields.{AreFields, AreFieldsUntil, before, fault_or, fields_within, fault_within, fields, fault}
+use Rattle.pw_wire.proofs.Places.{within-nil}
+use Rattle.pw_wire.proofs.Varints.{varint_spelling_is}
+use Rattle.pw_wire.proofs.FieldLemmas.{begins_again, field_again, field_is, fault_again, fault_is, field_positive}
+
+-- ---- one step
+
+-- no bytes have no fields
+pub fields-nil : fields [] ≡ []
+unfolding fields fields_within
+fields-nil = refl
+
+-- and no fault
+pub fault-nil : fault [] ≡ None
+unfolding fault fault_within
+fault-nil = refl
+
+-- no field stands in no bytes
+pub nothing_read : field_at [] ≡ Err Truncated
+unfolding field_at
+nothing_read = ap (λ r. r >>= λ tag. field_behind tag []) (within-nil 9)
+
+same_before : (r : Result (FieldView × ℕ) WireError) (g h : ℕ → List FieldView) → ((x : FieldView × ℕ) → r ≡ Ok x → g x.1 ≡ h x.1) → before r g ≡ before r h
+same_before (Ok x) g h same = ap (λ fs. x.0 ∷ fs) (same x refl)
+same_before (Err e) g h same = refl
+
+same_fault : (r : Result (FieldView × ℕ) WireError) (g h : ℕ → Option WireError) → ((x : FieldView × ℕ) → r ≡ Ok x → g x.1 ≡ h x.1) → fault_or r g ≡ fault_or r h
+same_fault (Ok x) g h same = same x refl
+same_fault (Err e) g h same = refl
+
+-- what a field leaves is shorter
+shorter : (b : ℕ) (bytes : List ℕ) (n most : ℕ) → 1 ≤ n → length (b ∷ bytes) ≤ suc most → length (drop n (b ∷ bytes)) ≤ most
+shorter b bytes n most positive le = omega (arith, length-drop n (b ∷ bytes))
+
+-- more steps than bytes change nothing
+fields_enough : (m k : ℕ) (bytes : List ℕ) → length bytes ≤ m → length bytes ≤ k → fields_within m bytes ≡ fields_within k bytes
+unfolding fields_within
+fields_enough zero zero bytes le le' = refl
+fields_enough zero (suc k) [] le le' = refl
+fields_enough zero (suc k) (b ∷ bytes) le le' = absurd (omega arith)
+fields_enough (suc m) zero [] le le' = refl
+fields_enough (suc m) zero (b ∷ bytes) le le' = absurd (omega arith)
+fields_enough (suc m) (suc k) [] le le' = refl
+fields_enough (suc m) (suc k) (b ∷ bytes) le le' =
+    same_before (field_at (b ∷ bytes)) (λ n. fields_within m (drop n (b ∷ bytes))) (λ n. fields_within k (drop n (b ∷ bytes)))
+    (λ x e. let positive = field_positive (b ∷ bytes) x e in fields_enough m k (drop x.1 (b ∷ bytes)) (shorter b bytes x.1 m positive le) (shorter b bytes x.1 k positive le'))
+
+fault_enough : (m k : ℕ) (bytes : List ℕ) → length bytes ≤ m → length bytes ≤ k → fault_within m bytes ≡ fault_within k bytes
+unfolding fault_within
+fault_enough zero zero bytes le le' = refl
+fault_enough zero (suc k) [] le le' = refl
+fault_enough zero (suc k) (b ∷ bytes) le le' = absurd (omega arith)
+fault_enough (suc m) zero [] le le' = refl
+fault_enough (suc m) zero (b ∷ bytes) le le' = absurd (omega arith)
+fault_enough (suc m) (suc k) [] le le' = refl
+fault_enough (suc m) (suc k) (b ∷ bytes) le le' =
+    same_fault (field_at (b ∷ bytes)) (λ n. fault_within m (drop n (b ∷ bytes))) (λ n. fault_within k (drop n (b ∷ bytes)))
+    (λ x e. let positive = field_positive (b ∷ bytes) x e in fault_enough m k (drop x.1 (b ∷ bytes)) (shorter b bytes x.1 m positive le) (shorter b bytes x.1 k positive le'))
+
+-- bytes that begin with a field have it, and then the fields behind it
+pub fields-read : (bytes : List ℕ) (f : FieldView) (n : ℕ) → field_at bytes ≡ Ok (f, n) → fields bytes ≡ f ∷ fields (drop n bytes)
+unfolding fields fields_within
+fields-read [] f n e = absurd (let nil = nothing_read in cc)
+fields-read (b ∷ bytes) f n e =
+    ap (λ r. before r (λ k. fields_within (length bytes) (drop k (b ∷ bytes)))) e
+    ∙ ap (λ fs. f ∷ fs) (fields_enough (length bytes) (length (drop n (b ∷ bytes))) (drop n (b ∷ bytes)) (shorter b bytes n (length bytes) (field_positive (b ∷ bytes) (f, n) e) (omega arith)) (omega arith))
+
+pub fault-read : (bytes : List ℕ) (f : FieldView) (n : ℕ) → field_at bytes ≡ Ok (f, n) → fault bytes ≡ fault (drop n bytes)
+unfolding fault fault_within
+fault-read [] f n e = absurd (let nil = nothing_read in cc)
+fault-read (b ∷ bytes) f n e =
+    ap (λ r. fault_or r (λ k. fault_within (length bytes) (drop k (b ∷ bytes)))) e
+    ∙ fault_enough (length bytes) (length (drop n (b ∷ bytes))) (drop n (b ∷ bytes)) (shorter b bytes n (length bytes) (field_positive (b ∷ bytes) (f, n) e) (omega arith)) (omega arith)
+
+-- bytes whose first field fails have no fields, and its fault
+pub fields-failed : (bytes : List ℕ) (d : WireError) → bytes ≢ [] → field_at bytes ≡ Err d → fields bytes ≡ []
+unfolding fields fields_within
+fields-failed [] d some e = absurd (some refl)
+fields-failed (b ∷ bytes) d some e = ap (λ r. before r (λ k. fields_within (length bytes) (drop k (b ∷ bytes)))) e
+
+pub fault-failed : (bytes : List ℕ) (d : WireError) → bytes ≢ [] → field_at bytes ≡ Err d → fault bytes ≡ Some d
+unfolding fault fault_within
+fault-failed [] d some e = absurd (some refl)
+fault-failed (b ∷ bytes) d some e = ap (λ r. fault_or r (λ k. fault_within (length bytes) (drop k (b ∷ bytes)))) e
+
+-- ---- all fields
+
+rest_fits : (n : ℕ) (bytes : List ℕ) → IsBytes bytes → IsBytes (drop n bytes)
+rest_fits n bytes fits i = rw get_or-drop (fits (n + i))
+
+-- the bytes are these fields, up to the end or to a fault
+abbrev Reaches : List ℕ → List FieldView → Option WireError → Type 0
+Reaches bytes fs None = AreFields bytes fs
+Reaches bytes fs (Some e) = AreFieldsUntil bytes fs e
+
+reaches_more : (bytes : List ℕ) (f : FieldView) (len : ℕ) (fs : List FieldView) (o : Option WireError) → IsField bytes f.number f.value len → Reaches (drop len bytes) fs o → Reaches bytes (f ∷ fs) o
+reaches_more bytes f len fs None is more = (len, is, more)
+reaches_more bytes f len fs (Some e) is more = (len, is, more)
+
+fields_of_nothing : AreFields [] (fields [])
+fields_of_nothing = subst (AreFields []) (sym fields-nil) refl
+
+-- what one reading tells, when what is left is told
+reaches_read : (most b : ℕ) (bytes : List ℕ) → length (b ∷ bytes) ≤ suc most → IsBytes (b ∷ bytes)
+    → ((rest : List ℕ) → length rest ≤ most → IsBytes rest → Reaches rest (fields rest) (fault rest))
+    → (r : Result (FieldView × ℕ) WireError) → field_at (b ∷ bytes) ≡ r → Reaches (b ∷ bytes) (fields (b ∷ bytes)) (fault (b ∷ bytes))
+reaches_read most b bytes le fits later (Ok x) e =
+    let is = field_is (b ∷ bytes) x.0 x.1 fits e in
+    let rest : List ℕ = drop x.1 (b ∷ bytes) in
+    let more = later rest (shorter b bytes x.1 most is.1 le) (rest_fits x.1 (b ∷ bytes) fits) in
+    subst (λ (o : Option WireError). Reaches (b ∷ bytes) (fields (b ∷ bytes)) o) (sym (fault-read (b ∷ bytes) x.0 x.1 e))
+    (subst (λ (fs : List FieldView). Reaches (b ∷ bytes) fs (fault rest)) (sym (fields-read (b ∷ bytes) x.0 x.1 e)) (reaches_more (b ∷ bytes) x.0 x.1 (fields rest) (fault rest) is.0 more))
+reaches_read most b bytes le fits later (Err d) e =
+    let some : (b ∷ bytes) ≢ [] = λ none. cc in
+    subst (λ (o : Option WireError). Reaches (b ∷ bytes) (fields (b ∷ bytes)) o) (sym (fault-failed (b ∷ bytes) d some e))
+    (subst (λ (fs : List FieldView). Reaches (b ∷ bytes) fs (Some d)) (sym (fields-failed (b ∷ bytes) d some e)) (fault_is (b ∷ bytes) d fits some e))
+
+-- `fields` and `fault` tell what the bytes are
+reaches : (most : ℕ) (bytes : List ℕ) → length bytes ≤ most → IsBytes bytes → Reaches bytes (fields bytes) (fault bytes)
+reaches most [] le fits = subst (λ (o : Option WireError). Reaches [] (fields []) o) (sym fault-nil) fields_of_nothing
+reaches zero (b ∷ bytes) le fits = absurd (omega arith)
+reaches (suc most) (b ∷ bytes) le fits = reaches_read most b bytes le fits (λ rest. reaches most rest) (field_at (b ∷ bytes)) refl
+
+-- these fields and this fault are those of the bytes
+are_fields : (fs : List FieldView) (bytes : List ℕ) → AreFields bytes fs → (fault bytes ≡ None) × (fields bytes ≡ fs)
+are_fields [] bytes e = (ap fault e ∙ fault-nil, ap fields e ∙ fields-nil)
+are_fields (f ∷ fs) bytes more =
+    let read = field_again bytes f.number f.value more.0 more.1 in
+    let others = are_fields fs (drop more.0 bytes) more.2 in
+    (fault-read bytes f more.0 read ∙ others.0, fields-read bytes f more.0 read ∙ ap (λ gs. f ∷ gs) others.1)
+
+-- no varint stands in no bytes
+no_varint : (n : ℕ) (rest : List ℕ) → BeginsWithVarint [] n rest → ⊥
+no_varint n rest begins = let read = (begins_again [] n rest begins).0 in let none = within-nil 9 in cc
+
+pub not_nothing : (bytes : List ℕ) (e : WireError) → IsFieldFault bytes e → bytes ≢ []
+not_nothing bytes e (in_tag some h) none = some none
+not_nothing bytes e (at_tag tag rest begins h) none = no_varint tag rest (subst (λ (bs : List ℕ). BeginsWithVarint bs tag rest) none begins)
+not_nothing bytes e (in_value tag rest begins good h) none = no_varint tag rest (subst (λ (bs : List ℕ). BeginsWithVarint bs tag rest) none begins)
+
+are_until : (fs : List FieldView) (bytes : List ℕ) (e : WireError) → AreFieldsUntil bytes fs e → (fault bytes ≡ Some e) × (fields bytes ≡ fs)
+are_until [] bytes e h = let failed = fault_again bytes e h in let some = not_nothing bytes e h in (fault-failed bytes e some failed, fields-failed bytes e some failed)
+are_until (f ∷ fs) bytes e more =
+    let read = field_again bytes f.number f.value more.0 more.1 in
+    let others = are_until fs (drop more.0 bytes) e more.2 in
+    (fault-read bytes f more.0 read ∙ others.0, fields-read bytes f more.0 read ∙ ap (λ gs. f ∷ gs) others.1)
+
+pub whole : (bytes : List ℕ) (fs : List FieldView) → IsBytes bytes → (AreFields bytes fs) ↔ ((fault bytes ≡ None) × (fields bytes ≡ fs))
+whole bytes fs fits =
+    (λ are. are_fields fs bytes are, λ told. subst (AreFields bytes) told.1 (subst (Reaches bytes (fields bytes)) told.0 (reaches (length bytes) bytes (omega arith) fits)))
+
+pub until : (bytes : List ℕ) (fs : List FieldView) (e : WireError) → IsBytes bytes → (AreFieldsUntil bytes fs e) ↔ ((fault bytes ≡ Some e) × (fields bytes ≡ fs))
+until bytes fs e fits =
+    (λ are. are_until fs bytes e are, λ told. subst (λ (gs : List FieldView). AreFieldsUntil bytes gs e) told.1 (subst (Reaches bytes (fields bytes)) told.0 (reaches (length bytes) bytes (omega arith) fits)))
+
+-- ---- spelled fields
+
+-- a spelled field is one, whatever follows
+varint_field_is : (k n : ℕ) (rest : List ℕ) → 1 ≤ k → k < 2 ^ 29 → n < 2 ^ 64 → IsField (varint_field_spelling k n ++ rest) k (Varint n) (length (varint_field_spelling k n))
+unfolding varint_field_spelling
+varint_field_is k n rest positive below fits = record {
+  tag = varint_spelling (k * 8);
+  content = varint_spelling n;
+  rest = rest;
+  parts = append_assoc (varint_spelling (k * 8)) (varint_spelling n) rest;
+  len_is = length-append (varint_spelling (k * 8)) (varint_spelling n);
+  positive = positive;
+  below = below;
+  tag_is = let same : k * 8 ≡ k * 8 + 0 = omega arith in subst (IsVarint (varint_spelling (k * 8))) same (varint_spelling_is (k * 8) (omega arith));
+  content_is = varint_spelling_is n fits;
+}
+
+bytes_field_is : (k : ℕ) (text rest : List ℕ) → 1 ≤ k → k < 2 ^ 29 → length text < 2 ^ 64 → IsField (bytes_field_spelling k text ++ rest) k (Bytes text) (length (bytes_field_spelling k text))
+unfolding bytes_field_spelling
+bytes_field_is k text rest positive below fits = record {
+  tag = varint_spelling (k * 8 + 2);
+  content = varint_spelling (length text) ++ text;
+  rest = rest;
+  parts = append_assoc (varint_spelling (k * 8 + 2)) (varint_spelling (length text) ++ text) rest;
+  len_is = length-append (varint_spelling (k * 8 + 2)) (varint_spelling (length text) ++ text);
+  positive = positive;
+  below = below;
+  tag_is = varint_spelling_is (k * 8 + 2) (omega arith);
+  content_is = record { front = varint_spelling (length text); varint = varint_spelling_is (length text) fits; parts = refl };
+}
+
+-- a spelled varint field is read, whatever follows
+pub fields-varint_field : (k n : ℕ) (rest : List ℕ) → 1 ≤ k → k < 2 ^ 29 → n < 2 ^ 64 → fields (varint_field_spelling k n ++ rest) ≡ varint_field k n ∷ fields rest
+fields-varint_field k n rest positive below fits =
+    let s : List ℕ = varint_field_spelling k n in
+    fields-read (s ++ rest) (varint_field k n) (length s) (field_again (s ++ rest) k (Varint n) (length s) (varint_field_is k n rest positive below fits))
+    ∙ ap (λ bytes. varint_field k n ∷ fields bytes) (drop_at s rest (length s) refl)
+
+pub fault-varint_field : (k n : ℕ) (rest : List ℕ) → 1 ≤ k → k < 2 ^ 29 → n < 2 ^ 64 → fault (varint_field_spelling k n ++ rest) ≡ fault rest
+fault-varint_field k n rest positive below fits =
+    let s : List ℕ = varint_field_spelling k n in
+    fault-read (s ++ rest) (varint_field k n) (length s) (field_again (s ++ rest) k (Varint n) (length s) (varint_field_is k n rest positive below fits))
+    ∙ ap fault (drop_at s rest (length s) refl)
+
+-- a spelled field of bytes is read, whatever follows
+pub fields-bytes_field : (k : ℕ) (text rest : List ℕ) → 1 ≤ k → k < 2 ^ 29 → length text < 2 ^ 64 → fields (bytes_field_spelling k text ++ rest) ≡ bytes_field k text ∷ fields rest
+fields-bytes_field k text rest positive below fits =
+    let s : List ℕ = bytes_field_spelling k text in
+    fields-read (s ++ rest) (bytes_field k text) (length s) (field_again (s ++ rest) k (Bytes text) (length s) (bytes_field_is k text rest positive below fits))
+    ∙ ap (λ bytes. bytes_field k text ∷ fields bytes) (drop_at s rest (length s) refl)
+
+pub fault-bytes_field : (k : ℕ) (text rest : List ℕ) → 1 ≤ k → k < 2 ^ 29 → length text < 2 ^ 64 → fault (bytes_field_spelling k text ++ rest) ≡ fault rest
+fault-bytes_field k text rest positive below fits =
+    let s : List ℕ = bytes_field_spelling k text in
+    fault-read (s ++ rest) (bytes_field k text) (length s) (field_again (s ++ rest) k (Bytes text) (length s) (bytes_field_is k text rest positive below fits))
+    ∙ ap fault (drop_at s rest (length s) refl)

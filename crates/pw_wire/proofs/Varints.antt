@@ -1,0 +1,207 @@
+-- A varint is read as its number, and what is read is one: both ways, for the fault too.
+use Rattle.std.proofs.Common.{◌≡◌, ℕ, zero, suc, ◌+◌, ◌*◌, ◌/◌, ◌%◌, ◌-◌, ◌^◌, ◌<◌, ◌≤◌, ◌⊎◌, List, [], ◌∷◌, ◌++◌, length, take, get_or, Result, Ok, Err, refl, sym, ap, subst, ◌∙◌, arith, inl, inr}
+use Rattle.std.proofs.lemmas.Bool.{cases_lt}
+use Rattle.pw_wire.specs.declared.error.WireError.{WireError}
+use Rattle.pw_wire.specs.declared.error.WireError.TheVariants.{Truncated, LongVarint, BadField, GroupWire, BadWire}
+use Rattle.pw_wire.specs.Reading.{◌>>=◌, IsBytes}
+use Rattle.pw_wire.specs.Varint.{SpellsNumber, IsVarint, AllGoOn, IsVarintFault, varint_within, varint_at, spelling_within, varint_spelling}
+use Rattle.pw_wire.proofs.Places.{within-nil, within-last, within-goes_on, within-tenth, within-too_long}
+use Rattle.pw_wire.proofs.Spelling.{limit, spelling-last, spelling-goes_on}
+
+-- ---- steps that may fail
+
+-- the value of a step that did not fail
+pub bind_ok : {A B : Type 0} (r : Result A WireError) (f : A → Result B WireError) (y : B) → (r >>= f) ≡ Ok y → (x : A) × (r ≡ Ok x) × (f x ≡ Ok y)
+bind_ok (Ok x) f y e = (x, refl, e)
+bind_ok (Err d) f y e = absurd cc
+
+-- which of two steps failed
+pub bind_err : {A B : Type 0} (r : Result A WireError) (f : A → Result B WireError) (d : WireError) → (r >>= f) ≡ Err d → (r ≡ Err d) ⊎ ((x : A) × (r ≡ Ok x) × (f x ≡ Err d))
+bind_err (Ok x) f d e = inr (x, refl, e)
+bind_err (Err c) f d e = inl cc
+
+abbrev done : {A : Type 0} → A → Result A WireError
+done x = Ok x
+
+abbrev failed : (A : Type 0) → WireError → Result A WireError
+failed A e = Err e
+
+pub ok_is : {A : Type 0} (x y : A) → done x ≡ done y → x ≡ y
+ok_is x y e = cc
+
+pub err_is : (A : Type 0) (d e : WireError) → failed A d ≡ failed A e → d ≡ e
+err_is A d e h = cc
+
+-- ---- a varint is read
+
+-- a number with its bytes is read, where so many bytes are allowed
+pub within_again : (left : ℕ) (front rest : List ℕ) (n : ℕ) → SpellsNumber front n → length front ≤ suc left → n < limit left → varint_within left (front ++ rest) ≡ Ok (n, length front)
+within_again left [] rest n spelled short fits = absurd spelled
+within_again zero (b ∷ []) rest n spelled short fits = rw (spelled.1) (within-tenth b rest (omega arith))
+within_again (suc left) (b ∷ []) rest n spelled short fits = rw (spelled.1) (within-last left b rest spelled.0)
+within_again zero (b ∷ c ∷ front) rest n spelled short fits = absurd (omega arith)
+within_again (suc left) (b ∷ c ∷ front) rest n spelled short fits =
+    let high = spelled.2 in
+    let fits' : high < limit left = omega arith in
+    let again = within_again left (c ∷ front) rest high spelled.4 (omega arith) fits' in
+    let number : b - 128 + 128 * high ≡ n = omega arith in
+    within-goes_on left b (c ∷ front ++ rest) spelled.0 ∙ ap (λ r. r >>= λ h. Ok (b - 128 + 128 * h.0, suc h.1)) again ∙ ap (λ k. Ok (k, suc (suc (length front)))) number
+
+pub varint_again : (front rest : List ℕ) (n : ℕ) → IsVarint front n → varint_at (front ++ rest) ≡ Ok (n, length front)
+varint_again front rest n is = within_again 9 front rest n is.spelled is.short is.fits
+
+-- ---- what is read is a varint
+
+-- what was read took a varint from the front
+pub record TookVarint (left : ℕ) (bytes : List ℕ) (found : ℕ × ℕ) : Type 0 where
+  pub spelled : SpellsNumber (take found.1 bytes) found.0
+  pub positive : 1 ≤ found.1
+  pub short : found.1 ≤ suc left
+  pub within : found.1 ≤ length bytes
+  pub fits : found.0 < limit left
+
+rest_bytes : (b : ℕ) (bytes : List ℕ) → IsBytes (b ∷ bytes) → IsBytes bytes
+rest_bytes b bytes fits i = fits (suc i)
+
+-- one byte more at the front
+pub spells_before : (b : ℕ) (bytes : List ℕ) (n high : ℕ) → 128 ≤ b → b < 256 → n + 128 ≡ b + 128 * high → SpellsNumber bytes high → SpellsNumber (b ∷ bytes) n
+spells_before b [] n high le lt e spelled = absurd spelled
+spells_before b (c ∷ bytes) n high le lt e spelled = (le, lt, high, e, spelled)
+
+-- a byte that goes on, before a varint
+goes_before : (left b : ℕ) (bytes : List ℕ) (n k : ℕ) → 128 ≤ b → b < 256 → TookVarint left bytes (n, k) → TookVarint (suc left) (b ∷ bytes) (b - 128 + 128 * n, suc k)
+goes_before left b bytes n k le lt took = record {
+  spelled = spells_before b (take k bytes) (b - 128 + 128 * n) n le lt (omega arith) took.spelled;
+  positive = omega arith;
+  short = omega (arith, took.short);
+  within = omega (arith, took.within);
+  fits = omega (arith, took.fits);
+}
+
+-- one byte alone
+one_byte : (left b : ℕ) (bytes : List ℕ) → b < 128 → b < limit left → TookVarint left (b ∷ bytes) (b, 1)
+one_byte left b bytes lt fits = record { spelled = (lt, refl); positive = omega arith; short = omega arith; within = omega arith; fits = fits }
+
+-- each limit is above a byte's seven bits, but the last
+limit_large : (left : ℕ) → 128 ≤ limit (suc left)
+limit_large zero = omega arith
+limit_large (suc left) = omega (arith, limit_large left)
+
+pub within_took : (left : ℕ) (bytes : List ℕ) (found : ℕ × ℕ) → IsBytes bytes → varint_within left bytes ≡ Ok found → TookVarint left bytes found
+within_took left [] found fits e = absurd (let nil = within-nil left in cc)
+within_took zero (b ∷ bytes) found fits e =
+    elim (cases_lt b 2) [
+      | inl lt ↦ subst (TookVarint 0 (b ∷ bytes)) (ok_is (b, 1) found (sym (within-tenth b bytes lt) ∙ e)) (one_byte 0 b bytes (omega arith) lt)
+      | inr le ↦ absurd (let long = within-too_long b bytes le in cc)
+    ]
+within_took (suc left) (b ∷ bytes) found fits e =
+    elim (cases_lt b 128) [
+      | inl lt ↦ subst (TookVarint (suc left) (b ∷ bytes)) (ok_is (b, 1) found (sym (within-last left b bytes lt) ∙ e)) (one_byte (suc left) b bytes lt (omega (arith, limit_large left)))
+      | inr le ↦
+          let h = bind_ok (varint_within left bytes) (λ high. Ok (b - 128 + 128 * high.0, suc high.1)) found (sym (within-goes_on left b bytes le) ∙ e) in
+          subst (TookVarint (suc left) (b ∷ bytes)) (ok_is (b - 128 + 128 * h.0.0, suc h.0.1) found h.2)
+          (goes_before left b bytes h.0.0 h.0.1 le (fits 0) (within_took left bytes h.0 (rest_bytes b bytes fits) h.1))
+    ]
+
+-- ---- the fault
+
+-- why no varint of so many bytes before the last one stands at the front
+abbrev FaultWithin : ℕ → List ℕ → WireError → Type 0
+FaultWithin left bytes Truncated = AllGoOn bytes × (length bytes < suc left)
+FaultWithin left bytes LongVarint = AllGoOn (take left bytes) × (1 < get_or bytes left 0)
+FaultWithin left bytes BadField = ⊥
+FaultWithin left bytes GroupWire = ⊥
+FaultWithin left bytes BadWire = ⊥
+
+fault_from_within : (bytes : List ℕ) (e : WireError) → FaultWithin 9 bytes e → IsVarintFault bytes e
+fault_from_within bytes Truncated h = h
+fault_from_within bytes LongVarint h = h
+fault_from_within bytes BadField h = h
+fault_from_within bytes GroupWire h = h
+fault_from_within bytes BadWire h = h
+
+fault_to_within : (bytes : List ℕ) (e : WireError) → IsVarintFault bytes e → FaultWithin 9 bytes e
+fault_to_within bytes Truncated h = h
+fault_to_within bytes LongVarint h = h
+fault_to_within bytes BadField h = h
+fault_to_within bytes GroupWire h = h
+fault_to_within bytes BadWire h = h
+
+fault_before : (left b : ℕ) (bytes : List ℕ) (e : WireError) → 128 ≤ b → FaultWithin left bytes e → FaultWithin (suc left) (b ∷ bytes) e
+fault_before left b bytes Truncated le h = ((le, h.0), omega (arith, h.1))
+fault_before left b bytes LongVarint le h = ((le, h.0), h.1)
+fault_before left b bytes BadField le h = h
+fault_before left b bytes GroupWire le h = h
+fault_before left b bytes BadWire le h = h
+
+within_fault : (left : ℕ) (bytes : List ℕ) (d : WireError) → varint_within left bytes ≡ Err d → FaultWithin left bytes d
+within_fault left [] d e = subst (FaultWithin left []) (err_is (ℕ × ℕ) Truncated d (sym (within-nil left) ∙ e)) (tt, omega arith)
+within_fault zero (b ∷ bytes) d e =
+    elim (cases_lt b 2) [
+      | inl lt ↦ absurd (let last = within-tenth b bytes lt in cc)
+      | inr le ↦ subst (FaultWithin 0 (b ∷ bytes)) (err_is (ℕ × ℕ) LongVarint d (sym (within-too_long b bytes le) ∙ e)) (tt, le)
+    ]
+within_fault (suc left) (b ∷ bytes) d e =
+    elim (cases_lt b 128) [
+      | inl lt ↦ absurd (let last = within-last left b bytes lt in cc)
+      | inr le ↦ elim (bind_err (varint_within left bytes) (λ high. Ok (b - 128 + 128 * high.0, suc high.1)) d (sym (within-goes_on left b bytes le) ∙ e)) [
+        | inl h ↦ fault_before left b bytes d le (within_fault left bytes d h)
+        | inr h ↦ absurd (let both = h.2 in cc)
+      ]
+    ]
+
+fault_again : (left : ℕ) (bytes : List ℕ) (d : WireError) → FaultWithin left bytes d → varint_within left bytes ≡ Err d
+fault_again left [] Truncated h = within-nil left
+fault_again zero (b ∷ bytes) Truncated h = absurd (omega (arith, h.1))
+fault_again (suc left) (b ∷ bytes) Truncated h = within-goes_on left b bytes h.0.0 ∙ ap (λ r. r >>= λ high. Ok (b - 128 + 128 * high.0, suc high.1)) (fault_again left bytes Truncated (h.0.1, omega (arith, h.1)))
+fault_again zero [] LongVarint h = absurd (omega (arith, h.1))
+fault_again (suc left) [] LongVarint h = absurd (omega (arith, h.1))
+fault_again zero (b ∷ bytes) LongVarint h = within-too_long b bytes h.1
+fault_again (suc left) (b ∷ bytes) LongVarint h = within-goes_on left b bytes h.0.0 ∙ ap (λ r. r >>= λ high. Ok (b - 128 + 128 * high.0, suc high.1)) (fault_again left bytes LongVarint (h.0.1, h.1))
+fault_again left bytes BadField h = absurd h
+fault_again left bytes GroupWire h = absurd h
+fault_again left bytes BadWire h = absurd h
+
+pub varint_fault : (bytes : List ℕ) (d : WireError) → varint_at bytes ≡ Err d → IsVarintFault bytes d
+varint_fault bytes d e = fault_from_within bytes d (within_fault 9 bytes d e)
+
+pub varint_fault_again : (bytes : List ℕ) (d : WireError) → IsVarintFault bytes d → varint_at bytes ≡ Err d
+varint_fault_again bytes d h = fault_again 9 bytes d (fault_to_within bytes d h)
+
+-- ---- the shortest spelling
+
+spelling_spells : (left n : ℕ) → n < limit left → SpellsNumber (spelling_within left n) n × (length (spelling_within left n) ≤ suc left)
+unfolding spelling_within
+spelling_spells zero n lt = ((omega arith, refl), omega arith)
+spelling_spells (suc left) n lt =
+    elim (cases_lt n 128) [
+      | inl small ↦ rw (spelling-last (suc left) n small) ((small, refl), omega arith)
+      | inr le ↦
+          let above = spelling_spells left (n / 128) (omega arith) in
+          rw (spelling-goes_on left n le) (spells_before (n % 128 + 128) (spelling_within left (n / 128)) n (n / 128) (omega arith) (omega arith) (omega arith) above.0, omega (arith, above.1))
+    ]
+
+pub varint_spelling_is : (n : ℕ) → n < 2 ^ 64 → IsVarint (varint_spelling n) n
+unfolding varint_spelling
+varint_spelling_is n lt = let both = spelling_spells 9 n lt in record { spelled = both.0; short = both.1; fits = lt }
+
+not_empty : (bytes : List ℕ) (n : ℕ) → SpellsNumber bytes n → 1 ≤ length bytes
+not_empty [] n spelled = absurd spelled
+not_empty (b ∷ bytes) n spelled = omega arith
+
+spelling_shortest : (left n : ℕ) (bytes : List ℕ) → n < limit left → SpellsNumber bytes n → length (spelling_within left n) ≤ length bytes
+unfolding spelling_within
+spelling_shortest left n [] lt spelled = absurd spelled
+spelling_shortest zero n (b ∷ bytes) lt spelled = omega arith
+spelling_shortest (suc left) n (b ∷ []) lt spelled = rw (spelling-last (suc left) n (omega arith)) (omega arith)
+spelling_shortest (suc left) n (b ∷ c ∷ bytes) lt spelled =
+    elim (cases_lt n 128) [
+      | inl small ↦ rw (spelling-last (suc left) n small) (omega arith)
+      | inr le ↦
+          let high : n / 128 ≡ spelled.2 = omega (arith, spelled.0, spelled.1, spelled.3) in
+          rw (spelling-goes_on left n le, high) (omega (arith, spelling_shortest left spelled.2 (c ∷ bytes) (omega (arith, spelled.0, spelled.1, spelled.3)) spelled.4))
+    ]
+
+pub varint_spelling_shortest : (n : ℕ) (bytes : List ℕ) → IsVarint bytes n → length (varint_spelling n) ≤ length bytes
+unfolding varint_spelling
+varint_spelling_shortest n bytes is = spelling_shortest 9 n bytes is.fits is.spelled

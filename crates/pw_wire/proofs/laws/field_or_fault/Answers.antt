@@ -1,0 +1,14 @@
+use Rattle.pw_wire.proofs.FieldLemmas.{one_of_both, not_both, one_field, one_fault}
+use Rattle.pw_wire.proofs.laws.field_or_fault.Goals as goal
+
+pub returns-clause-one : goal.returns-clause-one
+returns-clause-one c = one_of_both
+
+pub returns-clause-not_both : goal.returns-clause-not_both
+returns-clause-not_both c = λ bytes is fault. not_both bytes is.0 is.1 is.2 fault.0 is.3 fault.1
+
+pub returns-clause-one_field : goal.returns-clause-one_field
+returns-clause-one_field c = one_field
+
+pub returns-clause-one_fault : goal.returns-clause-one_fault
+returns-clause-one_fault c = one_fault

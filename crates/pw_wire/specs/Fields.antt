@@ -1,0 +1,48 @@
+-- A whole message: field after field, up to the end or to the first fault.
+use Rattle.std.specs.Prelude.{◌≡◌, ℕ, zero, suc, List, [], ◌∷◌, ◌++◌, length, drop, Option, Some, None, Result, Ok, Err}
+use Rattle.pw_wire.specs.declared.error.WireError.{WireError}
+use Rattle.pw_wire.specs.Field.{FieldView, IsField, IsFieldFault, field_at}
+
+-- the bytes are these fields, one after the other
+abbrev pub AreFields : List ℕ → List FieldView → Type 0
+AreFields bytes [] = bytes ≡ []
+AreFields bytes (f ∷ fs) = (len : ℕ) × IsField bytes f.number f.value len × AreFields (drop len bytes) fs
+
+-- the bytes begin with these fields, and behind them no field stands, for this fault
+abbrev pub AreFieldsUntil : List ℕ → List FieldView → WireError → Type 0
+AreFieldsUntil bytes [] error = IsFieldFault bytes error
+AreFieldsUntil bytes (f ∷ fs) error = (len : ℕ) × IsField bytes f.number f.value len × AreFieldsUntil (drop len bytes) fs error
+
+-- a field that was read, before the fields from a later byte on
+abbrev pub before : Result (FieldView × ℕ) WireError → (ℕ → List FieldView) → List FieldView
+before (Ok next) others = next.0 ∷ others next.1
+before (Err e) others = []
+
+-- the fault of what was read, else that from a later byte on
+abbrev pub fault_or : Result (FieldView × ℕ) WireError → (ℕ → Option WireError) → Option WireError
+fault_or (Ok next) later = later next.1
+fault_or (Err e) later = Some e
+
+-- the fields, where `most` is at least how many there are
+unfoldable pub fields_within : ℕ → List ℕ → List FieldView
+fields_within zero bytes = []
+fields_within (suc most) [] = []
+fields_within (suc most) (b ∷ bytes) = before (field_at (b ∷ bytes)) (λ n. fields_within most (drop n (b ∷ bytes)))
+
+-- and the fault behind at most so many
+unfoldable pub fault_within : ℕ → List ℕ → Option WireError
+fault_within zero bytes = None
+fault_within (suc most) [] = None
+fault_within (suc most) (b ∷ bytes) = fault_or (field_at (b ∷ bytes)) (λ n. fault_within most (drop n (b ∷ bytes)))
+
+-- the fields of the bytes, up to the first fault
+unfoldable pub fields : List ℕ → List FieldView
+fields bytes = fields_within (length bytes) bytes
+
+-- the first fault of the bytes
+unfoldable pub fault : List ℕ → Option WireError
+fault bytes = fault_within (length bytes) bytes
+
+-- a spelling that is read as this field, whatever follows it
+abbrev pub IsReadAs : List ℕ → FieldView → Type 0
+IsReadAs spelling f = (rest : List ℕ) → (fields (spelling ++ rest) ≡ f ∷ fields rest) × (fault (spelling ++ rest) ≡ fault rest)

@@ -1,0 +1,5 @@
+pub mod Reading
+pub mod Varint
+pub mod Field
+pub mod Fields
+pub mod View

@@ -1,0 +1,13 @@
+-- Readings that go on, or stop at the first fault.
+use Rattle.std.specs.Prelude.{ℕ, ◌<◌, List, Result, Ok, Err, slice_index}
+use Rattle.pw_wire.specs.declared.error.WireError.{WireError}
+
+-- each number is that of a byte
+abbrev pub IsBytes : List ℕ → Type 0
+IsBytes bytes = (i : ℕ) → slice_index bytes i < 256
+
+-- what was read goes into the next reading; the first fault stands
+infixl 10 ◌>>=◌
+abbrev pub ◌>>=◌ : {A B : Type 0} → Result A WireError → (A → Result B WireError) → Result B WireError
+(Ok x) >>= f = f x
+(Err e) >>= f = Err e

@@ -1,0 +1,58 @@
+-- Varints, as protobuf's encoding page has them: https://protobuf.dev/programming-guides/encoding/#varints
+use Rattle.std.specs.Prelude.{◌≡◌, ℕ, zero, suc, ◌+◌, ◌*◌, ◌/◌, ◌%◌, ◌-◌, ◌^◌, ◌<◌, ◌≤◌, List, [], ◌∷◌, ◌++◌, length, take, slice_index, Result, Ok, Err, nat_lt, if◌then◌else◌}
+use Rattle.std.specs.List.{AllByRecursion}
+use Rattle.pw_wire.specs.declared.error.WireError.{WireError}
+use Rattle.pw_wire.specs.declared.error.WireError.TheVariants.{Truncated, LongVarint, BadField, GroupWire, BadWire}
+use Rattle.pw_wire.specs.Reading.{◌>>=◌}
+
+-- Seven bits a byte, the lowest first. A byte below 128 is the last and stands for itself; one from 128
+-- on stands for its low seven bits, and the bytes after it for the bits above.
+abbrev pub SpellsNumber : List ℕ → ℕ → Type 0
+SpellsNumber [] n = ⊥
+SpellsNumber (b ∷ []) n = (b < 128) × (n ≡ b)
+SpellsNumber (b ∷ c ∷ bytes) n = (128 ≤ b) × (b < 256) × (high : ℕ) × (n + 128 ≡ b + 128 * high) × SpellsNumber (c ∷ bytes) high
+
+-- A varint has at most ten bytes, and a number of 64 bits. Zeros at the top are allowed.
+pub record IsVarint (bytes : List ℕ) (n : ℕ) : Type 0 where
+  pub spelled : SpellsNumber bytes n
+  pub short : length bytes ≤ 10
+  pub fits : n < 2 ^ 64
+
+-- each byte says that another one follows
+abbrev pub AllGoOn : List ℕ → Type 0
+AllGoOn bytes = AllByRecursion (λ b. 128 ≤ b) bytes
+
+-- Why no varint stands at the front: the bytes end too early, or the tenth byte is above 1.
+abbrev pub IsVarintFault : List ℕ → WireError → Type 0
+IsVarintFault bytes Truncated = AllGoOn bytes × (length bytes < 10)
+IsVarintFault bytes LongVarint = AllGoOn (take 9 bytes) × (1 < slice_index bytes 9)
+IsVarintFault bytes BadField = ⊥
+IsVarintFault bytes GroupWire = ⊥
+IsVarintFault bytes BadWire = ⊥
+
+-- bytes that begin with the varint of a number, and go on with the rest
+pub record BeginsWithVarint (bytes : List ℕ) (n : ℕ) (rest : List ℕ) : Type 0 where
+  pub front : List ℕ
+  pub varint : IsVarint front n
+  pub parts : bytes ≡ front ++ rest
+
+-- Reading with `left` bytes allowed before the last possible one: the number, and how many bytes it took.
+unfoldable pub varint_within : ℕ → List ℕ → Result (ℕ × ℕ) WireError
+varint_within left [] = Err Truncated
+varint_within zero (b ∷ bytes) = if nat_lt b 2 then Ok (b, 1) else Err LongVarint
+varint_within (suc left) (b ∷ bytes) = if nat_lt b 128 then Ok (b, 1) else do
+  high ← varint_within left bytes
+  Ok (b - 128 + 128 * high.0, suc high.1)
+
+-- the varint at the front, and its length
+abbrev pub varint_at : List ℕ → Result (ℕ × ℕ) WireError
+varint_at bytes = varint_within 9 bytes
+
+-- The shortest spelling, with `left` bytes allowed before the last one.
+unfoldable pub spelling_within : ℕ → ℕ → List ℕ
+spelling_within zero n = n ∷ []
+spelling_within (suc left) n = if nat_lt n 128 then n ∷ [] else ((n % 128 + 128) ∷ spelling_within left (n / 128))
+
+-- the shortest spelling of a number below 2 ^ 64
+unfoldable pub varint_spelling : ℕ → List ℕ
+varint_spelling n = spelling_within 9 n

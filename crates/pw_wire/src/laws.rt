@@ -1,0 +1,43 @@
+//! Laws of the definitions that the crate's contracts speak in. Each stands on a function that does
+//! nothing, so that it is proved with the crate.
+
+ghost use Rattle.std.specs.Prelude.{◌≡◌, ◌≢◌, ◌↔◌, ◌⊎◌, ℕ, ◌^◌, ◌<◌, ◌≤◌, List, [], length, Some, None};
+ghost use Rattle.pw_wire.specs.declared.error.WireError.{WireError};
+ghost use Rattle.pw_wire.specs.Reading.{IsBytes};
+ghost use Rattle.pw_wire.specs.Varint.{IsVarint, varint_spelling};
+ghost use Rattle.pw_wire.specs.Field.{FieldValue, FieldView, IsField, IsFieldFault, BeginsWithField, HasFieldFault, varint_field, bytes_field, varint_field_spelling, bytes_field_spelling};
+ghost use Rattle.pw_wire.specs.Fields.{AreFields, AreFieldsUntil, fields, fault, IsReadAs};
+
+/// Bytes that aren't empty begin with exactly one field, of one length, or have exactly one fault.
+pub fn field_or_fault()
+    ensures one { (bytes : List ℕ) → IsBytes bytes → bytes ≢ []
+        → BeginsWithField bytes ⊎ HasFieldFault bytes }
+    ensures not_both { (bytes : List ℕ) → BeginsWithField bytes → HasFieldFault bytes → ⊥ }
+    ensures one_field { (bytes : List ℕ) (m n : ℕ) (v w : FieldValue) (k l : ℕ)
+        → IsField bytes m v k → IsField bytes n w l → (m ≡ n) × (v ≡ w) × (k ≡ l) }
+    ensures one_fault { (bytes : List ℕ) (d e : WireError)
+        → IsFieldFault bytes d → IsFieldFault bytes e → d ≡ e }
+{}
+
+/// `fields` and `fault` are what the bytes are: these fields up to the end, or these up to that fault.
+pub fn all_fields()
+    ensures whole { (bytes : List ℕ) (fs : List FieldView) → IsBytes bytes
+        → (AreFields bytes fs) ↔ ((fault bytes ≡ None) × (fields bytes ≡ fs)) }
+    ensures until { (bytes : List ℕ) (fs : List FieldView) (e : WireError) → IsBytes bytes
+        → (AreFieldsUntil bytes fs e) ↔ ((fault bytes ≡ Some e) × (fields bytes ≡ fs)) }
+{}
+
+/// The spelling of a number is a varint of it, and no other varint of it is shorter.
+pub fn spelled_varint()
+    ensures spelled { (n : ℕ) → n < 2 ^ 64 → IsVarint (varint_spelling n) n }
+    ensures shortest { (n : ℕ) (bytes : List ℕ) → IsVarint bytes n
+        → length (varint_spelling n) ≤ length bytes }
+{}
+
+/// A spelled field is read as that field, whatever follows it.
+pub fn spelled_fields()
+    ensures varint { (k n : ℕ) → 1 ≤ k → k < 2 ^ 29 → n < 2 ^ 64
+        → IsReadAs (varint_field_spelling k n) (varint_field k n) }
+    ensures bytes { (k : ℕ) (text : List ℕ) → 1 ≤ k → k < 2 ^ 29 → length text < 2 ^ 64
+        → IsReadAs (bytes_field_spelling k text) (bytes_field k text) }
+{}

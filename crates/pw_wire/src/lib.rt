@@ -1,0 +1,23 @@
+//! Fields of the protobuf wire format (<https://protobuf.dev/programming-guides/encoding/>): reading the
+//! first field of some bytes, and appending a field to a `Vec`. Reading takes no memory and one pass.
+//!
+//! `next_field` finds exactly the field that the bytes begin with, or the first check that fails there,
+//! and says by `fields` and `fault` what that tells of the whole message. What the `put_` calls append is
+//! the shortest spelling of a field, which is read back as that field, whatever follows it.
+#![tactic(auto)]
+
+mod error;
+mod field;
+mod laws;
+mod reading;
+mod varint;
+mod writing;
+
+pub use error::WireError;
+pub use field::{Field, Value};
+pub use laws::{all_fields, field_or_fault, spelled_fields, spelled_varint};
+pub use reading::next_field;
+pub use writing::{put_bytes_field, put_varint, put_varint_field};
+
+#[cfg(test)]
+mod tests;

@@ -1,0 +1,48 @@
+//! Varints: seven bits a byte, the lowest first.
+
+ghost use Rattle.std.specs.Prelude.{◌≡◌, ◌≤◌, length, IfOk};
+ghost use Rattle.pw_wire.specs.Varint.{varint_at};
+
+use crate::error::WireError;
+
+/// The number at the front, and how many bytes it takes.
+#[inline]
+#[tactic(auto, unfolding(crate::specs::Varint::varint_within))]
+pub fn read_varint(bytes: &[u8]) -> Result<(u64, usize), WireError>
+    ensures exact { result ≡ varint_at bytes.now }
+    ensures within { IfOk result (λ found. found.1 ≤ length bytes.now) }
+{
+    match bytes {
+        [] => Err(WireError::Truncated),
+        [b, ..] if *b < 128 => Ok((u64::from(*b), 1)),
+        _ => long_varint(bytes),
+    }
+}
+
+fn long_varint(bytes: &[u8]) -> Result<(u64, usize), WireError>
+    ensures exact { result ≡ varint_at bytes.now }
+    ensures within { IfOk result (λ found. found.1 ≤ length bytes.now) }
+{
+    let mut low: u64 = 0;
+    let mut place: u64 = 1;
+    for i in 0..9 {
+        if i >= bytes.len() {
+            return Err(WireError::Truncated);
+        }
+        let byte = u64::from(bytes[i]);
+        if byte < 128 {
+            return Ok((low + byte * place, i + 1));
+        }
+        low += (byte - 128) * place;
+        place *= 128;
+    }
+    if bytes.len() <= 9 {
+        return Err(WireError::Truncated);
+    }
+    let last = u64::from(bytes[9]);
+    if last < 2 {
+        Ok((low + last * place, 10))
+    } else {
+        Err(WireError::LongVarint)
+    }
+}
