@@ -8,6 +8,7 @@ use crate::varint::read_varint;
 
 /// The first field of the bytes, and how many bytes it takes: `None` where there are no bytes, an error
 /// where the bytes begin with no field. The value borrows from the bytes.
+#[inline(always)]
 pub fn next_field(bytes: &[u8]) -> Result<Option<(Field<'_>, usize)>, WireError>
     ensures none { (result ≡ Ok None) ↔ (bytes.now ≡ []) }
     ensures field { (number : ℕ) (value : FieldValue) (len : ℕ)
@@ -23,6 +24,7 @@ pub fn next_field(bytes: &[u8]) -> Result<Option<(Field<'_>, usize)>, WireError>
     Ok(Some(first_field(bytes)?))
 }
 
+#[inline(always)]
 #[tactic(auto, unfolding(crate::specs::Field::field_at, crate::specs::Field::field_behind))]
 fn first_field(bytes: &[u8]) -> Result<(Field<'_>, usize), WireError>
     ensures exact { field_read result ≡ field_at bytes.now }
@@ -40,6 +42,7 @@ fn first_field(bytes: &[u8]) -> Result<(Field<'_>, usize), WireError>
     Ok((field, used + len))
 }
 
+#[inline(always)]
 #[tactic(auto, unfolding(crate::specs::Field::value_at))]
 fn value_behind(kind: u64, bytes: &[u8]) -> Result<(Value<'_>, usize), WireError>
     ensures exact { value_read result ≡ value_at kind bytes.now }

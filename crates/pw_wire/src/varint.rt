@@ -6,7 +6,7 @@ ghost use Rattle.pw_wire.specs.Varint.{varint_at};
 use crate::error::WireError;
 
 /// The number at the front, and how many bytes it takes.
-#[inline]
+#[inline(always)]
 #[tactic(auto, unfolding(crate::specs::Varint::varint_within))]
 pub fn read_varint(bytes: &[u8]) -> Result<(u64, usize), WireError>
     ensures exact { result ≡ varint_at bytes.now }
@@ -19,6 +19,7 @@ pub fn read_varint(bytes: &[u8]) -> Result<(u64, usize), WireError>
     }
 }
 
+#[inline(never)]
 fn long_varint(bytes: &[u8]) -> Result<(u64, usize), WireError>
     ensures exact { result ≡ varint_at bytes.now }
     ensures within { IfOk result (λ found. found.1 ≤ length bytes.now) }
