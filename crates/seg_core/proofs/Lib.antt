@@ -1,0 +1,16 @@
+pub mod Laws
+pub mod Readings
+pub mod RoundTrip
+pub mod Sizes
+pub mod SpelledFields
+pub mod WireSizes
+pub mod Paths
+pub mod Ranges
+pub mod Noting
+pub mod Misfits
+pub mod Types
+pub mod Rows
+pub mod SpelledLengths
+pub mod Written
+pub mod Responses
+pub mod ResponseTrip

@@ -1,0 +1,16 @@
+use Rattle.std.proofs.Common.{arith}
+use Rattle.std.proofs.lemmas.Result.{on_ok_weaker}
+use Rattle.seg_core.specs.EntryView.{entry_view}
+use Rattle.seg_core.proofs.SpelledLengths.{entry-parts}
+use Rattle.seg_core.proofs.Written.{entry-put}
+use Rattle.seg_core.proofs.writing.put_entry.Goals as goal
+
+pub signed_len-requires : goal.signed_len-requires
+signed_len-requires c = omega (arith, entry-parts (entry_view c.args.entry.now))
+
+pub returns : goal.returns
+returns c =
+    on_ok_weaker c.put_unsigned.result
+    (entry-put (entry_view c.args.entry.now) c.signed_len.result c.args.out.now.items c.put_head.new.out.items c.put_signed.new.out.items c.put_unsigned.new.out.items
+    c.signed_len.ensures c.in_ok-put_head.ensures c.in_ok-put_signed.ensures)
+    c.put_unsigned.ensures

@@ -1,0 +1,21 @@
+-- What an entry stands for.
+use Rattle.std.specs.Prelude.{List, map}
+use Rattle.std.specs.Option.{option_map}
+use Rattle.isd_as.specs.IsdAs.{number_of}
+use Rattle.seg_core.specs.declared.entry.Entry.{Entry}
+use Rattle.seg_core.specs.SegmentView.{EntryView}
+
+abbrev pub entry_view : Entry → EntryView
+entry_view e = record {
+  ia = number_of e.ia;
+  next = number_of e.next;
+  ingress = e.ingress;
+  egress = e.egress;
+  exp_time = e.exp_time;
+  signed = e.signed.items;
+  signature = e.signature.items;
+  unsigned = option_map (λ v. v.items) e.unsigned;
+}
+
+abbrev pub entry_views : List Entry → List EntryView
+entry_views entries = map entry_view entries

@@ -1,0 +1,13 @@
+pub mod Steps
+pub mod Shapes
+pub mod Message
+pub mod Slots
+pub mod SegmentView
+pub mod EntryView
+pub mod Entry
+pub mod WellFormed
+pub mod Segment
+pub mod Request
+pub mod Registration
+pub mod Spelling
+pub mod Earlier

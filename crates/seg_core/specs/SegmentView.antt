@@ -1,0 +1,19 @@
+-- A path segment as contracts see it: what its bytes say, and the pieces that are kept as they came.
+use Rattle.std.specs.Prelude.{ℕ, List, Option}
+
+-- The entry of one AS. An ISD-AS is its number of 64 bits.
+pub record EntryView : Type 0 where
+  pub ia : ℕ
+  pub next : ℕ
+  pub ingress : ℕ
+  pub egress : ℕ
+  pub exp_time : ℕ
+  pub signed : List ℕ
+  pub signature : List ℕ
+  pub unsigned : Option (List ℕ)
+
+pub record SegmentView : Type 0 where
+  pub timestamp : ℕ
+  pub segment_id : ℕ
+  pub info : List ℕ
+  pub entries : List EntryView

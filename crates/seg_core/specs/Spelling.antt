@@ -1,0 +1,85 @@
+-- The one spelling of a segment and of a response: fields by number, numbers in the shortest varints, zero numbers
+-- and empty bytes left out. What is kept of an entry is written as it came.
+use Rattle.std.specs.Prelude.{◌≡◌, ℕ, ◌+◌, ◌*◌, ◌≤◌, List, [], ◌∷◌, ◌++◌, length, map, filter, ◌==◌, IsTrue, Ok, Option, Some, None}
+use Rattle.std.specs.List.{flat_map, AllByRecursion}
+use Rattle.pw_wire.specs.Varint.{varint_spelling}
+use Rattle.pw_wire.specs.Field.{varint_field_spelling, bytes_field_spelling}
+use Rattle.seg_core.specs.declared.body.Body.{Body}
+use Rattle.seg_core.specs.declared.seg_type.SegType.{SegType}
+use Rattle.seg_core.specs.declared.seg_type.SegType.TheVariants.{Up, Down, Core}
+use Rattle.seg_core.specs.SegmentView.{EntryView, SegmentView}
+use Rattle.seg_core.specs.Entry.{header_and_body_reading}
+use Rattle.seg_core.specs.Segment.{info_reading}
+use Rattle.seg_core.specs.Registration.{type_number, rows_of}
+use Rattle.seg_core.specs.WellFormed.{is_entry_count, is_chain, has_no_loop}
+
+-- what stands before the bytes of a field: its tag, and how many bytes it has
+unfoldable pub head_spelling : ℕ → ℕ → List ℕ
+head_spelling k len = varint_spelling (k * 8 + 2) ++ varint_spelling len
+
+-- bytes, left out where they are empty
+abbrev pub bytes_spelling : ℕ → List ℕ → List ℕ
+bytes_spelling k [] = []
+bytes_spelling k (b ∷ bytes) = bytes_field_spelling k (b ∷ bytes)
+
+-- a message that may be missing, written where it is there, even when it is empty
+abbrev pub optional_spelling : ℕ → Option (List ℕ) → List ℕ
+optional_spelling k None = []
+optional_spelling k (Some message) = bytes_field_spelling k message
+
+-- a signed message
+abbrev pub signed_spelling : EntryView → List ℕ
+signed_spelling e = bytes_spelling 1 e.signed ++ bytes_spelling 2 e.signature
+
+-- the entry of one AS
+abbrev pub as_entry_spelling : EntryView → List ℕ
+as_entry_spelling e = bytes_field_spelling 1 (signed_spelling e) ++ optional_spelling 2 e.unsigned
+
+abbrev pub entries_spelling : List EntryView → List ℕ
+entries_spelling es = flat_map (λ e. bytes_field_spelling 2 (as_entry_spelling e)) es
+
+unfoldable pub segment_spelling : SegmentView → List ℕ
+segment_spelling s = bytes_spelling 1 s.info ++ entries_spelling s.entries
+
+-- what the body of an entry says
+abbrev pub body_of : EntryView → Body
+body_of e = record { ia = e.ia; next = e.next; hop = record { ingress = e.ingress; egress = e.egress; exp_time = e.exp_time } }
+
+-- an entry whose numbers are those of its signed body
+abbrev pub IsEntry : EntryView → Type 0
+IsEntry e = header_and_body_reading e.signed ≡ Ok (body_of e)
+
+-- What every segment is: its numbers are those of its bytes, its entries are 1 to 64 and one path, and its spelling
+-- has at most 16,384 bytes.
+pub record IsSegment (s : SegmentView) : Type 0 where
+  pub info_says : info_reading s.info ≡ Ok (record { timestamp = s.timestamp; segment_id = s.segment_id })
+  pub entries_say : AllByRecursion IsEntry s.entries
+  pub counted : IsTrue (is_entry_count (length s.entries))
+  pub chain : IsTrue (is_chain s.entries)
+  pub no_loop : IsTrue (has_no_loop s.entries)
+  pub short : length (segment_spelling s) ≤ 16384
+
+-- ---- a response
+
+-- `Segments`: segments one after the other
+abbrev pub segments_spelling : List SegmentView → List ℕ
+segments_spelling segments = flat_map (λ s. bytes_field_spelling 1 (segment_spelling s)) segments
+
+-- the segments of one type, in their order
+abbrev pub of_type : SegType → List (SegType × SegmentView) → List SegmentView
+of_type kind rows = map (λ row. row.1) (filter (λ row. type_number row.0 == type_number kind) rows)
+
+-- an entry of the map, for a type that has segments
+abbrev pub map_entry_spelling : SegType → List SegmentView → List ℕ
+map_entry_spelling kind [] = []
+map_entry_spelling kind (s ∷ segments) =
+    bytes_field_spelling 1 (varint_field_spelling 1 (type_number kind) ++ bytes_field_spelling 2 (segments_spelling (s ∷ segments)))
+
+-- a map with an entry for each type that has segments, by type number
+unfoldable pub response_spelling : List (SegType × SegmentView) → List ℕ
+response_spelling rows =
+    map_entry_spelling Up (of_type Up rows) ++ (map_entry_spelling Down (of_type Down rows) ++ map_entry_spelling Core (of_type Core rows))
+
+-- all segments, by type number, and of one type in their order
+abbrev pub by_type : List (SegType × SegmentView) → List (SegType × SegmentView)
+by_type rows = rows_of Up (of_type Up rows) ++ (rows_of Down (of_type Down rows) ++ rows_of Core (of_type Core rows))

@@ -1,0 +1,41 @@
+-- A reading gives a value, or the refusal that is met first.
+use Rattle.std.specs.Prelude.{◌≡◌, ◌≢◌, ℕ, List, [], ◌∷◌, Bool, nat_le, Result, Ok, Err, if◌then◌else◌}
+use Rattle.seg_core.specs.declared.error.SegError.{SegError}
+use Rattle.seg_core.specs.declared.error.SegError.TheVariants.{NoMemory, Range}
+
+-- one step, and then the others with its value
+infixl 10 ◌>>=◌
+abbrev pub ◌>>=◌ : {A B : Type 0} → Result A SegError → (A → Result B SegError) → Result B SegError
+(Ok x) >>= rest = rest x
+(Err e) >>= rest = Err e
+
+-- goes on where the test holds, and is refused for this reason where it doesn't
+abbrev pub check : Bool → SegError → Result (Unit {0}) SegError
+check holds reason = if holds then Ok tt else Err reason
+
+-- a number that is at most the limit
+abbrev pub at_most : ℕ → ℕ → Result ℕ SegError
+at_most limit n = if nat_le n limit then Ok n else Err Range
+
+-- the reading of each, in order
+abbrev pub each : {A B : Type 0} → (A → Result B SegError) → List A → Result (List B) SegError
+each read [] = Ok []
+each read (x ∷ xs) = do
+  first ← read x
+  others ← each read xs
+  Ok (first ∷ others)
+
+-- a reading whose value is seen in another way
+abbrev pub seen_as : {A B : Type 0} → (A → B) → Result A SegError → Result B SegError
+seen_as view (Ok x) = Ok (view x)
+seen_as view (Err e) = Err e
+
+-- A call that takes no memory answers just what the reading gives, seen by `view`.
+abbrev pub Reads : {X Y : Type 0} → (X → Y) → Result X SegError → Result Y SegError → Type 0
+Reads view (Ok x) reading = reading ≡ Ok (view x)
+Reads view (Err e) reading = reading ≡ Err e
+
+-- A call that takes memory does so too, unless it was refused memory.
+abbrev pub Gives : {X Y : Type 0} → (X → Y) → Result X SegError → Result Y SegError → Type 0
+Gives view (Ok x) reading = reading ≡ Ok (view x)
+Gives view (Err e) reading = e ≢ NoMemory → reading ≡ Err e

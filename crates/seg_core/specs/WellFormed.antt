@@ -1,0 +1,72 @@
+-- When the entries of a segment are one path: each leads to the next, and no AS stands twice.
+use Rattle.std.specs.Prelude.{◌≡◌, ◌≢◌, ℕ, ◌<◌, ◌≤◌, ◌^◌, ◌/◌, ◌%◌, List, [], ◌∷◌, ◌++◌, length, All, Bool, true, ◌==◌, ◌&&◌, not, nat_le}
+use Rattle.std.specs.List.{list_any}
+use Rattle.seg_core.specs.SegmentView.{EntryView, SegmentView}
+
+-- ---- what it means
+
+-- From an entry the path goes on to the one after it: that is its next AS, and the crossing has an interface, which
+-- is not 0, on both sides.
+abbrev pub LeadsTo : EntryView → EntryView → Type 0
+LeadsTo e f = (e.next ≡ f.ia) × (e.egress ≢ 0) × (f.ingress ≢ 0)
+
+-- From an entry the path goes nowhere: no next AS, and no egress.
+abbrev pub EndsAt : EntryView → Type 0
+EndsAt e = (e.next ≡ 0) × (e.egress ≡ 0)
+
+-- The first entry comes from nowhere, each leads to the one after it, and the last one ends the path.
+pub record IsChain (entries : List EntryView) : Type 0 where
+  pub first : (e : EntryView) (after : List EntryView) → entries ≡ e ∷ after → e.ingress ≡ 0
+  pub joined : (before after : List EntryView) (e f : EntryView) → entries ≡ before ++ e ∷ f ∷ after → LeadsTo e f
+  pub last : (before : List EntryView) (e : EntryView) → entries ≡ before ++ e ∷ [] → EndsAt e
+
+-- no AS stands twice
+abbrev pub HasNoLoop : List EntryView → Type 0
+HasNoLoop entries = (before between after : List EntryView) (e f : EntryView) → entries ≡ before ++ e ∷ (between ++ f ∷ after) → e.ia ≢ f.ia
+
+-- 1 to 64
+abbrev pub HasEntryCount : List EntryView → Type 0
+HasEntryCount entries = (1 ≤ length entries) × (length entries ≤ 64)
+
+-- an entry of an ISD and an AS that aren't 0, with numbers of their widths
+pub record IsEntryInRange (e : EntryView) : Type 0 where
+  pub isd : e.ia / 2 ^ 48 ≢ 0
+  pub asn : e.ia % 2 ^ 48 ≢ 0
+  pub ingress : e.ingress < 2 ^ 16
+  pub egress : e.egress < 2 ^ 16
+  pub exp_time : e.exp_time < 2 ^ 8
+
+-- numbers of their widths
+pub record IsInRange (s : SegmentView) : Type 0 where
+  pub timestamp : s.timestamp < 2 ^ 32
+  pub segment_id : s.segment_id < 2 ^ 16
+  pub entries : All IsEntryInRange s.entries
+
+-- A segment is 1 to 64 entries that are one path without a loop, and its numbers are in their ranges.
+pub record IsWellFormed (s : SegmentView) : Type 0 where
+  pub counted : HasEntryCount s.entries
+  pub chain : IsChain s.entries
+  pub no_loop : HasNoLoop s.entries
+  pub in_range : IsInRange s
+
+-- ---- the tests of it
+
+-- 1 to 64
+abbrev pub is_entry_count : ℕ → Bool
+is_entry_count n = nat_le 1 n && nat_le n 64
+
+-- Each entry leads to the one after it, and the last one ends the path.
+abbrev pub is_linked : List EntryView → Bool
+is_linked [] = true
+is_linked (e ∷ []) = e.next == 0 && e.egress == 0
+is_linked (e ∷ f ∷ es) = (e.next == f.ia && (not (e.egress == 0) && not (f.ingress == 0))) && is_linked (f ∷ es)
+
+-- and the first one comes from nowhere
+abbrev pub is_chain : List EntryView → Bool
+is_chain [] = true
+is_chain (e ∷ es) = e.ingress == 0 && is_linked (e ∷ es)
+
+-- no AS stands twice
+abbrev pub has_no_loop : List EntryView → Bool
+has_no_loop [] = true
+has_no_loop (e ∷ es) = not (list_any (λ f. f.ia == e.ia) es) && has_no_loop es

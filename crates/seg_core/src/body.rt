@@ -1,0 +1,67 @@
+//! The signed body of an AS entry.
+
+ghost use Rattle.std.specs.Prelude.{◌≡◌};
+ghost use Rattle.seg_core.specs.Steps.{Reads, each, seen_as};
+ghost use Rattle.seg_core.specs.Message.{texts};
+ghost use Rattle.pw_wire.specs.Fields.{fields};
+ghost use Rattle.seg_core.specs.Entry.{names_an_as, peer_entry_reading, body_reading, header_and_body_reading};
+
+use crate::error::SegError;
+use crate::hop::{Hop, read_hop_entry, read_peer_entry};
+use crate::limits::{check, u32_of};
+use crate::shape::{BODY, HEADER_AND_BODY};
+use crate::slots::slots_of;
+use crate::texts::Texts;
+
+/// What the signed body of an AS entry says. The ISD-AS numbers are of 64 bits.
+#[derive(Clone, Copy, Debug, PartialEq, Eq)]
+pub struct Body {
+    pub ia: u64,
+    pub next: u64,
+    pub hop: Hop,
+}
+
+/// Neither part of the ISD-AS is 0.
+fn names_an_as(ia: u64) -> bool
+    ensures { result ≡ names_an_as ia }
+{
+    ia >> 48 != 0 && ia & ((1 << 48) - 1) != 0
+}
+
+/// Reads peer entries, of which nothing is kept.
+fn check_peer_entries(peers: Texts<'_>) -> Result<(), SegError>
+    ensures { Reads (λ u. u) result
+        (seen_as (λ _. tt) (each peer_entry_reading (texts peers.entry.number (fields peers.entry.rest.now)))) }
+{
+    for peer in peers {
+        read_peer_entry(peer)?;
+    }
+    Ok(())
+}
+
+#[tactic(auto, unfolding(crate::specs::Entry::body_reading))]
+fn read_body(message: &[u8]) -> Result<Body, SegError>
+    ensures { Reads (λ body. body) result (body_reading message.now) }
+{
+    let slots = slots_of(&BODY, message)?;
+    let hop_entry = slots.required(3)?;
+    let ia = slots.number(1);
+    check(names_an_as(ia), SegError::Range)?;
+    let _mtu = u32_of(slots.number(5))?;
+    let hop = read_hop_entry(hop_entry)?;
+    check_peer_entries(slots.texts(4))?;
+    Ok(Body {
+        ia,
+        next: slots.number(2),
+        hop,
+    })
+}
+
+/// Reads a header, of which nothing is kept here, and a body.
+#[tactic(auto, unfolding(crate::specs::Entry::header_and_body_reading))]
+pub fn read_header_and_body(message: &[u8]) -> Result<Body, SegError>
+    ensures { Reads (λ body. body) result (header_and_body_reading message.now) }
+{
+    let slots = slots_of(&HEADER_AND_BODY, message)?;
+    read_body(slots.text_or_empty(2))
+}

@@ -1,0 +1,63 @@
+//! The types of segments that have had an entry in a map.
+
+ghost use Rattle.std.specs.Prelude.{◌≡◌, ℕ, List, [], ◌∷◌};
+ghost use Rattle.seg_core.specs.Earlier.{is_in, AreIn};
+ghost use Rattle.seg_core.specs.Registration.{type_number, new_type};
+ghost use Rattle.seg_core.specs.Steps.{Reads};
+
+use crate::error::SegError;
+use crate::limits::check;
+use crate::seg_type::SegType;
+
+/// Which types have had an entry.
+#[derive(Clone, Copy)]
+pub struct Earlier {
+    up: bool,
+    down: bool,
+    core: bool,
+}
+
+impl Earlier {
+    /// No type has had an entry.
+    pub fn none() -> Self
+        ensures { AreIn [] result }
+    {
+        Earlier {
+            up: false,
+            down: false,
+            core: false,
+        }
+    }
+
+    /// Whether a type has had an entry.
+    fn contains(self, kind: SegType) -> bool
+        ensures { result ≡ is_in self kind }
+    {
+        match kind {
+            SegType::Up => self.up,
+            SegType::Down => self.down,
+            SegType::Core => self.core,
+        }
+    }
+
+    /// The type of a number, which has had no entry.
+    #[tactic(auto, unfolding(crate::specs::Registration::new_type))]
+    pub fn new_type(self, number: u64) -> Result<SegType, SegError>
+        ensures { (earlier : List ℕ) → AreIn earlier self → Reads (λ kind. kind) result (new_type earlier number) }
+    {
+        let kind = SegType::from_number(number)?;
+        check(!self.contains(kind), SegError::RepeatedMessage)?;
+        Ok(kind)
+    }
+
+    /// Takes in a type.
+    pub fn insert(&mut self, kind: SegType)
+        ensures { (earlier : List ℕ) → AreIn earlier self.old → AreIn (type_number kind ∷ earlier) self.new }
+    {
+        match kind {
+            SegType::Up => self.up = true,
+            SegType::Down => self.down = true,
+            SegType::Core => self.core = true,
+        }
+    }
+}

@@ -1,0 +1,56 @@
+//! Hop entries and peer entries, down to their hop fields.
+
+ghost use Rattle.seg_core.specs.Steps.{Reads};
+ghost use Rattle.seg_core.specs.Entry.{hop_field_reading, hop_entry_reading, peer_entry_reading};
+
+use crate::error::SegError;
+use crate::limits::{check, u8_of, u16_of, u32_of};
+use crate::shape::{HOP_ENTRY, HOP_FIELD, PEER_ENTRY};
+use crate::slots::slots_of;
+
+/// The bytes of a MAC.
+const MAC_LEN: usize = 6;
+
+/// Where a segment enters and leaves an AS, and for how long it may.
+#[derive(Clone, Copy, Debug, PartialEq, Eq)]
+pub struct Hop {
+    pub ingress: u16,
+    pub egress: u16,
+    pub exp_time: u8,
+}
+
+#[tactic(auto, unfolding(crate::specs::Entry::hop_field_reading))]
+fn read_hop_field(message: &[u8]) -> Result<Hop, SegError>
+    ensures { Reads (λ hop. hop) result (hop_field_reading message.now) }
+{
+    let slots = slots_of(&HOP_FIELD, message)?;
+    let ingress = u16_of(slots.number(1))?;
+    let egress = u16_of(slots.number(2))?;
+    let exp_time = u8_of(slots.number(3))?;
+    check(slots.text_or_empty(4).len() == MAC_LEN, SegError::Range)?;
+    Ok(Hop {
+        ingress,
+        egress,
+        exp_time,
+    })
+}
+
+#[tactic(auto, unfolding(crate::specs::Entry::hop_entry_reading))]
+pub fn read_hop_entry(message: &[u8]) -> Result<Hop, SegError>
+    ensures { Reads (λ hop. hop) result (hop_entry_reading message.now) }
+{
+    let slots = slots_of(&HOP_ENTRY, message)?;
+    let hop_field = slots.required(1)?;
+    let _ingress_mtu = u32_of(slots.number(2))?;
+    read_hop_field(hop_field)
+}
+
+#[tactic(auto, unfolding(crate::specs::Entry::peer_entry_reading))]
+pub fn read_peer_entry(message: &[u8]) -> Result<Hop, SegError>
+    ensures { Reads (λ hop. hop) result (peer_entry_reading message.now) }
+{
+    let slots = slots_of(&PEER_ENTRY, message)?;
+    let hop_field = slots.required(4)?;
+    let _peer_mtu = u32_of(slots.number(3))?;
+    read_hop_field(hop_field)
+}

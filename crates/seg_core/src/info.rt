@@ -1,0 +1,29 @@
+//! When a segment was made, and its id.
+
+ghost use Rattle.seg_core.specs.Steps.{Reads};
+ghost use Rattle.seg_core.specs.Segment.{info_reading};
+
+use crate::error::SegError;
+use crate::limits::{u16_of, u32_of};
+use crate::shape::SEGMENT_INFORMATION;
+use crate::slots::slots_of;
+
+/// A segment's timestamp, in seconds since 1970, and its id, which the beaconing AS picks.
+#[derive(Clone, Copy, Debug, PartialEq, Eq)]
+pub struct Info {
+    pub timestamp: u32,
+    pub segment_id: u16,
+}
+
+#[tactic(auto, unfolding(crate::specs::Segment::info_reading))]
+pub fn read_info(message: &[u8]) -> Result<Info, SegError>
+    ensures { Reads (λ info. info) result (info_reading message.now) }
+{
+    let slots = slots_of(&SEGMENT_INFORMATION, message)?;
+    let timestamp = u32_of(slots.number(1))?;
+    let segment_id = u16_of(slots.number(2))?;
+    Ok(Info {
+        timestamp,
+        segment_id,
+    })
+}

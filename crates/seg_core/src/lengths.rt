@@ -1,0 +1,93 @@
+//! How many bytes spellings take, so that a message can be written behind its length.
+
+ghost use Rattle.std.specs.Prelude.{◌≡◌, ℕ, ◌+◌, ◌<◌, ◌≤◌, List, length};
+ghost use Rattle.pw_wire.specs.Varint.{varint_spelling};
+ghost use Rattle.pw_wire.specs.Field.{bytes_field_spelling};
+ghost use Rattle.seg_core.specs.EntryView.{entry_view, entry_views};
+ghost use Rattle.seg_core.specs.Spelling.{bytes_spelling, optional_spelling, signed_spelling, as_entry_spelling, entries_spelling, segment_spelling};
+
+use crate::entry::Entry;
+use crate::segment::Segment;
+
+/// The bytes of a number's shortest varint.
+fn varint_len(n: u64) -> usize
+    ensures { result ≡ length (varint_spelling n) }
+{
+    let mut len = 1;
+    let mut rest = n;
+    while rest >= 128 {
+        rest /= 128;
+        len += 1;
+    }
+    len
+}
+
+/// The bytes of the tag and the length of a field, under a number whose tag takes one byte.
+pub fn head_len(len: usize) -> usize
+    ensures exact { (k : ℕ) (bytes : List ℕ) → k < 15 → length bytes ≡ len → result + len ≡ length (bytes_field_spelling k bytes) }
+    ensures most { result ≤ 11 }
+{
+    1 + varint_len(len as u64)
+}
+
+/// The bytes of a field of bytes, which is left out where they are empty.
+fn bytes_len(bytes: &[u8]) -> usize
+    requires { length bytes.now ≤ 16384 }
+    ensures { (k : ℕ) → k < 15 → result ≡ length (bytes_spelling k bytes.now) }
+{
+    if bytes.is_empty() {
+        return 0;
+    }
+    head_len(bytes.len()) + bytes.len()
+}
+
+/// The bytes of an entry's signed message.
+pub fn signed_len(entry: &Entry) -> usize
+    requires { length (signed_spelling (entry_view entry.now)) ≤ 16384 }
+    ensures { result ≡ length (signed_spelling (entry_view entry.now)) }
+{
+    bytes_len(&entry.signed) + bytes_len(&entry.signature)
+}
+
+/// The bytes of the field with what an entry has that is not signed, where it is there.
+fn unsigned_len(entry: &Entry) -> usize
+    requires { length (optional_spelling 2 (entry_view entry.now).unsigned) ≤ 16384 }
+    ensures { result ≡ length (optional_spelling 2 (entry_view entry.now).unsigned) }
+{
+    match &entry.unsigned {
+        None => 0,
+        Some(unsigned) => head_len(unsigned.len()) + unsigned.len(),
+    }
+}
+
+/// The bytes of an entry.
+pub fn entry_len(entry: &Entry) -> usize
+    requires { length (as_entry_spelling (entry_view entry.now)) ≤ 16384 }
+    ensures { result ≡ length (as_entry_spelling (entry_view entry.now)) }
+{
+    let signed = signed_len(entry);
+    head_len(signed) + signed + unsigned_len(entry)
+}
+
+/// The bytes of a segment's entries, each behind its tag and its length.
+fn entries_len(entries: &[Entry]) -> usize
+    requires { length (entries_spelling (entry_views entries.now)) ≤ 16384 }
+    ensures { result ≡ length (entries_spelling (entry_views entries.now)) }
+{
+    let mut len = 0;
+    for entry in entries {
+        let entry_len = entry_len(entry);
+        len += head_len(entry_len) + entry_len;
+    }
+    len
+}
+
+/// The bytes of a segment.
+#[tactic(auto, unfolding(crate::specs::Spelling::segment_spelling))]
+pub fn segment_len(segment: &Segment) -> usize
+    ensures exact { result ≡ length (segment_spelling segment.now) }
+    ensures most { result ≤ 16384 }
+{
+    let entries = segment.entries();
+    bytes_len(segment.info()) + entries_len(entries)
+}

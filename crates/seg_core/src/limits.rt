@@ -1,0 +1,43 @@
+//! Tests of one number or fact, each with the refusal where it fails.
+
+ghost use Rattle.std.specs.Prelude.{◌-◌, ◌^◌};
+ghost use Rattle.seg_core.specs.Steps.{Reads, at_most, check};
+
+use crate::error::SegError;
+
+/// A number of 8 bits.
+pub fn u8_of(n: u64) -> Result<u8, SegError>
+    ensures { Reads (λ n. n) result (at_most (2 ^ 8 - 1) n) }
+{
+    if n > 0xff {
+        return Err(SegError::Range);
+    }
+    Ok(n as u8)
+}
+
+/// A number of 16 bits.
+pub fn u16_of(n: u64) -> Result<u16, SegError>
+    ensures { Reads (λ n. n) result (at_most (2 ^ 16 - 1) n) }
+{
+    if n > 0xffff {
+        return Err(SegError::Range);
+    }
+    Ok(n as u16)
+}
+
+/// A number of 32 bits.
+pub fn u32_of(n: u64) -> Result<u32, SegError>
+    ensures { Reads (λ n. n) result (at_most (2 ^ 32 - 1) n) }
+{
+    if n > 0xffff_ffff {
+        return Err(SegError::Range);
+    }
+    Ok(n as u32)
+}
+
+/// Refuses for the reason, unless the test holds.
+pub fn check(holds: bool, reason: SegError) -> Result<(), SegError>
+    ensures { Reads (λ u. u) result (check holds reason) }
+{
+    if holds { Ok(()) } else { Err(reason) }
+}

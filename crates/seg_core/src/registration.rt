@@ -1,0 +1,87 @@
+//! Registrations: maps from types to segments.
+
+ghost use Rattle.std.specs.Prelude.{◌≡◌, ℕ, List, [], ◌++◌, length};
+ghost use Rattle.pw_wire.specs.Fields.{fields};
+ghost use Rattle.seg_core.specs.Steps.{Gives, seen_as};
+ghost use Rattle.seg_core.specs.Message.{texts};
+ghost use Rattle.seg_core.specs.SegmentView.{SegmentView};
+ghost use Rattle.seg_core.specs.declared.seg_type.SegType.{SegType};
+ghost use Rattle.seg_core.specs.Earlier.{AreIn};
+ghost use Rattle.seg_core.specs.Registration.{map_reading, map_entry_reading, segments_reading, registration_reading, rows_of};
+
+use crate::earlier::Earlier;
+use crate::error::SegError;
+use crate::limits::check;
+use crate::seg_type::SegType;
+use crate::segment::{Segment, read_segment};
+use crate::shape::{MAP_ENTRY, SEGMENT_MAP, SEGMENTS};
+use crate::slots::slots_of;
+use crate::texts::Texts;
+use std::alloc::Global;
+
+/// The most bytes of a registration.
+const MOST_BYTES: usize = 131_072;
+/// The most segments of a registration.
+const MOST_SEGMENTS: usize = 16;
+
+/// Appends the segments of one type to those that came before them.
+#[tactic(auto, unfolding(crate::specs::Registration::segments_reading))]
+fn read_segments(
+    alloc: Global,
+    kind: SegType,
+    messages: Texts<'_>,
+    found: &mut Vec<(SegType, Segment)>,
+) -> Result<(), SegError>
+    ensures { Gives (λ _. found.new.items) result
+        (seen_as (λ segments. found.old.items ++ rows_of kind segments)
+        (segments_reading (length found.old.items) (texts messages.entry.number (fields messages.entry.rest.now)))) }
+{
+    for message in messages {
+        check(found.len() < MOST_SEGMENTS, SegError::TooLarge)?;
+        found.push((kind, read_segment(alloc, message)?))?;
+    }
+    Ok(())
+}
+
+/// Appends the segments of one entry of the map, which is behind entries of other types.
+#[tactic(auto, unfolding(crate::specs::Registration::map_entry_reading))]
+fn read_map_entry(
+    alloc: Global,
+    earlier: Earlier,
+    message: &[u8],
+    found: &mut Vec<(SegType, Segment)>,
+) -> Result<SegType, SegError>
+    ensures { (numbers : List ℕ) → AreIn numbers earlier → Gives {Y = SegType × List (SegType × SegmentView)} (λ kind. (kind, found.new.items)) result
+        (seen_as (λ entry. (entry.0, found.old.items ++ rows_of entry.0 entry.1))
+        (map_entry_reading numbers (length found.old.items) message.now)) }
+{
+    let slots = slots_of(&MAP_ENTRY, message)?;
+    let kind = earlier.new_type(slots.number(1))?;
+    let value = slots_of(&SEGMENTS, slots.text_or_empty(2))?;
+    read_segments(alloc, kind, value.texts(1), found)?;
+    Ok(kind)
+}
+
+/// Reads the entries of a map.
+fn read_map(alloc: Global, messages: Texts<'_>) -> Result<Vec<(SegType, Segment)>, SegError>
+    ensures { Gives (λ v. v.items) result (map_reading [] 0 (texts messages.entry.number (fields messages.entry.rest.now))) }
+{
+    let mut earlier = Earlier::none();
+    let mut found = Vec::new(alloc);
+    for message in messages {
+        let kind = read_map_entry(alloc, earlier, message, &mut found)?;
+        earlier.insert(kind);
+    }
+    Ok(found)
+}
+
+/// Reads a `SegmentsRegistrationRequest`, all of its bytes: its segments and their types, in the order of the message.
+/// It is refused as too large first of all, and at its 17th segment before that is read.
+#[tactic(auto, unfolding(crate::specs::Registration::registration_reading))]
+pub fn read_registration(alloc: Global, message: &[u8]) -> Result<Vec<(SegType, Segment)>, SegError>
+    ensures { Gives (λ v. v.items) result (registration_reading message.now) }
+{
+    check(message.len() <= MOST_BYTES, SegError::TooLarge)?;
+    let slots = slots_of(&SEGMENT_MAP, message)?;
+    read_map(alloc, slots.texts(1))
+}

@@ -1,0 +1,113 @@
+//! Responses: maps from types to segments.
+
+ghost use Rattle.std.specs.Prelude.{◌≡◌, ℕ, ◌+◌, ◌++◌, List, length, IfOk, OnOk};
+ghost use Rattle.pw_wire.specs.Field.{bytes_field_spelling};
+ghost use Rattle.seg_core.specs.Spelling.{segments_spelling, of_type, map_entry_spelling, response_spelling};
+
+use crate::lengths::{head_len, segment_len};
+use crate::seg_type::SegType;
+use crate::segment::Segment;
+use crate::writing::{SLACK, put_head, put_segment};
+use pw_wire::put_varint_field;
+use std::alloc::{AllocError, Global};
+
+/// The bytes of the key of a map entry: a tag, and a type of one byte.
+const KEY_LEN: usize = 2;
+
+/// A sum of lengths. No memory has as many bytes as one that does not fit.
+fn sum(a: usize, b: usize) -> Result<usize, AllocError>
+    ensures { IfOk result (λ n. n ≡ a + b) }
+{
+    a.checked_add(b).ok_or(AllocError)
+}
+
+/// The bytes of the segments of a type, each behind its tag and its length.
+fn segments_len(segments: &[(SegType, Segment)], kind: SegType) -> Result<usize, AllocError>
+    ensures { IfOk result (λ len. len ≡ length (segments_spelling (of_type kind segments.now))) }
+{
+    let mut len = 0;
+    for (of, segment) in segments {
+        if *of == kind {
+            let bytes = segment_len(segment);
+            len = sum(len, head_len(bytes) + bytes)?;
+        }
+    }
+    Ok(len)
+}
+
+/// Appends the segments of a type, each behind its tag and its length.
+fn put_segments(
+    out: &mut Vec<u8>,
+    segments: &[(SegType, Segment)],
+    kind: SegType,
+) -> Result<(), AllocError>
+    ensures { OnOk result (out.new.items ≡ out.old.items ++ segments_spelling (of_type kind segments.now)) }
+{
+    for (of, segment) in segments {
+        if *of == kind {
+            put_head(out, 1, segment_len(segment))?;
+            put_segment(out, segment)?;
+        }
+    }
+    Ok(())
+}
+
+/// The bytes of a map entry's key and value, where the value takes so many bytes.
+fn content_len(value: usize) -> Result<usize, AllocError>
+    ensures { (bytes : List ℕ) → length bytes ≡ value → IfOk result (λ n. n ≡ 2 + length (bytes_field_spelling 2 bytes)) }
+{
+    sum(KEY_LEN + head_len(value), value)
+}
+
+/// The bytes of the map entry of a type, which is there where the type has segments.
+fn type_len(segments: &[(SegType, Segment)], kind: SegType) -> Result<usize, AllocError>
+    ensures { IfOk result (λ len. len ≡ length (map_entry_spelling kind (of_type kind segments.now))) }
+{
+    let value = segments_len(segments, kind)?;
+    if value == 0 {
+        return Ok(0);
+    }
+    let content = content_len(value)?;
+    sum(head_len(content), content)
+}
+
+/// Appends the map entry of a type, where the type has segments.
+fn put_type(
+    out: &mut Vec<u8>,
+    segments: &[(SegType, Segment)],
+    kind: SegType,
+) -> Result<(), AllocError>
+    ensures { OnOk result (out.new.items ≡ out.old.items ++ map_entry_spelling kind (of_type kind segments.now)) }
+{
+    let value = segments_len(segments, kind)?;
+    if value == 0 {
+        return Ok(());
+    }
+    put_head(out, 1, content_len(value)?)?;
+    put_varint_field(out, 1, kind.number())?;
+    put_head(out, 2, value)?;
+    put_segments(out, segments, kind)
+}
+
+/// The bytes of a response.
+#[tactic(auto, unfolding(crate::specs::Spelling::response_spelling))]
+fn response_len(segments: &[(SegType, Segment)]) -> Result<usize, AllocError>
+    ensures { IfOk result (λ len. len ≡ length (response_spelling segments.now)) }
+{
+    let up = type_len(segments, SegType::Up)?;
+    let down = type_len(segments, SegType::Down)?;
+    let core = type_len(segments, SegType::Core)?;
+    sum(up, sum(down, core)?)
+}
+
+/// The bytes of a `SegmentsResponse`: for each type that has segments, these, in their order.
+#[tactic(auto, unfolding(crate::specs::Spelling::response_spelling))]
+pub fn write_response(alloc: Global, segments: &[(SegType, Segment)]) -> Result<Vec<u8>, AllocError>
+    ensures { IfOk result (λ v. v.items ≡ response_spelling segments.now) }
+{
+    let mut out = Vec::with_capacity(alloc, sum(response_len(segments)?, SLACK)?)?;
+    put_type(&mut out, segments, SegType::Up)?;
+    put_type(&mut out, segments, SegType::Down)?;
+    put_type(&mut out, segments, SegType::Core)?;
+    Ok(out)
+}

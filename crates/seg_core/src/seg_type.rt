@@ -1,0 +1,42 @@
+//! The types of segments.
+
+ghost use Rattle.std.specs.Prelude.{◌≡◌};
+ghost use Rattle.seg_core.specs.Steps.{Reads};
+
+use crate::error::SegError;
+
+/// The type of a segment: up and down segments lead from a core AS outwards, core segments from one core AS to
+/// another. The numbers are those of the messages.
+#[derive(Clone, Copy, Debug, PartialEq, Eq, PartialOrd, Ord)]
+pub enum SegType {
+    Up = 1,
+    Down = 2,
+    Core = 3,
+}
+
+impl SegType {
+    ghost use Rattle.seg_core.specs.Registration.{type_number, type_of};
+
+    /// The number of the type: 1, 2 or 3.
+    pub fn number(self) -> u64
+        ensures { result ≡ type_number self }
+    {
+        match self {
+            SegType::Up => 1,
+            SegType::Down => 2,
+            SegType::Core => 3,
+        }
+    }
+
+    /// The type of a number, which is judged whole.
+    pub fn from_number(number: u64) -> Result<SegType, SegError>
+        ensures { Reads (λ kind. kind) result (type_of number) }
+    {
+        match number {
+            1 => Ok(SegType::Up),
+            2 => Ok(SegType::Down),
+            3 => Ok(SegType::Core),
+            _ => Err(SegError::BadType),
+        }
+    }
+}

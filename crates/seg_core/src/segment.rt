@@ -1,0 +1,140 @@
+//! Path segments.
+
+ghost use Rattle.std.specs.Prelude.{◌≡◌, ◌≤◌, IfOk, OnOk, length};
+ghost use Rattle.pw_wire.specs.Fields.{fields};
+ghost use Rattle.seg_core.specs.Steps.{Gives, each};
+ghost use Rattle.seg_core.specs.Message.{texts};
+ghost use Rattle.seg_core.specs.Entry.{as_entry_reading};
+ghost use Rattle.seg_core.specs.EntryView.{entry_views};
+ghost use Rattle.seg_core.specs.WellFormed.{is_entry_count};
+ghost use Rattle.seg_core.specs.Segment.{segment_reading};
+ghost use Rattle.seg_core.specs.Spelling.{IsSegment};
+
+use crate::entry::{Entry, read_as_entry};
+use crate::error::SegError;
+use crate::info::read_info;
+use crate::limits::check;
+use crate::path::{has_no_loop, is_chain};
+use crate::shape::PATH_SEGMENT;
+use crate::slots::slots_of;
+use crate::texts::Texts;
+use std::alloc::{AllocError, Global};
+use std::marker::Model;
+
+/// The most bytes of a segment.
+const MOST_BYTES: usize = 16_384;
+/// The most entries of a segment.
+const MOST_ENTRIES: usize = 64;
+
+/// A path segment: 1 to 64 entries that are one path without a loop, and pieces of the message that it came in.
+#[derive(Debug, Drop)]
+pub struct Segment {
+    timestamp: u32,
+    segment_id: u16,
+    info: Vec<u8>,
+    entries: Vec<Entry>,
+}
+
+impl Model for Segment {
+    ghost use Rattle.seg_core.specs.SegmentView.{SegmentView};
+    ghost use Rattle.seg_core.specs.EntryView.{entry_views};
+    ghost use Rattle.seg_core.specs.Spelling.{IsSegment};
+
+    ghost Value = { SegmentView };
+
+    ghost view = { λ s. record { timestamp = s.timestamp; segment_id = s.segment_id; info = s.info.items; entries = entry_views s.entries.items } };
+
+    ghost invariant = { λ s. IsSegment (record { timestamp = s.timestamp; segment_id = s.segment_id; info = s.info.items; entries = entry_views s.entries.items }) };
+}
+
+impl Segment {
+    /// When the segment was made, in seconds since 1970.
+    pub fn timestamp(&self) -> u32
+        ensures { result ≡ self.now.timestamp }
+    {
+        self.timestamp
+    }
+
+    /// The id that the AS has picked which made the segment.
+    pub fn segment_id(&self) -> u16
+        ensures { result ≡ self.now.segment_id }
+    {
+        self.segment_id
+    }
+
+    /// The entries, in the direction in which the segment was built.
+    pub fn entries(&self) -> &[Entry]
+        ensures same { entry_views result.now ≡ self.now.entries }
+        ensures whole { IsSegment self.now }
+    {
+        &self.entries
+    }
+
+    /// The segment's information as it came.
+    pub fn info(&self) -> &[u8]
+        ensures { result.now ≡ self.now.info }
+    {
+        &self.info
+    }
+
+    /// An equal segment.
+    pub fn try_clone(&self, alloc: Global) -> Result<Segment, AllocError>
+        ensures { IfOk result (λ copy. copy ≡ self.now) }
+    {
+        let mut entries = Vec::with_capacity(alloc, self.entries.len())?;
+        for entry in &self.entries {
+            entries.push(entry.try_clone(alloc)?)?;
+        }
+        Ok(Segment {
+            timestamp: self.timestamp,
+            segment_id: self.segment_id,
+            info: Vec::from_slice(alloc, &self.info)?,
+            entries,
+        })
+    }
+}
+
+/// Reads the entries of a segment, in order.
+fn read_entries(alloc: Global, messages: Texts<'_>) -> Result<Vec<Entry>, SegError>
+    ensures { Gives (λ v. entry_views v.items) result (each as_entry_reading (texts messages.entry.number (fields messages.entry.rest.now))) }
+{
+    let mut entries = Vec::new(alloc);
+    for message in messages {
+        entries.push(read_as_entry(alloc, message)?)?;
+    }
+    Ok(entries)
+}
+
+/// Whether there are 1 to 64 byte strings.
+fn is_entry_count(messages: Texts<'_>) -> bool
+    ensures { result ≡ is_entry_count (length (texts messages.entry.number (fields messages.entry.rest.now))) }
+{
+    let mut count: usize = 0;
+    for _message in messages {
+        if count == MOST_ENTRIES {
+            return false;
+        }
+        count += 1;
+    }
+    count > 0
+}
+
+/// Reads a `PathSegment`, all of its bytes. It is refused as too large before anything in it is read.
+#[tactic(auto, unfolding(crate::specs::Segment::segment_reading))]
+pub fn read_segment(alloc: Global, message: &[u8]) -> Result<Segment, SegError>
+    ensures { Gives (λ s. s) result (segment_reading message.now) }
+{
+    check(message.len() <= MOST_BYTES, SegError::TooLarge)?;
+    let slots = slots_of(&PATH_SEGMENT, message)?;
+    check(is_entry_count(slots.texts(2)), SegError::Entries)?;
+    let info = read_info(slots.text_or_empty(1))?;
+    let entries = read_entries(alloc, slots.texts(2))?;
+    check(is_chain(&entries), SegError::Chain)?;
+    check(has_no_loop(&entries), SegError::Loop)?;
+    Ok(Segment {
+        timestamp: info.timestamp,
+        segment_id: info.segment_id,
+        info: Vec::from_slice(alloc, slots.text_or_empty(1))?,
+        entries,
+    })
+}

@@ -1,0 +1,93 @@
+//! Writing segments, in their one spelling.
+
+ghost use Rattle.std.specs.Prelude.{◌≡◌, ◌<◌, ◌≤◌, ◌++◌, length, IfOk, OnOk};
+ghost use Rattle.seg_core.specs.EntryView.{entry_view, entry_views};
+ghost use Rattle.seg_core.specs.Spelling.{head_spelling, bytes_spelling, optional_spelling, signed_spelling, as_entry_spelling, entries_spelling, segment_spelling};
+
+use crate::entry::Entry;
+use crate::lengths::{entry_len, head_len, segment_len, signed_len};
+use crate::segment::Segment;
+use pw_wire::{put_bytes_field, put_varint};
+use std::alloc::{AllocError, Global};
+
+/// The room that the last bytes of an output are asked for, beyond what they take: two varints of ten bytes.
+pub const SLACK: usize = 20;
+
+/// Appends the tag of a field of bytes, and how many bytes it has.
+#[tactic(auto, unfolding(crate::specs::Spelling::head_spelling))]
+pub fn put_head(out: &mut Vec<u8>, number: u32, len: usize) -> Result<(), AllocError>
+    requires { number < 15 }
+    ensures { OnOk result (out.new.items ≡ out.old.items ++ head_spelling number len) }
+{
+    put_varint(out, u64::from(number) * 8 + 2)?;
+    put_varint(out, len as u64)
+}
+
+/// Appends bytes as a field, unless they are empty.
+fn put_bytes(out: &mut Vec<u8>, number: u32, bytes: &[u8]) -> Result<(), AllocError>
+    requires positive { 1 ≤ number }
+    requires below { number < 15 }
+    ensures { OnOk result (out.new.items ≡ out.old.items ++ bytes_spelling number bytes.now) }
+{
+    if bytes.is_empty() {
+        return Ok(());
+    }
+    put_bytes_field(out, number, bytes)
+}
+
+/// Appends an entry's signed message.
+fn put_signed(out: &mut Vec<u8>, entry: &Entry) -> Result<(), AllocError>
+    ensures { OnOk result (out.new.items ≡ out.old.items ++ signed_spelling (entry_view entry.now)) }
+{
+    put_bytes(out, 1, &entry.signed)?;
+    put_bytes(out, 2, &entry.signature)
+}
+
+/// Appends what an entry has that is not signed, where it is there.
+fn put_unsigned(out: &mut Vec<u8>, entry: &Entry) -> Result<(), AllocError>
+    ensures { OnOk result (out.new.items ≡ out.old.items ++ optional_spelling 2 (entry_view entry.now).unsigned) }
+{
+    match &entry.unsigned {
+        None => Ok(()),
+        Some(unsigned) => put_bytes_field(out, 2, unsigned),
+    }
+}
+
+/// Appends an entry.
+fn put_entry(out: &mut Vec<u8>, entry: &Entry) -> Result<(), AllocError>
+    requires { length (as_entry_spelling (entry_view entry.now)) ≤ 16384 }
+    ensures { OnOk result (out.new.items ≡ out.old.items ++ as_entry_spelling (entry_view entry.now)) }
+{
+    put_head(out, 1, signed_len(entry))?;
+    put_signed(out, entry)?;
+    put_unsigned(out, entry)
+}
+
+/// Appends a segment's entries, each behind its tag and its length.
+fn put_entries(out: &mut Vec<u8>, entries: &[Entry]) -> Result<(), AllocError>
+    requires { length (entries_spelling (entry_views entries.now)) ≤ 16384 }
+    ensures { OnOk result (out.new.items ≡ out.old.items ++ entries_spelling (entry_views entries.now)) }
+{
+    for entry in entries {
+        put_head(out, 2, entry_len(entry))?;
+        put_entry(out, entry)?;
+    }
+    Ok(())
+}
+
+/// Appends a segment.
+pub fn put_segment(out: &mut Vec<u8>, segment: &Segment) -> Result<(), AllocError>
+    ensures { OnOk result (out.new.items ≡ out.old.items ++ segment_spelling segment.now) }
+{
+    put_bytes(out, 1, segment.info())?;
+    put_entries(out, segment.entries())
+}
+
+/// The bytes of a `PathSegment`, in its one spelling, which `read_segment` reads as that segment again.
+pub fn write_segment(alloc: Global, segment: &Segment) -> Result<Vec<u8>, AllocError>
+    ensures { IfOk result (λ v. v.items ≡ segment_spelling segment.now) }
+{
+    let mut out = Vec::with_capacity(alloc, segment_len(segment) + SLACK)?;
+    put_segment(&mut out, segment)?;
+    Ok(out)
+}
