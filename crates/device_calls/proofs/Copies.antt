@@ -1,0 +1,61 @@
+-- What a stop leaves while a payload is copied to a spare place.
+use Rattle.std.proofs.Common.{◌≡◌, ℕ, ◌+◌, ◌*◌, ◌<◌, ◌≤◌, List, length, get_or, Some, None, Result, Ok, Err, OnOk, cond, eqb, refl, ◌∙◌, ap, subst, arith}
+use Rattle.sector_dev.specs.Disk.{History, Disk, IsHonest, IsWhole, reads_of, part, overwritten, written, synced}
+use Rattle.sector_dev.specs.Image.{IsImage, EveryImage}
+use Rattle.sector_dev.specs.Calls.{ReadCall, WriteCall, SyncCall}
+use Rattle.sector_dev.specs.Stretch.{Stretch}
+use Rattle.sector_dev.proofs.Contents.{overwritten_before, part_below}
+use Rattle.sector_dev.proofs.Images.{every_written, image_after_sync}
+use Rattle.sector_dev.proofs.Parts.{success, history_written, history_synced}
+use Rattle.sector_dev.proofs.Stretches.{honest_after, honest_before, at_exit, stretch_here, stretch_write}
+use Rattle.device_calls.specs.Gated.{stands_for, StandsAsBefore}
+
+module _ (gate at n : ℕ) where
+  -- it goes by the gate and the payload alone
+  pub stands_same : (xs ys : List ℕ) → get_or xs (512 * gate) 0 ≡ get_or ys (512 * gate) 0 → part (512 * at) n xs ≡ part (512 * at) n ys → stands_for gate at n xs ≡ stands_for gate at n ys
+  stands_same xs ys byte bytes = λ i. cond (eqb (byte i) 0xA7) (Some (bytes i)) None
+
+  -- a write behind both changes nothing of it
+  pub stands_beside : (spare : ℕ) (torn content : List ℕ) → gate < at → 512 * at + n ≤ 512 * spare → 512 * spare + length torn ≤ length content → stands_for gate at n (overwritten (512 * spare) torn content) ≡ stands_for gate at n content
+  stands_beside spare torn content before apart inside =
+      stands_same (overwritten (512 * spare) torn content) content
+      (overwritten_before (512 * spare) torn content (512 * gate) (omega arith) (omega arith))
+      (part_below (512 * spare) torn content (512 * at) n inside apart)
+
+  module _ (spare : ℕ) (before : gate < at) (apart : 512 * at + n ≤ 512 * spare) (start : Disk) where
+    abbrev Before : List ℕ → Type 0
+    Before = StandsAsBefore gate at n start.history.now
+
+    -- nothing has been done yet
+    pub stands_here : Stretch start start Before
+    stands_here = stretch_here Before start (λ honest content image. record { before = content; image = image; same = refl })
+
+    -- the copy is written
+    pub copy_written : {T E : Type 0} (mid later : Disk) (bytes : List ℕ) (result : Result T E) → 512 * spare + length bytes ≤ 512 * start.sectors → (IsHonest mid → IsWhole mid) → Stretch start mid Before → WriteCall spare bytes result mid later → Stretch start later Before
+    copy_written mid later bytes result inside whole so_far call =
+        stretch_write Before start mid later spare bytes result so_far call
+        (λ honest landed size.
+        every_written Before Before mid.history (512 * spare) landed (omega (arith, (whole honest).size, so_far.keeps.sectors, size)) (whole honest).bytes
+        (at_exit Before start mid so_far (honest_before start mid so_far.keeps honest))
+        (λ content torn long same old. record {
+          before = old.before;
+          image = old.image;
+          same = stands_beside spare torn content before apart (omega (arith, long, (whole honest).size, so_far.keeps.sectors, size, same)) ∙ old.same;
+        }))
+
+    -- and synced
+    pub copy_durable : {T E : Type 0} (u v w : T) (one two three four : Disk) (bytes : List ℕ) (result : Result T E) → 512 * spare + length bytes ≤ 512 * start.sectors → (IsHonest start → IsWhole start)
+        → SyncCall (success E u) start one → ReadCall at bytes (success E v) one two → WriteCall spare bytes (success E w) two three → SyncCall result three four
+        → OnOk result (IsHonest start → EveryImage four.history.now (λ content. stands_for gate at n content ≡ stands_for gate at n (reads_of start)))
+    copy_durable {T} {E} u v w one two three four bytes (Err _) inside whole first read write last = tt
+    copy_durable {T} {E} u v w one two three four bytes (Ok _) inside whole first read write last = λ honest content image.
+        let honest_one = honest_after start one first.keeps honest in
+        let honest_two = honest_after one two read.keeps honest_one in
+        let honest_three = honest_after two three write.keeps honest_two in
+        let is_two : two.history ≡ synced start.history = read.history honest_one ∙ history_synced E u start one first honest in
+        let is_four : four.history ≡ synced (written (512 * spare) bytes (synced start.history)) =
+        last.done honest_three ∙ ap synced (history_written E w spare bytes two three write honest_two ∙ ap (λ (h : History). written (512 * spare) bytes h) is_two) in
+        let is_content : content ≡ overwritten (512 * spare) bytes start.history.now.reads =
+        image_after_sync (written (512 * spare) bytes (synced start.history)) content (subst (λ (h : History). IsImage h.now content) is_four image) in
+        ap (λ (list : List ℕ). stands_for gate at n list) is_content
+        ∙ stands_beside spare bytes start.history.now.reads before apart (omega (arith, (whole honest).size))

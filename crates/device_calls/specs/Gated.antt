@@ -1,0 +1,22 @@
+-- A payload behind a gate: it counts where the first byte of the gate's sector is 0xA7.
+use Rattle.std.specs.Prelude.{◌≡◌, ◌≢◌, ◌⊎◌, ℕ, ◌*◌, List, Option, Some, None, slice_index, if◌then◌else◌, ◌==◌}
+use Rattle.sector_dev.specs.Disk.{Moment, part}
+use Rattle.sector_dev.specs.Image.{IsImage}
+
+-- the gate in this sector is not open
+abbrev pub IsClosed : ℕ → List ℕ → Type 0
+IsClosed gate content = slice_index content (512 * gate) ≢ 0xA7
+
+-- what a content stands for: the n bytes at a sector, behind the gate in another
+abbrev pub stands_for : ℕ → ℕ → ℕ → List ℕ → Option (List ℕ)
+stands_for gate sector n content = if slice_index content (512 * gate) == 0xA7 then Some (part (512 * sector) n content) else None
+
+-- the content stands for nothing yet, or for this payload
+abbrev pub IsBeforeOrAfter : ℕ → ℕ → ℕ → List ℕ → List ℕ → Type 0
+IsBeforeOrAfter gate sector n payload content = (stands_for gate sector n content ≡ None) ⊎ (stands_for gate sector n content ≡ Some payload)
+
+-- the content stands for what some image of this moment stands for
+pub record StandsAsBefore (gate sector n : ℕ) (moment : Moment) (content : List ℕ) : Type 0 where
+  pub before : List ℕ
+  pub image : IsImage moment before
+  pub same : stands_for gate sector n content ≡ stands_for gate sector n before

@@ -1,0 +1,143 @@
+-- What a stop may leave, before a call and after it.
+use Rattle.std.proofs.Common.{◌≡◌, ◌⊎◌, inl, inr, ℕ, ◌+◌, ◌-◌, ◌≤◌, List, [], ◌∷◌, length, get_or, refl, sym, ◌∙◌, ap, subst, arith}
+use Rattle.std.proofs.lemmas.Bool.{cases_lt}
+use Rattle.std.proofs.lemmas.List.Elements.{All-nil, All-cons, All-head, All-tail}
+use Rattle.sector_dev.specs.Disk.{Span, Moment, History, AreBytes, part, overwritten, written, synced}
+use Rattle.sector_dev.specs.Image.{IsClean, IsCleanPart, IsImage, EveryImage}
+use Rattle.sector_dev.proofs.Contents.{length-overwritten, overwritten_before, overwritten_within, overwritten_behind, length-part, get_or-part, same_part, same_content, overwritten_same, overwritten_twice, bytes_overwritten, bytes-part}
+
+-- a range leaves this place alone
+abbrev pub IsBeside : ℕ → Span → Type 0
+IsBeside i span = span.start ≤ i → span.start + span.len ≤ i
+
+-- with no range nothing is dirty
+pub clean_none : (i : ℕ) → IsClean [] i
+clean_none i = All-nil (IsBeside i)
+
+pub clean_part_none : (at n : ℕ) → IsCleanPart [] at n
+clean_part_none at n i from to = clean_none i
+
+-- a range more leaves clean what it doesn't meet
+pub clean_beside : (start len : ℕ) (dirty : List Span) (i : ℕ) → (start ≤ i → start + len ≤ i) → IsClean dirty i → IsClean (record { start = start; len = len } ∷ dirty) i
+clean_beside start len dirty i beside clean = All-cons (IsBeside i) (record { start = start; len = len }) dirty beside clean
+
+pub clean_part_beside : (start len : ℕ) (dirty : List Span) (at n : ℕ) → (start + len ≤ at) ⊎ (at + n ≤ start) → IsCleanPart dirty at n → IsCleanPart (record { start = start; len = len } ∷ dirty) at n
+clean_part_beside start len dirty at n (inl before) clean = λ i from to. clean_beside start len dirty i (λ _. omega arith) (clean i from to)
+clean_part_beside start len dirty at n (inr behind) clean = λ i from to. clean_beside start len dirty i (λ met. absurd (omega arith)) (clean i from to)
+
+-- a part of a clean part
+pub clean_part_in : (dirty : List Span) (at n from m : ℕ) → at ≤ from → from + m ≤ at + n → IsCleanPart dirty at n → IsCleanPart dirty from m
+clean_part_in dirty at n from m low high clean i here to = clean i (omega arith) (omega arith)
+
+-- what was clean with a range more is clean without it
+pub clean_before : (start len : ℕ) (dirty : List Span) (i : ℕ) → IsClean (record { start = start; len = len } ∷ dirty) i → (start ≤ i → start + len ≤ i) × IsClean dirty i
+clean_before start len dirty i clean = (
+  All-head (IsBeside i) (record { start = start; len = len }) dirty clean,
+  All-tail (IsBeside i) (record { start = start; len = len }) dirty clean,
+)
+
+-- what reads give is an image
+pub image_of_reads : (moment : Moment) → AreBytes moment.reads → IsImage moment moment.reads
+image_of_reads moment bytes = record { size = refl; bytes = bytes; clean = λ i _. refl }
+
+-- where nothing is dirty, it is the only one
+pub image_is_reads : (moment : Moment) (content : List ℕ) → moment.dirty ≡ [] → IsImage moment content → content ≡ moment.reads
+image_is_reads moment content none image =
+    same_content content moment.reads image.size
+    (λ i below. image.clean i (subst (λ (dirty : List Span). IsClean dirty i) (sym none) (clean_none i)))
+
+-- a clean part of an image is what reads give there
+pub image_part : (moment : Moment) (content : List ℕ) (at n : ℕ) → IsImage moment content → IsCleanPart moment.dirty at n → part at n content ≡ part at n moment.reads
+image_part moment content at n image clean = same_part at n content moment.reads image.size (λ i from to. image.clean i (clean i from to))
+
+-- a sync that succeeds only takes images away
+pub image_synced : (history : History) (content : List ℕ) → IsImage (synced history).now content → IsImage history.now content
+image_synced history content image = record { size = image.size; bytes = image.bytes; clean = λ i _. image.clean i (clean_none i) }
+
+pub image_after_sync : (history : History) (content : List ℕ) → IsImage (synced history).now content → content ≡ history.now.reads
+image_after_sync history content image = image_is_reads (synced history).now content refl image
+
+-- an image after a write is one from before it, with other bytes in the range
+pub record IsTorn (history : History) (at n : ℕ) (content : List ℕ) : Type 0 where
+  pub before : List ℕ
+  pub image : IsImage history.now before
+  pub size : length before ≡ length content
+  pub is : content ≡ overwritten at (part at n content) before
+
+pub image_written : (history : History) (at : ℕ) (landed : List ℕ) (content : List ℕ) → at + length landed ≤ length history.now.reads → AreBytes history.now.reads → IsImage (written at landed history).now content
+    → IsTorn history at (length landed) content
+image_written history at landed content inside bytes image = record {
+  before = before;
+  image = record {
+    size = length-overwritten at old content (omega (arith, size, old_size)) ∙ size;
+    bytes = bytes_overwritten at old content (omega (arith, size, old_size)) (bytes-part at (length landed) reads bytes) image.bytes;
+    clean = λ i clean. entry i clean;
+  };
+  size = length-overwritten at old content (omega (arith, size, old_size));
+  is = sym (overwritten_same at (length landed) content (omega (arith, size)))
+      ∙ sym (overwritten_twice at old torn content (omega (arith, size, old_size)) (torn_size ∙ sym old_size));
+}
+  where
+    reads : List ℕ
+    reads = history.now.reads
+
+    size : length content ≡ length reads
+    size = image.size ∙ length-overwritten at landed reads inside
+
+    old : List ℕ
+    old = part at (length landed) reads
+
+    old_size : length old ≡ length landed
+    old_size = length-part at (length landed) reads inside
+
+    torn : List ℕ
+    torn = part at (length landed) content
+
+    torn_size : length torn ≡ length landed
+    torn_size = length-part at (length landed) content (omega (arith, size))
+
+    before : List ℕ
+    before = overwritten at old content
+
+    clean_now : (i : ℕ) → (at ≤ i → at + length landed ≤ i) → IsClean history.now.dirty i → get_or content i 0 ≡ get_or (overwritten at landed reads) i 0
+    clean_now i beside clean = image.clean i (clean_beside at (length landed) history.now.dirty i beside clean)
+
+    entry : (i : ℕ) → IsClean history.now.dirty i → get_or before i 0 ≡ get_or reads i 0
+    entry i clean = elim (cases_lt i at) [
+      | inl early ↦
+          overwritten_before at old content i (omega (arith, size)) early ∙ clean_now i (λ from. absurd (omega arith)) clean
+          ∙ overwritten_before at landed reads i (omega arith) early
+      | inr from ↦ elim (cases_lt i (at + length landed)) [
+        | inl to ↦
+            let place : at + (i - at) ≡ i = omega arith in
+            overwritten_within at old content i (omega (arith, size)) from (omega (arith, old_size))
+            ∙ get_or-part at (length landed) reads (i - at) (omega arith) ∙ ap (λ (j : ℕ). get_or reads j 0) place
+        | inr behind ↦
+            overwritten_behind at old content i (omega (arith, size, old_size)) (omega (arith, old_size))
+            ∙ clean_now i (λ _. behind) clean ∙ overwritten_behind at landed reads i inside behind
+      ]
+    ]
+
+-- outside the range it is that one
+pub torn_outside : (history : History) (at n : ℕ) (content : List ℕ) → (torn : IsTorn history at n content) → at + n ≤ length content → (i : ℕ) → (at ≤ i → at + n ≤ i) → get_or content i 0 ≡ get_or torn.before i 0
+torn_outside history at n content torn inside i beside =
+    ap (λ (list : List ℕ). get_or list i 0) torn.is
+    ∙ elim (cases_lt i at) [
+      | inl early ↦ overwritten_before at (part at n content) torn.before i (omega (arith, same)) early
+      | inr from ↦ overwritten_behind at (part at n content) torn.before i (omega (arith, same, new_size)) (omega (arith, new_size, beside from))
+    ]
+  where
+    new_size : length (part at n content) ≡ n
+    new_size = length-part at n content inside
+
+    same : length torn.before ≡ length content
+    same = torn.size
+
+-- If a content with P, overwritten in the range by whatever bytes, has Q, then each image after the write has Q.
+pub every_written : (P Q : List ℕ → Type 0) (history : History) (at : ℕ) (landed : List ℕ) → at + length landed ≤ length history.now.reads → AreBytes history.now.reads → EveryImage history.now P
+    → ((content torn : List ℕ) → length content ≡ length history.now.reads → length torn ≡ length landed → P content → Q (overwritten at torn content)) → EveryImage (written at landed history).now Q
+every_written P Q history at landed inside bytes each step content image =
+    let torn = image_written history at landed content inside bytes image in
+    let long : length content ≡ length history.now.reads = image.size ∙ length-overwritten at landed history.now.reads inside in
+    let size : length (part at (length landed) content) ≡ length landed = length-part at (length landed) content (omega (arith, long)) in
+    subst Q (sym torn.is) (step torn.before (part at (length landed) content) torn.image.size size (each torn.before torn.image))

@@ -1,0 +1,270 @@
+-- Transfers one after another.
+use Rattle.std.proofs.Common.{◌≡◌, ℕ, ◌+◌, ◌-◌, ◌*◌, ◌<◌, ◌≤◌, inl, inr, List, [], ◌∷◌, ◌++◌, length, get_or, take, drop, refl, sym, ◌∙◌, ap, subst, arith, length-append, length-drop, get_or-take, Result, Ok, Err, OnOk, Bool, IsTrue, add-zero}
+use Rattle.std.proofs.lemmas.Bool.{cases_lt}
+use Rattle.std.proofs.lemmas.List.{take_at, drop_at, drop-drop, drop-take, take-take, take-append-drop, take-append-le, length-take-le, get_or_append_left, get_or-append_right}
+use borrow.Rule.Slice.PartMut.{put_mid, post_of}
+use Rattle.sector_dev.specs.Disk.{Span, Moment, History, part, overwritten}
+use Rattle.sector_dev.specs.Calls.{Lands}
+use Rattle.sector_dev.specs.PositionedFile.{FileState, IsHonestFile, DirtiesOnly, CoversDirty, TransfersIn}
+use Rattle.sector_dev.specs.FileDevice.{LandsWhole, WritesWhole, front}
+use Rattle.sector_dev.specs.Image.{IsClean}
+use Rattle.sector_dev.proofs.Images.{clean_before}
+use Rattle.sector_dev.proofs.Contents.{length-overwritten, overwritten_before, overwritten_within, overwritten_behind, length-part, part_above, same_content, overwritten_same}
+
+-- the first m, and then the next n
+pub take_join : (m n : ℕ) (bytes : List ℕ) → take m bytes ++ take n (drop m bytes) ≡ take (m + n) bytes
+take_join m n bytes =
+    ap (λ (list : List ℕ). list ++ take n (drop m bytes)) (sym (take-take m (m + n) bytes (omega arith)))
+    ∙ ap (λ (list : List ℕ). take m (take (m + n) bytes) ++ list) (sym (drop-take m n bytes))
+    ∙ take-append-drop m (take (m + n) bytes)
+
+-- two parts, one behind the other
+pub part_more : (at m n : ℕ) (bytes : List ℕ) → part at m bytes ++ part (at + m) n bytes ≡ part at (m + n) bytes
+part_more at m n bytes =
+    ap (λ (list : List ℕ). part at m bytes ++ take n list) (sym (drop-drop m at bytes)) ∙ take_join m n (drop at bytes)
+
+-- as many as there are, and n of what is behind
+pub take_past : (xs ys : List ℕ) (m n : ℕ) → m ≡ length xs → take (m + n) (xs ++ ys) ≡ xs ++ take n ys
+take_past xs ys m n is =
+    let whole : take m (xs ++ ys) ≡ xs = take_at xs ys m (sym is) in
+    let rest : drop m (xs ++ ys) ≡ ys = drop_at xs ys m (sym is) in
+    sym (take_join m n (xs ++ ys)) ∙ (λ i. whole i ++ take n (rest i))
+
+-- a transfer more of a read
+pub read_more : (done n offset : ℕ) (into rest bytes : List ℕ) → done ≤ length into → n ≤ length rest → take done into ≡ part offset done bytes → take n rest ≡ part (offset + done) n bytes
+    → take (done + n) (put_mid done (length into - done) into rest) ≡ part offset (done + n) bytes
+read_more done n offset into rest bytes below most so_far next =
+    take_past (take done into) (rest ++ post_of done (length into - done) into) done n (sym (length-take-le done into below))
+    ∙ ap (λ (list : List ℕ). take done into ++ list) (take-append-le n rest (post_of done (length into - done) into) most)
+    ∙ (λ i. so_far i ++ next i) ∙ part_more offset done n bytes
+
+-- two writes, one behind the other
+pub overwritten_more : (at : ℕ) (first second content : List ℕ) → at + (length first + length second) ≤ length content → overwritten (at + length first) second (overwritten at first content) ≡ overwritten at (first ++ second) content
+overwritten_more at first second content inside =
+    same_content twice once
+    (length-overwritten (at + length first) second one (omega (arith, long)) ∙ long ∙ sym (length-overwritten at (first ++ second) content (omega (arith, both))))
+    (λ i below. entry i)
+  where
+    one : List ℕ
+    one = overwritten at first content
+
+    twice : List ℕ
+    twice = overwritten (at + length first) second one
+
+    once : List ℕ
+    once = overwritten at (first ++ second) content
+
+    long : length one ≡ length content
+    long = length-overwritten at first content (omega arith)
+
+    both : length (first ++ second) ≡ length first + length second
+    both = length-append first second
+
+    entry : (i : ℕ) → get_or twice i 0 ≡ get_or once i 0
+    entry i = elim (cases_lt i (at + length first)) [
+      | inl early ↦
+          overwritten_before (at + length first) second one i (omega (arith, long)) early ∙ elim (cases_lt i at) [
+            | inl before ↦ overwritten_before at first content i (omega arith) before ∙ sym (overwritten_before at (first ++ second) content i (omega arith) before)
+            | inr from ↦
+                overwritten_within at first content i (omega arith) from early
+                ∙ sym (get_or_append_left first second 0 (i - at) (omega arith))
+                ∙ sym (overwritten_within at (first ++ second) content i (omega arith) from (omega (arith, both)))
+          ]
+      | inr late ↦ elim (cases_lt i (at + length first + length second)) [
+        | inl within ↦
+            let place : i - (at + length first) ≡ i - at - length first = omega arith in
+            overwritten_within (at + length first) second one i (omega (arith, long)) late within
+            ∙ ap (λ (j : ℕ). get_or second j 0) place
+            ∙ sym (get_or-append_right first second (length first) (i - at) 0 refl (omega arith))
+            ∙ sym (overwritten_within at (first ++ second) content i (omega arith) (omega arith) (omega (arith, both)))
+        | inr behind ↦
+            overwritten_behind (at + length first) second one i (omega (arith, long)) behind
+            ∙ overwritten_behind at first content i (omega arith) (omega arith)
+            ∙ sym (overwritten_behind at (first ++ second) content i (omega (arith, both)) (omega (arith, both)))
+      ]
+    ]
+
+-- what a write within the front changes of it
+pub front_overwritten : (size at : ℕ) (landed content : List ℕ) → at + length landed ≤ size → size ≤ length content → take size (overwritten at landed content) ≡ overwritten at landed (take size content)
+front_overwritten size at landed content inside covered =
+    same_content (take size (overwritten at landed content)) (overwritten at landed (take size content)) (one ∙ sym two) (λ i below. entry i (omega (arith, one)))
+  where
+    long : length (overwritten at landed content) ≡ length content
+    long = length-overwritten at landed content (omega arith)
+
+    cut : length (take size content) ≡ size
+    cut = length-take-le size content covered
+
+    one : length (take size (overwritten at landed content)) ≡ size
+    one = length-take-le size (overwritten at landed content) (omega (arith, long))
+
+    two : length (overwritten at landed (take size content)) ≡ size
+    two = length-overwritten at landed (take size content) (omega (arith, cut)) ∙ cut
+
+    entry : (i : ℕ) → i < size → get_or (take size (overwritten at landed content)) i 0 ≡ get_or (overwritten at landed (take size content)) i 0
+    entry i below =
+        get_or-take size (overwritten at landed content) i 0 below ∙ elim (cases_lt i at) [
+          | inl before ↦
+              overwritten_before at landed content i (omega arith) before ∙ sym (get_or-take size content i 0 below)
+              ∙ sym (overwritten_before at landed (take size content) i (omega (arith, cut)) before)
+          | inr from ↦ elim (cases_lt i (at + length landed)) [
+            | inl to ↦ overwritten_within at landed content i (omega arith) from to ∙ sym (overwritten_within at landed (take size content) i (omega (arith, cut)) from to)
+            | inr behind ↦
+                overwritten_behind at landed content i (omega arith) behind ∙ sym (get_or-take size content i 0 below)
+                ∙ sym (overwritten_behind at landed (take size content) i (omega (arith, cut)) behind)
+          ]
+        ]
+
+-- what a part within the front is
+pub part-front : (size at n : ℕ) (content : List ℕ) → at + n ≤ size → part at n (take size content) ≡ part at n content
+part-front size at n content inside =
+    let split : at + (size - at) ≡ size = omega arith in
+    ap (λ (k : ℕ). take n (drop at (take k content))) (sym split)
+    ∙ ap (λ (list : List ℕ). take n list) (drop-take at (size - at) content) ∙ take-take n (size - at) (drop at content) (omega arith)
+
+-- a transfer more of a write
+pub write_more : (done n offset : ℕ) (bytes content new : List ℕ) → done + n ≤ length bytes → offset + length bytes ≤ length content → new ≡ overwritten offset (take done bytes) content
+    → overwritten (offset + done) (take n (drop done bytes)) new ≡ overwritten offset (take (done + n) bytes) content
+write_more done n offset bytes content new below inside so_far =
+    let first : length (take done bytes) ≡ done = length-take-le done bytes (omega arith) in
+    let second : length (take n (drop done bytes)) ≡ n = length-take-le n (drop done bytes) (omega (arith, length-drop done bytes)) in
+    (λ i. overwritten (offset + sym first i) (take n (drop done bytes)) (so_far i))
+    ∙ overwritten_more offset (take done bytes) (take n (drop done bytes)) content (omega (arith, first, second))
+    ∙ ap (λ (list : List ℕ). overwritten offset list content) (take_join done n bytes)
+
+-- a write that ends early, after a last transfer that left any bytes
+pub ended_early : (done offset : ℕ) (bytes landed content new later : List ℕ) → done ≤ length bytes → offset + length bytes ≤ length content → length landed ≡ length bytes - done
+    → new ≡ overwritten offset (take done bytes) content → later ≡ overwritten (offset + done) landed new → later ≡ overwritten offset (take done bytes ++ landed) content
+ended_early done offset bytes landed content new later below inside size so_far last =
+    let first : length (take done bytes) ≡ done = length-take-le done bytes below in
+    last ∙ (λ i. overwritten (offset + sym first i) landed (so_far i))
+    ∙ overwritten_more offset (take done bytes) landed content (omega (arith, first))
+
+-- what is behind a write stays, and may be thought of as written again
+pub overwritten_and_rest : (at : ℕ) (first content : List ℕ) (n : ℕ) → at + length first + n ≤ length content → overwritten at (first ++ part (at + length first) n content) content ≡ overwritten at first content
+overwritten_and_rest at first content n inside =
+    let there = part (at + length first) n content in
+    let one = overwritten at first content in
+    let size : length there ≡ n = length-part (at + length first) n content (omega arith) in
+    let long : length one ≡ length content = length-overwritten at first content (omega arith) in
+    let same : there ≡ part (at + length first) n one = sym (part_above at first content (at + length first) n (omega arith) (omega arith)) in
+    sym (overwritten_more at first there content (omega (arith, size)))
+    ∙ ap (λ (list : List ℕ). overwritten (at + length first) list one) same
+    ∙ overwritten_same (at + length first) n one (omega (arith, long))
+
+overwritten_and_rest_at : (done at : ℕ) (bytes content : List ℕ) → done ≤ length bytes → at + length bytes ≤ length content → overwritten at (take done bytes ++ part (at + done) (length bytes - done) content) content ≡ overwritten at (take done bytes) content
+overwritten_and_rest_at done at bytes content below inside =
+    let first : length (take done bytes) ≡ done = length-take-le done bytes below in
+    ap (λ (k : ℕ). overwritten at (take done bytes ++ part (at + k) (length bytes - done) content) content) (sym first)
+    ∙ overwritten_and_rest at (take done bytes) content (length bytes - done) (omega (arith, first))
+
+-- what a transfer answered
+abbrev pub moved : (E : Type 0) → ℕ → Result ℕ E
+moved E n = Ok n
+
+abbrev pub failed_by : {E : Type 0} → E → Result ℕ E
+failed_by error = Err error
+
+abbrev pub stopped : {F : Type 0} (T : Type 0) → F → Result T F
+stopped T e = Err e
+
+-- honest before is honest after, where that stays
+pub honest_file : (old new : FileState) → new.is_honest ≡ old.is_honest → IsHonestFile old → IsHonestFile new
+honest_file old new same honest = subst (λ (b : Bool). IsTrue b) (sym same) honest
+
+module _ (offset done : ℕ) (bytes : List ℕ) (start mid later : FileState) (below : done ≤ length bytes) (same : mid.is_honest ≡ start.is_honest)
+    (so_far : IsHonestFile start → offset + length bytes ≤ length start.bytes → mid.bytes ≡ overwritten offset (take done bytes) start.bytes) (dirtied : IsHonestFile start → DirtiesOnly offset (length bytes) start.dirty mid.dirty) where
+  abbrev rest : List ℕ
+  rest = take (length bytes - done) (drop done bytes)
+
+  rest_size : length rest ≡ length bytes - done
+  rest_size = length-take-le (length bytes - done) (drop done bytes) (omega (arith, length-drop done bytes))
+
+  first_size : length (take done bytes) ≡ done
+  first_size = length-take-le done bytes below
+
+  mid_size : IsHonestFile start → offset + length bytes ≤ length start.bytes → length mid.bytes ≡ length start.bytes
+  mid_size honest inside = ap length (so_far honest inside) ∙ length-overwritten offset (take done bytes) start.bytes (omega (arith, first_size))
+
+  -- a transfer that moved some bytes
+  pub write_step : {E : Type 0} (n : ℕ) → TransfersIn (offset + done) rest (moved E n) mid later → IsHonestFile start → offset + length bytes ≤ length start.bytes → later.bytes ≡ overwritten offset (take (done + n) bytes) start.bytes
+  write_step n call honest inside =
+      let most : n ≤ length rest = call.most in
+      let lands = call.lands (honest_file start mid same honest) (omega (arith, rest_size, mid_size honest inside)) in
+      lands
+      ∙ ap (λ (list : List ℕ). overwritten (offset + done) list mid.bytes) (take-take n (length bytes - done) (drop done bytes) (omega (arith, rest_size, most)))
+      ∙ write_more done n offset bytes start.bytes mid.bytes (omega (arith, rest_size, most)) inside (so_far honest inside)
+
+  -- one that did anything
+  pub write_dirties : {E : Type 0} (result : Result ℕ E) → TransfersIn (offset + done) rest result mid later → IsHonestFile start → DirtiesOnly offset (length bytes) start.dirty later.dirty
+  write_dirties result call honest i clean beside =
+      call.dirty (honest_file start mid same honest) i (dirtied honest i clean beside) (λ from. omega (arith, beside (omega arith), rest_size))
+
+  -- one that moved none
+  pub write_stuck : {T E F : Type 0} (e : F) (n : ℕ) → n ≡ 0 → TransfersIn (offset + done) rest (moved E n) mid later → WritesWhole offset bytes (stopped T e) start later
+  write_stuck {T} {E} {F} e n none call = record {
+    is_honest = call.is_honest ∙ same;
+    dirty = write_dirties (moved E n) call;
+    lands = λ honest inside.
+        let there = part (offset + done) (length bytes - done) start.bytes in
+        let size : length there ≡ length bytes - done = length-part (offset + done) (length bytes - done) start.bytes (omega arith) in
+        let now = write_step n call honest inside ∙ ap (λ (k : ℕ). overwritten offset (take k bytes) start.bytes) (ap (λ (k : ℕ). done + k) none ∙ add-zero done) in
+        record {
+          landed = take done bytes ++ there;
+          size = length-append (take done bytes) there ∙ omega (arith, first_size, size);
+          done = tt;
+          is = now ∙ sym (overwritten_and_rest_at done offset bytes start.bytes below inside);
+        };
+  }
+
+  -- one that failed
+  pub write_failed : {T E F : Type 0} (e : F) (error : E) → TransfersIn (offset + done) rest (failed_by error) mid later → WritesWhole offset bytes (stopped T e) start later
+  write_failed e error call = record {
+    is_honest = call.is_honest ∙ same;
+    dirty = write_dirties (failed_by error) call;
+    lands = λ honest inside.
+        let last = call.lands (honest_file start mid same honest) (omega (arith, rest_size, mid_size honest inside)) in
+        record {
+          landed = take done bytes ++ last.0;
+          size = length-append (take done bytes) last.0 ∙ omega (arith, first_size, last.1, rest_size);
+          done = tt;
+          is = ended_early done offset bytes last.0 start.bytes mid.bytes later.bytes below inside (last.1 ∙ rest_size) (so_far honest inside) last.2;
+        };
+  }
+
+-- what a write of a file does to the device over it
+module _ (sectors at : ℕ) (bytes : List ℕ) (old new : FileState) (past later : List Moment) (dirty dirtied : List Span) where
+  abbrev before : History
+  before = record { past = past; now = record { reads = front sectors old.bytes; dirty = dirty } }
+
+  abbrev after : History
+  after = record { past = later; now = record { reads = front sectors new.bytes; dirty = dirtied } }
+
+  pub file_lands : {T E S F : Type 0} (told : Result T E) (result : Result S F) → 512 * at + length bytes ≤ 512 * sectors → 512 * sectors ≤ length old.bytes
+      → LandsWhole (512 * at) bytes told old.bytes new.bytes → ((landed : List ℕ) → OnOk told (landed ≡ bytes) → OnOk result (landed ≡ bytes))
+      → (later ≡ past ++ before.now ∷ []) × (dirtied ≡ record { start = 512 * at; len = length bytes } ∷ dirty) → Lands at bytes result before after
+  file_lands told result inside covered lands answer trail =
+      let reads : front sectors new.bytes ≡ overwritten (512 * at) lands.landed (front sectors old.bytes) =
+      ap (λ (list : List ℕ). front sectors list) lands.is ∙ front_overwritten (512 * sectors) (512 * at) lands.landed old.bytes (omega (arith, lands.size)) covered in
+      let spans : dirtied ≡ record { start = 512 * at; len = length lands.landed } ∷ dirty =
+      trail.1 ∙ ap (λ (n : ℕ). span n ∷ dirty) (sym lands.size) in
+      record {
+        landed = lands.landed;
+        size = lands.size;
+        done = answer lands.landed lands.done;
+        history = λ i. record { past = trail.0 i; now = record { reads = reads i; dirty = spans i } };
+      }
+    where
+      span : ℕ → Span
+      span n = record { start = 512 * at; len = n }
+
+-- what was covered is covered after a write of which the device knows
+pub covers_written : (at n : ℕ) (dirty dirtied : List Span) (old new : FileState) → CoversDirty dirty old → DirtiesOnly at n old.dirty new.dirty → dirtied ≡ record { start = at; len = n } ∷ dirty → CoversDirty dirtied new
+covers_written at n dirty dirtied old new covers written is i clean =
+    let both = clean_before at n dirty i (subst (λ (spans : List Span). IsClean spans i) is clean) in
+    written i (covers i both.1) both.0
+
+-- a write within the front leaves the file as long as it was
+pub covered_after : {T E : Type 0} (size at : ℕ) (bytes : List ℕ) (told : Result T E) (old new : List ℕ) → at + length bytes ≤ size → size ≤ length old → LandsWhole at bytes told old new → size ≤ length new
+covered_after size at bytes told old new inside covered lands =
+    omega (arith, ap length lands.is, length-overwritten at lands.landed old (omega (arith, lands.size)))

@@ -1,0 +1,5 @@
+pub mod Contents
+pub mod Images
+pub mod Parts
+pub mod Stretches
+mod Joined

@@ -1,0 +1,154 @@
+-- How a caller goes from call to call.
+use Rattle.std.proofs.Common.{◌≡◌, ℕ, ◌*◌, ◌≤◌, ◌^◌, ◌-◌, List, [], ◌∷◌, ◌++◌, length, drop, Bool, IsTrue, refl, sym, ◌∙◌, ap, subst, arith, append_assoc, Result, Ok, Err, OnOk, OnErr, All}
+use Rattle.std.proofs.lemmas.List.{drop_at, append-nil, same_from_push}
+use Rattle.std.proofs.lemmas.List.Elements.{All-nil, All-cons, All-head, All-tail, All-append, All-same, All-weaker}
+use Rattle.sector_dev.specs.Disk.{Moment, History, Disk, IsHonest, moments, written, synced}
+use Rattle.sector_dev.specs.Image.{EveryImage}
+use Rattle.sector_dev.specs.Calls.{counted, Keeps, ReadCall, WriteCall, SyncCall}
+use Rattle.sector_dev.specs.Stretch.{Leaves, Stretch}
+use Rattle.sector_dev.proofs.Images.{image_synced}
+
+-- Whether a device is honest stays.
+pub honest_after : (old new : Disk) → Keeps old new → IsHonest old → IsHonest new
+honest_after old new keeps honest = subst (λ (b : Bool). IsTrue b) (sym keeps.is_honest) honest
+
+pub honest_before : (old new : Disk) → Keeps old new → IsHonest new → IsHonest old
+honest_before old new keeps honest = subst (λ (b : Bool). IsTrue b) keeps.is_honest honest
+
+pub keeps_here : (disk : Disk) → Keeps disk disk
+keeps_here disk = record { is_honest = refl; sectors = refl }
+
+pub keeps_then : (old mid new : Disk) → Keeps old mid → Keeps mid new → Keeps old new
+keeps_then old mid new first second = record { is_honest = second.is_honest ∙ first.is_honest; sectors = second.sectors ∙ first.sectors }
+
+-- The count of failed calls never falls, and goes on where a call failed.
+pub counted_later : {T E : Type 0} (result : Result T E) (faults : ℕ) → faults ≤ 2 ^ 64 - 1 → faults ≤ counted result faults
+counted_later (Ok _) faults small = omega arith
+counted_later (Err _) faults small = omega arith
+
+-- each of these moments leaves what has P
+abbrev pub AllLeave : (List ℕ → Type 0) → List Moment → Type 0
+AllLeave P list = All (λ (moment : Moment). EveryImage moment P) list
+
+module _ (P : List ℕ → Type 0) where
+  abbrev Leaving : Moment → Type 0
+  Leaving moment = EveryImage moment P
+
+  -- the moments from a state on are itself and the later ones
+  moments_since : (old new : History) (later : List Moment) → moments new ≡ moments old ++ later → drop (length old.past) (moments new) ≡ old.now ∷ later
+  moments_since old new later goes_on =
+      ap (λ (list : List Moment). drop (length old.past) list) (goes_on ∙ append_assoc old.past (old.now ∷ []) later)
+      ∙ drop_at old.past (old.now ∷ later) (length old.past) refl
+
+  -- a stretch of moments by its list
+  pub leaves_by : (old new : History) (later : List Moment) → moments new ≡ moments old ++ later → EveryImage old.now P → AllLeave P later → Leaves old new P
+  leaves_by old new later goes_on here after = record {
+    later = later;
+    goes_on = goes_on;
+    every = All-same Leaving (drop (length old.past) (moments new)) (old.now ∷ later) (moments_since old new later goes_on) (All-cons Leaving old.now later here after);
+  }
+
+  all_since : (old new : History) (leaves : Leaves old new P) → AllLeave P (old.now ∷ leaves.later)
+  all_since old new leaves =
+      All-same Leaving (old.now ∷ leaves.later) (drop (length old.past) (moments new)) (sym (moments_since old new leaves.later leaves.goes_on)) leaves.every
+
+  -- what has been left so far, at the start
+  pub leaves_at_entry : (old new : History) → Leaves old new P → EveryImage old.now P
+  leaves_at_entry old new leaves = All-head Leaving old.now leaves.later (all_since old new leaves)
+
+  -- and at the end
+  pub leaves_at_exit : (old new : History) → Leaves old new P → EveryImage new.now P
+  leaves_at_exit old new leaves = last old.past old.now leaves.later leaves.goes_on (all_since old new leaves)
+    where
+      last : (past : List Moment) (now : Moment) (later : List Moment) → moments new ≡ (past ++ now ∷ []) ++ later → AllLeave P (now ∷ later) → EveryImage new.now P
+      last past now [] goes_on all =
+          let same : new.now ≡ now = (same_from_push new.past past new.now now (goes_on ∙ append-nil (past ++ now ∷ []))).1 in
+          subst Leaving (sym same) (All-head Leaving now [] all)
+      last past now (m ∷ later) goes_on all = last (past ++ now ∷ []) m later (goes_on ∙ sym (append_assoc (past ++ now ∷ []) (m ∷ []) later)) (All-tail Leaving now (m ∷ later) all)
+
+  pub leaves_here : (history : History) → EveryImage history.now P → Leaves history history P
+  leaves_here history here = leaves_by history history [] (sym (append-nil (moments history))) here (All-nil Leaving)
+
+  pub leaves_then : (old mid new : History) → Leaves old mid P → Leaves mid new P → Leaves old new P
+  leaves_then old mid new first second =
+      leaves_by old new (first.later ++ second.later)
+      (second.goes_on ∙ ap (λ (list : List Moment). list ++ second.later) first.goes_on ∙ append_assoc (moments old) first.later second.later)
+      (leaves_at_entry old mid first)
+      (All-append Leaving first.later second.later (All-tail Leaving old.now first.later (all_since old mid first)) (All-tail Leaving mid.now second.later (all_since mid new second)))
+
+  -- one moment more
+  leaves_more : (old new : History) → new.past ≡ moments old → EveryImage old.now P → EveryImage new.now P → Leaves old new P
+  leaves_more old new past here after =
+      leaves_by old new (new.now ∷ []) (ap (λ (list : List Moment). list ++ new.now ∷ []) past) here
+      (All-cons Leaving new.now [] after (All-nil Leaving))
+
+  leaves_same : (old new : History) → new ≡ old → EveryImage old.now P → Leaves old new P
+  leaves_same old new same here = subst (λ (h : History). Leaves old h P) (sym same) (leaves_here old here)
+
+  pub leaves_synced : (old new : History) → new ≡ synced old → EveryImage old.now P → Leaves old new P
+  leaves_synced old new same here =
+      subst (λ (h : History). Leaves old h P) (sym same)
+      (leaves_more old (synced old) refl here (λ content image. here content (image_synced old content image)))
+
+  pub leaves_written : (old new : History) (at : ℕ) (landed : List ℕ) → new ≡ written at landed old → EveryImage old.now P → EveryImage (written at landed old).now P → Leaves old new P
+  leaves_written old new at landed same here after =
+      subst (λ (h : History). Leaves old h P) (sym same) (leaves_more old (written at landed old) refl here after)
+
+  -- A stretch so far: what holds at its start and at its end.
+  pub at_entry : (old new : Disk) → Stretch old new P → IsHonest old → EveryImage old.history.now P
+  at_entry old new so_far honest = leaves_at_entry old.history new.history (so_far.leaves honest)
+
+  pub at_exit : (old new : Disk) → Stretch old new P → IsHonest old → EveryImage new.history.now P
+  at_exit old new so_far honest = leaves_at_exit old.history new.history (so_far.leaves honest)
+
+  -- Nothing has been done yet.
+  pub stretch_here : (disk : Disk) → (IsHonest disk → EveryImage disk.history.now P) → Stretch disk disk P
+  stretch_here disk here = record { keeps = keeps_here disk; leaves = λ honest. leaves_here disk.history (here honest) }
+
+  -- Two stretches, one after the other.
+  pub stretch_then : (old mid new : Disk) → Stretch old mid P → Stretch mid new P → Stretch old new P
+  stretch_then old mid new first second = record {
+    keeps = keeps_then old mid new first.keeps second.keeps;
+    leaves = λ honest. leaves_then old.history mid.history new.history (first.leaves honest) (second.leaves (honest_after old mid first.keeps honest));
+  }
+
+  -- A read adds no moment.
+  pub stretch_read : {T E : Type 0} (old mid new : Disk) (sector : ℕ) (into : List ℕ) (result : Result T E) → Stretch old mid P → ReadCall sector into result mid new → Stretch old new P
+  stretch_read old mid new sector into result so_far call =
+      stretch_then old mid new so_far
+      (record { keeps = call.keeps; leaves = λ honest. leaves_same mid.history new.history (call.history honest) (at_exit old mid so_far (honest_before old mid so_far.keeps honest)) })
+
+  -- A sync only takes images away, whatever it answers.
+  pub stretch_sync : {T E : Type 0} (old mid new : Disk) (result : Result T E) → Stretch old mid P → SyncCall result mid new → Stretch old new P
+  stretch_sync {T} {E} old mid new result so_far call =
+      stretch_then old mid new so_far (record { keeps = call.keeps; leaves = λ honest. by_result result call.done call.unchanged honest })
+    where
+      here : IsHonest mid → EveryImage mid.history.now P
+      here honest = at_exit old mid so_far (honest_before old mid so_far.keeps honest)
+
+      by_result : (r : Result T E) → (IsHonest mid → OnOk r (new.history ≡ synced mid.history)) → (IsHonest mid → OnErr r (new.history ≡ mid.history)) → IsHonest mid → Leaves mid.history new.history P
+      by_result (Ok _) done unchanged honest = leaves_synced mid.history new.history (done honest) (here honest)
+      by_result (Err _) done unchanged honest = leaves_same mid.history new.history (unchanged honest) (here honest)
+
+  -- A write: whatever lands in its range, each image has P.
+  pub stretch_write : {T E : Type 0} (old mid new : Disk) (sector : ℕ) (bytes : List ℕ) (result : Result T E) → Stretch old mid P → WriteCall sector bytes result mid new
+      → (IsHonest mid → (landed : List ℕ) → length landed ≡ length bytes → EveryImage (written (512 * sector) landed mid.history).now P) → Stretch old new P
+  stretch_write old mid new sector bytes result so_far call after =
+      stretch_then old mid new so_far
+      (record {
+        keeps = call.keeps;
+        leaves = λ honest. let lands = call.lands honest in
+            leaves_written mid.history new.history (512 * sector) lands.landed lands.history
+            (at_exit old mid so_far (honest_before old mid so_far.keeps honest)) (after honest lands.landed lands.size);
+      })
+
+-- What has P has also what follows from it.
+pub stretch_weaker : (P Q : List ℕ → Type 0) (old new : Disk) → ((content : List ℕ) → P content → Q content) → Stretch old new P → Stretch old new Q
+stretch_weaker P Q old new follows so_far = record {
+  keeps = so_far.keeps;
+  leaves = λ honest.
+      let leaves = so_far.leaves honest in
+      leaves_by Q old.history new.history leaves.later leaves.goes_on
+      (λ content image. follows content (leaves_at_entry P old.history new.history leaves content image))
+      (All-weaker (λ (m : Moment). EveryImage m P) (λ (m : Moment). EveryImage m Q) (λ m each content image. follows content (each content image)) leaves.later (All-tail (λ (m : Moment). EveryImage m P) old.history.now leaves.later (all_since P old.history new.history leaves)));
+}

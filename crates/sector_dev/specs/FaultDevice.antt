@@ -1,0 +1,33 @@
+-- What clauses see of a device of which one call fails.
+use Rattle.std.specs.Prelude.{◌≡◌, ◌↔◌, ℕ, zero, suc, Option, Some, None, Result, IsErr}
+use Rattle.sector_dev.specs.Disk.{Disk}
+use Rattle.sector_dev.specs.declared.fault_device.FaultDevice.{FaultDevice}
+use Rattle.sector_dev.specs.declared.mem_device.MemDevice.{MemDevice}
+use Rattle.sector_dev.specs.MemDevice.{memory_disk}
+
+-- the device within
+abbrev pub fault_memory : FaultDevice → MemDevice
+fault_memory device = device.memory
+
+-- how many calls succeed before the one that fails; none has failed yet if there is a number
+abbrev pub calls_before_fault : FaultDevice → Option ℕ
+calls_before_fault device = device.before
+
+abbrev failed : Option ℕ → ℕ
+failed (Some _) = 0
+failed None = 1
+
+-- the memory within, with one fault once it has come
+abbrev pub fault_disk : FaultDevice → Disk
+fault_disk device = record (memory_disk device.memory) { faults = failed device.before }
+
+-- the calls that are left before the fault, after one call more
+abbrev pub one_call_less : Option ℕ → Option ℕ
+one_call_less (Some (suc n)) = Some n
+one_call_less (Some zero) = None
+one_call_less None = None
+
+-- one call: it fails just where none was left before the fault
+pub record CountsDown {T E : Type 0} (result : Result T E) (old new : FaultDevice) : Type 0 where
+  pub fails : IsErr result ↔ (calls_before_fault old ≡ Some 0)
+  pub left : calls_before_fault new ≡ one_call_less (calls_before_fault old)

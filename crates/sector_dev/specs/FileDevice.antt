@@ -1,0 +1,43 @@
+-- What clauses see of a device over a file.
+use Rattle.std.specs.Prelude.{◌≡◌, ℕ, ◌+◌, ◌*◌, ◌/◌, ◌≤◌, List, [], length, take, Result, OnOk}
+use Rattle.sector_dev.specs.Disk.{Disk, overwritten}
+use Rattle.sector_dev.specs.PositionedFile.{FileState, IsHonestFile, DirtiesOnly}
+use Rattle.sector_dev.specs.declared.positioned_file.PositionedFile.{Ghosts}
+use Rattle.sector_dev.specs.declared.file_device.FileDevice.{FileDevice}
+
+-- the bytes of a file in its first sectors
+abbrev pub front : ℕ → List ℕ → List ℕ
+front sectors bytes = take (512 * sectors) bytes
+
+-- a device that has just been made over a file: its whole sectors, of which dirty is what is dirty in the file
+pub record IsMadeOver (file : FileState) (disk : Disk) : Type 0 where
+  pub is_honest : disk.is_honest ≡ file.is_honest
+  pub sectors : IsHonestFile file → disk.sectors ≡ length file.bytes / 512
+  pub faults : disk.faults ≡ 0
+  pub history : IsHonestFile file → disk.history ≡ record { past = []; now = record { reads = front disk.sectors file.bytes; dirty = file.dirty } }
+
+-- all the transfers of a write: some bytes landed, as many as were given, and just those where all went well
+pub record LandsWhole {T E : Type 0} (offset : ℕ) (bytes : List ℕ) (result : Result T E) (old new : List ℕ) : Type 0 where
+  pub landed : List ℕ
+  pub size : length landed ≡ length bytes
+  pub done : OnOk result (landed ≡ bytes)
+  pub is : new ≡ overwritten offset landed old
+
+-- a write to a file in as many transfers as it takes
+pub record WritesWhole {T E : Type 0} (offset : ℕ) (bytes : List ℕ) (result : Result T E) (old new : FileState) : Type 0 where
+  pub is_honest : new.is_honest ≡ old.is_honest
+  pub lands : IsHonestFile old → offset + length bytes ≤ length old.bytes → LandsWhole offset bytes result old.bytes new.bytes
+  pub dirty : IsHonestFile old → DirtiesOnly offset (length bytes) old.dirty new.dirty
+
+-- the file under a device
+abbrev pub file_of : {F : Type 0} {G : Ghosts F} → FileDevice F G → F
+file_of device = device.file
+
+-- the whole sectors of the file, with the moments that the device has had
+abbrev pub file_disk : {F : Type 0} {G : Ghosts F} → FileDevice F G → Disk
+file_disk {F} {G} device = record {
+  is_honest = (G.state device.file).is_honest;
+  sectors = device.sectors;
+  faults = device.faults;
+  history = record { past = device.trail.past; now = record { reads = front device.sectors (G.state device.file).bytes; dirty = device.trail.dirty } };
+}

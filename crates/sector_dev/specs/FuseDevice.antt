@@ -1,0 +1,40 @@
+-- What clauses see of a device that stops for good after some calls.
+use Rattle.std.specs.Prelude.{◌≡◌, ◌↔◌, ℕ, ◌-◌, ◌*◌, ◌<◌, List, ◌++◌, length, take, replicate, Result, IsOk, if◌then◌else◌, ◌==◌}
+use Rattle.sector_dev.specs.Disk.{Disk, History, part, written}
+use Rattle.sector_dev.specs.declared.fuse_device.FuseDevice.{FuseDevice}
+use Rattle.sector_dev.specs.declared.fuse_device.Tear.{Tear}
+use Rattle.sector_dev.specs.declared.mem_device.MemDevice.{MemDevice}
+use Rattle.sector_dev.specs.MemDevice.{memory_disk}
+
+-- the device within
+abbrev pub fuse_memory : FuseDevice → MemDevice
+fuse_memory fuse = fuse.memory
+
+-- how many more calls it passes
+abbrev pub calls_left : FuseDevice → ℕ
+calls_left fuse = fuse.left
+
+-- how the write at which it stops is torn
+abbrev pub fuse_tear : FuseDevice → Tear
+fuse_tear fuse = fuse.tear
+
+-- the memory within, with the count of calls that failed
+abbrev pub fuse_disk : FuseDevice → Disk
+fuse_disk fuse = record (memory_disk fuse.memory) { faults = fuse.faults }
+
+-- the first bytes land, and the others become one byte
+abbrev pub torn_bytes : Tear → List ℕ → List ℕ
+torn_bytes tear bytes = take tear.keep bytes ++ replicate (length bytes - tear.keep) tear.fill
+
+-- one call of a fuse: it passes as long as some are left
+pub record BurnsOne {T E : Type 0} (result : Result T E) (old new : FuseDevice) : Type 0 where
+  pub passes : IsOk result ↔ (0 < calls_left old)
+  pub left : calls_left new ≡ calls_left old - 1
+  pub tear : fuse_tear new ≡ fuse_tear old
+
+-- what a failed write leaves: it is torn where it is the first call that failed, and else nothing lands
+abbrev pub after_stopped_write : FuseDevice → ℕ → List ℕ → History
+after_stopped_write fuse sector bytes =
+    let history = (fuse_disk fuse).history in
+    let landed = if fuse.faults == 0 then torn_bytes fuse.tear bytes else part (512 * sector) (length bytes) history.now.reads in
+    written (512 * sector) landed history

@@ -1,0 +1,26 @@
+-- What a device may hold after a stop. A stop within a call is covered too: in the middle of a write what is there is an
+-- image of the moment after it, and in the middle of a sync one of the moment before.
+use Rattle.std.specs.Prelude.{◌≡◌, ℕ, ◌+◌, ◌<◌, ◌≤◌, List, length, drop, slice_index, All}
+use Rattle.sector_dev.specs.Disk.{Span, Moment, History, moments, AreBytes}
+
+-- no range has the byte at this place
+abbrev pub IsClean : List Span → ℕ → Type 0
+IsClean dirty i = All (λ (span : Span). span.start ≤ i → span.start + span.len ≤ i) dirty
+
+-- no range has any of the n bytes at an offset
+abbrev pub IsCleanPart : List Span → ℕ → ℕ → Type 0
+IsCleanPart dirty at n = (i : ℕ) → at ≤ i → i < at + n → IsClean dirty i
+
+-- bytes, as many as reads give, and the same wherever nothing is dirty
+pub record IsImage (moment : Moment) (content : List ℕ) : Type 0 where
+  pub size : length content ≡ length moment.reads
+  pub bytes : AreBytes content
+  pub clean : (i : ℕ) → IsClean moment.dirty i → slice_index content i ≡ slice_index moment.reads i
+
+-- each image of this moment has P
+abbrev pub EveryImage : Moment → (List ℕ → Type 0) → Type 0
+EveryImage moment P = (content : List ℕ) → IsImage moment content → P content
+
+-- each image of each moment from the t-th on has P, the first being the 0th
+abbrev pub EveryImageSince : ℕ → History → (List ℕ → Type 0) → Type 0
+EveryImageSince t history P = All (λ (moment : Moment). EveryImage moment P) (drop t (moments history))

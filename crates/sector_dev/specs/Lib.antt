@@ -1,0 +1,12 @@
+pub mod Disk
+pub mod Image
+pub mod Calls
+pub mod Stretch
+pub mod MemDevice
+pub mod FuseDevice
+pub mod FaultDevice
+pub mod HeldDevice
+pub mod PositionedFile
+pub mod FileDevice
+pub mod MemFile
+pub mod FileLaws

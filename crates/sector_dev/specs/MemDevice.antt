@@ -1,0 +1,22 @@
+-- What clauses see of a device in memory.
+use Rattle.std.specs.Prelude.{ℕ, ◌*◌, true, [], replicate}
+use Rattle.sector_dev.specs.Disk.{Disk}
+use Rattle.sector_dev.specs.declared.mem_device.MemDevice.{MemDevice}
+
+-- an honest device that never failed
+abbrev pub memory_disk : MemDevice → Disk
+memory_disk device = record {
+  is_honest = true;
+  sectors = device.sectors;
+  faults = 0;
+  history = record { past = device.trail.past; now = record { reads = device.bytes.items; dirty = device.trail.dirty } };
+}
+
+-- an honest device of zeros, to which nothing has been done
+abbrev pub zeroed_disk : ℕ → Disk
+zeroed_disk sectors = record {
+  is_honest = true;
+  sectors = sectors;
+  faults = 0;
+  history = record { past = []; now = record { reads = replicate (512 * sectors) 0; dirty = [] } };
+}

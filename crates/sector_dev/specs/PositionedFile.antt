@@ -1,0 +1,54 @@
+-- What the calls of a file do that is read and written at offsets. What an honest file does is said under that premise.
+use Rattle.std.specs.Prelude.{◌≡◌, ℕ, ◌+◌, ◌≤◌, Bool, IsTrue, List, [], length, take, Result, Ok, Err, IfOk, OnOk, OnErr}
+use Rattle.sector_dev.specs.Disk.{Span, part, overwritten}
+use Rattle.sector_dev.specs.Image.{IsClean}
+
+-- a file as clauses see it: whether it is honest, the bytes that it holds, and the ranges written since the last sync
+-- that succeeded, in which a stop may leave any bytes
+pub record FileState : Type 0 where
+  pub is_honest : Bool
+  pub bytes : List ℕ
+  pub dirty : List Span
+
+-- the file keeps what is written to it, and nobody else writes it
+abbrev pub IsHonestFile : FileState → Type 0
+IsHonestFile file = IsTrue file.is_honest
+
+-- a call that changes nothing of an honest file
+pub record LeavesFile (old new : FileState) : Type 0 where
+  pub is_honest : new.is_honest ≡ old.is_honest
+  pub bytes : IsHonestFile old → new.bytes ≡ old.bytes
+  pub dirty : IsHonestFile old → new.dirty ≡ old.dirty
+
+-- a sync, after which a stop leaves an honest file as it is
+pub record SyncsFile {T E : Type 0} (result : Result T E) (old new : FileState) : Type 0 where
+  pub is_honest : new.is_honest ≡ old.is_honest
+  pub bytes : IsHonestFile old → new.bytes ≡ old.bytes
+  pub done : IsHonestFile old → OnOk result (new.dirty ≡ [])
+  pub unchanged : IsHonestFile old → OnErr result (new.dirty ≡ old.dirty)
+
+-- nothing is dirty but what was, and the n bytes at an offset
+abbrev pub DirtiesOnly : ℕ → ℕ → List Span → List Span → Type 0
+DirtiesOnly offset n old new = (i : ℕ) → IsClean old i → (offset ≤ i → offset + n ≤ i) → IsClean new i
+
+-- what is clean to the device is clean in the file
+abbrev pub CoversDirty : List Span → FileState → Type 0
+CoversDirty dirty file = (i : ℕ) → IsClean dirty i → IsClean file.dirty i
+
+-- one transfer out of the file: as many bytes as it answers, at most those asked for
+pub record TransfersOut {E : Type 0} (offset : ℕ) (into : List ℕ) (result : Result ℕ E) (old new : FileState) : Type 0 where
+  pub same : LeavesFile old new
+  pub most : IfOk result (λ n. n ≤ length into)
+  pub bytes : IsHonestFile old → IfOk result (λ n. take n into ≡ part offset n old.bytes)
+
+-- the bytes of an honest file after a transfer into it: as many as it answers land, and any bytes where it fails
+abbrev pub Landed : {E : Type 0} → ℕ → List ℕ → Result ℕ E → List ℕ → List ℕ → Type 0
+Landed offset bytes (Ok n) old new = new ≡ overwritten offset (take n bytes) old
+Landed offset bytes (Err _) old new = (landed : List ℕ) × (length landed ≡ length bytes) × (new ≡ overwritten offset landed old)
+
+-- one transfer into the file, of at most the bytes given
+pub record TransfersIn {E : Type 0} (offset : ℕ) (bytes : List ℕ) (result : Result ℕ E) (old new : FileState) : Type 0 where
+  pub is_honest : new.is_honest ≡ old.is_honest
+  pub most : IfOk result (λ n. n ≤ length bytes)
+  pub lands : IsHonestFile old → offset + length bytes ≤ length old.bytes → Landed offset bytes result old.bytes new.bytes
+  pub dirty : IsHonestFile old → DirtiesOnly offset (length bytes) old.dirty new.dirty

@@ -1,0 +1,113 @@
+//! A device over a file.
+ghost use Rattle.std.specs.Prelude.{◌≡◌, ◌+◌, ◌*◌, ◌%◌, ◌<◌, ◌≤◌, ◌^◌, ◌-◌, min, length, IfOk};
+ghost use Rattle.sector_dev.specs.PositionedFile.{IsHonestFile, CoversDirty};
+
+use crate::trail::{HoldsBytes, Trail};
+use crate::transfers::{read_whole, write_whole};
+use crate::{DevError, Device, PositionedFile, SECTOR};
+use std::io;
+
+/// The whole sectors of a file, as long as it was when the device was made. It is as honest as the file is. A transfer
+/// that fails, or moves nothing, is a fault.
+#[derive(Drop)]
+pub struct FileDevice<F: PositionedFile> {
+    file: F,
+    sectors: u64,
+    faults: u64,
+    trail: Trail,
+    ghost small: { 512 * sectors < 2 ^ 64 },
+    ghost dirty_covered: { IsHonestFile (F.state file) → CoversDirty trail.dirty (F.state file) },
+    ghost covered: { IsHonestFile (F.state file) → 512 * sectors ≤ length (F.state file).bytes },
+}
+
+impl<F: PositionedFile> HoldsBytes for FileDevice<F> {
+    ghost use Rattle.sector_dev.specs.Disk.{reads_of};
+    ghost use Rattle.sector_dev.specs.FileDevice.{file_disk};
+
+    ghost bytes = { λ device. reads_of (file_disk device) };
+}
+
+impl<F: PositionedFile> FileDevice<F> {
+    ghost use Rattle.sector_dev.specs.FileDevice.{IsMadeOver, file_disk, file_of};
+
+    /// The file's whole sectors; what is behind them is left alone. It fails where the file's length can't be had.
+    pub fn new(mut file: F) -> io::Result<FileDevice<F>>
+    where
+        F: Drop,
+        ensures { IfOk result (λ device. IsMadeOver (F.state file) (file_disk device)) }
+    {
+        let sectors = file.size()? / SECTOR as u64;
+        let trail = Trail::over(&file);
+        Ok(FileDevice {
+            file,
+            sectors,
+            faults: 0,
+            trail,
+        })
+    }
+
+    pub fn into_file(self) -> F
+        ensures { result ≡ file_of self }
+    {
+        let FileDevice { file, .. } = self;
+        file
+    }
+
+    // Counts a call that failed.
+    fn count(&mut self) -> DevError
+        ensures disk { file_disk self.new ≡ record (file_disk self.old) { faults = min (self.old.faults + 1) (2 ^ 64 - 1) } }
+    {
+        self.faults = self.faults.saturating_add(1);
+        DevError::Fault
+    }
+}
+
+impl<F: PositionedFile> Device for FileDevice<F> {
+    ghost use Rattle.std.proofs.Common.{arith};
+    ghost use Rattle.sector_dev.specs.FileDevice.{file_disk};
+    ghost use Rattle.sector_dev.specs.FileLaws.{whole_front};
+
+    ghost disk = { file_disk };
+
+    ghost fits = { λ device. device.small };
+
+    ghost whole = { λ device honest.
+        let parts = whole_front device.sectors (F.state device.file).bytes (device.covered honest) (F.bytes device.file honest)
+        in record { size = parts.0; bytes = parts.1 } };
+
+    fn sectors(&self) -> u64 {
+        self.sectors
+    }
+
+    fn read(&mut self, at: u64, into: &mut [u8]) -> Result<(), DevError> {
+        match read_whole(&mut self.file, SECTOR as u64 * at, into) {
+            Ok(()) => Ok(()),
+            Err(_) => Err(self.count()),
+        }
+    }
+
+    fn write(&mut self, at: u64, bytes: &[u8]) -> Result<(), DevError> {
+        let offset = SECTOR as u64 * at;
+        let trail = self.trail.wrote(&*self, offset, bytes.len());
+        self.trail = trail;
+        match write_whole(&mut self.file, offset, bytes) {
+            Ok(()) => Ok(()),
+            Err(_) => Err(self.count()),
+        }
+    }
+
+    fn sync(&mut self) -> Result<(), DevError> {
+        match self.file.sync_data() {
+            Ok(()) => {
+                let trail = self.trail.synced(&*self);
+                self.trail = trail;
+                Ok(())
+            }
+            Err(_) => Err(self.count()),
+        }
+    }
+
+    fn faults(&self) -> u64 {
+        self.faults
+    }
+}

@@ -1,0 +1,121 @@
+//! A device that stops for good after some calls, as at a loss of power.
+ghost use Rattle.std.specs.Prelude.{◌≡◌, ◌+◌, ◌-◌, ◌*◌, ◌%◌, ◌<◌, ◌≤◌, length, OnErr, IsOk};
+ghost use Rattle.sector_dev.specs.Calls.{counted, ReadCall, WriteCall, SyncCall};
+
+use crate::{DevError, Device, MemDevice};
+
+/// What becomes of the write at which a fuse stops: its first `keep` bytes land, and its others become `fill`.
+#[derive(Clone, Copy, Debug, PartialEq, Eq)]
+pub struct Tear {
+    pub keep: usize,
+    pub fill: u8,
+}
+
+/// Passes some calls of `read`, `write` and `sync` to a device in memory, and then fails all. Where the first one that
+/// fails is a write, it is torn; of the writes after it nothing lands.
+#[derive(Drop)]
+pub struct FuseDevice {
+    memory: MemDevice,
+    left: u64,
+    tear: Tear,
+    faults: u64,
+}
+
+impl FuseDevice {
+    ghost use Rattle.sector_dev.specs.FuseDevice.{fuse_memory, fuse_disk, fuse_tear, calls_left, BurnsOne};
+    ghost use Rattle.sector_dev.specs.MemDevice.{memory_disk};
+
+    /// Passes this many calls.
+    pub fn new(memory: MemDevice, calls: u64, tear: Tear) -> FuseDevice
+        ensures disk { fuse_disk result ≡ memory_disk memory }
+        ensures calls { calls_left result ≡ calls }
+        ensures tear { fuse_tear result ≡ tear }
+    {
+        FuseDevice {
+            memory,
+            left: calls,
+            tear,
+            faults: 0,
+        }
+    }
+
+    /// What is there after the stop, in a device that goes on.
+    pub fn into_mem(self) -> MemDevice
+        ensures { result ≡ fuse_memory self }
+    {
+        let FuseDevice { memory, .. } = self;
+        memory
+    }
+
+    // Takes one from the calls that are left, or counts one that fails.
+    fn burn(&mut self) -> Result<(), DevError>
+        ensures burns { BurnsOne result self.old self.new }
+        ensures memory { fuse_memory self.new ≡ fuse_memory self.old }
+        ensures faults { self.new.faults ≡ counted result self.old.faults }
+    {
+        if self.left == 0 {
+            self.faults = self.faults.saturating_add(1);
+            return Err(DevError::Fault);
+        }
+        self.left -= 1;
+        Ok(())
+    }
+}
+
+impl Device for FuseDevice {
+    ghost use Rattle.std.specs.Prelude.{◌≡◌, ◌+◌, ◌-◌, ◌*◌, ◌%◌, ◌<◌, ◌≤◌, length, OnErr};
+    ghost use Rattle.std.proofs.Common.{arith};
+    ghost use Rattle.sector_dev.specs.Calls.{ReadCall, WriteCall, SyncCall};
+    ghost use Rattle.sector_dev.specs.FuseDevice.{fuse_disk, BurnsOne, after_stopped_write};
+
+    ghost disk = { fuse_disk };
+
+    ghost fits = { λ device. Prim.omega (arith, device.memory.small) };
+
+    ghost whole = { λ device honest. record { size = device.memory.size; bytes = device.memory.are_bytes } };
+
+    fn sectors(&self) -> u64 {
+        self.memory.sectors()
+    }
+
+    fn read(&mut self, at: u64, into: &mut [u8]) -> Result<(), DevError>
+        requires whole { length into.old % 512 ≡ 0 }
+        requires inside { 512 * at + length into.old ≤ 512 * (fuse_disk self.old).sectors }
+        ensures read { ReadCall at into.new result (fuse_disk self.old) (fuse_disk self.new) }
+        ensures burns { BurnsOne result self.old self.new }
+    {
+        self.burn()?;
+        self.memory.read(at, into)
+    }
+
+    fn write(&mut self, at: u64, bytes: &[u8]) -> Result<(), DevError>
+        requires whole { length bytes.now % 512 ≡ 0 }
+        requires inside { 512 * at + length bytes.now ≤ 512 * (fuse_disk self.old).sectors }
+        ensures write { WriteCall at bytes.now result (fuse_disk self.old) (fuse_disk self.new) }
+        ensures burns { BurnsOne result self.old self.new }
+        ensures torn { OnErr result ((fuse_disk self.new).history ≡ after_stopped_write self.old at bytes.now) }
+    {
+        let is_first = self.faults == 0;
+        if self.burn().is_ok() {
+            return self.memory.write(at, bytes);
+        }
+        if is_first {
+            self.memory.tear(at, bytes, self.tear);
+            return Err(DevError::Fault);
+        }
+        self.memory.touch(at, bytes.len());
+        Err(DevError::Fault)
+    }
+
+    fn sync(&mut self) -> Result<(), DevError>
+        ensures sync { SyncCall result (fuse_disk self.old) (fuse_disk self.new) }
+        ensures burns { BurnsOne result self.old self.new }
+    {
+        self.burn()?;
+        self.memory.sync()
+    }
+
+    fn faults(&self) -> u64 {
+        self.faults
+    }
+}

@@ -1,0 +1,90 @@
+//! A device whose syncs pass a gate first.
+ghost use Rattle.std.specs.Prelude.{◌≡◌, ◌+◌, ◌*◌, ◌%◌, ◌≤◌, length};
+
+use crate::{DevError, Device};
+
+/// What a `HeldDevice` passes before each sync. It may count the syncs, or let them wait.
+pub trait Gate {
+    /// One pass may lead from the first state to the second.
+    ghost passed: { Self → Self → Type 0 };
+
+    fn pass(&mut self)
+        ensures { passed self.old self.new };
+}
+
+/// Passes its gate once before each sync, and is the device within in all else.
+#[derive(Drop)]
+pub struct HeldDevice<D, G> {
+    device: D,
+    gate: G,
+}
+
+impl<D, G> HeldDevice<D, G> {
+    ghost use Rattle.sector_dev.specs.HeldDevice.{held_device, held_gate};
+
+    pub fn new(device: D, gate: G) -> HeldDevice<D, G>
+        ensures device { held_device result ≡ device }
+        ensures gate { held_gate result ≡ gate }
+    {
+        HeldDevice { device, gate }
+    }
+
+    pub fn gate(&self) -> &G
+        ensures { result.now ≡ held_gate self.now }
+    {
+        &self.gate
+    }
+
+    pub fn into_parts(self) -> (D, G)
+        ensures { result ≡ (held_device self, held_gate self) }
+    {
+        let HeldDevice { device, gate } = self;
+        (device, gate)
+    }
+}
+
+impl<D: Device, G: Gate> Device for HeldDevice<D, G> {
+    ghost use Rattle.std.specs.Prelude.{◌≡◌, ◌+◌, ◌*◌, ◌%◌, ◌≤◌, length};
+    ghost use Rattle.sector_dev.specs.Calls.{ReadCall, WriteCall, SyncCall};
+    ghost use Rattle.sector_dev.specs.HeldDevice.{held_device, held_gate};
+
+    ghost disk = { λ held. D.disk (held_device held) };
+
+    ghost fits = { λ held. D.fits (held_device held) };
+
+    ghost whole = { λ held. D.whole (held_device held) };
+
+    fn sectors(&self) -> u64 {
+        self.device.sectors()
+    }
+
+    fn read(&mut self, at: u64, into: &mut [u8]) -> Result<(), DevError>
+        requires whole { length into.old % 512 ≡ 0 }
+        requires inside { 512 * at + length into.old ≤ 512 * (D.disk (held_device self.old)).sectors }
+        ensures read { ReadCall at into.new result (D.disk (held_device self.old)) (D.disk (held_device self.new)) }
+        ensures gate { held_gate self.new ≡ held_gate self.old }
+    {
+        self.device.read(at, into)
+    }
+
+    fn write(&mut self, at: u64, bytes: &[u8]) -> Result<(), DevError>
+        requires whole { length bytes.now % 512 ≡ 0 }
+        requires inside { 512 * at + length bytes.now ≤ 512 * (D.disk (held_device self.old)).sectors }
+        ensures write { WriteCall at bytes.now result (D.disk (held_device self.old)) (D.disk (held_device self.new)) }
+        ensures gate { held_gate self.new ≡ held_gate self.old }
+    {
+        self.device.write(at, bytes)
+    }
+
+    fn sync(&mut self) -> Result<(), DevError>
+        ensures sync { SyncCall result (D.disk (held_device self.old)) (D.disk (held_device self.new)) }
+        ensures gate { G.passed (held_gate self.old) (held_gate self.new) }
+    {
+        self.gate.pass();
+        self.device.sync()
+    }
+
+    fn faults(&self) -> u64 {
+        self.device.faults()
+    }
+}

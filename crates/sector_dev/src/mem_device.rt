@@ -1,0 +1,103 @@
+//! A device in memory.
+ghost use Rattle.std.specs.Prelude.{◌≡◌, ℕ, ◌+◌, ◌*◌, ◌%◌, ◌^◌, ◌<◌, ◌≤◌, length, IfOk};
+ghost use Rattle.std.proofs.Common.{arith};
+ghost use Rattle.sector_dev.specs.Disk.{AreBytes};
+
+use crate::fuse_device::Tear;
+use crate::trail::Trail;
+use crate::{DevError, Device, SECTOR};
+use std::alloc::{AllocError, Global};
+
+/// An honest device in memory. Its calls never fail.
+#[derive(Drop)]
+pub struct MemDevice {
+    bytes: Vec<u8>,
+    sectors: u64,
+    trail: Trail,
+    ghost small: { sectors ≤ 2 ^ 32 },
+    ghost size: { length bytes.items ≡ 512 * sectors },
+    ghost are_bytes: { AreBytes bytes.items },
+}
+
+impl MemDevice {
+    ghost use Rattle.sector_dev.specs.Disk.{part, written, reads_of};
+    ghost use Rattle.sector_dev.specs.MemDevice.{memory_disk, zeroed_disk};
+    ghost use Rattle.sector_dev.specs.FuseDevice.{torn_bytes};
+
+    /// Zeros.
+    pub fn new(alloc: Global, sectors: u64) -> Result<MemDevice, AllocError>
+        requires { sectors ≤ 2 ^ 32 }
+        ensures { IfOk result (λ device. memory_disk device ≡ zeroed_disk sectors) }
+    {
+        let bytes = vec![in alloc; 0; SECTOR * sectors as usize]?;
+        Ok(MemDevice {
+            bytes,
+            sectors,
+            trail: Trail::new(),
+        })
+    }
+
+    /// A write that a stop cuts short.
+    pub(crate) fn tear(&mut self, at: u64, bytes: &[u8], tear: Tear)
+        requires { 512 * at + length bytes.now ≤ 512 * (memory_disk self.old).sectors }
+        ensures { memory_disk self.new ≡ record (memory_disk self.old) {
+          history = written (512 * at) (torn_bytes tear bytes.now) (memory_disk self.old).history;
+        } }
+    {
+        let start = SECTOR * at as usize;
+        let keep = tear.keep.min(bytes.len());
+        self.trail = self
+            .trail
+            .wrote(&self.bytes, SECTOR as u64 * at, bytes.len());
+        let range = &mut self.bytes[start..start + bytes.len()];
+        range[..keep].copy_from_slice(&bytes[..keep]);
+        range[keep..].fill(tear.fill);
+    }
+
+    /// A write of which nothing lands.
+    pub(crate) fn touch(&mut self, at: u64, len: usize)
+        requires { 512 * at + len ≤ 512 * (memory_disk self.old).sectors }
+        ensures { memory_disk self.new ≡ record (memory_disk self.old) {
+          history = written (512 * at) (part (512 * at) len (reads_of (memory_disk self.old))) (memory_disk self.old).history;
+        } }
+    {
+        self.trail = self.trail.wrote(&self.bytes, SECTOR as u64 * at, len);
+    }
+}
+
+impl Device for MemDevice {
+    ghost use Rattle.std.proofs.Common.{arith};
+    ghost use Rattle.sector_dev.specs.MemDevice.{memory_disk};
+
+    ghost disk = { memory_disk };
+
+    ghost fits = { λ device. Prim.omega (arith, device.small) };
+
+    ghost whole = { λ device honest. record { size = device.size; bytes = device.are_bytes } };
+
+    fn sectors(&self) -> u64 {
+        self.sectors
+    }
+
+    fn read(&mut self, at: u64, into: &mut [u8]) -> Result<(), DevError> {
+        let start = SECTOR * at as usize;
+        into.copy_from_slice(&self.bytes[start..start + into.len()]);
+        Ok(())
+    }
+
+    fn write(&mut self, at: u64, bytes: &[u8]) -> Result<(), DevError> {
+        let start = SECTOR * at as usize;
+        self.trail = self.trail.wrote(&self.bytes, start as u64, bytes.len());
+        self.bytes[start..start + bytes.len()].copy_from_slice(bytes);
+        Ok(())
+    }
+
+    fn sync(&mut self) -> Result<(), DevError> {
+        self.trail = self.trail.synced(&self.bytes);
+        Ok(())
+    }
+
+    fn faults(&self) -> u64 {
+        0
+    }
+}

@@ -1,0 +1,87 @@
+//! A file in memory.
+ghost use Rattle.std.specs.Prelude.{◌≡◌, true, []};
+ghost use Rattle.sector_dev.specs.Disk.{AreBytes};
+
+use crate::PositionedFile;
+use std::io;
+
+/// An honest file in memory, of which one transfer moves some bytes at most. Its calls never fail.
+#[derive(Drop)]
+pub struct MemFile {
+    bytes: Vec<u8>,
+    at_most: usize,
+    ghost are_bytes: { AreBytes bytes.items },
+}
+
+impl MemFile {
+    ghost use Rattle.sector_dev.specs.MemFile.{memory_state, most_moved, moved_at};
+
+    /// A file of these bytes. A transfer moves at most `at_most` of them.
+    pub fn new(bytes: Vec<u8>, at_most: usize) -> MemFile
+        ensures state { memory_state result ≡ record { is_honest = true; bytes = bytes.items; dirty = [] } }
+        ensures most { most_moved result ≡ at_most }
+    {
+        MemFile { bytes, at_most }
+    }
+
+    // How many bytes one transfer moves at an offset, of so many that are asked for.
+    fn room(&self, offset: u64, asked: usize) -> usize
+        ensures { result ≡ moved_at self.now offset asked }
+    {
+        if offset >= self.bytes.len() as u64 {
+            return 0;
+        }
+        let rest = self.bytes.len() - offset as usize;
+        asked.min(rest).min(self.at_most)
+    }
+}
+
+impl PositionedFile for MemFile {
+    ghost use Rattle.std.specs.Prelude.{◌≡◌, Ok, IsOk, length};
+    ghost use Rattle.sector_dev.specs.PositionedFile.{LeavesFile, SyncsFile, TransfersOut, TransfersIn};
+    ghost use Rattle.sector_dev.specs.MemFile.{memory_state, moved_at};
+
+    ghost state = { memory_state };
+
+    ghost bytes = { λ file honest. file.are_bytes };
+
+    fn size(&mut self) -> io::Result<u64>
+        ensures same { LeavesFile (memory_state self.old) (memory_state self.new) }
+        ensures size { result ≡ Ok (length (memory_state self.old).bytes) }
+    {
+        Ok(self.bytes.len() as u64)
+    }
+
+    fn read_at(&mut self, offset: u64, into: &mut [u8]) -> io::Result<usize>
+        ensures out { TransfersOut offset into.new result (memory_state self.old) (memory_state self.new) }
+        ensures moved { result ≡ Ok (moved_at self.old offset (length into.old)) }
+    {
+        let n = self.room(offset, into.len());
+        if n == 0 {
+            return Ok(0);
+        }
+        let start = offset as usize;
+        into[..n].copy_from_slice(&self.bytes[start..start + n]);
+        Ok(n)
+    }
+
+    fn write_at(&mut self, offset: u64, bytes: &[u8]) -> io::Result<usize>
+        ensures into { TransfersIn offset bytes.now result (memory_state self.old) (memory_state self.new) }
+        ensures moved { result ≡ Ok (moved_at self.old offset (length bytes.now)) }
+    {
+        let n = self.room(offset, bytes.len());
+        if n == 0 {
+            return Ok(0);
+        }
+        let start = offset as usize;
+        self.bytes[start..start + n].copy_from_slice(&bytes[..n]);
+        Ok(n)
+    }
+
+    fn sync_data(&mut self) -> io::Result<()>
+        ensures sync { SyncsFile result (memory_state self.old) (memory_state self.new) }
+        ensures done { IsOk result }
+    {
+        Ok(())
+    }
+}
