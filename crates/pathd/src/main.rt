@@ -1,27 +1,100 @@
 //! `pathd`, a path segment server for the core ASes of a SCION network.
+//!
+//! The command `once` answers one session of frames. What it writes is a stated function of what it reads
+//! (`session::once`); the words of the command line and the texts of faults are shown by tests.
 #![tactic(auto)]
 
-use clap::{Command, Error};
-use std::io;
+mod codes;
+mod command_line;
+mod database_laws;
+mod fault;
+mod frames;
+mod hex_input;
+mod hex_lines;
+mod hex_session;
+mod laws;
+mod lookup;
+mod reading;
+mod reply;
+mod row;
+mod rows;
+mod service;
+mod session;
+mod writing;
+
+use clap::error::ErrorKind;
+use clap::{ArgMatches, Error};
+use command_line::{CORES, HEX, ONCE, command, cores_of};
+use fault::Fault;
+use hex_session::once_in_hex;
+use session::once;
+use std::env;
+use std::io::{BufWriter, Read, Write};
 use std::process::ExitCode;
+use std::rt::Env;
 
-/// What the program's help begins with.
-const ABOUT: &str = "A path segment server for the core ASes of a SCION network";
+/// How many reads a session takes at most.
+const TURNS: u64 = 1_000_000_000;
 
-fn main(rt: HostRuntime) -> io::Result<ExitCode> {
-    let words: Vec<String> = std::env::args(&rt)?.collect(rt.alloc())?;
-    let command = Command::new(rt.alloc(), "pathd")
-        .about(ABOUT)
-        .bin_name("pathd")?;
-    match command.try_get_matches_from(words.as_slice()) {
-        Ok(_) => Ok(ExitCode::SUCCESS),
-        Err(error) => refuse(&rt, &error),
+fn main(rt: HostRuntime) -> ExitCode {
+    match run(&rt, &mut rt.stdin(), rt.stdout()) {
+        Ok(code) => code,
+        Err(fault) => {
+            let _ = eprintln!(rt; "error: {fault}");
+            ExitCode::from(1)
+        }
     }
 }
 
+/// Reads the words of the command line, and does what they ask for.
+fn run<R: Env + Print + Eprint + AllocGlobal, I: Read, O: Write + Drop>(
+    rt: &R,
+    input: &mut I,
+    output: O,
+) -> Result<ExitCode, Fault> {
+    let Ok(words) = env::args(rt) else {
+        return Err(Fault::Memory);
+    };
+    let words: Vec<String> = words.collect(rt.alloc()).map_err(|_| Fault::Memory)?;
+    let command = command(rt.alloc()).map_err(|_| Fault::Memory)?;
+    let matches = match command.try_get_matches_from(words.as_slice()) {
+        Ok(matches) => matches,
+        Err(error) => return refuse(rt, &error),
+    };
+    if let Some(options) = matches.subcommand_matches(ONCE) {
+        answer(rt, options, input, output)?;
+    }
+    Ok(ExitCode::SUCCESS)
+}
+
+/// Answers one session, as the options say.
+fn answer<R: AllocGlobal, I: Read, O: Write + Drop>(
+    rt: &R,
+    options: &ArgMatches<'_>,
+    input: &mut I,
+    mut output: O,
+) -> Result<(), Fault> {
+    let cores = match options.get_str(CORES) {
+        Some(list) => cores_of(rt.alloc(), list)?,
+        None => Vec::new(rt.alloc()),
+    };
+    if options.get_flag(HEX) {
+        once_in_hex(rt.alloc(), input, &mut output, cores.as_slice(), TURNS)?;
+        return Ok(());
+    }
+    let Ok(mut output) = BufWriter::new(rt.alloc(), output) else {
+        return Err(Fault::Memory);
+    };
+    once(rt.alloc(), input, &mut output, cores.as_slice(), TURNS)?;
+    Ok(())
+}
+
 /// Prints what was wrong with the command line, or the help that it asked for.
-fn refuse(rt: &(impl Print + Eprint), error: &Error) -> io::Result<ExitCode> {
-    error.print(rt)?;
+fn refuse(rt: &(impl Print + Eprint), error: &Error) -> Result<ExitCode, Fault> {
+    if error.kind() == ErrorKind::OutOfMemory {
+        return Err(Fault::Memory);
+    }
+    error.print(rt).map_err(|_| Fault::Output)?;
     Ok(if error.exit_code() == 0 {
         ExitCode::SUCCESS
     } else {

@@ -10,7 +10,7 @@ use crate::error::SegError;
 use crate::hop::{Hop, read_hop_entry, read_peer_entry};
 use crate::limits::{check, u32_of};
 use crate::shape::{BODY, HEADER_AND_BODY};
-use crate::slots::slots_of;
+use crate::slots::{Slots, slots_of};
 use crate::texts::Texts;
 
 /// What the signed body of an AS entry says. The ISD-AS numbers are of 64 bits.
@@ -39,6 +39,17 @@ fn check_peer_entries(peers: Texts<'_>) -> Result<(), SegError>
     Ok(())
 }
 
+/// Reads the peer entries of a body, of which there are seldom any.
+fn check_peers(slots: &Slots<'_>) -> Result<(), SegError>
+    ensures { Reads (λ u. u) result
+        (seen_as (λ _. tt) (each peer_entry_reading (texts 4 (fields slots.now.message.now)))) }
+{
+    if slots.text(4).is_none() {
+        return Ok(());
+    }
+    check_peer_entries(slots.texts(4))
+}
+
 #[tactic(auto, unfolding(crate::specs::Entry::body_reading))]
 fn read_body(message: &[u8]) -> Result<Body, SegError>
     ensures { Reads (λ body. body) result (body_reading message.now) }
@@ -49,7 +60,7 @@ fn read_body(message: &[u8]) -> Result<Body, SegError>
     check(names_an_as(ia), SegError::Range)?;
     let _mtu = u32_of(slots.number(5))?;
     let hop = read_hop_entry(hop_entry)?;
-    check_peer_entries(slots.texts(4))?;
+    check_peers(&slots)?;
     Ok(Body {
         ia,
         next: slots.number(2),

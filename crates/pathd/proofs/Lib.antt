@@ -1,0 +1,17 @@
+pub mod Lists
+pub mod Order
+pub mod Puts
+pub mod Place
+pub mod Shown
+pub mod Steps
+pub mod Ends
+pub mod Bound
+pub mod FrameLemmas
+pub mod WriteLemmas
+pub mod AnsweredLemmas
+pub mod SessionLemmas
+pub mod OneReading
+pub mod InputLemmas
+pub mod LineLemmas
+pub mod SessionInLines
+pub mod CoreLemmas

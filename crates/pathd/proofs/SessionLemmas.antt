@@ -1,0 +1,239 @@
+-- How what was answered so far makes a session.
+use Rattle.std.proofs.Common.{◌≡◌, ℕ, zero, suc, ◌+◌, ◌-◌, ◌*◌, ◌^◌, ◌<◌, ◌≤◌, ◌⊎◌, inl, inr, min, List, [], ◌∷◌, ◌++◌, length, drop, get_or, Bool, true, false, Option, Result, Ok, Err, IfOk, IfErr, refl, sym, ap, subst, ◌∙◌, arith, append_assoc}
+use Rattle.std.proofs.lemmas.List.{append-nil, length-append}
+use Rattle.std.specs.Io.KnownBytes.{Consumes, Appends, Keeps, IsAtEnd}
+use Rattle.std.proofs.KnownBytes.{Consumes-nil, Consumes-trans, Appends-nil, Appends-trans}
+use Rattle.pathd.specs.declared.fault.FrameError.{FrameError}
+use Rattle.pathd.specs.declared.fault.FrameError.TheVariants as error
+use Rattle.pathd.specs.Codes.{memory_code}
+use Rattle.pathd.specs.Frames.{Message, body_of, message_frame, IsFrameLength, IsPartial, Ending, Rest, BadLength, BadKind, EndsAs, AreFrames}
+use Rattle.pathd.specs.Session.{Reply, Refused, Served, opening, reply_frame, message_step, session_replies, AreReplies, written_for, Begins, AreFirst, HasRest, EndsWith, IsSession}
+use Rattle.pathd.specs.Answered.{AreRepliesTo, AreWholeFrames, IsAnswered, HasAnswered, StopsAt, StopsWithin, Stops, TakesPiece, FailsToTake}
+use Rattle.pathd.proofs.FrameLemmas.{AreBytes, append_below, append_below_right, Frames, frames_in}
+use Rattle.pathd.proofs.AnsweredLemmas.{IsAnswered-none, IsAnswered-append, IsAnswered-more, HasAnswered-none, HasAnswered-append, written_for-append}
+
+-- ---- replies
+
+pub AreReplies-all : (cores : List ℕ) (ms : List Message) (rs : List Reply) (a b : Served) → AreRepliesTo cores a ms rs b → AreReplies cores a ms rs
+AreReplies-all cores [] rs a b p = p.0
+AreReplies-all cores (m ∷ ms) [] a b p = p
+AreReplies-all cores (m ∷ ms) (r ∷ rs) a b (inl h) = inl (h.0, AreReplies-all cores ms rs a b h.1)
+AreReplies-all cores (m ∷ ms) (r ∷ rs) a b (inr h) = inr (h.0, AreReplies-all cores ms rs (message_step cores a m).1 b h.1)
+
+pub AreReplies-session_replies : (cores : List ℕ) (ms : List Message) (a : Served) → AreReplies cores a ms (session_replies cores a ms)
+unfolding session_replies
+AreReplies-session_replies cores [] a = refl
+AreReplies-session_replies cores (m ∷ ms) a = inr (refl, AreReplies-session_replies cores ms (message_step cores a m).1)
+
+pub AreReplies-append : (cores : List ℕ) (ms ns : List Message) (rs ss : List Reply) (a b : Served) → AreRepliesTo cores a ms rs b → AreReplies cores b ns ss → AreReplies cores a (ms ++ ns) (rs ++ ss)
+AreReplies-append cores [] ns rs ss a b p q = rw p.0 (subst (λ (s : Served). AreReplies cores s ns ss) p.1 q)
+AreReplies-append cores (m ∷ ms) ns [] ss a b p q = absurd p
+AreReplies-append cores (m ∷ ms) ns (r ∷ rs) ss a b (inl h) q = inl (h.0, AreReplies-append cores ms ns rs ss a b h.1 q)
+AreReplies-append cores (m ∷ ms) ns (r ∷ rs) ss a b (inr h) q = inr (h.0, AreReplies-append cores ms ns rs ss (message_step cores a m).1 b h.1 q)
+
+-- ---- frames
+
+pub AreFrames-all : (ms : List Message) (bytes rest : List ℕ) (ending : Ending) → AreWholeFrames bytes ms rest → EndsAs rest ending → AreFrames bytes ms ending
+AreFrames-all [] bytes rest ending p q = subst (λ (t : List ℕ). EndsAs t ending) (sym p) q
+AreFrames-all (m ∷ ms) bytes rest ending p q = (p.0, p.1, p.2, AreFrames-all ms p.0 rest ending p.3 q)
+
+pub AreFrames-append : (ms ns : List Message) (bytes rest : List ℕ) (ending : Ending) → AreWholeFrames bytes ms rest → AreFrames rest ns ending → AreFrames bytes (ms ++ ns) ending
+AreFrames-append [] ns bytes rest ending p q = subst (λ (t : List ℕ). AreFrames t ns ending) (sym p) q
+AreFrames-append (m ∷ ms) ns bytes rest ending p q = (p.0, p.1, p.2, AreFrames-append ms ns p.0 rest ending p.3 q)
+
+pub rest_below : (ms : List Message) (bytes rest : List ℕ) → AreWholeFrames bytes ms rest → AreBytes bytes → AreBytes rest
+rest_below [] bytes rest p b = subst AreBytes p b
+rest_below (m ∷ ms) bytes rest p b = rest_below ms p.0 rest p.3 (append_below_right (message_frame m) p.0 (subst AreBytes p.1 b))
+
+-- ---- sessions
+
+-- What was read is answered but for a rest that is less than a frame, or a faulty one.
+pub session_closed : (cores : List ℕ) (turns : ℕ) (i j o p : Option (List ℕ)) (result : Result ℕ FrameError) (read rest written : List ℕ) (new : Served) (n : ℕ) (ending : Ending)
+    → Consumes i j read → Appends o p written → length read ≤ turns * 65536 → (a : IsAnswered cores opening read rest written new n) → EndsAs rest ending
+    → EndsWith j turns read a.messages ending written a.replies result → IsSession cores turns i j o p result
+session_closed cores turns i j o p result read rest written new n ending c w bound a ends said = record {
+  read = read;
+  written = written;
+  messages = a.messages;
+  ending = ending;
+  replies = a.replies;
+  consumed = c;
+  appended = w;
+  bounded = bound;
+  framed = AreFrames-all a.messages read rest ending a.framed ends;
+  replied = AreReplies-all cores a.messages a.replies opening new a.replied;
+  sized = record { told = a.replies; others = []; parts = sym (append-nil a.replies); each = a.sized; begins = ([], sym a.told ∙ sym (append-nil written)) };
+  ended = said;
+}
+
+-- What was read has more frames than were answered.
+pub session_open : (cores : List ℕ) (turns : ℕ) (i j o p : Option (List ℕ)) (result : Result ℕ FrameError) (read rest all written : List ℕ) (new : Served) (n : ℕ)
+    → Consumes i j read → Appends o p written → length read ≤ turns * 65536 → AreBytes read → (a : IsAnswered cores opening read rest all new n) → Begins written all
+    → ((messages : List Message) (ending : Ending) (others : List Reply) → EndsWith j turns read messages ending written (a.replies ++ others) result) → IsSession cores turns i j o p result
+session_open cores turns i j o p result read rest all written new n c w bound b a front said =
+    let left = frames_in rest (rest_below a.messages read rest a.framed b) in
+    let others = session_replies cores new left.messages in
+    record {
+      read = read;
+      written = written;
+      messages = a.messages ++ left.messages;
+      ending = left.ending;
+      replies = a.replies ++ others;
+      consumed = c;
+      appended = w;
+      bounded = bound;
+      framed = AreFrames-append a.messages left.messages read rest left.ending a.framed left.framed;
+      replied = AreReplies-append cores a.messages left.messages a.replies others opening new a.replied (AreReplies-session_replies cores left.messages new);
+      sized = record { told = a.replies; others = others; parts = refl; each = a.sized; begins = (front.0, sym a.told ∙ front.1) };
+      ended = said (a.messages ++ left.messages) left.ending others;
+    }
+
+-- so many reads have been made, and less than a frame is left
+pub record SoFar (cores : List ℕ) (reads : ℕ) (i j o p : Option (List ℕ)) (pending : List ℕ) (new : Served) (count : ℕ) : Type 0 where
+  pub read : List ℕ
+  pub consumed : Consumes i j read
+  pub below : AreBytes read
+  pub most : length read ≤ reads * 65536
+  pub least : reads ≤ length read
+  pub answered : HasAnswered cores opening read pending o p new 0 count
+  pub partial : IsPartial pending
+
+pub IsPartial-nil : IsPartial []
+IsPartial-nil = record { length_is_right = λ h. absurd (omega arith); kind_is_right = λ h. absurd (omega arith); incomplete = λ h. absurd (omega arith) }
+
+pub SoFar-none : (cores : List ℕ) (i o : Option (List ℕ)) (pending : List ℕ) (s : Served) → pending ≡ [] → s ≡ opening → SoFar cores 0 i i o o pending s 0
+SoFar-none cores i o pending s none start = rw (none, start) (record {
+  read = [];
+  consumed = Consumes-nil i;
+  below = λ k. omega arith;
+  most = omega arith;
+  least = omega arith;
+  answered = HasAnswered-none cores opening [] o 0 (omega arith);
+  partial = IsPartial-nil;
+})
+
+-- ---- how a session ends
+
+Consumes-none : (i j k : Option (List ℕ)) (read : List ℕ) → Consumes i j read → Consumes j k [] → Consumes i k read
+Consumes-none i j k read c d = subst (Consumes i k) (append-nil read) (Consumes-trans i j k read [] c d)
+
+-- no memory for the first read
+pub ends_at_once : (cores : List ℕ) (turns : ℕ) (i o : Option (List ℕ)) (e : FrameError) → e ≡ error.NoMemory → IsSession cores turns i i o o (Err e)
+ends_at_once cores turns i o e is =
+    let none = IsAnswered-none cores opening [] in
+    rw is (session_closed cores turns i i o o (Err error.NoMemory) [] [] [] opening 0 (Rest []) (Consumes-nil i) (Appends-nil o) (omega arith)
+    none (refl, IsPartial-nil) (none.replies, [], sym (append-nil none.replies), none.told))
+
+-- the read failed, or there was no memory for what it gave
+pub ends_at_read : (cores : List ℕ) (turns n : ℕ) (i j k o p : Option (List ℕ)) (pending : List ℕ) (new : Served) (count : ℕ) (e : FrameError)
+    → SoFar cores n i j o p pending new count → n < turns → FailsToTake j k e → IsSession cores turns i k o p (Err e)
+ends_at_read cores turns n i j k o p pending new count error.Read s more f =
+    let a = s.answered in
+    session_closed cores turns i k o p (Err error.Read) s.read pending a.written new a.more (Rest pending) (Consumes-none i j k s.read s.consumed f) a.appended (omega (arith, s.most))
+    a.answered (refl, s.partial) (tt, a.answered.told)
+ends_at_read cores turns n i j k o p pending new count error.NoMemory s more f =
+    let a = s.answered in
+    let whole = IsAnswered-more cores opening new s.read pending f.0 a.written a.more a.answered in
+    session_open cores turns i k o p (Err error.NoMemory) (s.read ++ f.0) (pending ++ f.0) a.written a.written new a.more (Consumes-trans i j k s.read f.0 s.consumed f.2) a.appended
+    (omega (arith, s.most, f.3, length-append s.read f.0)) (append_below s.read f.0 s.below f.1) whole ([], sym (append-nil a.written))
+    (λ ms ending others. (whole.replies, others, refl, whole.told))
+ends_at_read cores turns n i j k o p pending new count error.Length s more f = absurd f
+ends_at_read cores turns n i j k o p pending new count error.Kind s more f = absurd f
+ends_at_read cores turns n i j k o p pending new count error.Write s more f = absurd f
+ends_at_read cores turns n i j k o p pending new count error.Turns s more f = absurd f
+
+-- the end of the input
+pub ends_well : (cores : List ℕ) (turns n : ℕ) (i j k o p : Option (List ℕ)) (pending left : List ℕ) (new : Served) (count : ℕ)
+    → SoFar cores n i j o p pending new count → n < turns → TakesPiece j k pending left false → left ≡ [] → IsSession cores turns i k o p (Ok count)
+ends_well cores turns n i j k o p pending left new count s more t none =
+    let a = s.answered in
+    let nothing : pending ≡ [] = sym t.0 ∙ none in
+    session_closed cores turns i k o p (Ok count) s.read pending a.written new a.more (Rest pending) (Consumes-none i j k s.read s.consumed t.1) a.appended (omega (arith, s.most))
+    a.answered (refl, s.partial) (t.2, ap Rest nothing, omega (arith, a.counted, a.answered.counted), a.answered.told)
+
+pub ends_within_frame : (cores : List ℕ) (turns n : ℕ) (i j k o p : Option (List ℕ)) (pending left : List ℕ) (new : Served) (count : ℕ)
+    → SoFar cores n i j o p pending new count → n < turns → TakesPiece j k pending left false → IsSession cores turns i k o p (Err error.Read)
+ends_within_frame cores turns n i j k o p pending left new count s more t = ends_at_read cores turns n i j k o p pending new count error.Read s more t.1
+
+-- what was answered of the earlier pieces and of this one
+pub joined : (cores : List ℕ) (n : ℕ) (i j o p : Option (List ℕ)) (pending bytes rest more : List ℕ) (b c : Served) (count m : ℕ) (s : SoFar cores n i j o p pending b count)
+    → IsAnswered cores b (pending ++ bytes) rest more c m → IsAnswered cores opening (s.read ++ bytes) rest (s.answered.written ++ more) c (s.answered.more + m)
+joined cores n i j o p pending bytes rest more b c count m s x =
+    IsAnswered-append cores opening b c (s.read ++ bytes) (pending ++ bytes) rest s.answered.written more s.answered.more m
+    (IsAnswered-more cores opening b s.read pending bytes s.answered.written s.answered.more s.answered.answered) x
+
+ends_at_frame : (cores : List ℕ) (turns n : ℕ) (i j k o p q : Option (List ℕ)) (pending bytes : List ℕ) (b : Served) (count : ℕ) (ending : Ending) (e : FrameError)
+    → (s : SoFar cores n i j o p pending b count) → n < turns → Consumes j k bytes → length bytes ≤ 65536 → StopsAt cores b (pending ++ bytes) p q ending
+    → ((messages : List Message) (written : List ℕ) (replies : List Reply) → written ≡ written_for replies → EndsWith k turns (s.read ++ bytes) messages ending written replies (Err e))
+    → IsSession cores turns i k o q (Err e)
+ends_at_frame cores turns n i j k o p q pending bytes b count ending e s more c small x said =
+    let a = s.answered in
+    let whole = joined cores n i j o p pending bytes x.rest x.written b x.new count x.count s x.answered in
+    session_closed cores turns i k o q (Err e) (s.read ++ bytes) x.rest (a.written ++ x.written) x.new (a.more + x.count) ending (Consumes-trans i j k s.read bytes s.consumed c)
+    (Appends-trans o p q a.written x.written a.appended x.appended) (omega (arith, s.most, length-append s.read bytes)) whole x.ends
+    (said whole.messages (a.written ++ x.written) whole.replies whole.told)
+
+ends_at_write : (cores : List ℕ) (turns n : ℕ) (i j k o p q : Option (List ℕ)) (pending bytes : List ℕ) (b : Served) (count : ℕ)
+    → SoFar cores n i j o p pending b count → n < turns → AreBytes bytes → Consumes j k bytes → length bytes ≤ 65536 → StopsWithin cores b (pending ++ bytes) p q
+    → IsSession cores turns i k o q (Err error.Write)
+ends_at_write cores turns n i j k o p q pending bytes b count s more below c small x =
+    let a = s.answered in
+    let whole = joined cores n i j o p pending bytes x.rest x.all b x.new count x.count s x.answered in
+    session_open cores turns i k o q (Err error.Write) (s.read ++ bytes) x.rest (a.written ++ x.all) (a.written ++ x.written) x.new (a.more + x.count)
+    (Consumes-trans i j k s.read bytes s.consumed c) (Appends-trans o p q a.written x.written a.appended x.appended) (omega (arith, s.most, length-append s.read bytes))
+    (append_below s.read bytes s.below below) whole
+    (x.begins.0, ap (λ (t : List ℕ). a.written ++ t) x.begins.1 ∙ sym (append_assoc a.written x.written x.begins.0))
+    (λ ms ending others.
+      let rest = x.begins.0 ++ written_for others in (
+        rest,
+        written_for-append whole.replies others
+            ∙ ap (λ (t : List ℕ). t ++ written_for others) (sym whole.told)
+            ∙ ap (λ (t : List ℕ). (a.written ++ t) ++ written_for others) x.begins.1
+            ∙ ap (λ (t : List ℕ). t ++ written_for others) (sym (append_assoc a.written x.written x.begins.0))
+            ∙ append_assoc (a.written ++ x.written) x.begins.0 (written_for others),
+      ))
+
+-- a fault of a frame or a failed write
+pub ends_at_answer : (cores : List ℕ) (turns n : ℕ) (i j k o p q : Option (List ℕ)) (pending grown : List ℕ) (b : Served) (count : ℕ) (e : FrameError)
+    → SoFar cores n i j o p pending b count → n < turns → TakesPiece j k pending grown true → Stops cores b grown p q e → IsSession cores turns i k o q (Err e)
+ends_at_answer cores turns n i j k o p q pending grown b count error.Length s more t x =
+    ends_at_frame cores turns n i j k o p q pending t.0 b count BadLength error.Length s more t.3 t.5 (subst (λ (g : List ℕ). StopsAt cores b g p q BadLength) t.1 x) (λ ms w rs told. (refl, told))
+ends_at_answer cores turns n i j k o p q pending grown b count error.Kind s more t x =
+    ends_at_frame cores turns n i j k o p q pending t.0 b count BadKind error.Kind s more t.3 t.5 (subst (λ (g : List ℕ). StopsAt cores b g p q BadKind) t.1 x) (λ ms w rs told. (refl, told))
+ends_at_answer cores turns n i j k o p q pending grown b count error.Write s more t x =
+    ends_at_write cores turns n i j k o p q pending t.0 b count s more t.2 t.3 t.5 (subst (λ (g : List ℕ). StopsWithin cores b g p q) t.1 x)
+ends_at_answer cores turns n i j k o p q pending grown b count error.NoMemory s more t x = absurd x
+ends_at_answer cores turns n i j k o p q pending grown b count error.Read s more t x = absurd x
+ends_at_answer cores turns n i j k o p q pending grown b count error.Turns s more t x = absurd x
+
+-- one piece more
+pub SoFar-more : (cores : List ℕ) (n : ℕ) (i j k o p q : Option (List ℕ)) (pending grown left : List ℕ) (b c : Served) (count sum : ℕ)
+    → SoFar cores n i j o p pending b count → TakesPiece j k pending grown true → HasAnswered cores b grown left p q c count sum → IsPartial left
+    → SoFar cores (n + 1) i k o q left c sum
+SoFar-more cores n i j k o p q pending grown left b c count sum s t x partial =
+    let a = s.answered in
+    let bytes = t.0 in
+    let longer = length-append s.read bytes in
+    record {
+      read = s.read ++ bytes;
+      consumed = Consumes-trans i j k s.read bytes s.consumed t.3;
+      below = append_below s.read bytes s.below t.2;
+      most = omega (arith, s.most, longer, t.5);
+      least = omega (arith, s.least, longer, t.4);
+      answered = record {
+        written = a.written ++ x.written;
+        more = a.more + x.more;
+        answered = joined cores n i j o p pending bytes left x.written b c count x.more s (subst (λ (g : List ℕ). IsAnswered cores b g left x.written c x.more) t.1 x.answered);
+        appended = Appends-trans o p q a.written x.written a.appended x.appended;
+        counted = omega (arith, a.counted, x.counted);
+      };
+      partial = partial;
+    }
+
+-- so many reads were made as were allowed
+pub ends_at_turns : (cores : List ℕ) (turns n : ℕ) (i j o p : Option (List ℕ)) (pending : List ℕ) (new : Served) (count : ℕ) → SoFar cores n i j o p pending new count → n ≡ turns
+    → IsSession cores turns i j o p (Err error.Turns)
+ends_at_turns cores turns n i j o p pending new count s all =
+    let a = s.answered in
+    session_closed cores turns i j o p (Err error.Turns) s.read pending a.written new a.more (Rest pending) s.consumed a.appended (omega (arith, s.most)) a.answered (refl, s.partial)
+    (tt, a.answered.told, omega (arith, s.least))
