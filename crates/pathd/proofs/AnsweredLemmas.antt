@@ -1,16 +1,16 @@
 -- Answers to the frames of one piece after the other are answers to all of them.
-use Rattle.std.proofs.Common.{◌≡◌, ℕ, zero, suc, ◌+◌, ◌-◌, ◌^◌, ◌<◌, ◌≤◌, ◌⊎◌, inl, inr, min, List, [], ◌∷◌, ◌++◌, length, drop, Option, Result, Ok, Err, IfOk, IfErr, refl, sym, ap, subst, ◌∙◌, arith, append_assoc}
+use Rattle.std.proofs.Common.{◌≡◌, ℕ, ◌+◌, ◌-◌, ◌^◌, ◌<◌, ◌≤◌, inl, inr, min, List, [], ◌∷◌, ◌++◌, length, drop, Option, Result, Ok, Err, IfOk, IfErr, refl, sym, ap, subst, ◌∙◌, arith, append_assoc}
 use Rattle.std.proofs.lemmas.List.{append-nil, length-append, drop-drop}
-use Rattle.std.specs.List.{flat_map, AllByRecursion}
-use Rattle.std.specs.Io.KnownBytes.{Appends, Keeps}
+use Rattle.std.specs.List.{AllByRecursion}
+use Rattle.std.specs.Io.KnownBytes.{Keeps}
 use Rattle.std.proofs.KnownBytes.{Appends-nil, Appends-trans, Appends-kept}
 use Rattle.pathd.specs.declared.fault.FrameError.{FrameError}
 use Rattle.pathd.specs.declared.fault.FrameError.TheVariants as error
 use Rattle.pathd.specs.Codes.{memory_code}
-use Rattle.pathd.specs.Frames.{Message, body_of, frame_spelling, message_frame, IsFrameLength, Ending, Rest, BadLength, BadKind, EndsAs}
-use Rattle.pathd.specs.Session.{Reply, Refused, Served, reply_content, reply_frame, message_step, written_for, HasReplySize, Answers, Begins}
+use Rattle.pathd.specs.Frames.{Message, body_of, frame_spelling, message_frame, Ending, BadLength, BadKind, EndsAs}
+use Rattle.pathd.specs.Session.{Reply, Refused, Served, reply_content, reply_frame, message_step, written_for, HasReplySize, Answers}
 use Rattle.pathd.specs.Front.{BeginsWithFrame, IsFront}
-use Rattle.pathd.specs.Answered.{AreRepliesTo, AreWholeFrames, IsAnswered, HasAnswered, StopsAt, StopsWithin, Stops, Replies, FailsToReply, FailsWithin}
+use Rattle.pathd.specs.Answered.{AreRepliesTo, AreWholeFrames, IsAnswered, HasAnswered, StopsAt, StopsWithin, Stops, Replies, FailsToReply}
 
 pub AreRepliesTo-append : (cores : List ℕ) (ms ns : List Message) (rs ss : List Reply) (a b c : Served) → AreRepliesTo cores a ms rs b → AreRepliesTo cores b ns ss c → AreRepliesTo cores a (ms ++ ns) (rs ++ ss) c
 AreRepliesTo-append cores [] ns rs ss a b c p q = rw p.0 (subst (λ (s : Served). AreRepliesTo cores s ns ss c) p.1 q)

@@ -1,12 +1,11 @@
 -- The texts of a list, one after the other.
-use Rattle.std.proofs.Common.{◌≡◌, ℕ, ◌+◌, ◌<◌, List, [], ◌∷◌, ◌++◌, length, take, drop, map, get_or, refl, sym, ap, subst, ◌∙◌, arith, take-append-drop}
+use Rattle.std.proofs.Common.{◌≡◌, ℕ, ◌+◌, ◌<◌, List, [], ◌∷◌, ◌++◌, length, take, drop, map, get_or, sym, ap, subst, ◌∙◌, take-append-drop}
 use Rattle.std.proofs.lemmas.List.{map_more, map-append, drop_more}
-use Rattle.std.specs.List.{AllZip}
 use Rattle.isd_as.specs.declared.number.IsdAs.{IsdAs}
 use Rattle.isd_as.specs.Text.{IsIsdAsText}
 use Rattle.pathd.specs.declared.fault.Fault.{Fault}
 use Rattle.pathd.specs.declared.fault.Fault.TheVariants as fault
-use Rattle.pathd.specs.Cores.{texts_of, AreCores, RefusesText, FirstRefused, RefusesList}
+use Rattle.pathd.specs.Cores.{texts_of, AreCores, RefusesText, RefusesList}
 
 AreCores-push : (texts : List (List ℕ)) (cores : List IsdAs) (text : List ℕ) (core : IsdAs) → AreCores texts cores → IsIsdAsText text core → AreCores (texts ++ text ∷ []) (cores ++ core ∷ [])
 AreCores-push [] [] text core p q = (q, tt)

@@ -1,10 +1,10 @@
 -- A whole frame at the front of bytes, and what its spelling gives back.
-use Rattle.std.proofs.Common.{◌≡◌, ◌≢◌, ℕ, zero, suc, ◌+◌, ◌*◌, ◌-◌, ◌<◌, ◌≤◌, ◌⊎◌, inl, inr, List, [], ◌∷◌, ◌++◌, length, take, drop, get_or, slice_index, slice_range, refl, sym, ap, subst, ◌∙◌, arith, lit<, append_assoc, take-append-drop}
-use Rattle.std.proofs.lemmas.List.{get_or-take, length-take-le, length-take, length-drop, length-append, drop-drop, drop_more, take_at, drop_at}
+use Rattle.std.proofs.Common.{◌≡◌, ℕ, zero, suc, ◌+◌, ◌*◌, ◌-◌, ◌<◌, ◌≤◌, ◌⊎◌, inl, inr, List, [], ◌∷◌, ◌++◌, length, take, drop, get_or, slice_index, slice_range, refl, sym, ap, ◌∙◌, arith, lit<, append_assoc, take-append-drop}
+use Rattle.std.proofs.lemmas.List.{get_or-take, length-take-le, length-drop, drop-drop, drop_more}
 use Rattle.std.proofs.lemmas.Bool.{cases_lt, cases_eq}
-use Rattle.std.proofs.lemmas.Nat.{be_bytes_4, from_be_bytes-to_be_bytes_4}
-use Rattle.std.specs.Int.{w32, to_be_bytes, from_be_bytes}
-use Rattle.pathd.specs.Frames.{Message, Register, Lookup, kind_of, body_of, frame_spelling, message_frame, length_at, IsFrameLength, IsMessageKind, IsPartial, Ending, Rest, BadLength, BadKind, EndsAs, AreFrames}
+use Rattle.std.proofs.lemmas.Nat.{be_bytes_4}
+use Rattle.std.specs.Int.{w32, to_be_bytes}
+use Rattle.pathd.specs.Frames.{Message, Register, Lookup, kind_of, body_of, frame_spelling, length_at, IsFrameLength, IsMessageKind, Ending, Rest, BadLength, BadKind, AreFrames}
 use Rattle.pathd.specs.Front.{BeginsWithFrame}
 
 abbrev pub AreBytes : List ℕ → Type 0
@@ -145,20 +145,20 @@ frames_whole fuel bytes enough b again =
     elim (cases_lt (length bytes) 4) [
       | inl short ↦ frames_short bytes short
       | inr long ↦ elim (frame_length_cases (length_at bytes)) [
-          | inr bad ↦ frames_bad_length bytes long bad
-          | inl sized ↦ elim (cases_lt (length bytes) 5) [
-              | inl four ↦ frames_partial bytes long sized (λ h. absurd (omega arith)) (omega (arith, sized.0))
-              | inr five ↦ elim (kind_cases (slice_index bytes 4)) [
-                  | inr bad ↦ frames_bad_kind bytes five sized bad
-                  | inl kind ↦ elim (cases_lt (length bytes) (4 + length_at bytes)) [
-                      | inl short ↦ frames_partial bytes long sized (λ _. kind) short
-                      | inr whole ↦
-                          let m = frame_of_kind bytes b sized whole kind in
-                          frames_more bytes m.0 (4 + length_at bytes) m.1 (again (drop (4 + length_at bytes) bytes) (omega (arith, length-drop (4 + length_at bytes) bytes)) (drop_below (4 + length_at bytes) bytes b))
-                    ]
-                ]
+        | inr bad ↦ frames_bad_length bytes long bad
+        | inl sized ↦ elim (cases_lt (length bytes) 5) [
+          | inl four ↦ frames_partial bytes long sized (λ h. absurd (omega arith)) (omega (arith, sized.0))
+          | inr five ↦ elim (kind_cases (slice_index bytes 4)) [
+            | inr bad ↦ frames_bad_kind bytes five sized bad
+            | inl kind ↦ elim (cases_lt (length bytes) (4 + length_at bytes)) [
+              | inl short ↦ frames_partial bytes long sized (λ _. kind) short
+              | inr whole ↦
+                  let m = frame_of_kind bytes b sized whole kind in
+                  frames_more bytes m.0 (4 + length_at bytes) m.1 (again (drop (4 + length_at bytes) bytes) (omega (arith, length-drop (4 + length_at bytes) bytes)) (drop_below (4 + length_at bytes) bytes b))
             ]
+          ]
         ]
+      ]
     ]
 
 pub frames_of : (fuel : ℕ) (bytes : List ℕ) → length bytes ≤ fuel → AreBytes bytes → Frames bytes

@@ -1,8 +1,8 @@
 -- Lines for the frames of some bytes, one after the other.
-use Rattle.std.proofs.Common.{◌≡◌, ◌≢◌, ℕ, zero, suc, ◌+◌, ◌-◌, ◌^◌, ◌<◌, ◌≤◌, ◌⊎◌, inl, inr, List, [], ◌∷◌, ◌++◌, length, take, drop, Option, refl, sym, ap, subst, ◌∙◌, arith, append_assoc}
+use Rattle.std.proofs.Common.{◌≡◌, ℕ, ◌+◌, ◌≤◌, List, [], ◌∷◌, ◌++◌, length, take, drop, Option, refl, sym, ap, subst, ◌∙◌, arith, append_assoc}
 use Rattle.std.proofs.lemmas.List.{append-nil, length-append, take_at, drop_at, take-append-le}
 use Rattle.std.proofs.lemmas.Nat.{from_be_bytes-to_be_bytes_4}
-use Rattle.std.specs.Int.{w32, to_be_bytes, from_be_bytes}
+use Rattle.std.specs.Int.{w32, from_be_bytes}
 use Rattle.std.specs.List.{flat_map, AllByRecursion}
 use Rattle.std.specs.Io.KnownBytes.{Appends}
 use Rattle.std.proofs.KnownBytes.{Appends-nil, Appends-trans}
@@ -94,10 +94,10 @@ none_left rest (c ∷ left) fits e none =
 pub ArePrinted-all : (frames rest : List ℕ) (o p : Option (List ℕ)) → HavePrinted frames rest o p → HasNoFrame rest → ArePrinted frames o p
 ArePrinted-all frames rest o p printed none = record {
   whole = λ contents fits e.
-    let h = printed contents [] fits (sym e ∙ sym (append-nil frames)) in
-    let left = none_left rest h.1 (fits_right h.0 h.1 (subst (AllByRecursion FitsFrame) h.2 fits)) (h.3 ∙ append-nil rest) none in
-    let all : h.0 ≡ contents = sym (append-nil h.0) ∙ ap (λ (t : List (List ℕ)). h.0 ++ t) (sym left) ∙ sym h.2 in
-    subst (λ (cs : List (List ℕ)). Appends o p (lines_of cs)) all h.4;
+      let h = printed contents [] fits (sym e ∙ sym (append-nil frames)) in
+      let left = none_left rest h.1 (fits_right h.0 h.1 (subst (AllByRecursion FitsFrame) h.2 fits)) (h.3 ∙ append-nil rest) none in
+      let all : h.0 ≡ contents = sym (append-nil h.0) ∙ ap (λ (t : List (List ℕ)). h.0 ++ t) (sym left) ∙ sym h.2 in
+      subst (λ (cs : List (List ℕ)). Appends o p (lines_of cs)) all h.4;
   front = front_printed frames rest o p printed;
 }
 

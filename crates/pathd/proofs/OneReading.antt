@@ -1,12 +1,12 @@
 -- Bytes are frames in one way, and messages have one list of replies.
-use Rattle.std.proofs.Common.{◌≡◌, ◌≢◌, ℕ, zero, suc, ◌+◌, ◌-◌, ◌<◌, ◌≤◌, ◌⊎◌, inl, inr, List, [], ◌∷◌, ◌++◌, length, take, drop, get_or, slice_index, Option, Some, None, Ok, Contains, refl, sym, ap, subst, ◌∙◌, arith, lit<, append_assoc}
+use Rattle.std.proofs.Common.{◌≡◌, ℕ, suc, ◌+◌, inl, inr, List, [], ◌∷◌, ◌++◌, length, take, drop, get_or, slice_index, Option, Some, None, Ok, Contains, refl, sym, ap, subst, ◌∙◌, arith}
 use Rattle.std.proofs.lemmas.List.{length-append, take_at, drop_at, append-nil}
 use Rattle.std.proofs.lemmas.Nat.{from_be_bytes-to_be_bytes_4}
-use Rattle.std.specs.Int.{w32, to_be_bytes, from_be_bytes}
 use Rattle.std.specs.Io.KnownBytes.{Consumes, Appends, IsAtEnd}
 use Rattle.pathd.specs.Codes.{memory_code}
-use Rattle.pathd.specs.Frames.{Message, Register, Lookup, kind_of, body_of, frame_spelling, message_frame, length_at, IsFrameLength, IsMessageKind, IsPartial, Ending, Rest, BadLength, BadKind, EndsAs, AreFrames}
-use Rattle.pathd.specs.Session.{Reply, Refused, Served, opening, message_step, session_replies, AreReplies, written_for, IsSession}
+use Rattle.pathd.specs.Frames.{Message, Register, Lookup, kind_of, body_of, message_frame, length_at, IsFrameLength, IsMessageKind, Ending, Rest, BadLength, BadKind, EndsAs, AreFrames}
+use Rattle.pathd.specs.Session.{Reply, Refused, Served, opening, message_step, session_replies, AreReplies, written_for, EndsWith, IsSession}
+use Rattle.pathd.specs.SessionInLines.{lines_for, IsSessionInLines}
 
 -- ---- one frame
 
@@ -102,3 +102,17 @@ whole_session_of cores turns input output input_left output_left count session e
     wrote output session.written output_left session.appended
     ∙ ap (λ (t : List ℕ). Some (output ++ t)) session.ended.3
     ∙ ap (λ (rs : List Reply). Some (output ++ written_for rs)) replies
+
+-- ---- a session in lines
+
+pub whole_session_in_lines_of : (cores : List ℕ) (turns : ℕ) (input output : List ℕ) (output_left : Option (List ℕ)) (count : ℕ)
+    (lines : IsSessionInLines cores turns input (Some output) output_left (Ok count)) → ¬ Contains lines.session.replies (Refused memory_code)
+    → (messages : List Message) → AreFrames input messages (Rest []) → output_left ≡ Some (output ++ lines_for (session_replies cores opening messages))
+whole_session_in_lines_of cores turns input output output_left count lines enough messages framed =
+    let s = lines.session in
+    let ended = subst (EndsWith lines.left turns s.read s.messages s.ending s.written s.replies) lines.ended.0 s.ended in
+    let all = read_all input s.read lines.left s.consumed ended.0 in
+    let same = one_reading_of s.messages messages s.read s.ending (Rest []) s.framed (subst (λ (t : List ℕ). AreFrames t messages (Rest [])) all framed) in
+    let replies : s.replies ≡ session_replies cores opening messages =
+    only_replies_of cores s.messages s.replies opening s.replied enough ∙ ap (session_replies cores opening) same.0 in
+    wrote output (lines_for s.replies) output_left lines.ended.1 ∙ ap (λ (rs : List Reply). Some (output ++ lines_for rs)) replies

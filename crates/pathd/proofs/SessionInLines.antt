@@ -1,5 +1,5 @@
 -- The lines of a session whose frames were kept.
-use Rattle.std.proofs.Common.{◌≡◌, ◌≢◌, ℕ, zero, suc, ◌+◌, ◌<◌, ◌≤◌, ◌⊎◌, inl, inr, List, [], ◌∷◌, ◌++◌, length, map, Option, Some, None, Result, Ok, Err, refl, sym, ap, subst, ◌∙◌, arith, append_assoc}
+use Rattle.std.proofs.Common.{◌≡◌, ℕ, ◌≤◌, inl, inr, List, [], ◌∷◌, ◌++◌, length, map, Option, Some, Result, Ok, Err, refl, sym, ap, subst, ◌∙◌, arith, append_assoc}
 use Rattle.std.proofs.lemmas.List.{append-nil, length-append, map-append}
 use Rattle.std.specs.List.{flat_map, AllByRecursion}
 use Rattle.std.specs.Io.KnownBytes.{Appends}
@@ -11,7 +11,7 @@ use Rattle.pathd.specs.Fault.{fault_of}
 use Rattle.pathd.specs.Frames.{frame_spelling}
 use Rattle.pathd.specs.Session.{Reply, reply_content, reply_frame, written_for, HasReplySize, AreSized, Begins, IsSession}
 use Rattle.pathd.specs.Lines.{FitsFrame, lines_of, ArePrinted, FailsToPrintLines}
-use Rattle.pathd.specs.SessionInLines.{lines_for, PrintsFront, EndsWithFault, EndsInLines, IsSessionInLines}
+use Rattle.pathd.specs.SessionInLines.{lines_for, PrintsFront, IsSessionInLines}
 use Rattle.pathd.proofs.AnsweredLemmas.{written_for-append}
 use Rattle.pathd.proofs.LineLemmas.{lines_of-append}
 

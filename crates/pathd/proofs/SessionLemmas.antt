@@ -1,16 +1,15 @@
 -- How what was answered so far makes a session.
-use Rattle.std.proofs.Common.{◌≡◌, ℕ, zero, suc, ◌+◌, ◌-◌, ◌*◌, ◌^◌, ◌<◌, ◌≤◌, ◌⊎◌, inl, inr, min, List, [], ◌∷◌, ◌++◌, length, drop, get_or, Bool, true, false, Option, Result, Ok, Err, IfOk, IfErr, refl, sym, ap, subst, ◌∙◌, arith, append_assoc}
+use Rattle.std.proofs.Common.{◌≡◌, ℕ, ◌+◌, ◌*◌, ◌<◌, ◌≤◌, inl, inr, List, [], ◌∷◌, ◌++◌, length, true, false, Option, Result, Ok, Err, refl, sym, ap, subst, ◌∙◌, arith, append_assoc}
 use Rattle.std.proofs.lemmas.List.{append-nil, length-append}
-use Rattle.std.specs.Io.KnownBytes.{Consumes, Appends, Keeps, IsAtEnd}
+use Rattle.std.specs.Io.KnownBytes.{Consumes, Appends}
 use Rattle.std.proofs.KnownBytes.{Consumes-nil, Consumes-trans, Appends-nil, Appends-trans}
 use Rattle.pathd.specs.declared.fault.FrameError.{FrameError}
 use Rattle.pathd.specs.declared.fault.FrameError.TheVariants as error
-use Rattle.pathd.specs.Codes.{memory_code}
-use Rattle.pathd.specs.Frames.{Message, body_of, message_frame, IsFrameLength, IsPartial, Ending, Rest, BadLength, BadKind, EndsAs, AreFrames}
-use Rattle.pathd.specs.Session.{Reply, Refused, Served, opening, reply_frame, message_step, session_replies, AreReplies, written_for, Begins, AreFirst, HasRest, EndsWith, IsSession}
+use Rattle.pathd.specs.Frames.{Message, message_frame, IsPartial, Ending, Rest, BadLength, BadKind, EndsAs, AreFrames}
+use Rattle.pathd.specs.Session.{Reply, Served, opening, message_step, session_replies, AreReplies, written_for, Begins, EndsWith, IsSession}
 use Rattle.pathd.specs.Answered.{AreRepliesTo, AreWholeFrames, IsAnswered, HasAnswered, StopsAt, StopsWithin, Stops, TakesPiece, FailsToTake}
-use Rattle.pathd.proofs.FrameLemmas.{AreBytes, append_below, append_below_right, Frames, frames_in}
-use Rattle.pathd.proofs.AnsweredLemmas.{IsAnswered-none, IsAnswered-append, IsAnswered-more, HasAnswered-none, HasAnswered-append, written_for-append}
+use Rattle.pathd.proofs.FrameLemmas.{AreBytes, append_below, append_below_right, frames_in}
+use Rattle.pathd.proofs.AnsweredLemmas.{IsAnswered-none, IsAnswered-append, IsAnswered-more, HasAnswered-none, written_for-append}
 
 -- ---- replies
 
@@ -184,14 +183,14 @@ ends_at_write cores turns n i j k o p q pending bytes b count s more below c sma
     (append_below s.read bytes s.below below) whole
     (x.begins.0, ap (λ (t : List ℕ). a.written ++ t) x.begins.1 ∙ sym (append_assoc a.written x.written x.begins.0))
     (λ ms ending others.
-      let rest = x.begins.0 ++ written_for others in (
-        rest,
-        written_for-append whole.replies others
-            ∙ ap (λ (t : List ℕ). t ++ written_for others) (sym whole.told)
-            ∙ ap (λ (t : List ℕ). (a.written ++ t) ++ written_for others) x.begins.1
-            ∙ ap (λ (t : List ℕ). t ++ written_for others) (sym (append_assoc a.written x.written x.begins.0))
-            ∙ append_assoc (a.written ++ x.written) x.begins.0 (written_for others),
-      ))
+    let rest = x.begins.0 ++ written_for others in (
+      rest,
+      written_for-append whole.replies others
+          ∙ ap (λ (t : List ℕ). t ++ written_for others) (sym whole.told)
+          ∙ ap (λ (t : List ℕ). (a.written ++ t) ++ written_for others) x.begins.1
+          ∙ ap (λ (t : List ℕ). t ++ written_for others) (sym (append_assoc a.written x.written x.begins.0))
+          ∙ append_assoc (a.written ++ x.written) x.begins.0 (written_for others),
+    ))
 
 -- a fault of a frame or a failed write
 pub ends_at_answer : (cores : List ℕ) (turns n : ℕ) (i j k o p q : Option (List ℕ)) (pending grown : List ℕ) (b : Served) (count : ℕ) (e : FrameError)

@@ -1,10 +1,9 @@
 -- What writes in pieces have done together.
-use Rattle.std.proofs.Common.{◌≡◌, ℕ, zero, List, [], ◌∷◌, ◌++◌, take, drop, Option, refl, sym, ap, subst, ◌∙◌, append_assoc, take-append-drop}
+use Rattle.std.proofs.Common.{◌≡◌, ℕ, List, [], ◌++◌, take, drop, Option, refl, sym, ap, subst, ◌∙◌, append_assoc, take-append-drop}
 use Rattle.std.proofs.lemmas.List.{append-nil}
-use Rattle.std.specs.Io.KnownBytes.{Appends, Keeps}
-use Rattle.std.proofs.KnownBytes.{Appends-nil, Appends-trans, Appends-kept}
+use Rattle.std.specs.Io.KnownBytes.{Appends}
+use Rattle.std.proofs.KnownBytes.{Appends-nil, Appends-trans}
 use Rattle.pathd.specs.declared.fault.FrameError.TheVariants as error
-use Rattle.pathd.specs.Session.{Begins}
 use Rattle.pathd.specs.Answered.{FailsWithin, HasWritten}
 
 pub HasWritten-none : (a : Option (List ℕ)) (bytes : List ℕ) → HasWritten a a bytes bytes

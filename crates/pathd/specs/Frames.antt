@@ -1,8 +1,6 @@
 -- A stream of frames: a length of four bytes, big-endian, and that many bytes, which are a kind and a body.
-use Rattle.std.specs.Prelude.{◌≡◌, ◌≢◌, ℕ, ◌+◌, ◌<◌, ◌≤◌, ◌⊎◌, List, [], ◌∷◌, ◌++◌, length, take, slice_index}
+use Rattle.std.specs.Prelude.{◌≡◌, ℕ, ◌+◌, ◌<◌, ◌≤◌, ◌⊎◌, List, [], ◌∷◌, ◌++◌, length, take, slice_index}
 use Rattle.std.specs.Int.{w32, to_be_bytes, from_be_bytes}
-use Rattle.pathd.specs.declared.fault.FrameError.{FrameError}
-use Rattle.pathd.specs.declared.fault.FrameError.TheVariants as error
 
 -- a request: a registration or a lookup, with its body
 pub data Message : Type 0 where

@@ -1,9 +1,9 @@
 -- What stands at the front of a stream of frames.
-use Rattle.std.specs.Prelude.{◌≡◌, ◌≢◌, ℕ, ◌+◌, ◌-◌, ◌<◌, ◌≤◌, ◌⊎◌, List, [], ◌∷◌, ◌++◌, length, drop, Option, Some, None, Result, Ok, Err}
+use Rattle.std.specs.Prelude.{◌≡◌, ℕ, ◌+◌, List, ◌++◌, length, drop, Option, Some, None, Result, Ok, Err}
 use Rattle.pathd.specs.declared.fault.FrameError.{FrameError}
 use Rattle.pathd.specs.declared.fault.FrameError.TheVariants as error
 use Rattle.pathd.specs.declared.frames.Request.{Request}
-use Rattle.pathd.specs.Frames.{Message, body_of, message_frame, IsFrameLength, IsPartial, Ending, BadLength, BadKind, EndsAs}
+use Rattle.pathd.specs.Frames.{Message, body_of, message_frame, IsFrameLength, IsPartial, BadLength, BadKind, EndsAs}
 use Rattle.pathd.specs.Reply.{message_of}
 
 -- Bytes begin with the frame of a message, of this many bytes.

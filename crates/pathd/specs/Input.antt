@@ -1,7 +1,6 @@
 -- Input that is read whole, and its hexadecimal text.
-use Rattle.std.specs.Prelude.{◌≡◌, ℕ, ◌*◌, ◌≤◌, List, length, Bool, ◌==◌, ◌||◌, not, filter, Option, Result, Ok, Err}
+use Rattle.std.specs.Prelude.{ℕ, ◌*◌, ◌≤◌, List, length, Bool, ◌==◌, ◌||◌, not, filter, Option}
 use Rattle.std.specs.Io.KnownBytes.{Consumes}
-use Rattle.hex.specs.Hex.{decode_of}
 use Rattle.pathd.specs.declared.fault.FrameError.{FrameError}
 use Rattle.pathd.specs.declared.fault.FrameError.TheVariants as error
 

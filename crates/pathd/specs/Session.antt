@@ -1,10 +1,9 @@
 -- What a session answers: a reply for each message, and nothing else.
-use Rattle.std.specs.Prelude.{◌≡◌, ◌≢◌, ℕ, ◌+◌, ◌-◌, ◌*◌, ◌^◌, ◌≤◌, ◌<◌, ◌⊎◌, min, List, [], ◌∷◌, ◌++◌, length, map, take, Bool, ◌==◌, if◌then◌else◌, Result, Ok, Err, Option, Some, None}
+use Rattle.std.specs.Prelude.{◌≡◌, ℕ, ◌+◌, ◌-◌, ◌*◌, ◌^◌, ◌≤◌, ◌⊎◌, min, List, [], ◌∷◌, ◌++◌, length, ◌==◌, if◌then◌else◌, Result, Ok, Err, Option}
 use Rattle.std.specs.List.{flat_map, AllByRecursion}
 use Rattle.std.specs.Int.{w32, w64, to_be_bytes}
 use Rattle.std.specs.Io.KnownBytes.{Consumes, Appends, IsAtEnd}
 use Rattle.seg_core.specs.declared.error.SegError.{SegError}
-use Rattle.seg_core.specs.declared.seg_type.SegType.{SegType}
 use Rattle.seg_core.specs.Request.{request_reading}
 use Rattle.seg_core.specs.Registration.{registration_reading}
 use Rattle.seg_core.specs.Spelling.{response_spelling}
@@ -50,8 +49,10 @@ abbrev pub accepted : Served → List RowView → Step
 accepted served new =
     if served.place == 2 ^ 64 - 1
     then (Refused exhausted_code, served)
-    else (Accepted served.place (outcome_of (changes_of served.rows new)),
-        record { rows = rows_after_all served.rows new; place = served.place + 1 })
+    else (
+      Accepted served.place (outcome_of (changes_of served.rows new)),
+      record { rows = rows_after_all served.rows new; place = served.place + 1 },
+    )
 
 abbrev pub registered : Served → Result (List RowView) SegError → Step
 registered served (Ok new) = accepted served new

@@ -1,5 +1,5 @@
 -- A session over bytes in memory, whose replies are printed as lines of hexadecimal digits.
-use Rattle.std.specs.Prelude.{◌≡◌, ℕ, List, [], ◌++◌, map, Option, Some, Result, Ok, Err}
+use Rattle.std.specs.Prelude.{◌≡◌, ℕ, List, [], map, Option, Some, Result, Ok, Err}
 use Rattle.std.specs.Io.KnownBytes.{Appends}
 use Rattle.pathd.specs.declared.fault.FrameError.{FrameError}
 use Rattle.pathd.specs.declared.fault.FrameError.TheVariants as error

@@ -1,7 +1,6 @@
 //! Why a session ends, and why the program does.
 
 ghost use Rattle.std.specs.Prelude.{◌≡◌};
-ghost use Rattle.pathd.specs.declared.fault.Fault.TheVariants.{Memory, Frame};
 
 use isd_as::IaError;
 use thiserror::Error;

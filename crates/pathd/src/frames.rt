@@ -1,7 +1,5 @@
 //! Frames: a length of four bytes, big-endian, and that many bytes, which are a kind and a body.
 
-ghost use Rattle.std.specs.Prelude.{◌≡◌, ◌≤◌, ◌<◌, ◌↔◌, length, MatchResult, IfOk, slice_index};
-ghost use Rattle.pathd.specs.Frames.{EndsAs, BadLength, BadKind, IsFrameLength, length_at};
 ghost use Rattle.pathd.specs.Front.{IsFront};
 
 use crate::fault::FrameError;
@@ -23,6 +21,7 @@ const LENGTH_SIZE: usize = 4;
 const MAX_REQUEST: usize = 131_073;
 
 const REGISTER: u8 = 1;
+
 const LOOKUP: u8 = 2;
 
 /// The request at the front of the bytes, and how many bytes its frame has. `None` is less than a frame.

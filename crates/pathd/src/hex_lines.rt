@@ -1,6 +1,6 @@
 //! Frames as lines of hexadecimal digits.
 
-ghost use Rattle.std.specs.Prelude.{◌≡◌, ℕ, ◌≤◌, List, ◌++◌, length, OnOk, IfErr, IfSome, IfNone};
+ghost use Rattle.std.specs.Prelude.{OnOk, IfErr, IfSome, IfNone};
 ghost use Rattle.std.specs.Io.KnownBytes.{Appends};
 ghost use Rattle.pathd.specs.Lines.{IsFirstFrame, HasNoFrame, hex_line, FailsToPrint, FailsToPrintLines, ArePrinted};
 

@@ -5,7 +5,7 @@ ghost use Rattle.std.specs.List.{AllByRecursion};
 ghost use Rattle.std.specs.Option.{option_map};
 ghost use Rattle.isd_as.specs.IsdAs.{number_of};
 ghost use Rattle.seg_core.specs.EntryView.{entry_view, entry_views};
-ghost use Rattle.seg_core.specs.Spelling.{IsSegment};
+ghost use Rattle.seg_core.specs.Spelling.{IsSegment, referred};
 ghost use Rattle.pathd.specs.Row.{row_view};
 ghost use Rattle.pathd.specs.Lookup.{query_of, has_zero_part, is_core, begins_at, ends_at, is_at, matches, answer_of};
 ghost use Rattle.pathd.specs.Query.{query_view, query_read};
@@ -114,14 +114,14 @@ fn is_at(entry: Option<&Entry>, ia: u64) -> bool
     }
 }
 
-/// The first 64 rows by key that match.
-pub fn answer(
+/// The first 64 rows by key that match. The segments stay where they are in the rows.
+pub fn answer<'a>(
     alloc: Global,
-    rows: &Rows,
+    rows: &'a Rows,
     query: &Query,
-) -> Result<Vec<(SegType, Segment)>, AllocError>
-    ensures same { IfOk result (λ found. found.items ≡ answer_of rows.now (query_view query.now)) }
-    ensures whole { IfOk result (λ found. AllByRecursion (λ row. IsSegment row.1) found.items) }
+) -> Result<Vec<(SegType, &'a Segment)>, AllocError>
+    ensures same { IfOk result (λ found. referred found.items ≡ answer_of rows.now (query_view query.now)) }
+    ensures whole { IfOk result (λ found. AllByRecursion (λ row. IsSegment row.1) (referred found.items)) }
 {
     let mut found = Vec::new(alloc);
     for row in rows.as_slice() {
@@ -129,7 +129,7 @@ pub fn answer(
             break;
         }
         if query.matches(row) {
-            found.push(row.copied(alloc)?)?;
+            found.push((row.kind, &row.segment))?;
         }
     }
     Ok(found)

@@ -101,3 +101,6 @@ fn refuse(rt: &(impl Print + Eprint), error: &Error) -> Result<ExitCode, Fault> 
         ExitCode::from(2)
     })
 }
+
+#[cfg(test)]
+mod tests;

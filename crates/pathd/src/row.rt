@@ -42,13 +42,6 @@ impl Row {
     {
         self.key.as_slice().cmp(&key)
     }
-
-    /// A copy of the type and the segment.
-    pub fn copied(&self, alloc: Global) -> Result<(SegType, Segment), AllocError>
-        ensures { IfOk result (λ copy. copy ≡ row_view self.now) }
-    {
-        Ok((self.kind, self.segment.try_clone(alloc)?))
-    }
 }
 
 /// The number of the type, and the hops of the entries.

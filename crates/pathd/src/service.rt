@@ -14,7 +14,7 @@ use crate::lookup::{answer, classify};
 use crate::reply::Reply;
 use crate::rows::{Outcome, Rows};
 use isd_as::IsdAs;
-use seg_core::{read_registration, read_request, write_response};
+use seg_core::{read_registration, read_request, write_response_of};
 use std::alloc::Global;
 use std::marker::Model;
 
@@ -87,7 +87,7 @@ impl Service {
         let (source, destination) = read_request(message)?;
         let query = classify(cores, source, destination)?;
         let found = answer(alloc, &self.rows, &query)?;
-        Ok(write_response(alloc, &found)?)
+        Ok(write_response_of(alloc, &found)?)
     }
 }
 

@@ -1,7 +1,6 @@
 //! One session from a reader to a writer.
 
-ghost use Rattle.std.specs.Prelude.{◌≡◌, ◌≤◌, ◌+◌, ◌-◌, ◌^◌, ℕ, List, [], ◌++◌, length, drop, take, min, map, OnOk, IfOk, IfErr, MatchResult};
-ghost use Rattle.std.specs.Io.KnownBytes.{Appends};
+ghost use Rattle.std.specs.Prelude.{◌≡◌, ◌≤◌, length, drop, map, OnOk, IfOk, IfErr};
 ghost use Rattle.isd_as.specs.IsdAs.{number_of};
 ghost use Rattle.pathd.specs.Frames.{IsPartial};
 ghost use Rattle.pathd.specs.Reply.{message_of};

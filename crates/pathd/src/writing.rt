@@ -14,7 +14,9 @@ use byteorder::{BigEndian, ByteOrder};
 use std::io::Write;
 
 const ACCEPTED: u8 = 0x81;
+
 const FOUND: u8 = 0x82;
+
 const REFUSED: u8 = 0xff;
 
 /// The bytes of an accepted command's frame: its length, the kind, the place and four counts.
@@ -36,10 +38,10 @@ pub fn write_reply<W: Write>(writer: &mut W, reply: &Reply) -> Result<(), FrameE
     }
 }
 
-fn accepted_frame(place: u64, outcome: Outcome) -> [u8; 29]
+fn accepted_frame(place: u64, outcome: Outcome) -> [u8; ACCEPTED_FRAME]
     ensures { result ≡ frame_spelling (content_of (Accepted place outcome)) }
 {
-    let mut frame = [0; 29];
+    let mut frame = [0; ACCEPTED_FRAME];
     BigEndian::write_u32(&mut frame, 25);
     frame[4] = ACCEPTED;
     BigEndian::write_u64(&mut frame[5..], place);

@@ -2,6 +2,7 @@
 use Rattle.std.proofs.Common.{◌≡◌, ℕ, ◌+◌, ◌<◌, true, false, List, [], ◌∷◌, ◌++◌, length, drop, get_or, refl, sym, ap, ◌∙◌, arith, append_assoc, length-append, drop-cons, add-one}
 use Rattle.std.specs.Prelude.{◌==◌}
 use Rattle.std.proofs.lemmas.List.Concat.{flat_map-cons}
+use Rattle.std.specs.Borrow.{Bor}
 use denote.Enum.Bare.{sameb}
 use Rattle.pw_wire.specs.Varint.{varint_spelling, spelling_within}
 use Rattle.pw_wire.specs.Field.{varint_field_spelling, bytes_field_spelling}
@@ -10,7 +11,7 @@ use Rattle.seg_core.specs.declared.seg_type.SegType.{SegType}
 use Rattle.seg_core.specs.declared.seg_type.SegType.TheVariants.{Up, Down, Core}
 use Rattle.seg_core.specs.Registration.{type_number}
 use Rattle.seg_core.specs.SegmentView.{SegmentView}
-use Rattle.seg_core.specs.Spelling.{head_spelling, segment_spelling, segments_spelling, of_type, map_entry_spelling}
+use Rattle.seg_core.specs.Spelling.{head_spelling, segment_spelling, segments_spelling, of_type, map_entry_spelling, referred}
 use Rattle.seg_core.proofs.SpelledLengths.{field-length}
 use Rattle.seg_core.proofs.Written.{field-put, both-put}
 
@@ -28,11 +29,15 @@ same-type Core Core = refl
 
 -- ---- the segments of a type
 
+-- a segment of a type, behind a reference
+abbrev Referring : Type 0
+Referring = SegType × Bor SegmentView
+
 -- what is left of the rows has the next one first
-split_at : (rows : List (SegType × SegmentView)) (i : ℕ) (row : SegType × SegmentView) → i < length rows → row ≡ get_or rows i row → drop i rows ≡ row ∷ drop (i + 1) rows
+split_at : (rows : List Referring) (i : ℕ) (row : Referring) → i < length rows → row ≡ get_or rows i row → referred (drop i rows) ≡ (row.0, row.1.now) ∷ referred (drop (i + 1) rows)
 split_at rows i row lt is =
     let split : drop i rows ≡ get_or rows i row ∷ drop (i + 1) rows = rw add-one (drop-cons rows i row lt) in
-    split ∙ ap (λ r. r ∷ drop (i + 1) rows) (sym is)
+    ap referred (split ∙ ap (λ r. r ∷ drop (i + 1) rows) (sym is))
 
 one_of_type : (kind : SegType) (row : SegType × SegmentView) (rows : List (SegType × SegmentView)) → (type_number row.0 == type_number kind) ≡ true → of_type kind (row ∷ rows) ≡ row.1 ∷ of_type kind rows
 one_of_type kind row rows same = rw same refl
@@ -41,30 +46,30 @@ not_of_type : (kind : SegType) (row : SegType × SegmentView) (rows : List (SegT
 not_of_type kind row rows other = rw other refl
 
 -- the next row is of the type
-pub segment-next : (kind : SegType) (rows : List (SegType × SegmentView)) (i : ℕ) (row : SegType × SegmentView) (len : ℕ) (whole out headed done : List ℕ)
-    → i < length rows → row ≡ get_or rows i row → sameb the_type row.0 kind ≡ true → out ++ segments_spelling (of_type kind (drop i rows)) ≡ whole
-    → len ≡ length (segment_spelling row.1) → headed ≡ out ++ head_spelling 1 len → done ≡ headed ++ segment_spelling row.1
-    → done ++ segments_spelling (of_type kind (drop (i + 1) rows)) ≡ whole
+pub segment-next : (kind : SegType) (rows : List Referring) (i : ℕ) (row : Referring) (len : ℕ) (whole out headed done : List ℕ)
+    → i < length rows → row ≡ get_or rows i row → sameb the_type row.0 kind ≡ true → out ++ segments_spelling (of_type kind (referred (drop i rows))) ≡ whole
+    → len ≡ length (segment_spelling row.1.now) → headed ≡ out ++ head_spelling 1 len → done ≡ headed ++ segment_spelling row.1.now
+    → done ++ segments_spelling (of_type kind (referred (drop (i + 1) rows))) ≡ whole
 segment-next kind rows i row len whole out headed done lt is same so_far long head one =
-    let others = of_type kind (drop (i + 1) rows) in
-    let first = segment_spelling row.1 in
-    let left : segments_spelling (of_type kind (drop i rows)) ≡ bytes_field_spelling 1 first ++ segments_spelling others =
+    let others = of_type kind (referred (drop (i + 1) rows)) in
+    let first = segment_spelling row.1.now in
+    let left : segments_spelling (of_type kind (referred (drop i rows))) ≡ bytes_field_spelling 1 first ++ segments_spelling others =
     ap (λ rs. segments_spelling (of_type kind rs)) (split_at rows i row lt is)
-    ∙ ap segments_spelling (one_of_type kind row (drop (i + 1) rows) (sym (same-type row.0 kind) ∙ same))
-    ∙ flat_map-cons (λ s. bytes_field_spelling 1 (segment_spelling s)) row.1 others in
+    ∙ ap segments_spelling (one_of_type kind (row.0, row.1.now) (referred (drop (i + 1) rows)) (sym (same-type row.0 kind) ∙ same))
+    ∙ flat_map-cons (λ s. bytes_field_spelling 1 (segment_spelling s)) row.1.now others in
     ap (λ xs. xs ++ segments_spelling others) (field-put 1 len first out headed done long head one)
     ∙ append_assoc out (bytes_field_spelling 1 first) (segments_spelling others)
     ∙ ap (λ xs. out ++ xs) (sym left)
     ∙ so_far
 
 -- the next row is of another type
-pub other-next : (kind : SegType) (rows : List (SegType × SegmentView)) (i : ℕ) (row : SegType × SegmentView) (whole out : List ℕ)
-    → i < length rows → row ≡ get_or rows i row → sameb the_type row.0 kind ≡ false → out ++ segments_spelling (of_type kind (drop i rows)) ≡ whole
-    → out ++ segments_spelling (of_type kind (drop (i + 1) rows)) ≡ whole
+pub other-next : (kind : SegType) (rows : List Referring) (i : ℕ) (row : Referring) (whole out : List ℕ)
+    → i < length rows → row ≡ get_or rows i row → sameb the_type row.0 kind ≡ false → out ++ segments_spelling (of_type kind (referred (drop i rows))) ≡ whole
+    → out ++ segments_spelling (of_type kind (referred (drop (i + 1) rows))) ≡ whole
 other-next kind rows i row whole out lt is other so_far =
-    let left : segments_spelling (of_type kind (drop i rows)) ≡ segments_spelling (of_type kind (drop (i + 1) rows)) =
+    let left : segments_spelling (of_type kind (referred (drop i rows))) ≡ segments_spelling (of_type kind (referred (drop (i + 1) rows))) =
     ap (λ rs. segments_spelling (of_type kind rs)) (split_at rows i row lt is)
-    ∙ ap segments_spelling (not_of_type kind row (drop (i + 1) rows) (sym (same-type row.0 kind) ∙ other)) in
+    ∙ ap segments_spelling (not_of_type kind (row.0, row.1.now) (referred (drop (i + 1) rows)) (sym (same-type row.0 kind) ∙ other)) in
     ap (λ xs. out ++ xs) (sym left) ∙ so_far
 
 -- ---- the map entry of a type

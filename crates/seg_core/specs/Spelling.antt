@@ -2,6 +2,7 @@
 -- and empty bytes left out. What is kept of an entry is written as it came.
 use Rattle.std.specs.Prelude.{◌≡◌, ℕ, ◌+◌, ◌*◌, ◌≤◌, List, [], ◌∷◌, ◌++◌, length, map, filter, ◌==◌, IsTrue, Ok, Option, Some, None}
 use Rattle.std.specs.List.{flat_map, AllByRecursion}
+use Rattle.std.specs.Borrow.{Bor}
 use Rattle.pw_wire.specs.Varint.{varint_spelling}
 use Rattle.pw_wire.specs.Field.{varint_field_spelling, bytes_field_spelling}
 use Rattle.seg_core.specs.declared.body.Body.{Body}
@@ -60,6 +61,10 @@ pub record IsSegment (s : SegmentView) : Type 0 where
   pub short : length (segment_spelling s) ≤ 16384
 
 -- ---- a response
+
+-- what stands behind references to segments
+abbrev pub referred : List (SegType × Bor SegmentView) → List (SegType × SegmentView)
+referred rows = map (λ row. (row.0, row.1.now)) rows
 
 -- `Segments`: segments one after the other
 abbrev pub segments_spelling : List SegmentView → List ℕ

@@ -35,7 +35,7 @@ pub use guarantees::{
 };
 pub use registration::read_registration;
 pub use request::read_request;
-pub use response::write_response;
+pub use response::{write_response, write_response_of};
 pub use seg_type::SegType;
 pub use segment::{Segment, read_segment};
 pub use writing::write_segment;

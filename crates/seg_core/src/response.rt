@@ -2,7 +2,7 @@
 
 ghost use Rattle.std.specs.Prelude.{◌≡◌, ℕ, ◌+◌, ◌++◌, List, length, IfOk, OnOk};
 ghost use Rattle.pw_wire.specs.Field.{bytes_field_spelling};
-ghost use Rattle.seg_core.specs.Spelling.{segments_spelling, of_type, map_entry_spelling, response_spelling};
+ghost use Rattle.seg_core.specs.Spelling.{segments_spelling, of_type, map_entry_spelling, response_spelling, referred};
 
 use crate::lengths::{head_len, segment_len};
 use crate::seg_type::SegType;
@@ -22,8 +22,8 @@ fn sum(a: usize, b: usize) -> Result<usize, AllocError>
 }
 
 /// The bytes of the segments of a type, each behind its tag and its length.
-fn segments_len(segments: &[(SegType, Segment)], kind: SegType) -> Result<usize, AllocError>
-    ensures { IfOk result (λ len. len ≡ length (segments_spelling (of_type kind segments.now))) }
+fn segments_len(segments: &[(SegType, &Segment)], kind: SegType) -> Result<usize, AllocError>
+    ensures { IfOk result (λ len. len ≡ length (segments_spelling (of_type kind (referred segments.now)))) }
 {
     let mut len = 0;
     for (of, segment) in segments {
@@ -38,10 +38,10 @@ fn segments_len(segments: &[(SegType, Segment)], kind: SegType) -> Result<usize,
 /// Appends the segments of a type, each behind its tag and its length.
 fn put_segments(
     out: &mut Vec<u8>,
-    segments: &[(SegType, Segment)],
+    segments: &[(SegType, &Segment)],
     kind: SegType,
 ) -> Result<(), AllocError>
-    ensures { OnOk result (out.new.items ≡ out.old.items ++ segments_spelling (of_type kind segments.now)) }
+    ensures { OnOk result (out.new.items ≡ out.old.items ++ segments_spelling (of_type kind (referred segments.now))) }
 {
     for (of, segment) in segments {
         if *of == kind {
@@ -60,8 +60,8 @@ fn content_len(value: usize) -> Result<usize, AllocError>
 }
 
 /// The bytes of the map entry of a type, which is there where the type has segments.
-fn type_len(segments: &[(SegType, Segment)], kind: SegType) -> Result<usize, AllocError>
-    ensures { IfOk result (λ len. len ≡ length (map_entry_spelling kind (of_type kind segments.now))) }
+fn type_len(segments: &[(SegType, &Segment)], kind: SegType) -> Result<usize, AllocError>
+    ensures { IfOk result (λ len. len ≡ length (map_entry_spelling kind (of_type kind (referred segments.now)))) }
 {
     let value = segments_len(segments, kind)?;
     if value == 0 {
@@ -74,10 +74,10 @@ fn type_len(segments: &[(SegType, Segment)], kind: SegType) -> Result<usize, All
 /// Appends the map entry of a type, where the type has segments.
 fn put_type(
     out: &mut Vec<u8>,
-    segments: &[(SegType, Segment)],
+    segments: &[(SegType, &Segment)],
     kind: SegType,
 ) -> Result<(), AllocError>
-    ensures { OnOk result (out.new.items ≡ out.old.items ++ map_entry_spelling kind (of_type kind segments.now)) }
+    ensures { OnOk result (out.new.items ≡ out.old.items ++ map_entry_spelling kind (of_type kind (referred segments.now))) }
 {
     let value = segments_len(segments, kind)?;
     if value == 0 {
@@ -91,8 +91,8 @@ fn put_type(
 
 /// The bytes of a response.
 #[tactic(auto, unfolding(crate::specs::Spelling::response_spelling))]
-fn response_len(segments: &[(SegType, Segment)]) -> Result<usize, AllocError>
-    ensures { IfOk result (λ len. len ≡ length (response_spelling segments.now)) }
+fn response_len(segments: &[(SegType, &Segment)]) -> Result<usize, AllocError>
+    ensures { IfOk result (λ len. len ≡ length (response_spelling (referred segments.now))) }
 {
     let up = type_len(segments, SegType::Up)?;
     let down = type_len(segments, SegType::Down)?;
@@ -100,14 +100,28 @@ fn response_len(segments: &[(SegType, Segment)]) -> Result<usize, AllocError>
     sum(up, sum(down, core)?)
 }
 
-/// The bytes of a `SegmentsResponse`: for each type that has segments, these, in their order.
+/// The bytes of a `SegmentsResponse`, as [`write_response`] gives them, of segments that the caller keeps elsewhere.
 #[tactic(auto, unfolding(crate::specs::Spelling::response_spelling))]
-pub fn write_response(alloc: Global, segments: &[(SegType, Segment)]) -> Result<Vec<u8>, AllocError>
-    ensures { IfOk result (λ v. v.items ≡ response_spelling segments.now) }
+pub fn write_response_of(
+    alloc: Global,
+    segments: &[(SegType, &Segment)],
+) -> Result<Vec<u8>, AllocError>
+    ensures { IfOk result (λ v. v.items ≡ response_spelling (referred segments.now)) }
 {
     let mut out = Vec::with_capacity(alloc, sum(response_len(segments)?, SLACK)?)?;
     put_type(&mut out, segments, SegType::Up)?;
     put_type(&mut out, segments, SegType::Down)?;
     put_type(&mut out, segments, SegType::Core)?;
     Ok(out)
+}
+
+/// The bytes of a `SegmentsResponse`: for each type that has segments, these, in their order.
+pub fn write_response(alloc: Global, segments: &[(SegType, Segment)]) -> Result<Vec<u8>, AllocError>
+    ensures { IfOk result (λ v. v.items ≡ response_spelling segments.now) }
+{
+    let mut referred = Vec::with_capacity(alloc, segments.len())?;
+    for (kind, segment) in segments {
+        referred.push((*kind, segment))?;
+    }
+    write_response_of(alloc, &referred)
 }

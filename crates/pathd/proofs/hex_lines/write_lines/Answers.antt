@@ -1,4 +1,3 @@
-use Rattle.std.proofs.Common.{refl}
 use Rattle.std.proofs.lemmas.Result.{err_from_is_err_and}
 use Rattle.pathd.proofs.LineLemmas.{HavePrinted-more, ArePrinted-all, FailsToPrintLines-line}
 use Rattle.pathd.proofs.hex_lines.write_lines.Goals as goal

@@ -1,6 +1,4 @@
-use Rattle.std.proofs.Common.{◌≡◌, ◌≢◌, refl, sym, subst, ap, List, ℕ, Err, Ok}
 use Rattle.std.proofs.lemmas.Result.{err_from_is_err_and}
-use Rattle.pathd.specs.Lines.{ArePrinted}
 use Rattle.pathd.proofs.SessionInLines.{ends_well, ends_without_memory, ends_with_fault, ends_unprinted}
 use Rattle.pathd.proofs.hex_session.once_in_lines.Goals as goal
 

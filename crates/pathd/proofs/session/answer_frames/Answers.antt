@@ -1,4 +1,4 @@
-use Rattle.std.proofs.Common.{arith, refl}
+use Rattle.std.proofs.Common.{arith}
 use Rattle.std.proofs.lemmas.Result.{err_from_is_err_and}
 use Rattle.pathd.proofs.AnsweredLemmas.{HasAnswered-none, HasAnswered-next, BeginsWithFrame-within, Stops-fails}
 use Rattle.pathd.proofs.session.answer_frames.Goals as goal

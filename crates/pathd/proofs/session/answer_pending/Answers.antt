@@ -1,4 +1,3 @@
-use Rattle.std.proofs.Common.{refl, subst, sym}
 use Rattle.pathd.proofs.AnsweredLemmas.{HasAnswered-unflushed, Stops-unflushed, either_way}
 use Rattle.pathd.proofs.session.answer_pending.Goals as goal
 

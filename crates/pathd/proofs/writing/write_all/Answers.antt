@@ -1,4 +1,3 @@
-use Rattle.std.proofs.Common.{refl}
 use Rattle.pathd.proofs.WriteLemmas.{HasWritten-more}
 use Rattle.pathd.proofs.writing.write_all.Goals as goal
 
