@@ -88,7 +88,7 @@ abbrev pub TakesPiece : Option (List ℕ) → Option (List ℕ) → List ℕ →
 TakesPiece input input_left old new true = (bytes : List ℕ) × (new ≡ old ++ bytes) × ((i : ℕ) → slice_index bytes i < 256) × Consumes input input_left bytes × (1 ≤ length bytes) × (length bytes ≤ 65536)
 TakesPiece input input_left old new false = (new ≡ old) × Consumes input input_left [] × IsAtEnd input_left
 
--- No read was made, or there was no memory for what it gave.
+-- A read failed, or there was no memory for what it gave.
 abbrev pub FailsToTake : Option (List ℕ) → Option (List ℕ) → FrameError → Type 0
 FailsToTake input input_left error.Read = Consumes input input_left []
 FailsToTake input input_left error.NoMemory = (bytes : List ℕ) × ((i : ℕ) → slice_index bytes i < 256) × Consumes input input_left bytes × (length bytes ≤ 65536)

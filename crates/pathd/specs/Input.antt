@@ -4,7 +4,7 @@ use Rattle.std.specs.Io.KnownBytes.{Consumes}
 use Rattle.pathd.specs.declared.fault.FrameError.{FrameError}
 use Rattle.pathd.specs.declared.fault.FrameError.TheVariants as error
 
--- Some bytes were read, by as many reads as these at most, of a byte at least where all were made.
+-- Some bytes were read, in so many reads at most.
 pub record HasRead (turns : ℕ) (input input_left : Option (List ℕ)) : Type 0 where
   pub read : List ℕ
   pub consumed : Consumes input input_left read

@@ -1,6 +1,8 @@
 //! The words of the command line.
 
-ghost use Rattle.std.specs.Prelude.{◌≡◌, map, IfOk, IfErr};
+ghost use Rattle.std.specs.Prelude.{◌≡◌, [], ◌∷◌, map, codes, IfOk, IfErr};
+ghost use Rattle.clap.specs.Words.{subcommand_names};
+ghost use Rattle.clap.specs.declared.builder.command.Command.TheViews.{out-Command};
 ghost use Rattle.isd_as.specs.Text.{IsIsdAsText};
 ghost use Rattle.pathd.specs.Cores.{texts_of, AreCores, RefusesText, RefusesList};
 
@@ -19,7 +21,21 @@ pub const CORES: &str = "cores";
 pub const HEX: &str = "hex";
 
 /// The program's commands and their options.
-pub fn command<'a>(alloc: Global) -> Result<Command<'a>, AllocError> {
+pub fn command<'a>(alloc: Global) -> Result<Command<'a>, AllocError>
+    ensures { IfOk result (λ command. subcommand_names command ≡ codes "once" ∷ []) }
+{
+    let once = once_command(alloc)?;
+    Command::new(alloc, "pathd")
+        .about("A path segment server for the core ASes of a SCION network")
+        .bin_name("pathd")?
+        .subcommand_required(true)
+        .subcommand(once)
+}
+
+/// The command that answers one session.
+fn once_command<'a>(alloc: Global) -> Result<Command<'a>, AllocError>
+    ensures { IfOk result (λ command. (out-Command command).name.now ≡ codes "once") }
+{
     let cores = Arg::new(alloc, CORES)
         .long(CORES)
         .value_name("LIST")
@@ -33,11 +49,7 @@ pub fn command<'a>(alloc: Global) -> Result<Command<'a>, AllocError> {
         .about("Answers one session from standard input to standard output")
         .arg(cores)?
         .arg(hex)?;
-    Command::new(alloc, "pathd")
-        .about("A path segment server for the core ASes of a SCION network")
-        .bin_name("pathd")?
-        .subcommand_required(true)
-        .subcommand(once)
+    Ok(once)
 }
 
 /// The core ASes of a list of texts joined by commas.
