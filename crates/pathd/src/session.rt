@@ -20,6 +20,9 @@ use std::io::{Read, Write};
 ///
 /// Memory holds one piece of the input and less than a frame before it, however long the input is. What is written
 /// is flushed before each further read.
+///
+/// The contract leaves open why a read or a write failed and when memory runs out, since no call of a reader, a writer
+/// or the allocator shows that. It bounds the bytes that were read, and not the number of reads.
 pub fn once<R: Read, W: Write>(
     alloc: Global,
     reader: &mut R,
