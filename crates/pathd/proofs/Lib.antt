@@ -11,6 +11,7 @@ pub mod WriteLemmas
 pub mod AnsweredLemmas
 pub mod SessionLemmas
 pub mod OneReading
+pub mod HexLemmas
 pub mod InputLemmas
 pub mod LineLemmas
 pub mod SessionInLines

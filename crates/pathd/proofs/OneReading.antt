@@ -110,7 +110,7 @@ pub whole_session_in_lines_of : (cores : List ℕ) (turns : ℕ) (input output :
     → (messages : List Message) → AreFrames input messages (Rest []) → output_left ≡ Some (output ++ lines_for (session_replies cores opening messages))
 whole_session_in_lines_of cores turns input output output_left count lines enough messages framed =
     let s = lines.session in
-    let ended = subst (EndsWith lines.left turns s.read s.messages s.ending s.written s.replies) lines.ended.0 s.ended in
+    let ended = subst (EndsWith lines.left turns s.reads s.read s.messages s.ending s.written s.replies) lines.ended.0 s.ended in
     let all = read_all input s.read lines.left s.consumed ended.0 in
     let same = one_reading_of s.messages messages s.read s.ending (Rest []) s.framed (subst (λ (t : List ℕ). AreFrames t messages (Rest [])) all framed) in
     let replies : s.replies ≡ session_replies cores opening messages =

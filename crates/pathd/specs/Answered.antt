@@ -1,12 +1,12 @@
 -- What a session has answered so far, and how it can stop within a piece of its input.
-use Rattle.std.specs.Prelude.{◌≡◌, ℕ, ◌+◌, ◌-◌, ◌^◌, ◌<◌, ◌≤◌, ◌⊎◌, min, List, [], ◌∷◌, ◌++◌, length, slice_index, Bool, true, false, Option}
+use Rattle.std.specs.Prelude.{◌≡◌, ℕ, ◌+◌, ◌-◌, ◌^◌, ◌<◌, ◌≤◌, ◌⊎◌, min, List, [], ◌∷◌, ◌++◌, length, slice_index, Bool, true, false, Option, Result}
 use Rattle.std.specs.List.{AllByRecursion}
 use Rattle.std.specs.Io.KnownBytes.{Appends, Consumes, IsAtEnd}
 use Rattle.pathd.specs.declared.fault.FrameError.{FrameError}
 use Rattle.pathd.specs.declared.fault.FrameError.TheVariants as error
 use Rattle.pathd.specs.Codes.{memory_code}
 use Rattle.pathd.specs.Frames.{Message, body_of, frame_spelling, message_frame, IsFrameLength, Ending, BadLength, BadKind, EndsAs}
-use Rattle.pathd.specs.Session.{Reply, Refused, Served, message_step, HasReplySize, Answers, written_for, Begins}
+use Rattle.pathd.specs.Session.{Reply, Refused, Served, message_step, HasReplySize, Answers, written_for, Begins, IsSession}
 
 -- the replies to messages, and where they leave what is served
 abbrev pub AreRepliesTo : List ℕ → Served → List Message → List Reply → Served → Type 0
@@ -83,19 +83,24 @@ pub record HasWritten (output output_left : Option (List ℕ)) (bytes rest : Lis
   pub parts : bytes ≡ front ++ rest
   pub appended : Appends output output_left front
 
--- A read gave more bytes, or was at the end: `true` where bytes came.
-abbrev pub TakesPiece : Option (List ℕ) → Option (List ℕ) → List ℕ → List ℕ → Bool → Type 0
-TakesPiece input input_left old new true = (bytes : List ℕ) × (new ≡ old ++ bytes) × ((i : ℕ) → slice_index bytes i < 256) × Consumes input input_left bytes × (1 ≤ length bytes) × (length bytes ≤ 65536)
-TakesPiece input input_left old new false = (new ≡ old) × Consumes input input_left [] × IsAtEnd input_left
+-- A read, for which a turn was left, gave more bytes, or was at the end: `true` where bytes came.
+abbrev pub TakesPiece : ℕ → Option (List ℕ) → Option (List ℕ) → List ℕ → List ℕ → Bool → Type 0
+TakesPiece left input input_left old new true = (0 < left) × (bytes : List ℕ) × (new ≡ old ++ bytes) × ((i : ℕ) → slice_index bytes i < 256) × Consumes input input_left bytes × (1 ≤ length bytes) × (length bytes ≤ 65536)
+TakesPiece left input input_left old new false = (0 < left) × (new ≡ old) × Consumes input input_left [] × IsAtEnd input_left
 
--- A read failed, or there was no memory for what it gave.
-abbrev pub FailsToTake : Option (List ℕ) → Option (List ℕ) → FrameError → Type 0
-FailsToTake input input_left error.Read = Consumes input input_left []
-FailsToTake input input_left error.NoMemory = (bytes : List ℕ) × ((i : ℕ) → slice_index bytes i < 256) × Consumes input input_left bytes × (length bytes ≤ 65536)
-FailsToTake input input_left error.Length = ⊥
-FailsToTake input input_left error.Kind = ⊥
-FailsToTake input input_left error.Write = ⊥
-FailsToTake input input_left error.Turns = ⊥
+-- A read failed, or there was no memory for what it gave. With no turn left, nothing was read.
+abbrev pub FailsToTake : ℕ → Option (List ℕ) → Option (List ℕ) → FrameError → Type 0
+FailsToTake left input input_left error.Read = (0 < left) × Consumes input input_left []
+FailsToTake left input input_left error.NoMemory = (0 < left) × (bytes : List ℕ) × ((i : ℕ) → slice_index bytes i < 256) × Consumes input input_left bytes × (length bytes ≤ 65536)
+FailsToTake left input input_left error.Turns = (left ≡ 0) × Consumes input input_left []
+FailsToTake left input input_left error.Length = ⊥
+FailsToTake left input input_left error.Kind = ⊥
+FailsToTake left input input_left error.Write = ⊥
+
+-- A session of what an input gives, and each read took one of the turns that were left.
+pub record IsSessionOfInput (cores : List ℕ) (old new : ℕ) (input input_left output output_left : Option (List ℕ)) (result : Result ℕ FrameError) : Type 0 where
+  pub session : IsSession cores old input input_left output output_left result
+  pub spent : old ≡ session.reads + new
 
 -- One message was answered, and its reply was written.
 pub record Replies (cores : List ℕ) (old : Served) (message : Message) (new : Served) (output output_left : Option (List ℕ)) : Type 0 where

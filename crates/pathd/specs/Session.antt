@@ -131,28 +131,30 @@ HasRest BadKind = ⊥
 -- How a session ended: at the end that the reader shows, with nothing left over; at a fault of a frame; at a failed
 -- read or within a frame; after so many reads, each of a byte at least; at a failed write; for want of memory. Only
 -- the last two leave out anything of the replies.
-abbrev pub EndsWith : Option (List ℕ) → ℕ → List ℕ → List Message → Ending → List ℕ → List Reply → Result ℕ FrameError → Type 0
-EndsWith left turns read messages ending written replies (Ok count) =
+abbrev pub EndsWith : Option (List ℕ) → ℕ → ℕ → List ℕ → List Message → Ending → List ℕ → List Reply → Result ℕ FrameError → Type 0
+EndsWith left turns reads read messages ending written replies (Ok count) =
     IsAtEnd left × (ending ≡ Rest []) × (count ≡ min (length messages) (2 ^ 64 - 1)) × (written ≡ written_for replies)
-EndsWith left turns read messages ending written replies (Err error.Length) = (ending ≡ BadLength) × (written ≡ written_for replies)
-EndsWith left turns read messages ending written replies (Err error.Kind) = (ending ≡ BadKind) × (written ≡ written_for replies)
-EndsWith left turns read messages ending written replies (Err error.Read) = HasRest ending × (written ≡ written_for replies)
-EndsWith left turns read messages ending written replies (Err error.Turns) = HasRest ending × (written ≡ written_for replies) × (turns ≤ length read)
-EndsWith left turns read messages ending written replies (Err error.Write) = Begins written (written_for replies)
-EndsWith left turns read messages ending written replies (Err error.NoMemory) = AreFirst written replies
+EndsWith left turns reads read messages ending written replies (Err error.Length) = (ending ≡ BadLength) × (written ≡ written_for replies)
+EndsWith left turns reads read messages ending written replies (Err error.Kind) = (ending ≡ BadKind) × (written ≡ written_for replies)
+EndsWith left turns reads read messages ending written replies (Err error.Read) = HasRest ending × (written ≡ written_for replies)
+EndsWith left turns reads read messages ending written replies (Err error.Turns) = HasRest ending × (written ≡ written_for replies) × (reads ≡ turns) × (turns ≤ length read)
+EndsWith left turns reads read messages ending written replies (Err error.Write) = Begins written (written_for replies)
+EndsWith left turns reads read messages ending written replies (Err error.NoMemory) = AreFirst written replies
 
--- A session from no rows and place 0, of at most so many reads: what was read is the frames of its messages, and what
--- was written are the frames of the replies to them.
+-- A session from no rows and place 0, of at most so many reads, each of 65,536 bytes at most: what was read is the frames
+-- of its messages, and what was written are the frames of the replies to them.
 pub record IsSession (cores : List ℕ) (turns : ℕ) (input input_left output output_left : Option (List ℕ)) (result : Result ℕ FrameError) : Type 0 where
   pub read : List ℕ
+  pub reads : ℕ
   pub written : List ℕ
   pub messages : List Message
   pub ending : Ending
   pub replies : List Reply
   pub consumed : Consumes input input_left read
   pub appended : Appends output output_left written
-  pub bounded : length read ≤ turns * 65536
+  pub within : reads ≤ turns
+  pub bounded : length read ≤ reads * 65536
   pub framed : AreFrames read messages ending
   pub replied : AreReplies cores opening messages replies
   pub sized : AreSized written replies
-  pub ended : EndsWith input_left turns read messages ending written replies result
+  pub ended : EndsWith input_left turns reads read messages ending written replies result

@@ -12,6 +12,7 @@ mod frames;
 mod hex_input;
 mod hex_lines;
 mod hex_session;
+mod input;
 mod laws;
 mod lookup;
 mod reading;

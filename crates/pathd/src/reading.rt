@@ -1,11 +1,11 @@
 //! Pieces of the input.
 
-ghost use Rattle.std.specs.Prelude.{◌≡◌, length, IfOk, IfErr};
-ghost use Rattle.std.specs.Io.KnownBytes.{Consumes, IsAtEnd};
+ghost use Rattle.std.specs.Prelude.{◌≡◌, ◌-◌, length, vec_items, IfOk, IfErr};
 ghost use Rattle.pathd.specs.Answered.{TakesPiece, FailsToTake};
-ghost use Rattle.pathd.specs.Input.{FailsToRead};
+ghost use Rattle.pathd.specs.Input.{bytes_given, ReadsAll, TakesAll};
 
 use crate::fault::FrameError;
+use crate::input::Input;
 use std::alloc::Global;
 use std::io::Read;
 
@@ -22,35 +22,38 @@ pub fn new_piece(alloc: Global) -> Result<Vec<u8>, FrameError>
 
 /// Reads once, and adds what came to what is pending. `false` is the end of the input.
 pub fn take_piece<R: Read>(
-    reader: &mut R,
+    input: &mut Input<'_, R>,
     piece: &mut Vec<u8>,
     pending: &mut Vec<u8>,
 ) -> Result<bool, FrameError>
     requires { length piece.old.items ≡ PIECE }
     ensures piece { length piece.new.items ≡ PIECE }
-    ensures ok { IfOk result (TakesPiece (R.remaining reader.old) (R.remaining reader.new) pending.old.items pending.new.items) }
-    ensures err { IfErr result (FailsToTake (R.remaining reader.old) (R.remaining reader.new)) }
+    ensures same { input.new.reader.ghost_name ≡ input.old.reader.ghost_name }
+    ensures left { input.new.left ≡ input.old.left - 1 }
+    ensures ok { IfOk result (TakesPiece input.old.left (R.remaining input.old.reader.now) (R.remaining input.new.reader.now) pending.old.items pending.new.items) }
+    ensures err { IfErr result (FailsToTake input.old.left (R.remaining input.old.reader.now) (R.remaining input.new.reader.now)) }
 {
-    let Ok(count) = reader.read(piece.as_mut_slice()) else {
-        return Err(FrameError::Read);
-    };
+    let count = input.read(piece.as_mut_slice())?;
     match pending.extend_from_slice(piece.as_slice().split_at(count).0) {
         Ok(()) => Ok(count > 0),
         Err(_) => Err(FrameError::NoMemory),
     }
 }
 
-/// Reads all of the input, in as many reads as there are turns.
+/// Reads all of the input, in at most `turns` reads.
 pub fn read_all<R: Read>(alloc: Global, reader: &mut R, turns: u64) -> Result<Vec<u8>, FrameError>
-    ensures ok { IfOk result (λ input. Consumes (R.remaining reader.old) (R.remaining reader.new) input.items × IsAtEnd (R.remaining reader.new)) }
-    ensures err { IfErr result (FailsToRead turns (R.remaining reader.old) (R.remaining reader.new)) }
+    ensures { ReadsAll turns (R.remaining reader.old) (R.remaining reader.new) (bytes_given vec_items result) }
+{
+    take_all(alloc, &mut Input::new(reader, turns))
+}
+
+/// Reads up to the end of the input.
+fn take_all<R: Read>(alloc: Global, input: &mut Input<'_, R>) -> Result<Vec<u8>, FrameError>
+    ensures same { input.new.reader.ghost_name ≡ input.old.reader.ghost_name }
+    ensures all { TakesAll input.old.left input.new.left (R.remaining input.old.reader.now) (R.remaining input.new.reader.now) (bytes_given vec_items result) }
 {
     let mut piece = new_piece(alloc)?;
-    let mut input = Vec::new(alloc);
-    'reads: for _ in 0..turns {
-        if !take_piece(reader, &mut piece, &mut input)? {
-            return Ok(input);
-        }
-    }
-    Err(FrameError::Turns)
+    let mut bytes = Vec::new(alloc);
+    while take_piece(input, &mut piece, &mut bytes)? {}
+    Ok(bytes)
 }

@@ -5,10 +5,11 @@ ghost use Rattle.isd_as.specs.IsdAs.{number_of};
 ghost use Rattle.pathd.specs.Frames.{IsPartial};
 ghost use Rattle.pathd.specs.Reply.{message_of};
 ghost use Rattle.pathd.specs.Session.{IsSession};
-ghost use Rattle.pathd.specs.Answered.{HasAnswered, Stops, Replies, FailsToReply};
+ghost use Rattle.pathd.specs.Answered.{HasAnswered, Stops, Replies, FailsToReply, IsSessionOfInput};
 
 use crate::fault::FrameError;
 use crate::frames::{Request, next_frame};
+use crate::input::Input;
 use crate::reading::{new_piece, take_piece};
 use crate::service::Service;
 use crate::writing::write_reply;
@@ -19,10 +20,10 @@ use std::io::{Read, Write};
 /// Answers the messages of one session, from no rows and place 0, and answers how many replies were written.
 ///
 /// Memory holds one piece of the input and less than a frame before it, however long the input is. What is written
-/// is flushed before each further read.
+/// is flushed before each further read. The reader is read through an `Input` alone, which has `turns` reads.
 ///
 /// The contract leaves open why a read or a write failed and when memory runs out, since no call of a reader, a writer
-/// or the allocator shows that. It bounds the bytes that were read, and not the number of reads.
+/// or the allocator shows that.
 pub fn once<R: Read, W: Write>(
     alloc: Global,
     reader: &mut R,
@@ -32,21 +33,31 @@ pub fn once<R: Read, W: Write>(
 ) -> Result<u64, FrameError>
     ensures { IsSession (map number_of cores.now) turns (R.remaining reader.old) (R.remaining reader.new) (W.contents writer.old) (W.contents writer.new) result }
 {
+    answer_input(alloc, &mut Input::new(reader, turns), writer, cores)
+}
+
+/// Answers the messages of an input.
+fn answer_input<R: Read, W: Write>(
+    alloc: Global,
+    input: &mut Input<'_, R>,
+    writer: &mut W,
+    cores: &[IsdAs],
+) -> Result<u64, FrameError>
+    ensures same { input.new.reader.ghost_name ≡ input.old.reader.ghost_name }
+    ensures session { IsSessionOfInput (map number_of cores.now) input.old.left input.new.left (R.remaining input.old.reader.now) (R.remaining input.new.reader.now) (W.contents writer.old) (W.contents writer.new) result }
+{
     let mut piece = new_piece(alloc)?;
     let mut pending = Vec::new(alloc);
     let mut service = Service::new(alloc);
     let mut count = 0;
-    'reads: for _ in 0..turns {
-        if !take_piece(reader, &mut piece, &mut pending)? {
-            return if pending.is_empty() {
-                Ok(count)
-            } else {
-                Err(FrameError::Read)
-            };
-        }
+    while take_piece(input, &mut piece, &mut pending)? {
         count = answer_pending(alloc, writer, &mut service, cores, &mut pending, count)?;
     }
-    Err(FrameError::Turns)
+    if pending.is_empty() {
+        Ok(count)
+    } else {
+        Err(FrameError::Read)
+    }
 }
 
 /// Answers each whole frame that is pending, flushes what was written, and leaves the rest. Adds how many were answered.

@@ -1,12 +1,8 @@
-use Rattle.std.proofs.Common.{arith}
-use Rattle.std.proofs.lemmas.Result.{err_from_is_err_and}
-use Rattle.pathd.proofs.InputLemmas.{fails_to_read}
+use Rattle.std.proofs.Common.{rules, subst, sym, ap, vec_items}
+use Rattle.pathd.specs.Input.{ReadsAll, bytes_given}
 use Rattle.pathd.proofs.reading.read_all.Goals as goal
 
-pub returns-in_err-take_piece-clause-err : goal.returns-in_err-take_piece-clause-err
-returns-in_err-take_piece-clause-err g c =
-    let p = err_from_is_err_and c.from_residual-in_err-take_piece.result c.from_residual-in_err-take_piece.ensures.1 in
-    rw (p.1, p.2) (fails_to_read _ _ _ _ _ _ _ c.reads.invariant.consumed c.reads.invariant.most (omega arith) c.in_err-take_piece.ensures.err)
-
-pub returns-clause-err : goal.returns-clause-err
-returns-clause-err g c = (record { read = c.reads.input.items; consumed = c.reads.invariant.consumed; bounded = omega (arith, c.reads.invariant.most) }, omega (arith, c.reads.invariant.least))
+pub returns : goal.returns
+returns g c =
+    let all : ReadsAll c.args.turns (g.R.Read.remaining c.args.reader.now) (g.R.Read.remaining c.take_all.new.input.reader.now) (bytes_given vec_items c.take_all.result) = rw (sym c.new.ensures.left, sym (ap (λ r. r.now) c.new.ensures.reader)) c.take_all.ensures.all.all in
+    subst (λ reader. ReadsAll c.args.turns (g.R.Read.remaining c.args.reader.now) (g.R.Read.remaining reader) (bytes_given vec_items c.take_all.result)) (search rules) all
