@@ -8,7 +8,7 @@ use crate::error::WireError;
 /// The number at the front, and how many bytes it takes.
 #[inline(always)]
 #[tactic(auto, unfolding(crate::specs::Varint::varint_within))]
-pub fn read_varint(bytes: &[u8]) -> Result<(u64, usize), WireError>
+pub(crate) fn read_varint(bytes: &[u8]) -> Result<(u64, usize), WireError>
     ensures exact { result ≡ varint_at bytes.now }
     ensures within { IfOk result (λ found. found.1 ≤ length bytes.now) }
 {

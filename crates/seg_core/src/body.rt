@@ -15,7 +15,7 @@ use crate::texts::Texts;
 
 /// What the signed body of an AS entry says. The ISD-AS numbers are of 64 bits.
 #[derive(Clone, Copy, Debug, PartialEq, Eq)]
-pub struct Body {
+pub(crate) struct Body {
     pub ia: u64,
     pub next: u64,
     pub hop: Hop,
@@ -70,7 +70,7 @@ fn read_body(message: &[u8]) -> Result<Body, SegError>
 
 /// Reads a header, of which nothing is kept here, and a body.
 #[tactic(auto, unfolding(crate::specs::Entry::header_and_body_reading))]
-pub fn read_header_and_body(message: &[u8]) -> Result<Body, SegError>
+pub(crate) fn read_header_and_body(message: &[u8]) -> Result<Body, SegError>
     ensures { Reads (λ body. body) result (header_and_body_reading message.now) }
 {
     let slots = slots_of(&HEADER_AND_BODY, message)?;

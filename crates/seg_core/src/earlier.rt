@@ -11,7 +11,7 @@ use crate::seg_type::SegType;
 
 /// Which types have had an entry.
 #[derive(Clone, Copy)]
-pub struct Earlier {
+pub(crate) struct Earlier {
     up: bool,
     down: bool,
     core: bool,
@@ -19,7 +19,7 @@ pub struct Earlier {
 
 impl Earlier {
     /// No type has had an entry.
-    pub fn none() -> Self
+    pub(crate) fn none() -> Self
         ensures { AreIn [] result }
     {
         Earlier {
@@ -42,7 +42,7 @@ impl Earlier {
 
     /// The type of a number, which has had no entry.
     #[tactic(auto, unfolding(crate::specs::Registration::new_type))]
-    pub fn new_type(self, number: u64) -> Result<SegType, SegError>
+    pub(crate) fn new_type(self, number: u64) -> Result<SegType, SegError>
         ensures { (earlier : List ℕ) → AreIn earlier self → Reads (λ kind. kind) result (new_type earlier number) }
     {
         let kind = SegType::from_number(number)?;
@@ -51,7 +51,7 @@ impl Earlier {
     }
 
     /// Takes in a type.
-    pub fn insert(&mut self, kind: SegType)
+    pub(crate) fn insert(&mut self, kind: SegType)
         ensures { (earlier : List ℕ) → AreIn earlier self.old → AreIn (type_number kind ∷ earlier) self.new }
     {
         match kind {

@@ -36,7 +36,7 @@ pub struct Entry {
 
 impl Entry {
     /// An equal entry.
-    pub fn try_clone(&self, alloc: Global) -> Result<Entry, AllocError>
+    pub(crate) fn try_clone(&self, alloc: Global) -> Result<Entry, AllocError>
         ensures { IfOk result (λ copy. entry_view copy ≡ entry_view self.now) }
     {
         Ok(Entry {
@@ -63,7 +63,7 @@ fn copied(alloc: Global, text: Option<&[u8]>) -> Result<Option<Vec<u8>>, AllocEr
 }
 
 #[tactic(auto, unfolding(crate::specs::Entry::as_entry_reading))]
-pub fn read_as_entry(alloc: Global, message: &[u8]) -> Result<Entry, SegError>
+pub(crate) fn read_as_entry(alloc: Global, message: &[u8]) -> Result<Entry, SegError>
     ensures { Gives entry_view result (as_entry_reading message.now) }
 {
     let slots = slots_of(&AS_ENTRY, message)?;

@@ -13,7 +13,7 @@ const MAC_LEN: usize = 6;
 
 /// Where a segment enters and leaves an AS, and for how long it may.
 #[derive(Clone, Copy, Debug, PartialEq, Eq)]
-pub struct Hop {
+pub(crate) struct Hop {
     pub ingress: u16,
     pub egress: u16,
     pub exp_time: u8,
@@ -36,7 +36,7 @@ fn read_hop_field(message: &[u8]) -> Result<Hop, SegError>
 }
 
 #[tactic(auto, unfolding(crate::specs::Entry::hop_entry_reading))]
-pub fn read_hop_entry(message: &[u8]) -> Result<Hop, SegError>
+pub(crate) fn read_hop_entry(message: &[u8]) -> Result<Hop, SegError>
     ensures { Reads (λ hop. hop) result (hop_entry_reading message.now) }
 {
     let slots = slots_of(&HOP_ENTRY, message)?;
@@ -46,7 +46,7 @@ pub fn read_hop_entry(message: &[u8]) -> Result<Hop, SegError>
 }
 
 #[tactic(auto, unfolding(crate::specs::Entry::peer_entry_reading))]
-pub fn read_peer_entry(message: &[u8]) -> Result<Hop, SegError>
+pub(crate) fn read_peer_entry(message: &[u8]) -> Result<Hop, SegError>
     ensures { Reads (λ hop. hop) result (peer_entry_reading message.now) }
 {
     let slots = slots_of(&PEER_ENTRY, message)?;

@@ -10,13 +10,13 @@ use crate::slots::slots_of;
 
 /// A segment's timestamp, in seconds since 1970, and its id, which the beaconing AS picks.
 #[derive(Clone, Copy, Debug, PartialEq, Eq)]
-pub struct Info {
+pub(crate) struct Info {
     pub timestamp: u32,
     pub segment_id: u16,
 }
 
 #[tactic(auto, unfolding(crate::specs::Segment::info_reading))]
-pub fn read_info(message: &[u8]) -> Result<Info, SegError>
+pub(crate) fn read_info(message: &[u8]) -> Result<Info, SegError>
     ensures { Reads (λ info. info) result (info_reading message.now) }
 {
     let slots = slots_of(&SEGMENT_INFORMATION, message)?;

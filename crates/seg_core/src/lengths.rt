@@ -23,7 +23,7 @@ fn varint_len(n: u64) -> usize
 }
 
 /// The bytes of the tag and the length of a field, under a number whose tag takes one byte.
-pub fn head_len(len: usize) -> usize
+pub(crate) fn head_len(len: usize) -> usize
     ensures exact { (k : ℕ) (bytes : List ℕ) → k < 15 → length bytes ≡ len → result + len ≡ length (bytes_field_spelling k bytes) }
     ensures most { result ≤ 11 }
 {
@@ -42,7 +42,7 @@ fn bytes_len(bytes: &[u8]) -> usize
 }
 
 /// The bytes of an entry's signed message.
-pub fn signed_len(entry: &Entry) -> usize
+pub(crate) fn signed_len(entry: &Entry) -> usize
     requires { length (signed_spelling (entry_view entry.now)) ≤ 16384 }
     ensures { result ≡ length (signed_spelling (entry_view entry.now)) }
 {
@@ -61,7 +61,7 @@ fn unsigned_len(entry: &Entry) -> usize
 }
 
 /// The bytes of an entry.
-pub fn entry_len(entry: &Entry) -> usize
+pub(crate) fn entry_len(entry: &Entry) -> usize
     requires { length (as_entry_spelling (entry_view entry.now)) ≤ 16384 }
     ensures { result ≡ length (as_entry_spelling (entry_view entry.now)) }
 {
@@ -84,7 +84,7 @@ fn entries_len(entries: &[Entry]) -> usize
 
 /// The bytes of a segment.
 #[tactic(auto, unfolding(crate::specs::Spelling::segment_spelling))]
-pub fn segment_len(segment: &Segment) -> usize
+pub(crate) fn segment_len(segment: &Segment) -> usize
     ensures exact { result ≡ length (segment_spelling segment.now) }
     ensures most { result ≤ 16384 }
 {

@@ -6,7 +6,7 @@ ghost use Rattle.seg_core.specs.Steps.{Reads, at_most, check};
 use crate::error::SegError;
 
 /// A number of 8 bits.
-pub fn u8_of(n: u64) -> Result<u8, SegError>
+pub(crate) fn u8_of(n: u64) -> Result<u8, SegError>
     ensures { Reads (λ n. n) result (at_most (2 ^ 8 - 1) n) }
 {
     if n > 0xff {
@@ -16,7 +16,7 @@ pub fn u8_of(n: u64) -> Result<u8, SegError>
 }
 
 /// A number of 16 bits.
-pub fn u16_of(n: u64) -> Result<u16, SegError>
+pub(crate) fn u16_of(n: u64) -> Result<u16, SegError>
     ensures { Reads (λ n. n) result (at_most (2 ^ 16 - 1) n) }
 {
     if n > 0xffff {
@@ -26,7 +26,7 @@ pub fn u16_of(n: u64) -> Result<u16, SegError>
 }
 
 /// A number of 32 bits.
-pub fn u32_of(n: u64) -> Result<u32, SegError>
+pub(crate) fn u32_of(n: u64) -> Result<u32, SegError>
     ensures { Reads (λ n. n) result (at_most (2 ^ 32 - 1) n) }
 {
     if n > 0xffff_ffff {
@@ -36,7 +36,7 @@ pub fn u32_of(n: u64) -> Result<u32, SegError>
 }
 
 /// Refuses for the reason, unless the test holds.
-pub fn check(holds: bool, reason: SegError) -> Result<(), SegError>
+pub(crate) fn check(holds: bool, reason: SegError) -> Result<(), SegError>
     ensures { Reads (λ u. u) result (check holds reason) }
 {
     if holds { Ok(()) } else { Err(reason) }

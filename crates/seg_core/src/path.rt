@@ -26,7 +26,7 @@ fn is_linked(entries: &[Entry]) -> bool
 }
 
 /// The first entry comes from nowhere, and each leads to the one after it.
-pub fn is_chain(entries: &[Entry]) -> bool
+pub(crate) fn is_chain(entries: &[Entry]) -> bool
     ensures { result ≡ is_chain (entry_views entries.now) }
 {
     match entries {
@@ -50,7 +50,7 @@ fn stands_in(ia: IsdAs, entries: &[Entry]) -> bool
 }
 
 /// No AS stands twice.
-pub fn has_no_loop(entries: &[Entry]) -> bool
+pub(crate) fn has_no_loop(entries: &[Entry]) -> bool
     ensures { result ≡ has_no_loop (entry_views entries.now) }
 {
     match entries {

@@ -71,7 +71,7 @@ impl Segment {
     }
 
     /// The segment's information as it came.
-    pub fn info(&self) -> &[u8]
+    pub(crate) fn info(&self) -> &[u8]
         ensures { result.now ≡ self.now.info }
     {
         &self.info

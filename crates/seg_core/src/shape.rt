@@ -2,7 +2,7 @@
 
 /// What stands under a field number of a message.
 #[derive(Clone, Copy, Debug, PartialEq, Eq)]
-pub enum FieldKind {
+pub(crate) enum FieldKind {
     /// The message has no such field. It counts for nothing.
     Unknown,
     /// An integer: the last occurrence counts, and 0 where there is none.
@@ -18,33 +18,35 @@ pub enum FieldKind {
 use FieldKind::{Bytes, Message, Messages, Number, Unknown};
 
 /// One more than the largest field number that a message knows.
-pub const WIDTH: usize = 7;
+pub(crate) const WIDTH: usize = 7;
 
 // Each shape is a list by field numbers. There is no field number 0.
 
 /// `SegmentsRequest`: source and destination.
-pub const REQUEST: [FieldKind; 3] = [Unknown, Number, Number];
+pub(crate) const REQUEST: [FieldKind; 3] = [Unknown, Number, Number];
 /// `SegmentsRegistrationRequest` and `SegmentsResponse`: entries of a map.
-pub const SEGMENT_MAP: [FieldKind; 2] = [Unknown, Messages];
+pub(crate) const SEGMENT_MAP: [FieldKind; 2] = [Unknown, Messages];
 /// An entry of that map: the type of the segments, and the segments.
-pub const MAP_ENTRY: [FieldKind; 3] = [Unknown, Number, Message];
+pub(crate) const MAP_ENTRY: [FieldKind; 3] = [Unknown, Number, Message];
 /// `Segments`.
-pub const SEGMENTS: [FieldKind; 2] = [Unknown, Messages];
+pub(crate) const SEGMENTS: [FieldKind; 2] = [Unknown, Messages];
 /// `PathSegment`: the segment's information, and an entry for each AS.
-pub const PATH_SEGMENT: [FieldKind; 3] = [Unknown, Bytes, Messages];
+pub(crate) const PATH_SEGMENT: [FieldKind; 3] = [Unknown, Bytes, Messages];
 /// `SegmentInformation`: timestamp and segment id.
-pub const SEGMENT_INFORMATION: [FieldKind; 3] = [Unknown, Number, Number];
+pub(crate) const SEGMENT_INFORMATION: [FieldKind; 3] = [Unknown, Number, Number];
 /// `ASEntry`: the signed message, and extensions that are not signed.
-pub const AS_ENTRY: [FieldKind; 3] = [Unknown, Message, Message];
+pub(crate) const AS_ENTRY: [FieldKind; 3] = [Unknown, Message, Message];
 /// `SignedMessage`: header and body, and the signature.
-pub const SIGNED_MESSAGE: [FieldKind; 3] = [Unknown, Bytes, Bytes];
+pub(crate) const SIGNED_MESSAGE: [FieldKind; 3] = [Unknown, Bytes, Bytes];
 /// The header and the body that are signed.
-pub const HEADER_AND_BODY: [FieldKind; 3] = [Unknown, Bytes, Bytes];
+pub(crate) const HEADER_AND_BODY: [FieldKind; 3] = [Unknown, Bytes, Bytes];
 /// `ASEntrySignedBody`: ISD-AS, next ISD-AS, hop entry, peer entries, MTU, extensions.
-pub const BODY: [FieldKind; 7] = [Unknown, Number, Number, Message, Messages, Number, Message];
+pub(crate) const BODY: [FieldKind; 7] = [
+    Unknown, Number, Number, Message, Messages, Number, Message,
+];
 /// `HopEntry`: hop field, ingress MTU.
-pub const HOP_ENTRY: [FieldKind; 3] = [Unknown, Message, Number];
+pub(crate) const HOP_ENTRY: [FieldKind; 3] = [Unknown, Message, Number];
 /// `PeerEntry`: peer's ISD-AS, peer's interface, peer's MTU, hop field.
-pub const PEER_ENTRY: [FieldKind; 5] = [Unknown, Number, Number, Number, Message];
+pub(crate) const PEER_ENTRY: [FieldKind; 5] = [Unknown, Number, Number, Number, Message];
 /// `HopField`: ingress, egress, expiry, MAC.
-pub const HOP_FIELD: [FieldKind; 5] = [Unknown, Number, Number, Number, Bytes];
+pub(crate) const HOP_FIELD: [FieldKind; 5] = [Unknown, Number, Number, Number, Bytes];

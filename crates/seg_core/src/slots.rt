@@ -16,7 +16,7 @@ use pw_wire::{Field, Value, next_field};
 
 /// The last number and the last bytes under each field number that a message may know.
 #[derive(Clone, Copy)]
-pub struct Noted<'a> {
+pub(crate) struct Noted<'a> {
     pub numbers: [u64; WIDTH],
     pub texts: [Option<&'a [u8]>; WIDTH],
 }
@@ -105,7 +105,7 @@ fn misfit_of(shape: &[FieldKind], noted: &Noted<'_>, field: &Field<'_>) -> Optio
 
 /// A message that has passed the checks that all messages share, and what stands under its field numbers.
 #[derive(Clone, Copy)]
-pub struct Slots<'a> {
+pub(crate) struct Slots<'a> {
     message: &'a [u8],
     noted: Noted<'a>,
     ghost all_noted: { AreNoted (fields message.now) noted.numbers noted.texts },
@@ -114,7 +114,7 @@ pub struct Slots<'a> {
 /// Reads the fields of a message: first its wire, to its last byte, then kinds and repetitions, in the order of the
 /// fields.
 #[tactic(auto, unfolding(crate::specs::Message::checked))]
-pub fn slots_of<'a>(shape: &[FieldKind], message: &'a [u8]) -> Result<Slots<'a>, SegError>
+pub(crate) fn slots_of<'a>(shape: &[FieldKind], message: &'a [u8]) -> Result<Slots<'a>, SegError>
     requires { length shape.now ≤ 7 }
     ensures exact { Reads (λ slots. fields slots.message.now) result (checked shape.now message.entry.now) }
     ensures kept { IfOk result (λ slots. slots.message ≡ message.entry) }
@@ -135,7 +135,7 @@ pub fn slots_of<'a>(shape: &[FieldKind], message: &'a [u8]) -> Result<Slots<'a>,
 
 impl<'a> Slots<'a> {
     /// The last number under a field number, and 0 where there is none.
-    pub fn number(&self, place: usize) -> u64
+    pub(crate) fn number(&self, place: usize) -> u64
         requires { place < 7 }
         ensures { result ≡ number place (fields self.now.message.now) }
     {
@@ -143,7 +143,7 @@ impl<'a> Slots<'a> {
     }
 
     /// The last bytes under a field number.
-    pub fn text(&self, place: usize) -> Option<&'a [u8]>
+    pub(crate) fn text(&self, place: usize) -> Option<&'a [u8]>
         requires { place < 7 }
         ensures { option_map (λ s. s.now) result ≡ text place (fields self.now.message.now) }
     {
@@ -151,7 +151,7 @@ impl<'a> Slots<'a> {
     }
 
     /// The last bytes under a field number, and none where there are none.
-    pub fn text_or_empty(&self, place: usize) -> &'a [u8]
+    pub(crate) fn text_or_empty(&self, place: usize) -> &'a [u8]
         requires { place < 7 }
         ensures { result.now ≡ text_or_empty place (fields self.now.message.now) }
     {
@@ -159,7 +159,7 @@ impl<'a> Slots<'a> {
     }
 
     /// The message under a field number, which has to be there.
-    pub fn required(&self, place: usize) -> Result<&'a [u8], SegError>
+    pub(crate) fn required(&self, place: usize) -> Result<&'a [u8], SegError>
         requires { place < 7 }
         ensures { Reads (λ s. s.now) result (required place (fields self.now.message.now)) }
     {
@@ -167,7 +167,7 @@ impl<'a> Slots<'a> {
     }
 
     /// All byte strings under a field number.
-    pub fn texts(&self, number: u32) -> Texts<'a>
+    pub(crate) fn texts(&self, number: u32) -> Texts<'a>
         ensures number { result.number ≡ number }
         ensures whole { result.rest.now ≡ self.now.message.now }
     {

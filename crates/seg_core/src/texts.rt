@@ -9,7 +9,7 @@ use pw_wire::{Value, next_field};
 
 /// What is left of a message, of which the byte strings under one field number are taken.
 #[derive(Clone, Copy)]
-pub struct Texts<'a> {
+pub(crate) struct Texts<'a> {
     pub number: u32,
     pub rest: &'a [u8],
 }

@@ -11,11 +11,11 @@ use pw_wire::{put_bytes_field, put_varint};
 use std::alloc::{AllocError, Global};
 
 /// The room that the last bytes of an output are asked for, beyond what they take: two varints of ten bytes.
-pub const SLACK: usize = 20;
+pub(crate) const SLACK: usize = 20;
 
 /// Appends the tag of a field of bytes, and how many bytes it has.
 #[tactic(auto, unfolding(crate::specs::Spelling::head_spelling))]
-pub fn put_head(out: &mut Vec<u8>, number: u32, len: usize) -> Result<(), AllocError>
+pub(crate) fn put_head(out: &mut Vec<u8>, number: u32, len: usize) -> Result<(), AllocError>
     requires { number < 15 }
     ensures { OnOk result (out.new.items ≡ out.old.items ++ head_spelling number len) }
 {
@@ -76,7 +76,7 @@ fn put_entries(out: &mut Vec<u8>, entries: &[Entry]) -> Result<(), AllocError>
 }
 
 /// Appends a segment.
-pub fn put_segment(out: &mut Vec<u8>, segment: &Segment) -> Result<(), AllocError>
+pub(crate) fn put_segment(out: &mut Vec<u8>, segment: &Segment) -> Result<(), AllocError>
     ensures { OnOk result (out.new.items ≡ out.old.items ++ segment_spelling segment.now) }
 {
     put_bytes(out, 1, segment.info())?;
