@@ -36,10 +36,10 @@ pub sized-append : (rs ss : List Reply) → AllByRecursion HasReplySize rs → A
 sized-append [] ss p q = q
 sized-append (r ∷ rs) ss p q = (p.0, sized-append rs ss p.1 q)
 
-pub IsAnswered-none : (cores : List ℕ) (s : Served) (bytes : List ℕ) → IsAnswered cores s bytes bytes [] s 0
+abbrev pub IsAnswered-none : (cores : List ℕ) (s : Served) (bytes : List ℕ) → IsAnswered cores s bytes bytes [] s 0
 IsAnswered-none cores s bytes = record { messages = []; replies = []; framed = refl; replied = (refl, refl); sized = tt; told = refl; counted = refl }
 
-pub IsAnswered-append : (cores : List ℕ) (a b c : Served) (bytes mid rest u v : List ℕ) (i j : ℕ) → IsAnswered cores a bytes mid u b i → IsAnswered cores b mid rest v c j
+abbrev pub IsAnswered-append : (cores : List ℕ) (a b c : Served) (bytes mid rest u v : List ℕ) (i j : ℕ) → IsAnswered cores a bytes mid u b i → IsAnswered cores b mid rest v c j
     → IsAnswered cores a bytes rest (u ++ v) c (i + j)
 IsAnswered-append cores a b c bytes mid rest u v i j p q = record {
   messages = p.messages ++ q.messages;
@@ -51,7 +51,7 @@ IsAnswered-append cores a b c bytes mid rest u v i j p q = record {
   counted = length-append p.messages q.messages ∙ omega (arith, p.counted, q.counted);
 }
 
-pub IsAnswered-more : (cores : List ℕ) (a b : Served) (bytes rest more u : List ℕ) (i : ℕ) → IsAnswered cores a bytes rest u b i → IsAnswered cores a (bytes ++ more) (rest ++ more) u b i
+abbrev pub IsAnswered-more : (cores : List ℕ) (a b : Served) (bytes rest more u : List ℕ) (i : ℕ) → IsAnswered cores a bytes rest u b i → IsAnswered cores a (bytes ++ more) (rest ++ more) u b i
 IsAnswered-more cores a b bytes rest more u i p = record {
   messages = p.messages;
   replies = p.replies;

@@ -1,12 +1,12 @@
 -- How what was answered so far makes a session.
-use Rattle.std.proofs.Common.{◌≡◌, ℕ, ◌+◌, ◌-◌, ◌*◌, ◌≤◌, inl, inr, List, [], ◌∷◌, ◌++◌, length, true, false, Option, Result, Ok, Err, refl, sym, ap, subst, ◌∙◌, arith, append_assoc}
+use Rattle.std.proofs.Common.{◌≡◌, ℕ, suc, ◌+◌, ◌-◌, ◌*◌, ◌≤◌, inl, inr, List, [], ◌∷◌, ◌++◌, length, true, false, Option, Result, Ok, Err, refl, sym, ap, subst, ◌∙◌, arith, append_assoc}
 use Rattle.std.proofs.lemmas.List.{append-nil, length-append}
 use Rattle.std.specs.Io.KnownBytes.{Consumes, Appends}
 use Rattle.std.proofs.KnownBytes.{Consumes-nil, Consumes-trans, Appends-nil, Appends-trans}
 use Rattle.pathd.specs.declared.fault.FrameError.{FrameError}
 use Rattle.pathd.specs.declared.fault.FrameError.TheVariants as error
 use Rattle.pathd.specs.Frames.{Message, message_frame, IsPartial, Ending, Rest, BadLength, BadKind, EndsAs, AreFrames}
-use Rattle.pathd.specs.Session.{Reply, Served, opening, message_step, session_replies, AreReplies, written_for, Begins, EndsWith}
+use Rattle.pathd.specs.Session.{Reply, Served, opening, message_step, session_replies, AreReplies, written_for, Begins, IsPrompt, EndsWith}
 use Rattle.pathd.specs.Answered.{AreRepliesTo, AreWholeFrames, IsAnswered, HasAnswered, StopsAt, StopsWithin, Stops, TakesPiece, FailsToTake, IsSessionOfInput}
 use Rattle.pathd.proofs.InputLemmas.{Consumes-none, SoMuch, SoMuch-none, SoMuch-more}
 use Rattle.pathd.proofs.FrameLemmas.{AreBytes, append_below, append_below_right, frames_in}
@@ -31,6 +31,12 @@ AreReplies-append cores (m ∷ ms) ns [] ss a b p q = absurd p
 AreReplies-append cores (m ∷ ms) ns (r ∷ rs) ss a b (inl h) q = inl (h.0, AreReplies-append cores ms ns rs ss a b h.1 q)
 AreReplies-append cores (m ∷ ms) ns (r ∷ rs) ss a b (inr h) q = inr (h.0, AreReplies-append cores ms ns rs ss (message_step cores a m).1 b h.1 q)
 
+pub AreRepliesTo-length : (cores : List ℕ) (ms : List Message) (rs : List Reply) (a b : Served) → AreRepliesTo cores a ms rs b → length rs ≡ length ms
+AreRepliesTo-length cores [] rs a b p = ap length p.0
+AreRepliesTo-length cores (m ∷ ms) [] a b p = absurd p
+AreRepliesTo-length cores (m ∷ ms) (r ∷ rs) a b (inl h) = ap suc (AreRepliesTo-length cores ms rs a b h.1)
+AreRepliesTo-length cores (m ∷ ms) (r ∷ rs) a b (inr h) = ap suc (AreRepliesTo-length cores ms rs (message_step cores a m).1 b h.1)
+
 -- ---- frames
 
 pub AreFrames-all : (ms : List Message) (bytes rest : List ℕ) (ending : Ending) → AreWholeFrames bytes ms rest → EndsAs rest ending → AreFrames bytes ms ending
@@ -49,9 +55,9 @@ rest_below (m ∷ ms) bytes rest p b = rest_below ms p.0 rest p.3 (append_below_
 
 -- What was read is answered but for a rest that is less than a frame, or a faulty one.
 pub session_closed : (cores : List ℕ) (turns reads left : ℕ) (i j o p : Option (List ℕ)) (result : Result ℕ FrameError) (read rest written : List ℕ) (new : Served) (n : ℕ) (ending : Ending)
-    → turns ≡ reads + left → Consumes i j read → Appends o p written → length read ≤ reads * 65536 → (a : IsAnswered cores opening read rest written new n) → EndsAs rest ending
+    → turns ≡ reads + left → Consumes i j read → Appends o p written → length read ≤ reads * 65536 → (a : IsAnswered cores opening read rest written new n) → EndsAs rest ending → IsPrompt read written a.replies
     → EndsWith j turns reads read a.messages ending written a.replies result → IsSessionOfInput cores turns left i j o p result
-session_closed cores turns reads left i j o p result read rest written new n ending spent c w bound a ends said = record {
+session_closed cores turns reads left i j o p result read rest written new n ending spent c w bound a ends prompt said = record {
   session = record {
     read = read;
     reads = reads;
@@ -66,6 +72,7 @@ session_closed cores turns reads left i j o p result read rest written new n end
     framed = AreFrames-all a.messages read rest ending a.framed ends;
     replied = AreReplies-all cores a.messages a.replies opening new a.replied;
     sized = record { told = a.replies; others = []; parts = sym (append-nil a.replies); each = a.sized; begins = ([], sym a.told ∙ sym (append-nil written)) };
+    prompt = prompt;
     ended = said;
   };
   spent = spent;
@@ -74,8 +81,8 @@ session_closed cores turns reads left i j o p result read rest written new n end
 -- What was read has more frames than were answered.
 pub session_open : (cores : List ℕ) (turns reads left : ℕ) (i j o p : Option (List ℕ)) (result : Result ℕ FrameError) (read rest all written : List ℕ) (new : Served) (n : ℕ)
     → turns ≡ reads + left → Consumes i j read → Appends o p written → length read ≤ reads * 65536 → AreBytes read → (a : IsAnswered cores opening read rest all new n) → Begins written all
-    → ((messages : List Message) (ending : Ending) (others : List Reply) → EndsWith j turns reads read messages ending written (a.replies ++ others) result) → IsSessionOfInput cores turns left i j o p result
-session_open cores turns reads left i j o p result read rest all written new n spent c w bound b a front said =
+    → ((others : List Reply) → IsPrompt read written (a.replies ++ others)) → ((messages : List Message) (ending : Ending) (others : List Reply) → EndsWith j turns reads read messages ending written (a.replies ++ others) result) → IsSessionOfInput cores turns left i j o p result
+session_open cores turns reads left i j o p result read rest all written new n spent c w bound b a front prompt said =
     let later = frames_in rest (rest_below a.messages read rest a.framed b) in
     let others = session_replies cores new later.messages in
     record {
@@ -93,6 +100,7 @@ session_open cores turns reads left i j o p result read rest all written new n s
         framed = AreFrames-append a.messages later.messages read rest later.ending a.framed later.framed;
         replied = AreReplies-append cores a.messages later.messages a.replies others opening new a.replied (AreReplies-session_replies cores later.messages new);
         sized = record { told = a.replies; others = others; parts = refl; each = a.sized; begins = (front.0, sym a.told ∙ front.1) };
+        prompt = prompt others;
         ended = said (a.messages ++ later.messages) later.ending others;
       };
       spent = spent;
@@ -118,6 +126,50 @@ SoFar-none cores turns i o pending s none start = rw (none, start) (record {
   partial = IsPartial-nil;
 })
 
+-- what was answered before the last piece was read
+pub prompt_of : (cores : List ℕ) (turns left : ℕ) (i j o p : Option (List ℕ)) (pending : List ℕ) (new : Served) (count : ℕ) (s : SoFar cores turns left i j o p pending new count)
+    (read last written more : List ℕ) (replies others : List Reply)
+    → read ≡ s.read ++ last → length last ≤ 65536 → written ≡ s.answered.written ++ more → replies ≡ s.answered.answered.replies ++ others → IsPrompt read written replies
+prompt_of cores turns left i j o p pending new count s read last written more replies others parts small wrote all =
+    let a = s.answered.answered in
+    record {
+      before = s.read;
+      last = last;
+      parts = parts;
+      small = small;
+      messages = a.messages;
+      rest = pending;
+      framed = AreFrames-all a.messages s.read pending (Rest pending) a.framed (refl, s.partial);
+      told = a.replies;
+      others = others;
+      all = all;
+      each = AreRepliesTo-length cores a.messages a.replies opening new a.replied;
+      kept = (more, wrote ∙ ap (λ (t : List ℕ). t ++ more) a.told);
+    }
+
+-- no piece came
+pub prompt_here : (cores : List ℕ) (turns left : ℕ) (i j o p : Option (List ℕ)) (pending : List ℕ) (new : Served) (count : ℕ) (s : SoFar cores turns left i j o p pending new count)
+    → IsPrompt s.read s.answered.written s.answered.answered.replies
+prompt_here cores turns left i j o p pending new count s =
+    let a = s.answered in
+    prompt_of cores turns left i j o p pending new count s s.read [] a.written [] a.answered.replies [] (sym (append-nil s.read)) (omega arith) (sym (append-nil a.written)) (sym (append-nil a.answered.replies))
+
+prompt_none : IsPrompt [] [] []
+prompt_none = record {
+  before = [];
+  last = [];
+  parts = refl;
+  small = omega arith;
+  messages = [];
+  rest = [];
+  framed = (refl, IsPartial-nil);
+  told = [];
+  others = [];
+  all = refl;
+  each = refl;
+  kept = ([], refl);
+}
+
 -- ---- how a session ends
 
 -- no memory for the first read
@@ -125,7 +177,7 @@ pub ends_at_once : (cores : List ℕ) (turns : ℕ) (i o : Option (List ℕ)) (e
 ends_at_once cores turns i o e is =
     let none = IsAnswered-none cores opening [] in
     rw is (session_closed cores turns 0 turns i i o o (Err error.NoMemory) [] [] [] opening 0 (Rest []) (omega arith) (Consumes-nil i) (Appends-nil o) (omega arith)
-    none (refl, IsPartial-nil) (none.replies, [], sym (append-nil none.replies), none.told))
+    none (refl, IsPartial-nil) prompt_none (none.replies, [], sym (append-nil none.replies), none.told))
 
 -- so many turns were left before the last call, and so many are left after it
 module _ (cores : List ℕ) (turns n m : ℕ) (one : m ≡ n - 1) where
@@ -136,7 +188,7 @@ module _ (cores : List ℕ) (turns n m : ℕ) (one : m ≡ n - 1) where
       let a = s.answered in
       let r = s.so_much in
       session_closed cores turns (r.reads + 1) m i k o p (Err error.Read) s.read pending a.written new a.more (Rest pending) (omega (arith, r.spent, one, f.0)) (Consumes-none i j k s.read r.consumed f.1)
-      a.appended (omega (arith, r.most)) a.answered (refl, s.partial) (tt, a.answered.told)
+      a.appended (omega (arith, r.most)) a.answered (refl, s.partial) (prompt_here cores turns n i j o p pending new count s) (tt, a.answered.told)
   ends_at_read i j k o p pending new count error.NoMemory s f =
       let a = s.answered in
       let r = s.so_much in
@@ -144,12 +196,13 @@ module _ (cores : List ℕ) (turns n m : ℕ) (one : m ≡ n - 1) where
       let whole = IsAnswered-more cores opening new s.read pending bytes a.written a.more a.answered in
       session_open cores turns (r.reads + 1) m i k o p (Err error.NoMemory) (s.read ++ bytes) (pending ++ bytes) a.written a.written new a.more (omega (arith, r.spent, one, f.0))
       (Consumes-trans i j k s.read bytes r.consumed f.3) a.appended (omega (arith, r.most, f.4, length-append s.read bytes)) (append_below s.read bytes s.below f.2) whole
-      ([], sym (append-nil a.written)) (λ ms ending others. (whole.replies, others, refl, whole.told))
+      ([], sym (append-nil a.written)) (λ others. prompt_of cores turns n i j o p pending new count s (s.read ++ bytes) bytes a.written [] (whole.replies ++ others) others refl f.4 (sym (append-nil a.written)) refl)
+      (λ ms ending others. (whole.replies, others, refl, whole.told))
   ends_at_read i j k o p pending new count error.Turns s f =
       let a = s.answered in
       let r = s.so_much in
       session_closed cores turns r.reads m i k o p (Err error.Turns) s.read pending a.written new a.more (Rest pending) (omega (arith, r.spent, one, f.0)) (Consumes-none i j k s.read r.consumed f.1) a.appended r.most
-      a.answered (refl, s.partial) (tt, a.answered.told, omega (arith, r.spent, f.0), omega (arith, r.spent, f.0, r.least))
+      a.answered (refl, s.partial) (prompt_here cores turns n i j o p pending new count s) (tt, a.answered.told, omega (arith, r.spent, f.0), omega (arith, r.spent, f.0, r.least))
   ends_at_read i j k o p pending new count error.Length s f = absurd f
   ends_at_read i j k o p pending new count error.Kind s f = absurd f
   ends_at_read i j k o p pending new count error.Write s f = absurd f
@@ -162,14 +215,14 @@ module _ (cores : List ℕ) (turns n m : ℕ) (one : m ≡ n - 1) where
       let r = s.so_much in
       let nothing : pending ≡ [] = sym t.1 ∙ none in
       session_closed cores turns (r.reads + 1) m i k o p (Ok count) s.read pending a.written new a.more (Rest pending) (omega (arith, r.spent, one, t.0)) (Consumes-none i j k s.read r.consumed t.2) a.appended
-      (omega (arith, r.most)) a.answered (refl, s.partial) (t.3, ap Rest nothing, omega (arith, a.counted, a.answered.counted), a.answered.told)
+      (omega (arith, r.most)) a.answered (refl, s.partial) (prompt_here cores turns n i j o p pending new count s) (t.3, ap Rest nothing, omega (arith, a.counted, a.answered.counted), a.answered.told)
 
   pub ends_within_frame : (i j k o p : Option (List ℕ)) (pending left : List ℕ) (new : Served) (count : ℕ)
       → SoFar cores turns n i j o p pending new count → TakesPiece n j k pending left false → IsSessionOfInput cores turns m i k o p (Err error.Read)
   ends_within_frame i j k o p pending left new count s t = ends_at_read i j k o p pending new count error.Read s (t.0, t.2)
 
   -- what was answered of the earlier pieces and of this one
-  joined : (i j o p : Option (List ℕ)) (pending bytes rest more : List ℕ) (b c : Served) (count k : ℕ) (s : SoFar cores turns n i j o p pending b count)
+  abbrev joined : (i j o p : Option (List ℕ)) (pending bytes rest more : List ℕ) (b c : Served) (count k : ℕ) (s : SoFar cores turns n i j o p pending b count)
       → IsAnswered cores b (pending ++ bytes) rest more c k → IsAnswered cores opening (s.read ++ bytes) rest (s.answered.written ++ more) c (s.answered.more + k)
   joined i j o p pending bytes rest more b c count k s x =
       IsAnswered-append cores opening b c (s.read ++ bytes) (pending ++ bytes) rest s.answered.written more s.answered.more k
@@ -188,6 +241,7 @@ module _ (cores : List ℕ) (turns n m : ℕ) (one : m ≡ n - 1) where
       let whole = joined i j o p pending bytes x.rest x.written b x.new count x.count s x.answered in
       session_closed cores turns (r.reads + 1) m i k o q (Err e) (s.read ++ bytes) x.rest (a.written ++ x.written) x.new (a.more + x.count) ending (omega (arith, r.spent, one, t.0))
       (Consumes-trans i j k s.read bytes r.consumed t.4) (Appends-trans o p q a.written x.written a.appended x.appended) (omega (arith, r.most, t.6, length-append s.read bytes)) whole x.ends
+      (prompt_of cores turns n i j o p pending b count s (s.read ++ bytes) bytes (a.written ++ x.written) x.written whole.replies x.answered.replies refl t.6 refl refl)
       (said whole.messages (a.written ++ x.written) whole.replies whole.told)
 
   ends_at_write : (i j k o p q : Option (List ℕ)) (pending grown : List ℕ) (b : Served) (count : ℕ)
@@ -201,6 +255,8 @@ module _ (cores : List ℕ) (turns n m : ℕ) (one : m ≡ n - 1) where
       session_open cores turns (r.reads + 1) m i k o q (Err error.Write) (s.read ++ bytes) x.rest (a.written ++ x.all) (a.written ++ x.written) x.new (a.more + x.count) (omega (arith, r.spent, one, t.0))
       (Consumes-trans i j k s.read bytes r.consumed t.4) (Appends-trans o p q a.written x.written a.appended x.appended) (omega (arith, r.most, t.6, length-append s.read bytes))
       (append_below s.read bytes s.below t.3) whole (x.begins.0, ap (λ (w : List ℕ). a.written ++ w) x.begins.1 ∙ sym (append_assoc a.written x.written x.begins.0))
+      (λ others. prompt_of cores turns n i j o p pending b count s (s.read ++ bytes) bytes (a.written ++ x.written) x.written (whole.replies ++ others) (x.answered.replies ++ others) refl t.6 refl
+      (append_assoc a.answered.replies x.answered.replies others))
       (λ ms ending others.
       let rest = x.begins.0 ++ written_for others in (
         rest,

@@ -6,7 +6,7 @@ use Rattle.pathd.specs.declared.fault.FrameError.TheVariants as error
 
 -- One read, for which a turn was left, and what it gave or that it failed. With no turn left, nothing is read.
 abbrev pub Reads : ℕ → Option (List ℕ) → Option (List ℕ) → List ℕ → Result ℕ FrameError → Type 0
-Reads left input input_left buf (Ok count) = (0 < left) × (count ≤ length buf) × Consumes input input_left (take count buf) × (count ≡ 0 → 0 < length buf → IsAtEnd input_left)
+Reads left input input_left buf (Ok count) = (0 < left) × (count ≤ length buf) × Consumes input input_left (take count buf) × (count ≡ 0 → IsAtEnd input_left)
 Reads left input input_left buf (Err error.Read) = (0 < left) × Consumes input input_left []
 Reads left input input_left buf (Err error.Turns) = (left ≡ 0) × Consumes input input_left []
 Reads left input input_left buf (Err error.NoMemory) = ⊥

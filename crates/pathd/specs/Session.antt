@@ -122,6 +122,21 @@ pub record AreSized (written : List ℕ) (replies : List Reply) : Type 0 where
   pub each : AllByRecursion HasReplySize told
   pub begins : Begins written (written_for told)
 
+-- What was read before the last read has no fault of a frame, and the replies to its messages were written.
+pub record IsPrompt (read written : List ℕ) (replies : List Reply) : Type 0 where
+  pub before : List ℕ
+  pub last : List ℕ
+  pub parts : read ≡ before ++ last
+  pub small : length last ≤ 65536
+  pub messages : List Message
+  pub rest : List ℕ
+  pub framed : AreFrames before messages (Rest rest)
+  pub told : List Reply
+  pub others : List Reply
+  pub all : replies ≡ told ++ others
+  pub each : length told ≡ length messages
+  pub kept : Begins (written_for told) written
+
 -- less than a frame is left over, or nothing
 abbrev pub HasRest : Ending → Type 0
 HasRest (Rest bytes) = Unit {0}
@@ -157,4 +172,5 @@ pub record IsSession (cores : List ℕ) (turns : ℕ) (input input_left output o
   pub framed : AreFrames read messages ending
   pub replied : AreReplies cores opening messages replies
   pub sized : AreSized written replies
+  pub prompt : IsPrompt read written replies
   pub ended : EndsWith input_left turns reads read messages ending written replies result

@@ -1,6 +1,6 @@
 //! The input of a session, which is read so many times at most.
 
-ghost use Rattle.std.specs.Prelude.{◌≡◌, ◌-◌};
+ghost use Rattle.std.specs.Prelude.{◌≡◌, ◌-◌, ◌<◌, length};
 ghost use Rattle.pathd.specs.Input.{Reads};
 
 use crate::fault::FrameError;
@@ -25,8 +25,10 @@ impl<'a, R: Read> Input<'a, R> {
         }
     }
 
-    /// Reads once, for which one turn fewer is left. With none left, nothing is read, and the answer is Turns.
+    /// Reads once, into room for a byte at least, for which one turn fewer is left. With none left, nothing is read, and
+    /// the answer is Turns.
     pub fn read(&mut self, buf: &mut [u8]) -> Result<usize, FrameError>
+        requires { 0 < length buf.old }
         ensures same { self.new.reader.ghost_name ≡ self.old.reader.ghost_name }
         ensures left { self.new.left ≡ self.old.left - 1 }
         ensures bytes { Reads self.old.left (R.remaining self.old.reader.now) (R.remaining self.new.reader.now) buf.new result }
