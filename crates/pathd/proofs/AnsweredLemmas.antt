@@ -15,7 +15,7 @@ use Rattle.pathd.specs.Answered.{AreRepliesTo, AreWholeFrames, IsAnswered, HasAn
 pub AreRepliesTo-append : (cores : List ℕ) (ms ns : List Message) (rs ss : List Reply) (a b c : Served) → AreRepliesTo cores a ms rs b → AreRepliesTo cores b ns ss c → AreRepliesTo cores a (ms ++ ns) (rs ++ ss) c
 AreRepliesTo-append cores [] ns rs ss a b c p q = rw p.0 (subst (λ (s : Served). AreRepliesTo cores s ns ss c) p.1 q)
 AreRepliesTo-append cores (m ∷ ms) ns [] ss a b c p q = absurd p
-AreRepliesTo-append cores (m ∷ ms) ns (r ∷ rs) ss a b c (inl h) q = inl (h.0, AreRepliesTo-append cores ms ns rs ss a b c h.1 q)
+AreRepliesTo-append cores (m ∷ ms) ns (r ∷ rs) ss a b c (inl h) q = inl (h.0, h.1, AreRepliesTo-append cores ms ns rs ss a b c h.2 q)
 AreRepliesTo-append cores (m ∷ ms) ns (r ∷ rs) ss a b c (inr h) q = inr (h.0, AreRepliesTo-append cores ms ns rs ss (message_step cores a m).1 b c h.1 q)
 
 pub AreWholeFrames-append : (ms ns : List Message) (bytes mid rest : List ℕ) → AreWholeFrames bytes ms mid → AreWholeFrames mid ns rest → AreWholeFrames bytes (ms ++ ns) rest
@@ -70,7 +70,7 @@ IsAnswered-one cores a b bytes content m len f (inl h) small = record {
   messages = m ∷ [];
   replies = Refused memory_code ∷ [];
   framed = (drop len bytes, f.frame, f.sized, refl);
-  replied = inl (refl, (refl, h.1));
+  replied = inl (refl, h.1, (refl, h.2));
   sized = (let same = ap length h.0 in omega (arith, same, small), tt);
   told = ap frame_spelling h.0 ∙ sym (append-nil (frame_spelling (reply_content (Refused memory_code))));
   counted = refl;

@@ -17,7 +17,7 @@ use Rattle.pathd.proofs.AnsweredLemmas.{IsAnswered-none, IsAnswered-append, IsAn
 pub AreReplies-all : (cores : List ℕ) (ms : List Message) (rs : List Reply) (a b : Served) → AreRepliesTo cores a ms rs b → AreReplies cores a ms rs
 AreReplies-all cores [] rs a b p = p.0
 AreReplies-all cores (m ∷ ms) [] a b p = p
-AreReplies-all cores (m ∷ ms) (r ∷ rs) a b (inl h) = inl (h.0, AreReplies-all cores ms rs a b h.1)
+AreReplies-all cores (m ∷ ms) (r ∷ rs) a b (inl h) = inl (h.0, h.1, AreReplies-all cores ms rs a b h.2)
 AreReplies-all cores (m ∷ ms) (r ∷ rs) a b (inr h) = inr (h.0, AreReplies-all cores ms rs (message_step cores a m).1 b h.1)
 
 pub AreReplies-session_replies : (cores : List ℕ) (ms : List Message) (a : Served) → AreReplies cores a ms (session_replies cores a ms)
@@ -28,13 +28,13 @@ AreReplies-session_replies cores (m ∷ ms) a = inr (refl, AreReplies-session_re
 pub AreReplies-append : (cores : List ℕ) (ms ns : List Message) (rs ss : List Reply) (a b : Served) → AreRepliesTo cores a ms rs b → AreReplies cores b ns ss → AreReplies cores a (ms ++ ns) (rs ++ ss)
 AreReplies-append cores [] ns rs ss a b p q = rw p.0 (subst (λ (s : Served). AreReplies cores s ns ss) p.1 q)
 AreReplies-append cores (m ∷ ms) ns [] ss a b p q = absurd p
-AreReplies-append cores (m ∷ ms) ns (r ∷ rs) ss a b (inl h) q = inl (h.0, AreReplies-append cores ms ns rs ss a b h.1 q)
+AreReplies-append cores (m ∷ ms) ns (r ∷ rs) ss a b (inl h) q = inl (h.0, h.1, AreReplies-append cores ms ns rs ss a b h.2 q)
 AreReplies-append cores (m ∷ ms) ns (r ∷ rs) ss a b (inr h) q = inr (h.0, AreReplies-append cores ms ns rs ss (message_step cores a m).1 b h.1 q)
 
 pub AreRepliesTo-length : (cores : List ℕ) (ms : List Message) (rs : List Reply) (a b : Served) → AreRepliesTo cores a ms rs b → length rs ≡ length ms
 AreRepliesTo-length cores [] rs a b p = ap length p.0
 AreRepliesTo-length cores (m ∷ ms) [] a b p = absurd p
-AreRepliesTo-length cores (m ∷ ms) (r ∷ rs) a b (inl h) = ap suc (AreRepliesTo-length cores ms rs a b h.1)
+AreRepliesTo-length cores (m ∷ ms) (r ∷ rs) a b (inl h) = ap suc (AreRepliesTo-length cores ms rs a b h.2)
 AreRepliesTo-length cores (m ∷ ms) (r ∷ rs) a b (inr h) = ap suc (AreRepliesTo-length cores ms rs (message_step cores a m).1 b h.1)
 
 -- ---- frames

@@ -6,14 +6,14 @@ use Rattle.pathd.specs.declared.fault.FrameError.{FrameError}
 use Rattle.pathd.specs.declared.fault.FrameError.TheVariants as error
 use Rattle.pathd.specs.Codes.{memory_code}
 use Rattle.pathd.specs.Frames.{Message, body_of, frame_spelling, message_frame, IsFrameLength, Ending, BadLength, BadKind, EndsAs}
-use Rattle.pathd.specs.Session.{Reply, Refused, Served, message_step, HasReplySize, Answers, written_for, Begins, IsSession}
+use Rattle.pathd.specs.Session.{Reply, Refused, Served, message_step, MayRunOut, HasReplySize, Answers, written_for, Begins, IsSession}
 
 -- the replies to messages, and where they leave what is served
 abbrev pub AreRepliesTo : List ℕ → Served → List Message → List Reply → Served → Type 0
 AreRepliesTo cores old [] replies new = (replies ≡ []) × (new ≡ old)
 AreRepliesTo cores old (m ∷ ms) [] new = ⊥
 AreRepliesTo cores old (m ∷ ms) (r ∷ rs) new =
-    ((r ≡ Refused memory_code) × AreRepliesTo cores old ms rs new)
+    ((r ≡ Refused memory_code) × MayRunOut m (message_step cores old m).0 × AreRepliesTo cores old ms rs new)
     ⊎ ((r ≡ (message_step cores old m).0) × AreRepliesTo cores (message_step cores old m).1 ms rs new)
 
 -- bytes begin with the frames of these messages, and the rest follows

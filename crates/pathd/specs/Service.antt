@@ -6,8 +6,8 @@ use Rattle.pathd.specs.declared.codes.Refusal.{Refusal}
 use Rattle.pathd.specs.declared.rows.Outcome.{Outcome}
 use Rattle.pathd.specs.Refusal.{refusal_code}
 use Rattle.pathd.specs.Codes.{memory_code}
-use Rattle.pathd.specs.Frames.{Message, Register, Lookup}
-use Rattle.pathd.specs.Session.{Served, Reply, Accepted, Found, Refused, reply_content, Step, registered, looked_up}
+use Rattle.pathd.specs.Frames.{Lookup}
+use Rattle.pathd.specs.Session.{Served, Accepted, Refused, MayRunOut, reply_content, Step, registered, looked_up}
 
 -- The reply has this content, and this is there after it.
 abbrev pub Does : Step → List ℕ → Served → Type 0
@@ -24,16 +24,5 @@ Accepts old message (Err refusal) new =
 abbrev pub Finds : {X : Type 0} → (X → List ℕ) → List ℕ → Served → List ℕ → Result X Refusal → Type 0
 Finds view cores served message (Ok response) = Does (looked_up cores served (request_reading message)) (0x82 ∷ view response) served
 Finds view cores served message (Err refusal) =
-    (refusal_code refusal ≡ memory_code)
+    ((refusal_code refusal ≡ memory_code) × MayRunOut (Lookup message) (looked_up cores served (request_reading message)).0)
     ⊎ Does (looked_up cores served (request_reading message)) (reply_content (Refused (refusal_code refusal))) served
-
--- A refusal is told as it is.
-abbrev pub TellsRefusal : Reply → List ℕ → Type 0
-TellsRefusal (Accepted place outcome) content = Unit {0}
-TellsRefusal (Found rows) content = Unit {0}
-TellsRefusal (Refused code) content = content ≡ reply_content (Refused code)
-
--- To refuse a lookup takes no memory, so its own code is told.
-abbrev pub RefusesLookups : List ℕ → Served → Message → List ℕ → Type 0
-RefusesLookups cores served (Register body) content = Unit {0}
-RefusesLookups cores served (Lookup body) content = TellsRefusal (looked_up cores served (request_reading body)).0 content

@@ -71,10 +71,17 @@ unfoldable pub message_step : List ℕ → Served → Message → Step
 message_step cores served (Register body) = registered served (registration_reading body)
 message_step cores served (Lookup body) = looked_up cores served (request_reading body)
 
+-- Whether memory may run out for a message with this reply: a lookup is refused without memory, so its own code is told.
+abbrev pub MayRunOut : Message → Reply → Type 0
+MayRunOut (Register body) reply = Unit {0}
+MayRunOut (Lookup body) (Accepted place outcome) = Unit {0}
+MayRunOut (Lookup body) (Found rows) = Unit {0}
+MayRunOut (Lookup body) (Refused code) = code ≡ memory_code
+
 -- A call answered a message: with its reply, or it was refused memory and changed nothing.
 abbrev pub Answers : List ℕ → Served → Message → List ℕ → Served → Type 0
 Answers cores old message content new =
-    ((content ≡ reply_content (Refused memory_code)) × (new ≡ old))
+    ((content ≡ reply_content (Refused memory_code)) × MayRunOut message (message_step cores old message).0 × (new ≡ old))
     ⊎ ((content ≡ reply_content (message_step cores old message).0) × (new ≡ (message_step cores old message).1))
 
 -- ---- a session
@@ -89,12 +96,13 @@ session_replies cores served (m ∷ ms) =
 abbrev pub opening : Served
 opening = record { rows = []; place = 0 }
 
--- The replies to messages where memory may run out: a message that is refused for want of it changes nothing.
+-- The replies to messages where memory may run out: a message that is refused for want of it changes nothing, and no
+-- lookup is that is refused anyway.
 abbrev pub AreReplies : List ℕ → Served → List Message → List Reply → Type 0
 AreReplies cores served [] replies = replies ≡ []
 AreReplies cores served (m ∷ ms) [] = ⊥
 AreReplies cores served (m ∷ ms) (r ∷ rs) =
-    ((r ≡ Refused memory_code) × AreReplies cores served ms rs)
+    ((r ≡ Refused memory_code) × MayRunOut m (message_step cores served m).0 × AreReplies cores served ms rs)
     ⊎ ((r ≡ (message_step cores served m).0) × AreReplies cores (message_step cores served m).1 ms rs)
 
 abbrev pub written_for : List Reply → List ℕ

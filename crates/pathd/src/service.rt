@@ -1,12 +1,10 @@
 //! The database of a session, and what it answers.
 
-ghost use Rattle.std.specs.Prelude.{◌≡◌, ◌≤◌, length, map, IfOk, IfErr};
+ghost use Rattle.std.specs.Prelude.{◌≡◌, ◌≤◌, length, map, IfOk};
 ghost use Rattle.isd_as.specs.IsdAs.{number_of};
-ghost use Rattle.pathd.specs.Session.{Answers, opening, looked_up, reply_content, Refused};
+ghost use Rattle.pathd.specs.Session.{Answers, opening};
 ghost use Rattle.pathd.specs.Reply.{content_of, message_of};
-ghost use Rattle.pathd.specs.Service.{Accepts, Finds, TellsRefusal, RefusesLookups};
-ghost use Rattle.pathd.specs.Refusal.{refusal_code};
-ghost use Rattle.seg_core.specs.Request.{request_reading};
+ghost use Rattle.pathd.specs.Service.{Accepts, Finds};
 
 use crate::codes::Refusal;
 use crate::frames::Request;
@@ -49,7 +47,6 @@ impl Service {
     #[tactic(auto, unfolding(crate::specs::Session::message_step))]
     pub fn answer(&mut self, alloc: Global, cores: &[IsdAs], request: Request<'_>) -> Reply
         ensures exact { Answers (map number_of cores.now) self.old (message_of request.entry) (content_of result) self.new }
-        ensures prompt { RefusesLookups (map number_of cores.now) self.old (message_of request.entry) (content_of result) }
         ensures bounded { length (content_of result) ≤ 1048843 }
     {
         match request {
@@ -81,7 +78,6 @@ impl Service {
     /// The response to a request for segments.
     fn find(&self, alloc: Global, cores: &[IsdAs], message: &[u8]) -> Result<Vec<u8>, Refusal>
         ensures exact { Finds (λ response. response.items) (map number_of cores.now) self.now message.now result }
-        ensures prompt { IfErr result (λ refusal. TellsRefusal (looked_up (map number_of cores.now) self.now (request_reading message.now)).0 (reply_content (Refused (refusal_code refusal)))) }
         ensures bounded { IfOk result (λ response. length response.items ≤ 1048842) }
     {
         let (source, destination) = read_request(message)?;

@@ -2,14 +2,14 @@
 
 mod streams;
 
-use crate::command_line::cores_of;
+use crate::command_line::{ONCE, command, cores_of};
 use crate::fault::{Fault, FrameError};
 use crate::hex_session::once_in_hex;
 use crate::session::once;
 use isd_as::{IaError, IsdAs};
 use std::alloc::Global;
 use std::test::Fail;
-use streams::{Narrow, Pieces, WhenFull, in_pieces};
+use streams::{FailsOnce, Holds, NEVER, Narrow, Pieces, WhenFull, in_pieces};
 
 /// Registers a segment of two ASes, from 1-ff00:0:110 to 1-ff00:0:111.
 const REGISTER: &str =
@@ -28,6 +28,18 @@ const FOUND: &str =
     "00000061820a5e0802125a0a580a080880e2cfaa06100712290a270a251223089082808080e07f1091828080\
  80e07f1a0e0a0c1001183f220601020304050628c00b12210a1f0a1d121b089182808080e07f1a0e0a0c0802\
  183f22060a0b0c0d0e0f28c00b";
+
+/// A response with no segments.
+const NONE_FOUND: &str = "0000000182";
+
+/// Looks up segments between any two ASes.
+const WILDCARDS: &str = "0000000102";
+
+/// The refusal of that lookup.
+const WILDCARDS_REFUSED: &str = "00000002ff41";
+
+/// The refusal of a lookup in which neither side is a core AS.
+const NO_CORE: &str = "00000002ff43";
 
 /// A place and no rows.
 const NONE_INSERTED: &str = "0000001981000000000000000000000000000000000000000000000000";
@@ -135,10 +147,28 @@ fn frame_faults(rt: HostRuntime) -> Result<(), Fail> {
         assert_eq!(rt; output.as_str(), INSERTED, "{frame}");
     }
 
-    // Nothing is read behind a fault.
-    let (outcome, output) = answer(alloc, &[LOOKUP, "00000000", REGISTER])?;
-    assert_eq!(rt; outcome, Err(FrameError::Length));
-    assert_eq!(rt; output.as_str(), "0000000182");
+    // Nothing is read behind a fault. It stands behind a lookup of 21 bytes, and is seen once the four bytes of the
+    // length are there, or the kind behind them.
+    let cores = cores(alloc)?;
+    for (frame, fault, size, reads) in [
+        ("00000000", FrameError::Length, 1, 25),
+        ("00000000", FrameError::Length, 4, 7),
+        ("00000000", FrameError::Length, 5, 5),
+        ("00000000", FrameError::Length, 100, 1),
+        ("0000000104", FrameError::Kind, 1, 26),
+        ("0000000104", FrameError::Kind, 4, 7),
+        ("0000000104", FrameError::Kind, 5, 6),
+        ("0000000104", FrameError::Kind, 100, 1),
+    ] {
+        let input = joined(alloc, &[LOOKUP, frame, REGISTER])?;
+        let mut reader = in_pieces(input.as_slice(), size);
+        let mut output = Vec::new(alloc);
+        let outcome = once(alloc, &mut reader, &mut output, &cores, 1_000);
+        assert_eq!(rt; outcome, Err(fault), "{frame} in pieces of {size}");
+        assert_eq!(rt; reader.reads, reads, "{frame} in pieces of {size}");
+        let output = hex::encode(alloc, output.as_slice())?;
+        assert_eq!(rt; output.as_str(), NONE_FOUND, "{frame} in pieces of {size}");
+    }
     Ok(())
 }
 
@@ -193,6 +223,74 @@ fn failing_writes(rt: HostRuntime) -> Result<(), Fail> {
                 "room for {room}, {when_full:?}"
             );
         }
+    }
+    Ok(())
+}
+
+#[test]
+fn one_failing_write(rt: HostRuntime) -> Result<(), Fail> {
+    let alloc = rt.alloc();
+    let input = joined(alloc, &[REGISTER, LOOKUP, WILDCARDS])?;
+    let cores = cores(alloc)?;
+    // The length and the kind of a response are written before it.
+    let (head, response) = FOUND.split_at(10);
+    let writes = [INSERTED, head, response, WILDCARDS_REFUSED];
+    for failing in 0..=writes.len() {
+        let mut writer = FailsOnce {
+            taken: Vec::new(alloc),
+            writes: 0,
+            failing,
+        };
+        let outcome = once(alloc, &mut input.as_slice(), &mut writer, &cores, 1_000);
+        let (ends, calls) = if failing < writes.len() {
+            (Err(FrameError::Write), failing + 1)
+        } else {
+            (Ok(3), writes.len())
+        };
+        assert_eq!(rt; outcome, ends, "write {failing}");
+        assert_eq!(rt; writer.writes, calls, "write {failing}");
+        let front = joined(alloc, writes.split_at(failing).0)?;
+        assert_eq!(rt;
+            writer.taken.as_slice(),
+            front.as_slice(),
+            "write {failing}"
+        );
+    }
+    Ok(())
+}
+
+#[test]
+fn held_until_flushed(rt: HostRuntime) -> Result<(), Fail> {
+    let alloc = rt.alloc();
+    let wanted = joined(alloc, &[INSERTED, FOUND])?;
+    let cores = cores(alloc)?;
+    for (last, ends) in [
+        ("", Ok(2)),
+        ("00", Err(FrameError::Read)),
+        ("00000000", Err(FrameError::Length)),
+        ("0000000104", Err(FrameError::Kind)),
+    ] {
+        let input = joined(alloc, &[REGISTER, LOOKUP, last])?;
+        let mut writer = Holds::new(alloc, NEVER);
+        let outcome = once(alloc, &mut input.as_slice(), &mut writer, &cores, 1_000);
+        assert_eq!(rt; outcome, ends, "{last}");
+        assert_eq!(rt; writer.flushed.as_slice(), wanted.as_slice(), "{last}");
+    }
+
+    // Each frame comes in a piece of its own. Its reply is flushed before the next read, and where that fails there is
+    // no next read.
+    let input = joined(alloc, &[REGISTER, LOOKUP])?;
+    let size = joined(alloc, &[REGISTER])?.len();
+    for (failing, flushed, held) in [(0, "", INSERTED), (1, INSERTED, FOUND)] {
+        let mut reader = in_pieces(input.as_slice(), size);
+        let mut writer = Holds::new(alloc, failing);
+        let outcome = once(alloc, &mut reader, &mut writer, &cores, 1_000);
+        assert_eq!(rt; outcome, Err(FrameError::Write), "flush {failing}");
+        assert_eq!(rt; reader.reads, failing + 1, "flush {failing}");
+        let front = hex::encode(alloc, writer.flushed.as_slice())?;
+        assert_eq!(rt; front.as_str(), flushed, "flush {failing}");
+        let rest = hex::encode(alloc, writer.held.as_slice())?;
+        assert_eq!(rt; rest.as_str(), held, "flush {failing}");
     }
     Ok(())
 }
@@ -267,7 +365,7 @@ fn frame_replies(rt: HostRuntime) -> Result<(), Fail> {
         ("no_entries", "00000009010a06080212020a00", "00000002ff28"),
         ("bad_type", "00000003010a00", "00000002ff29"),
         ("unknown_field_accepted", "00000003011000", NONE_INSERTED),
-        ("wildcards", "0000000102", "00000002ff41"),
+        ("wildcards", WILDCARDS, WILDCARDS_REFUSED),
     ] {
         let (outcome, output) = answer(alloc, &[frame])?;
         assert_eq!(rt; outcome, Ok(1), "{name}");
@@ -349,6 +447,41 @@ fn hexadecimal_streams(rt: HostRuntime) -> Result<(), Fail> {
     let full = once_in_hex(alloc, &mut text.as_bytes(), &mut writer, &[], 1_000);
     assert_eq!(rt; full, Err(Fault::Frame(FrameError::Write)));
     assert_eq!(rt; writer.taken.as_slice(), b"0000001".as_slice());
+    Ok(())
+}
+
+/// What the program writes for these words of the command line and this input.
+fn written(rt: &HostRuntime, words: &[&str], input: &[u8]) -> Result<Vec<u8>, Fail> {
+    let alloc = rt.alloc();
+    let matches = command(alloc)?.try_get_matches_from(words)?;
+    let options = matches.subcommand_matches(ONCE).ok_or("no command")?;
+    let mut reader = input;
+    let mut output = Vec::new(alloc);
+    crate::answer(rt, options, &mut reader, &mut output)?;
+    Ok(output)
+}
+
+#[test]
+fn binary_session(rt: HostRuntime) -> Result<(), Fail> {
+    let alloc = rt.alloc();
+    let input = joined(alloc, &[REGISTER, LOOKUP])?;
+    for (cores, reply) in [
+        (["--cores", "1-ff00:0:110"].as_slice(), FOUND),
+        ([].as_slice(), NO_CORE),
+    ] {
+        let mut words = Vec::new(alloc);
+        words.extend_from_slice(&["pathd", "once"])?;
+        words.extend_from_slice(cores)?;
+        let output = written(&rt, words.as_slice(), input.as_slice())?;
+        let wanted = joined(alloc, &[INSERTED, reply])?;
+        assert_eq!(rt; output.as_slice(), wanted.as_slice(), "{reply}");
+
+        words.push("--hex")?;
+        let text = text_of(alloc, &[REGISTER, "\n", LOOKUP, "\n"])?;
+        let lines = written(&rt, words.as_slice(), text.as_bytes())?;
+        let wanted = text_of(alloc, &[INSERTED, "\n", reply, "\n"])?;
+        assert_eq!(rt; lines.as_slice(), wanted.as_bytes(), "{reply}");
+    }
     Ok(())
 }
 

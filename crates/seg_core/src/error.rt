@@ -8,6 +8,9 @@ use std::alloc::{AllocError, AllocFailed};
 use thiserror::Error;
 
 /// The first check that a message fails. Nothing is kept of a message that is refused.
+///
+/// Numbered from 0 in this order. A reply's code is 0x20 and that number; of `Wire` 0x10 and the wire error's; of
+/// `NoMemory` 0x01.
 #[derive(Clone, Copy, Debug, PartialEq, Eq, Error)]
 pub enum SegError {
     /// Memory ran out. It says nothing of the message.

@@ -1,7 +1,11 @@
 //! Readers and writers that give and take in pieces, and fail.
 
+use std::alloc::Global;
 use std::io;
 use std::io::{ErrorKind, Read, Write};
+
+/// The number of a call that is never made.
+pub const NEVER: u64 = u64::MAX;
 
 /// Gives its bytes in pieces of at most this size. The read of this number, from 0, fails.
 #[derive(Drop)]
@@ -18,7 +22,7 @@ pub fn in_pieces(bytes: &[u8], size: usize) -> Pieces<'_> {
         bytes,
         size,
         reads: 0,
-        failing: u64::MAX,
+        failing: NEVER,
     }
 }
 
@@ -67,6 +71,68 @@ impl Write for Narrow {
     }
 
     fn flush(&mut self) -> io::Result<()> {
+        Ok(())
+    }
+}
+
+/// Takes all bytes, and counts its writes. The write of this number, from 0, fails.
+#[derive(Drop)]
+pub struct FailsOnce {
+    pub taken: Vec<u8>,
+    pub writes: usize,
+    pub failing: usize,
+}
+
+impl Write for FailsOnce {
+    fn write(&mut self, buf: &[u8]) -> io::Result<usize> {
+        let number = self.writes;
+        self.writes = number.saturating_add(1);
+        if number == self.failing {
+            return Err(io::Error::from(ErrorKind::Interrupted));
+        }
+        self.taken.extend_from_slice(buf)?;
+        Ok(buf.len())
+    }
+
+    fn flush(&mut self) -> io::Result<()> {
+        Ok(())
+    }
+}
+
+/// Takes all bytes, and keeps them apart until it is flushed. The flush of this number, from 0, fails.
+#[derive(Drop)]
+pub struct Holds {
+    pub held: Vec<u8>,
+    pub flushed: Vec<u8>,
+    pub flushes: u64,
+    pub failing: u64,
+}
+
+impl Holds {
+    pub fn new(alloc: Global, failing: u64) -> Holds {
+        Holds {
+            held: Vec::new(alloc),
+            flushed: Vec::new(alloc),
+            flushes: 0,
+            failing,
+        }
+    }
+}
+
+impl Write for Holds {
+    fn write(&mut self, buf: &[u8]) -> io::Result<usize> {
+        self.held.extend_from_slice(buf)?;
+        Ok(buf.len())
+    }
+
+    fn flush(&mut self) -> io::Result<()> {
+        let number = self.flushes;
+        self.flushes = number.saturating_add(1);
+        if number == self.failing {
+            return Err(io::Error::from(ErrorKind::Interrupted));
+        }
+        self.flushed.extend_from_slice(self.held.as_slice())?;
+        self.held.clear();
         Ok(())
     }
 }
