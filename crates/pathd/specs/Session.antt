@@ -130,7 +130,8 @@ pub record AreSized (written : List ℕ) (replies : List Reply) : Type 0 where
   pub each : AllByRecursion HasReplySize told
   pub begins : Begins written (written_for told)
 
--- What was read before the last read has no fault of a frame, and the replies to its messages were written.
+-- What was read, but for at most 65,536 bytes at the end, has no fault of a frame, and the replies to its messages were
+-- written.
 pub record IsPrompt (read written : List ℕ) (replies : List Reply) : Type 0 where
   pub before : List ℕ
   pub last : List ℕ

@@ -26,7 +26,7 @@ impl<'a, R: Read> Input<'a, R> {
     }
 
     /// Reads once, into room for a byte at least, for which one turn fewer is left. With none left, nothing is read, and
-    /// the answer is Turns.
+    /// the answer is Turns. That the reader is called once, and not again after a failure, no contract can say.
     pub fn read(&mut self, buf: &mut [u8]) -> Result<usize, FrameError>
         requires { 0 < length buf.old }
         ensures same { self.new.reader.ghost_name ≡ self.old.reader.ghost_name }

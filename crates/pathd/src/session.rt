@@ -23,7 +23,8 @@ use std::io::{Read, Write};
 /// is flushed before each further read. The reader is read through an `Input` alone, which has `turns` reads.
 ///
 /// The contract leaves open why a read or a write failed and when memory runs out, since no call of a reader, a writer
-/// or the allocator shows that.
+/// or the allocator shows that. Of the order of reads, writes and flushes it says that at most the last 65,536 bytes
+/// that were read are left without their replies.
 pub fn once<R: Read, W: Write>(
     alloc: Global,
     reader: &mut R,
