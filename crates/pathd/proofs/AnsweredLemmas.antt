@@ -7,7 +7,7 @@ use Rattle.std.proofs.KnownBytes.{Appends-nil, Appends-trans, Appends-kept}
 use Rattle.pathd.specs.declared.fault.FrameError.{FrameError}
 use Rattle.pathd.specs.declared.fault.FrameError.TheVariants as error
 use Rattle.pathd.specs.Codes.{memory_code}
-use Rattle.pathd.specs.Frames.{Message, body_of, frame_spelling, message_frame, Ending, BadLength, BadKind, EndsAs}
+use Rattle.pathd.specs.Frames.{Message, body_of, frame_encoding, message_frame, Ending, BadLength, BadKind, EndsAs}
 use Rattle.pathd.specs.Session.{Reply, Refused, Served, reply_content, reply_frame, message_step, written_for, HasReplySize, Answers}
 use Rattle.pathd.specs.Front.{BeginsWithFrame, IsFront}
 use Rattle.pathd.specs.Answered.{AreRepliesTo, AreWholeFrames, IsAnswered, HasAnswered, StopsAt, StopsWithin, Stops, Replies, FailsToReply}
@@ -64,7 +64,7 @@ IsAnswered-more cores a b bytes rest more u i p = record {
 
 -- one frame, with its reply
 pub IsAnswered-one : (cores : List ℕ) (a b : Served) (bytes content : List ℕ) (m : Message) (len : ℕ) → BeginsWithFrame bytes m len → Answers cores a m content b → length content ≤ 1114112
-    → IsAnswered cores a bytes (drop len bytes) (frame_spelling content) b 1
+    → IsAnswered cores a bytes (drop len bytes) (frame_encoding content) b 1
 unfolding reply_frame
 IsAnswered-one cores a b bytes content m len f (inl h) small = record {
   messages = m ∷ [];
@@ -72,7 +72,7 @@ IsAnswered-one cores a b bytes content m len f (inl h) small = record {
   framed = (drop len bytes, f.frame, f.sized, refl);
   replied = inl (refl, h.1, (refl, h.2));
   sized = (let same = ap length h.0 in omega (arith, same, small), tt);
-  told = ap frame_spelling h.0 ∙ sym (append-nil (frame_spelling (reply_content (Refused memory_code))));
+  told = ap frame_encoding h.0 ∙ sym (append-nil (frame_encoding (reply_content (Refused memory_code))));
   counted = refl;
 }
 IsAnswered-one cores a b bytes content m len f (inr h) small = record {
@@ -81,7 +81,7 @@ IsAnswered-one cores a b bytes content m len f (inr h) small = record {
   framed = (drop len bytes, f.frame, f.sized, refl);
   replied = inr (refl, (refl, h.1));
   sized = (let same = ap length h.0 in omega (arith, same, small), tt);
-  told = ap frame_spelling h.0 ∙ sym (append-nil (frame_spelling (reply_content (message_step cores a m).0)));
+  told = ap frame_encoding h.0 ∙ sym (append-nil (frame_encoding (reply_content (message_step cores a m).0)));
   counted = refl;
 }
 
@@ -109,7 +109,7 @@ HasAnswered-append cores a b c bytes mid rest o p q i j k x y = record {
 pub HasAnswered-one : (cores : List ℕ) (a b : Served) (bytes : List ℕ) (m : Message) (len : ℕ) (o p : Option (List ℕ)) (i k : ℕ)
     → BeginsWithFrame bytes m len → Replies cores a m b o p → k ≡ min (i + 1) (2 ^ 64 - 1) → HasAnswered cores a bytes (drop len bytes) o p b i k
 HasAnswered-one cores a b bytes m len o p i k f r e = record {
-  written = frame_spelling r.content;
+  written = frame_encoding r.content;
   more = 1;
   answered = IsAnswered-one cores a b bytes r.content m len f r.answers r.sized;
   appended = r.appended;
@@ -143,9 +143,9 @@ Stops-fails cores a b c bytes mid rest m len o p q i j e x same f r =
       rest = drop len mid;
       new = c;
       count = x.more + 1;
-      all = x.written ++ frame_spelling r.content;
+      all = x.written ++ frame_encoding r.content;
       written = x.written ++ w.front;
-      answered = IsAnswered-append cores a b c bytes mid (drop len mid) x.written (frame_spelling r.content) x.more 1 x.answered one;
+      answered = IsAnswered-append cores a b c bytes mid (drop len mid) x.written (frame_encoding r.content) x.more 1 x.answered one;
       begins = (w.begins.0, ap (λ (t : List ℕ). x.written ++ t) w.begins.1 ∙ sym (append_assoc x.written w.front w.begins.0));
       appended = Appends-trans o p q x.written w.front x.appended w.appended;
     } in

@@ -1,10 +1,10 @@
--- A whole frame at the front of bytes, and what its spelling gives back.
+-- A whole frame at the front of bytes, and what its encoding gives back.
 use Rattle.std.proofs.Common.{◌≡◌, ℕ, zero, suc, ◌+◌, ◌*◌, ◌-◌, ◌<◌, ◌≤◌, ◌⊎◌, inl, inr, List, [], ◌∷◌, ◌++◌, length, take, drop, get_or, slice_index, slice_range, refl, sym, ap, ◌∙◌, arith, lit<, append_assoc, take-append-drop}
 use Rattle.std.proofs.lemmas.List.{get_or-take, length-take-le, length-drop, drop-drop, drop_more}
 use Rattle.std.proofs.lemmas.Bool.{cases_lt, cases_eq}
 use Rattle.std.proofs.lemmas.Nat.{be_bytes_4}
 use Rattle.std.specs.Int.{w32, to_be_bytes}
-use Rattle.pathd.specs.Frames.{Message, Register, Lookup, kind_of, body_of, frame_spelling, length_at, IsFrameLength, IsMessageKind, Ending, Rest, BadLength, BadKind, AreFrames}
+use Rattle.pathd.specs.Frames.{Message, Register, Lookup, kind_of, body_of, frame_encoding, length_at, IsFrameLength, IsMessageKind, Ending, Rest, BadLength, BadKind, AreFrames}
 use Rattle.pathd.specs.Front.{BeginsWithFrame}
 
 abbrev pub AreBytes : List ℕ → Type 0
@@ -17,8 +17,8 @@ take_below (suc n) (x ∷ xs) b zero = b zero
 take_below (suc n) (x ∷ xs) b (suc i) = take_below n xs (λ j. b (suc j)) i
 
 -- four bytes spell their number again
-pub length_spelled : (bytes : List ℕ) → AreBytes bytes → 4 ≤ length bytes → to_be_bytes w32 (length_at bytes) ≡ take 4 bytes
-length_spelled bytes b long = be_bytes_4 (take 4 bytes) (length_at bytes) (length-take-le 4 bytes long) (take_below 4 bytes b) refl
+pub length_encoded : (bytes : List ℕ) → AreBytes bytes → 4 ≤ length bytes → to_be_bytes w32 (length_at bytes) ≡ take 4 bytes
+length_encoded bytes b long = be_bytes_4 (take 4 bytes) (length_at bytes) (length-take-le 4 bytes long) (take_below 4 bytes b) refl
 
 -- a frame's content
 pub content_at : (bytes : List ℕ) (len : ℕ) → 1 ≤ len → 4 + len ≤ length bytes → (get_or bytes 4 0 ∷ slice_range bytes 5 (4 + len)) ≡ take len (drop 4 bytes)
@@ -33,12 +33,12 @@ pub length-content_at : (bytes : List ℕ) (len : ℕ) → 4 + len ≤ length by
 length-content_at bytes len whole = length-take-le len (drop 4 bytes) (omega (arith, length-drop 4 bytes))
 
 pub frame_at : (bytes : List ℕ) (len : ℕ) → AreBytes bytes → len ≡ length_at bytes → 4 + len ≤ length bytes
-    → bytes ≡ frame_spelling (take len (drop 4 bytes)) ++ drop (4 + len) bytes
+    → bytes ≡ frame_encoding (take len (drop 4 bytes)) ++ drop (4 + len) bytes
 frame_at bytes len b is whole =
     let long : 4 ≤ length bytes = omega arith in
     let content = take len (drop 4 bytes) in
     let head : to_be_bytes w32 (length content) ≡ take 4 bytes =
-    ap (to_be_bytes w32) (length-content_at bytes len whole ∙ is) ∙ length_spelled bytes b long in
+    ap (to_be_bytes w32) (length-content_at bytes len whole ∙ is) ∙ length_encoded bytes b long in
     let rest : content ++ drop (4 + len) bytes ≡ drop 4 bytes =
     ap (λ (t : List ℕ). content ++ t) (sym (drop-drop len 4 bytes)) ∙ take-append-drop len (drop 4 bytes) in
     sym (append_assoc (to_be_bytes w32 (length content)) content (drop (4 + len) bytes)
@@ -55,7 +55,7 @@ begins bytes len m b is sized whole kind body =
     ap (λ k. k ∷ body_of m) kind ∙ ap (λ (t : List ℕ). get_or bytes 4 0 ∷ t) body ∙ content_at bytes len some whole in
     let size : length (kind_of m ∷ body_of m) ≡ len = ap length content ∙ length-content_at bytes len whole in
     record {
-      frame = frame_at bytes len b is whole ∙ ap (λ (t : List ℕ). frame_spelling t ++ drop (4 + len) bytes) (sym content);
+      frame = frame_at bytes len b is whole ∙ ap (λ (t : List ℕ). frame_encoding t ++ drop (4 + len) bytes) (sym content);
       sized = (omega arith, omega (arith, sized.1));
       len_is = omega arith;
     }

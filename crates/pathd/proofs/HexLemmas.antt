@@ -28,7 +28,7 @@ module _ (cores : List ℕ) (turns : ℕ) (i j o : Option (List ℕ)) (r : Resul
 
   pub answered : (p : Option (List ℕ)) (text bytes : List ℕ) → ReadsAll turns i j (Ok text) → decode_of (without_blanks text) ≡ Ok bytes → IsSessionInLines cores turns bytes o p r
       → IsHexSession cores turns i j o p r
-  answered p text bytes all spelled session = record {
+  answered p text bytes all encoded session = record {
     text = all.read;
-    ended = inr (inr (record { end = all.gives.1; bytes = bytes; spelled = subst (λ t. decode_of (without_blanks t) ≡ Ok bytes) all.gives.0 spelled; session = session }));
+    ended = inr (inr (record { end = all.gives.1; bytes = bytes; encoded = subst (λ t. decode_of (without_blanks t) ≡ Ok bytes) all.gives.0 encoded; session = session }));
   }

@@ -7,39 +7,39 @@ use Rattle.std.specs.List.{flat_map, AllByRecursion}
 use Rattle.std.specs.Io.KnownBytes.{Appends}
 use Rattle.std.proofs.KnownBytes.{Appends-nil, Appends-trans}
 use Rattle.pathd.specs.declared.fault.Fault.{Fault}
-use Rattle.pathd.specs.Frames.{frame_spelling, length_at}
+use Rattle.pathd.specs.Frames.{frame_encoding, length_at}
 use Rattle.pathd.specs.Session.{Begins}
 use Rattle.pathd.specs.Lines.{hex_line, FitsFrame, lines_of, IsFirstFrame, HasNoFrame, FailsToPrint, ArePrinted, FailsToPrintLines, HavePrinted}
 
 pub lines_of-append : (xs ys : List (List ℕ)) → lines_of (xs ++ ys) ≡ lines_of xs ++ lines_of ys
 lines_of-append [] ys = refl
 lines_of-append (x ∷ xs) ys =
-    ap (λ (t : List ℕ). hex_line (frame_spelling x) ++ t) (lines_of-append xs ys) ∙ sym (append_assoc (hex_line (frame_spelling x)) (lines_of xs) (lines_of ys))
+    ap (λ (t : List ℕ). hex_line (frame_encoding x) ++ t) (lines_of-append xs ys) ∙ sym (append_assoc (hex_line (frame_encoding x)) (lines_of xs) (lines_of ys))
 
 fits_right : (xs ys : List (List ℕ)) → AllByRecursion FitsFrame (xs ++ ys) → AllByRecursion FitsFrame ys
 fits_right [] ys p = p
 fits_right (x ∷ xs) ys p = fits_right xs ys p.1
 
-length-spelling : (content : List ℕ) → length (frame_spelling content) ≡ 4 + length content
-length-spelling content = omega arith
+length-encoding : (content : List ℕ) → length (frame_encoding content) ≡ 4 + length content
+length-encoding content = omega arith
 
-length_at-spelling : (content more : List ℕ) → FitsFrame content → length_at (frame_spelling content ++ more) ≡ length content
-length_at-spelling content more fits = from_be_bytes-to_be_bytes_4 (length content) fits
+length_at-encoding : (content more : List ℕ) → FitsFrame content → length_at (frame_encoding content ++ more) ≡ length content
+length_at-encoding content more fits = from_be_bytes-to_be_bytes_4 (length content) fits
 
 length_at-front : (bytes more : List ℕ) → 4 ≤ length bytes → length_at (bytes ++ more) ≡ length_at bytes
 length_at-front bytes more long = ap (from_be_bytes w32) (take-append-le 4 bytes more long)
 
 -- the frame in front is that of the first content
-first_content : (bytes frame others tail content more : List ℕ) → IsFirstFrame bytes frame others → FitsFrame content → frame_spelling content ++ more ≡ bytes ++ tail
-    → (frame ≡ frame_spelling content) × (more ≡ others ++ tail)
+first_content : (bytes frame others tail content more : List ℕ) → IsFirstFrame bytes frame others → FitsFrame content → frame_encoding content ++ more ≡ bytes ++ tail
+    → (frame ≡ frame_encoding content) × (more ≡ others ++ tail)
 first_content bytes frame others tail content more f fits e =
     let whole : bytes ++ tail ≡ frame ++ (others ++ tail) = ap (λ (t : List ℕ). t ++ tail) f.parts ∙ append_assoc frame others tail in
-    let said : length_at bytes ≡ length content = sym (length_at-front bytes tail f.long) ∙ ap length_at (sym e) ∙ length_at-spelling content more fits in
+    let said : length_at bytes ≡ length content = sym (length_at-front bytes tail f.long) ∙ ap length_at (sym e) ∙ length_at-encoding content more fits in
     let n = length frame in
-    let size : length (frame_spelling content) ≡ n = omega (arith, length-spelling content, said, f.len) in
-    let same : frame_spelling content ++ more ≡ frame ++ (others ++ tail) = e ∙ whole in (
-      sym (take_at frame (others ++ tail) n refl) ∙ ap (take n) (sym same) ∙ take_at (frame_spelling content) more n size,
-      sym (drop_at (frame_spelling content) more n size) ∙ ap (drop n) same ∙ drop_at frame (others ++ tail) n refl,
+    let size : length (frame_encoding content) ≡ n = omega (arith, length-encoding content, said, f.len) in
+    let same : frame_encoding content ++ more ≡ frame ++ (others ++ tail) = e ∙ whole in (
+      sym (take_at frame (others ++ tail) n refl) ∙ ap (take n) (sym same) ∙ take_at (frame_encoding content) more n size,
+      sym (drop_at (frame_encoding content) more n size) ∙ ap (drop n) same ∙ drop_at frame (others ++ tail) n refl,
     )
 
 no_content : (bytes tail : List ℕ) → 4 ≤ length bytes → [] ≡ bytes ++ tail → ⊥
@@ -53,14 +53,14 @@ HavePrinted-none frames o contents tail fits e = ([], contents, refl, e, Appends
 -- ---- one line more
 
 more_left : (bytes frame others tail : List ℕ) (o p q : Option (List ℕ)) (contents done left : List (List ℕ)) → AllByRecursion FitsFrame contents → contents ≡ done ++ left
-    → flat_map frame_spelling left ≡ bytes ++ tail → Appends o p (lines_of done) → IsFirstFrame bytes frame others → Appends p q (hex_line frame)
-    → (ds : List (List ℕ)) × (ls : List (List ℕ)) × (contents ≡ ds ++ ls) × (flat_map frame_spelling ls ≡ others ++ tail) × Appends o q (lines_of ds)
+    → flat_map frame_encoding left ≡ bytes ++ tail → Appends o p (lines_of done) → IsFirstFrame bytes frame others → Appends p q (hex_line frame)
+    → (ds : List (List ℕ)) × (ls : List (List ℕ)) × (contents ≡ ds ++ ls) × (flat_map frame_encoding ls ≡ others ++ tail) × Appends o q (lines_of ds)
 more_left bytes frame others tail o p q contents done [] fits parts e w f more = absurd (no_content bytes tail f.long e)
 more_left bytes frame others tail o p q contents done (c ∷ left) fits parts e w f more =
     let fit = fits_right done (c ∷ left) (subst (AllByRecursion FitsFrame) parts fits) in
-    let front = first_content bytes frame others tail c (flat_map frame_spelling left) f fit.0 e in
+    let front = first_content bytes frame others tail c (flat_map frame_encoding left) f fit.0 e in
     let line : lines_of (done ++ c ∷ []) ≡ lines_of done ++ hex_line frame =
-    lines_of-append done (c ∷ []) ∙ ap (λ (t : List ℕ). lines_of done ++ t) (append-nil (hex_line (frame_spelling c)) ∙ ap hex_line (sym front.0)) in (
+    lines_of-append done (c ∷ []) ∙ ap (λ (t : List ℕ). lines_of done ++ t) (append-nil (hex_line (frame_encoding c)) ∙ ap hex_line (sym front.0)) in (
       done ++ c ∷ [],
       left,
       parts ∙ sym (append_assoc done (c ∷ []) left),
@@ -76,18 +76,18 @@ HavePrinted-more frames bytes frame others o p q printed f more contents tail fi
 
 -- ---- the end
 
-front_printed : (frames rest : List ℕ) (o p : Option (List ℕ)) → HavePrinted frames rest o p → (contents : List (List ℕ)) → AllByRecursion FitsFrame contents → Begins frames (flat_map frame_spelling contents)
+front_printed : (frames rest : List ℕ) (o p : Option (List ℕ)) → HavePrinted frames rest o p → (contents : List (List ℕ)) → AllByRecursion FitsFrame contents → Begins frames (flat_map frame_encoding contents)
     → (text : List ℕ) × Begins text (lines_of contents) × Appends o p text
 front_printed frames rest o p printed contents fits b =
     let h = printed contents b.0 fits b.1 in
     (lines_of h.0, (lines_of h.1, ap lines_of h.2 ∙ lines_of-append h.0 h.1), h.4)
 
-none_left : (rest : List ℕ) (left : List (List ℕ)) → AllByRecursion FitsFrame left → flat_map frame_spelling left ≡ rest → HasNoFrame rest → left ≡ []
+none_left : (rest : List ℕ) (left : List (List ℕ)) → AllByRecursion FitsFrame left → flat_map frame_encoding left ≡ rest → HasNoFrame rest → left ≡ []
 none_left rest [] fits e none = refl
 none_left rest (c ∷ left) fits e none =
-    let size : length rest ≡ 4 + length c + length (flat_map frame_spelling left) =
-    ap length (sym e) ∙ length-append (frame_spelling c) (flat_map frame_spelling left) ∙ omega (arith, length-spelling c) in
-    let said : length_at rest ≡ length c = ap length_at (sym e) ∙ length_at-spelling c (flat_map frame_spelling left) fits.0 in
+    let size : length rest ≡ 4 + length c + length (flat_map frame_encoding left) =
+    ap length (sym e) ∙ length-append (frame_encoding c) (flat_map frame_encoding left) ∙ omega (arith, length-encoding c) in
+    let said : length_at rest ≡ length c = ap length_at (sym e) ∙ length_at-encoding c (flat_map frame_encoding left) fits.0 in
     let short = none (omega (arith, size)) in
     absurd (omega (arith, size, said, short))
 
@@ -104,14 +104,14 @@ ArePrinted-all frames rest o p printed none = record {
 -- ---- a line that was not printed whole
 
 fails_left : (bytes frame others tail : List ℕ) (o p q : Option (List ℕ)) (contents done left : List (List ℕ)) (e : Fault) → AllByRecursion FitsFrame contents → contents ≡ done ++ left
-    → flat_map frame_spelling left ≡ bytes ++ tail → Appends o p (lines_of done) → IsFirstFrame bytes frame others → FailsToPrint p q (hex_line frame) e
+    → flat_map frame_encoding left ≡ bytes ++ tail → Appends o p (lines_of done) → IsFirstFrame bytes frame others → FailsToPrint p q (hex_line frame) e
     → (text : List ℕ) × Begins text (lines_of contents) × Appends o q text
 fails_left bytes frame others tail o p q contents done [] e fits parts s w f x = absurd (no_content bytes tail f.long s)
 fails_left bytes frame others tail o p q contents done (c ∷ left) e fits parts s w f x =
     let fit = fits_right done (c ∷ left) (subst (AllByRecursion FitsFrame) parts fits) in
-    let front = first_content bytes frame others tail c (flat_map frame_spelling left) f fit.0 s in
+    let front = first_content bytes frame others tail c (flat_map frame_encoding left) f fit.0 s in
     let rest = x.begins.0 in
-    let line : hex_line (frame_spelling c) ≡ x.front ++ rest = ap hex_line (sym front.0) ∙ x.begins.1 in (
+    let line : hex_line (frame_encoding c) ≡ x.front ++ rest = ap hex_line (sym front.0) ∙ x.begins.1 in (
       lines_of done ++ x.front,
       (
         rest ++ lines_of left,

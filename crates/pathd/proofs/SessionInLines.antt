@@ -8,17 +8,17 @@ use Rattle.pathd.specs.declared.fault.FrameError.TheVariants as error
 use Rattle.pathd.specs.declared.fault.Fault.{Fault}
 use Rattle.pathd.specs.declared.fault.Fault.TheVariants as fault
 use Rattle.pathd.specs.Fault.{fault_of}
-use Rattle.pathd.specs.Frames.{frame_spelling}
+use Rattle.pathd.specs.Frames.{frame_encoding}
 use Rattle.pathd.specs.Session.{Reply, reply_content, reply_frame, written_for, HasReplySize, AreSized, Begins, IsSession}
 use Rattle.pathd.specs.Lines.{FitsFrame, lines_of, ArePrinted, FailsToPrintLines}
 use Rattle.pathd.specs.SessionInLines.{lines_for, PrintsFront, IsSessionInLines}
 use Rattle.pathd.proofs.AnsweredLemmas.{written_for-append}
 use Rattle.pathd.proofs.LineLemmas.{lines_of-append}
 
-frames_of : (rs : List Reply) → flat_map frame_spelling (map reply_content rs) ≡ written_for rs
+frames_of : (rs : List Reply) → flat_map frame_encoding (map reply_content rs) ≡ written_for rs
 unfolding reply_frame
 frames_of [] = refl
-frames_of (r ∷ rs) = ap (λ (t : List ℕ). frame_spelling (reply_content r) ++ t) (frames_of rs)
+frames_of (r ∷ rs) = ap (λ (t : List ℕ). frame_encoding (reply_content r) ++ t) (frames_of rs)
 
 fit : (rs : List Reply) → AllByRecursion HasReplySize rs → AllByRecursion FitsFrame (map reply_content rs)
 fit [] h = tt
@@ -26,7 +26,7 @@ fit (r ∷ rs) h = (omega (arith, h.0), fit rs h.1)
 
 some_written : (r : Reply) (rs : List Reply) → 4 ≤ length (written_for (r ∷ rs))
 unfolding reply_frame
-some_written r rs = omega (arith, length-append (frame_spelling (reply_content r)) (written_for rs))
+some_written r rs = omega (arith, length-append (frame_encoding (reply_content r)) (written_for rs))
 
 nothing_else : (rs : List Reply) → length (written_for rs) ≡ 0 → rs ≡ []
 nothing_else [] h = refl
@@ -47,7 +47,7 @@ all_lines written rs o p s whole printed = printed.whole (map reply_content rs) 
 
 -- lines of some replies begin those of all
 PrintsFront-from : (written : List ℕ) (rs : List Reply) (o p : Option (List ℕ)) → AreSized written rs
-    → ((contents : List (List ℕ)) → AllByRecursion FitsFrame contents → Begins written (flat_map frame_spelling contents) → (text : List ℕ) × Begins text (lines_of contents) × Appends o p text)
+    → ((contents : List (List ℕ)) → AllByRecursion FitsFrame contents → Begins written (flat_map frame_encoding contents) → (text : List ℕ) × Begins text (lines_of contents) × Appends o p text)
     → PrintsFront rs o p
 PrintsFront-from written rs o p s printed =
     let h = printed (map reply_content s.told) (fit s.told s.each) (s.begins.0, frames_of s.told ∙ s.begins.1) in
@@ -75,7 +75,7 @@ module _ (cores : List ℕ) (turns : ℕ) (input start frames : List ℕ) (left 
   whole outcome s told printed = all_lines s.written s.replies o p s.sized told (subst (λ (f : List ℕ). ArePrinted f o p) s.appended printed)
 
   front : (outcome : Result ℕ FrameError) (s : IsSession cores turns (Some input) left (Some []) (Some frames) outcome)
-      → ((contents : List (List ℕ)) → AllByRecursion FitsFrame contents → Begins frames (flat_map frame_spelling contents) → (text : List ℕ) × Begins text (lines_of contents) × Appends o p text)
+      → ((contents : List (List ℕ)) → AllByRecursion FitsFrame contents → Begins frames (flat_map frame_encoding contents) → (text : List ℕ) × Begins text (lines_of contents) × Appends o p text)
       → PrintsFront s.replies o p
   front outcome s printed =
       PrintsFront-from s.written s.replies o p s.sized (λ contents fits b. printed contents fits (b.0, b.1 ∙ ap (λ (t : List ℕ). t ++ b.0) (sym s.appended)))

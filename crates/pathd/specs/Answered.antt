@@ -5,7 +5,7 @@ use Rattle.std.specs.Io.KnownBytes.{Appends, Consumes, IsAtEnd}
 use Rattle.pathd.specs.declared.fault.FrameError.{FrameError}
 use Rattle.pathd.specs.declared.fault.FrameError.TheVariants as error
 use Rattle.pathd.specs.Codes.{memory_code}
-use Rattle.pathd.specs.Frames.{Message, body_of, frame_spelling, message_frame, IsFrameLength, Ending, BadLength, BadKind, EndsAs}
+use Rattle.pathd.specs.Frames.{Message, body_of, frame_encoding, message_frame, IsFrameLength, Ending, BadLength, BadKind, EndsAs}
 use Rattle.pathd.specs.Session.{Reply, Refused, Served, message_step, MayRunOut, HasReplySize, Answers, written_for, Begins, IsSession}
 
 -- the replies to messages, and where they leave what is served
@@ -107,11 +107,11 @@ pub record Replies (cores : List ℕ) (old : Served) (message : Message) (new : 
   pub content : List ℕ
   pub answers : Answers cores old message content new
   pub sized : length content ≤ 1114112
-  pub appended : Appends output output_left (frame_spelling content)
+  pub appended : Appends output output_left (frame_encoding content)
 
 -- One message was answered, and the write of its reply failed.
 pub record FailsToReply (cores : List ℕ) (old : Served) (message : Message) (new : Served) (output output_left : Option (List ℕ)) (e : FrameError) : Type 0 where
   pub content : List ℕ
   pub answers : Answers cores old message content new
   pub sized : length content ≤ 1114112
-  pub fails : FailsWithin output output_left (frame_spelling content) e
+  pub fails : FailsWithin output output_left (frame_encoding content) e

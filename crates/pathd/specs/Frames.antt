@@ -16,11 +16,11 @@ body_of (Register body) = body
 body_of (Lookup body) = body
 
 -- length and content
-abbrev pub frame_spelling : List ℕ → List ℕ
-frame_spelling content = to_be_bytes w32 (length content) ++ content
+abbrev pub frame_encoding : List ℕ → List ℕ
+frame_encoding content = to_be_bytes w32 (length content) ++ content
 
 abbrev pub message_frame : Message → List ℕ
-message_frame message = frame_spelling (kind_of message ∷ body_of message)
+message_frame message = frame_encoding (kind_of message ∷ body_of message)
 
 -- the length at the front of four bytes or more
 abbrev pub length_at : List ℕ → ℕ

@@ -22,11 +22,11 @@ pub record IsNoText (text : List ℕ) (input_left output output_left : Option (L
   pub kept : Appends output output_left []
   pub said : (result ≡ Err fault.Memory) ⊎ ((result ≡ Err fault.Hex) × IsErr (decode_of (without_blanks text)))
 
--- The input is a text that spells bytes, of which this is a session.
+-- The input is a text that encodes bytes, of which this is a session.
 pub record IsAnsweredText (cores : List ℕ) (turns : ℕ) (text : List ℕ) (input_left output output_left : Option (List ℕ)) (result : Result ℕ Fault) : Type 0 where
   pub end : IsAtEnd input_left
   pub bytes : List ℕ
-  pub spelled : decode_of (without_blanks text) ≡ Ok bytes
+  pub encoded : decode_of (without_blanks text) ≡ Ok bytes
   pub session : IsSessionInLines cores turns bytes output output_left result
 
 -- What was read of the input, and what became of it.

@@ -4,9 +4,9 @@ use Rattle.std.specs.List.{flat_map, AllByRecursion}
 use Rattle.std.specs.Int.{w32, w64, to_be_bytes}
 use Rattle.std.specs.Io.KnownBytes.{Consumes, Appends, IsAtEnd}
 use Rattle.seg_core.specs.declared.error.SegError.{SegError}
-use Rattle.seg_core.specs.Request.{request_reading}
-use Rattle.seg_core.specs.Registration.{registration_reading}
-use Rattle.seg_core.specs.Spelling.{response_spelling}
+use Rattle.seg_core.specs.Request.{request_decoding}
+use Rattle.seg_core.specs.Registration.{registration_decoding}
+use Rattle.seg_core.specs.Encoding.{response_encoding}
 use Rattle.pathd.specs.declared.fault.FrameError.{FrameError}
 use Rattle.pathd.specs.declared.fault.FrameError.TheVariants as error
 use Rattle.pathd.specs.declared.rows.Outcome.{Outcome}
@@ -14,7 +14,7 @@ use Rattle.pathd.specs.declared.lookup.LookupError.{LookupError}
 use Rattle.pathd.specs.Rows.{RowView, rows_after_all, changes_of, outcome_of}
 use Rattle.pathd.specs.Lookup.{QueryView, query_of, answer_of}
 use Rattle.pathd.specs.Codes.{memory_code, exhausted_code, seg_code, lookup_code}
-use Rattle.pathd.specs.Frames.{Message, Register, Lookup, Ending, Rest, BadLength, BadKind, AreFrames, frame_spelling}
+use Rattle.pathd.specs.Frames.{Message, Register, Lookup, Ending, Rest, BadLength, BadKind, AreFrames, frame_encoding}
 
 -- ---- replies
 
@@ -27,11 +27,11 @@ pub data Reply : Type 0 where
 abbrev pub reply_content : Reply → List ℕ
 reply_content (Accepted place outcome) =
     0x81 ∷ (to_be_bytes w64 place ++ (to_be_bytes w32 outcome.inserted ++ (to_be_bytes w32 outcome.updated ++ (to_be_bytes w32 outcome.kept ++ to_be_bytes w32 outcome.purged))))
-reply_content (Found rows) = 0x82 ∷ response_spelling rows
+reply_content (Found rows) = 0x82 ∷ response_encoding rows
 reply_content (Refused code) = 0xff ∷ code ∷ []
 
 unfoldable pub reply_frame : Reply → List ℕ
-reply_frame reply = frame_spelling (reply_content reply)
+reply_frame reply = frame_encoding (reply_content reply)
 
 -- ---- one message
 
@@ -68,8 +68,8 @@ looked_up cores served (Err e) = (Refused (seg_code e), served)
 
 -- one message, read, classified and applied: the first refusal is the reply
 unfoldable pub message_step : List ℕ → Served → Message → Step
-message_step cores served (Register body) = registered served (registration_reading body)
-message_step cores served (Lookup body) = looked_up cores served (request_reading body)
+message_step cores served (Register body) = registered served (registration_decoding body)
+message_step cores served (Lookup body) = looked_up cores served (request_decoding body)
 
 -- Whether memory may run out for a message with this reply: a lookup is refused without memory, so its own code is told.
 abbrev pub MayRunOut : Message → Reply → Type 0

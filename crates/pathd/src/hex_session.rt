@@ -14,7 +14,7 @@ use isd_as::IsdAs;
 use std::alloc::Global;
 use std::io::{Read, Write};
 
-/// Reads all of a hexadecimal text, and then answers the session that it spells. Each reply is a line of digits.
+/// Reads all of a hexadecimal text, and then answers the session that it encodes. Each reply is a line of digits.
 ///
 /// Where memory runs out, a front of the lines was printed. The contract leaves open how long it is.
 pub fn once_in_hex<R: Read, W: Write>(

@@ -5,7 +5,7 @@ ghost use Rattle.std.specs.List.{AllByRecursion};
 ghost use Rattle.std.specs.Option.{option_map};
 ghost use Rattle.isd_as.specs.IsdAs.{number_of};
 ghost use Rattle.seg_core.specs.EntryView.{entry_view, entry_views};
-ghost use Rattle.seg_core.specs.Spelling.{IsSegment, referred};
+ghost use Rattle.seg_core.specs.Encoding.{IsSegment, referred};
 ghost use Rattle.pathd.specs.Row.{row_view};
 ghost use Rattle.pathd.specs.Lookup.{query_of, has_zero_part, is_core, begins_at, ends_at, is_at, matches, answer_of};
 ghost use Rattle.pathd.specs.Query.{query_view, query_read};

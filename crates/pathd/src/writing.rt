@@ -2,7 +2,7 @@
 
 ghost use Rattle.std.specs.Prelude.{◌≡◌, ◌≤◌, ℕ, List, ◌∷◌, ◌++◌, [], length, take, OnOk, IfOk, IfErr};
 ghost use Rattle.std.specs.Io.KnownBytes.{Appends};
-ghost use Rattle.pathd.specs.Frames.{frame_spelling};
+ghost use Rattle.pathd.specs.Frames.{frame_encoding};
 ghost use Rattle.pathd.specs.Reply.{content_of};
 ghost use Rattle.pathd.specs.Answered.{FailsWithin};
 ghost use Rattle.pathd.specs.declared.reply.Reply.TheVariants.{Accepted, Found, Refused};
@@ -25,8 +25,8 @@ const ACCEPTED_FRAME: usize = 29;
 /// Writes the frame of a reply.
 pub fn write_reply<W: Write>(writer: &mut W, reply: &Reply) -> Result<(), FrameError>
     requires { length (content_of reply.now) ≤ 1114112 }
-    ensures ok { OnOk result (Appends (W.contents writer.old) (W.contents writer.new) (frame_spelling (content_of reply.now))) }
-    ensures err { IfErr result (FailsWithin (W.contents writer.old) (W.contents writer.new) (frame_spelling (content_of reply.now))) }
+    ensures ok { OnOk result (Appends (W.contents writer.old) (W.contents writer.new) (frame_encoding (content_of reply.now))) }
+    ensures err { IfErr result (FailsWithin (W.contents writer.old) (W.contents writer.new) (frame_encoding (content_of reply.now))) }
 {
     match reply {
         Reply::Accepted(place, outcome) => write_all(writer, &accepted_frame(*place, *outcome)),
@@ -39,7 +39,7 @@ pub fn write_reply<W: Write>(writer: &mut W, reply: &Reply) -> Result<(), FrameE
 }
 
 fn accepted_frame(place: u64, outcome: Outcome) -> [u8; ACCEPTED_FRAME]
-    ensures { result ≡ frame_spelling (content_of (Accepted place outcome)) }
+    ensures { result ≡ frame_encoding (content_of (Accepted place outcome)) }
 {
     let mut frame = [0; ACCEPTED_FRAME];
     BigEndian::write_u32(&mut frame, 25);
@@ -60,7 +60,7 @@ fn accepted_frame(place: u64, outcome: Outcome) -> [u8; ACCEPTED_FRAME]
 /// The length and the kind that stand before a response of so many bytes.
 fn found_head(response: usize) -> [u8; 5]
     requires { response ≤ 1114111 }
-    ensures { (body : List ℕ) → length body ≡ response → result ++ body ≡ frame_spelling (0x82 ∷ body) }
+    ensures { (body : List ℕ) → length body ≡ response → result ++ body ≡ frame_encoding (0x82 ∷ body) }
 {
     let mut head = [0; 5];
     BigEndian::write_u32(&mut head, response as u32 + 1);

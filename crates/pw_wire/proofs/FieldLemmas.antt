@@ -6,7 +6,7 @@ use Rattle.std.proofs.Math.Seq.{take-add}
 use Rattle.std.proofs.lemmas.List.{take_at, drop_at, take-append-drop, length-append, length-take-le, length-drop, get_or-drop}
 use Rattle.pw_wire.specs.declared.error.WireError.{WireError}
 use Rattle.pw_wire.specs.declared.error.WireError.TheVariants.{Truncated, LongVarint, BadField, GroupWire, BadWire}
-use Rattle.pw_wire.specs.Reading.{◌>>=◌, IsBytes}
+use Rattle.pw_wire.specs.Decoding.{◌>>=◌, IsBytes}
 use Rattle.pw_wire.specs.Varint.{IsVarint, BeginsWithVarint, varint_within, varint_at}
 use Rattle.pw_wire.specs.Field.{FieldValue, Varint, Fixed64, Bytes, Fixed32, FieldView, wire_type, IsValue, IsField, HasNumber, IsTagFault, IsValueFault, in_varint, in_fixed64, in_length, in_bytes, in_fixed32, IsFieldFault, in_tag, at_tag, in_value, fixed64_at, fixed32_at, bytes_at, number_at, value_at, field_behind, field_at}
 use Rattle.pw_wire.proofs.Places.{within-nil, within-last, within-goes_on, within-tenth, within-too_long}
@@ -27,7 +27,7 @@ pub record ReadVarint (bytes : List ℕ) (n k : ℕ) : Type 0 where
 pub read_varint_is : (bytes : List ℕ) (n k : ℕ) → IsBytes bytes → varint_at bytes ≡ Ok (n, k) → ReadVarint bytes n k
 read_varint_is bytes n k fits e =
     let took = within_took 9 bytes (n, k) fits e in
-    let is : IsVarint (take k bytes) n = record { spelled = took.spelled; short = omega (arith, length-take-le k bytes took.within, took.short); fits = took.fits } in
+    let is : IsVarint (take k bytes) n = record { encoded = took.encoded; short = omega (arith, length-take-le k bytes took.within, took.short); fits = took.fits } in
     record { begins = record { front = take k bytes; varint = is; parts = sym (take-append-drop k bytes) }; is_front = is; positive = took.positive; within = took.within }
 
 -- bytes that begin with a varint are read so
@@ -291,8 +291,8 @@ made_field bytes tag k value m read good took =
 abbrev pub HoldsField : List ℕ → FieldView → ℕ → Type 0
 HoldsField bytes f len = IsField bytes f.number f.value len × (1 ≤ len) × (len ≤ length bytes)
 
-field_of_reading : (bytes : List ℕ) (found result : FieldView × ℕ) → HoldsField bytes found.0 found.1 → found ≡ result → HoldsField bytes result.0 result.1
-field_of_reading bytes found result holds same = subst (λ (p : FieldView × ℕ). HoldsField bytes p.0 p.1) same holds
+field_of_decoding : (bytes : List ℕ) (found result : FieldView × ℕ) → HoldsField bytes found.0 found.1 → found ≡ result → HoldsField bytes result.0 result.1
+field_of_decoding bytes found result holds same = subst (λ (p : FieldView × ℕ). HoldsField bytes p.0 p.1) same holds
 
 -- what was read is a field
 pub field_is : (bytes : List ℕ) (f : FieldView) (len : ℕ) → IsBytes bytes → field_at bytes ≡ Ok (f, len) → HoldsField bytes f len
@@ -308,7 +308,7 @@ field_is bytes f len fits e =
           let b = bind_ok (value_at (tag % 8) (drop k bytes)) (whole (tag, k)) (f, len) (sym (behind-good (tag, k) bytes good) ∙ h.2) in
           let took = value_took (tag % 8) (drop k bytes) b.0 (rest_fits k bytes fits) b.1 in
           let short : k + b.0.1 ≤ length bytes = omega (arith, took.within, read.within, length-drop k bytes) in
-          field_of_reading bytes (record { number = tag / 8; value = b.0.0 }, k + b.0.1) (f, len) (made_field bytes tag k b.0.0 b.0.1 read good took, omega (arith, read.positive), short) (ok_is (record { number = tag / 8; value = b.0.0 }, k + b.0.1) (f, len) b.2)
+          field_of_decoding bytes (record { number = tag / 8; value = b.0.0 }, k + b.0.1) (f, len) (made_field bytes tag k b.0.0 b.0.1 read good took, omega (arith, read.positive), short) (ok_is (record { number = tag / 8; value = b.0.0 }, k + b.0.1) (f, len) b.2)
     ]
 
 -- a kind's fault is the tag's

@@ -1,6 +1,6 @@
 pub mod Messages
 pub mod Places
-pub mod Spelling
+pub mod Encoding
 pub mod Varints
 pub mod FieldLemmas
 pub mod NextField

@@ -3,12 +3,12 @@ use Rattle.std.proofs.Common.{◌≡◌, ◌≢◌, ◌↔◌, ℕ, zero, suc, �
 use Rattle.std.proofs.lemmas.List.{length-append, length-drop, get_or-drop, drop_at}
 use Rattle.pw_wire.specs.declared.error.WireError.{WireError}
 use Rattle.pw_wire.specs.declared.error.WireError.TheVariants.{Truncated}
-use Rattle.pw_wire.specs.Reading.{◌>>=◌, IsBytes}
-use Rattle.pw_wire.specs.Varint.{IsVarint, BeginsWithVarint, varint_spelling}
-use Rattle.pw_wire.specs.Field.{Varint, Bytes, FieldView, varint_field, bytes_field, IsField, IsFieldFault, in_tag, at_tag, in_value, field_behind, field_at, varint_field_spelling, bytes_field_spelling}
+use Rattle.pw_wire.specs.Decoding.{◌>>=◌, IsBytes}
+use Rattle.pw_wire.specs.Varint.{IsVarint, BeginsWithVarint, varint_encoding}
+use Rattle.pw_wire.specs.Field.{Varint, Bytes, FieldView, varint_field, bytes_field, IsField, IsFieldFault, in_tag, at_tag, in_value, field_behind, field_at, varint_field_encoding, bytes_field_encoding}
 use Rattle.pw_wire.specs.Fields.{AreFields, AreFieldsUntil, before, fault_or, fields_within, fault_within, fields, fault}
 use Rattle.pw_wire.proofs.Places.{within-nil}
-use Rattle.pw_wire.proofs.Varints.{varint_spelling_is}
+use Rattle.pw_wire.proofs.Varints.{varint_encoding_is}
 use Rattle.pw_wire.proofs.FieldLemmas.{begins_again, field_again, field_is, fault_again, fault_is, field_positive}
 
 -- ---- one step
@@ -161,59 +161,59 @@ pub until : (bytes : List ℕ) (fs : List FieldView) (e : WireError) → IsBytes
 until bytes fs e fits =
     (λ are. are_until fs bytes e are, λ told. subst (λ (gs : List FieldView). AreFieldsUntil bytes gs e) told.1 (subst (Reaches bytes (fields bytes)) told.0 (reaches (length bytes) bytes (omega arith) fits)))
 
--- ---- spelled fields
+-- ---- encoded fields
 
--- a spelled field is one, whatever follows
-varint_field_is : (k n : ℕ) (rest : List ℕ) → 1 ≤ k → k < 2 ^ 29 → n < 2 ^ 64 → IsField (varint_field_spelling k n ++ rest) k (Varint n) (length (varint_field_spelling k n))
-unfolding varint_field_spelling
+-- an encoded field is one, whatever follows
+varint_field_is : (k n : ℕ) (rest : List ℕ) → 1 ≤ k → k < 2 ^ 29 → n < 2 ^ 64 → IsField (varint_field_encoding k n ++ rest) k (Varint n) (length (varint_field_encoding k n))
+unfolding varint_field_encoding
 varint_field_is k n rest positive below fits = record {
-  tag = varint_spelling (k * 8);
-  content = varint_spelling n;
+  tag = varint_encoding (k * 8);
+  content = varint_encoding n;
   rest = rest;
-  parts = append_assoc (varint_spelling (k * 8)) (varint_spelling n) rest;
-  len_is = length-append (varint_spelling (k * 8)) (varint_spelling n);
+  parts = append_assoc (varint_encoding (k * 8)) (varint_encoding n) rest;
+  len_is = length-append (varint_encoding (k * 8)) (varint_encoding n);
   positive = positive;
   below = below;
-  tag_is = let same : k * 8 ≡ k * 8 + 0 = omega arith in subst (IsVarint (varint_spelling (k * 8))) same (varint_spelling_is (k * 8) (omega arith));
-  content_is = varint_spelling_is n fits;
+  tag_is = let same : k * 8 ≡ k * 8 + 0 = omega arith in subst (IsVarint (varint_encoding (k * 8))) same (varint_encoding_is (k * 8) (omega arith));
+  content_is = varint_encoding_is n fits;
 }
 
-bytes_field_is : (k : ℕ) (text rest : List ℕ) → 1 ≤ k → k < 2 ^ 29 → length text < 2 ^ 64 → IsField (bytes_field_spelling k text ++ rest) k (Bytes text) (length (bytes_field_spelling k text))
-unfolding bytes_field_spelling
+bytes_field_is : (k : ℕ) (text rest : List ℕ) → 1 ≤ k → k < 2 ^ 29 → length text < 2 ^ 64 → IsField (bytes_field_encoding k text ++ rest) k (Bytes text) (length (bytes_field_encoding k text))
+unfolding bytes_field_encoding
 bytes_field_is k text rest positive below fits = record {
-  tag = varint_spelling (k * 8 + 2);
-  content = varint_spelling (length text) ++ text;
+  tag = varint_encoding (k * 8 + 2);
+  content = varint_encoding (length text) ++ text;
   rest = rest;
-  parts = append_assoc (varint_spelling (k * 8 + 2)) (varint_spelling (length text) ++ text) rest;
-  len_is = length-append (varint_spelling (k * 8 + 2)) (varint_spelling (length text) ++ text);
+  parts = append_assoc (varint_encoding (k * 8 + 2)) (varint_encoding (length text) ++ text) rest;
+  len_is = length-append (varint_encoding (k * 8 + 2)) (varint_encoding (length text) ++ text);
   positive = positive;
   below = below;
-  tag_is = varint_spelling_is (k * 8 + 2) (omega arith);
-  content_is = record { front = varint_spelling (length text); varint = varint_spelling_is (length text) fits; parts = refl };
+  tag_is = varint_encoding_is (k * 8 + 2) (omega arith);
+  content_is = record { front = varint_encoding (length text); varint = varint_encoding_is (length text) fits; parts = refl };
 }
 
--- a spelled varint field is read, whatever follows
-pub fields-varint_field : (k n : ℕ) (rest : List ℕ) → 1 ≤ k → k < 2 ^ 29 → n < 2 ^ 64 → fields (varint_field_spelling k n ++ rest) ≡ varint_field k n ∷ fields rest
+-- an encoded varint field is read, whatever follows
+pub fields-varint_field : (k n : ℕ) (rest : List ℕ) → 1 ≤ k → k < 2 ^ 29 → n < 2 ^ 64 → fields (varint_field_encoding k n ++ rest) ≡ varint_field k n ∷ fields rest
 fields-varint_field k n rest positive below fits =
-    let s : List ℕ = varint_field_spelling k n in
+    let s : List ℕ = varint_field_encoding k n in
     fields-read (s ++ rest) (varint_field k n) (length s) (field_again (s ++ rest) k (Varint n) (length s) (varint_field_is k n rest positive below fits))
     ∙ ap (λ bytes. varint_field k n ∷ fields bytes) (drop_at s rest (length s) refl)
 
-pub fault-varint_field : (k n : ℕ) (rest : List ℕ) → 1 ≤ k → k < 2 ^ 29 → n < 2 ^ 64 → fault (varint_field_spelling k n ++ rest) ≡ fault rest
+pub fault-varint_field : (k n : ℕ) (rest : List ℕ) → 1 ≤ k → k < 2 ^ 29 → n < 2 ^ 64 → fault (varint_field_encoding k n ++ rest) ≡ fault rest
 fault-varint_field k n rest positive below fits =
-    let s : List ℕ = varint_field_spelling k n in
+    let s : List ℕ = varint_field_encoding k n in
     fault-read (s ++ rest) (varint_field k n) (length s) (field_again (s ++ rest) k (Varint n) (length s) (varint_field_is k n rest positive below fits))
     ∙ ap fault (drop_at s rest (length s) refl)
 
--- a spelled field of bytes is read, whatever follows
-pub fields-bytes_field : (k : ℕ) (text rest : List ℕ) → 1 ≤ k → k < 2 ^ 29 → length text < 2 ^ 64 → fields (bytes_field_spelling k text ++ rest) ≡ bytes_field k text ∷ fields rest
+-- an encoded field of bytes is read, whatever follows
+pub fields-bytes_field : (k : ℕ) (text rest : List ℕ) → 1 ≤ k → k < 2 ^ 29 → length text < 2 ^ 64 → fields (bytes_field_encoding k text ++ rest) ≡ bytes_field k text ∷ fields rest
 fields-bytes_field k text rest positive below fits =
-    let s : List ℕ = bytes_field_spelling k text in
+    let s : List ℕ = bytes_field_encoding k text in
     fields-read (s ++ rest) (bytes_field k text) (length s) (field_again (s ++ rest) k (Bytes text) (length s) (bytes_field_is k text rest positive below fits))
     ∙ ap (λ bytes. bytes_field k text ∷ fields bytes) (drop_at s rest (length s) refl)
 
-pub fault-bytes_field : (k : ℕ) (text rest : List ℕ) → 1 ≤ k → k < 2 ^ 29 → length text < 2 ^ 64 → fault (bytes_field_spelling k text ++ rest) ≡ fault rest
+pub fault-bytes_field : (k : ℕ) (text rest : List ℕ) → 1 ≤ k → k < 2 ^ 29 → length text < 2 ^ 64 → fault (bytes_field_encoding k text ++ rest) ≡ fault rest
 fault-bytes_field k text rest positive below fits =
-    let s : List ℕ = bytes_field_spelling k text in
+    let s : List ℕ = bytes_field_encoding k text in
     fault-read (s ++ rest) (bytes_field k text) (length s) (field_again (s ++ rest) k (Bytes text) (length s) (bytes_field_is k text rest positive below fits))
     ∙ ap fault (drop_at s rest (length s) refl)

@@ -5,7 +5,7 @@ use Rattle.std.proofs.lemmas.List.{nil_from_length}
 use Rattle.pw_wire.specs.declared.error.WireError.{WireError}
 use Rattle.pw_wire.specs.declared.error.WireError.TheVariants.{Truncated}
 use Rattle.pw_wire.specs.declared.field.Field.{Field}
-use Rattle.pw_wire.specs.Reading.{IsBytes}
+use Rattle.pw_wire.specs.Decoding.{IsBytes}
 use Rattle.pw_wire.specs.Field.{FieldValue, FieldView, IsField, IsFieldFault, field_at}
 use Rattle.pw_wire.specs.Fields.{fields, fault}
 use Rattle.pw_wire.specs.View.{value_view, field_view, Finds, Steps}

@@ -6,7 +6,7 @@ use Rattle.std.proofs.lemmas.Grind.{pow_more}
 use Rattle.std.proofs.lemmas.Bool.{lt-ltb, le-ltb}
 use Rattle.pw_wire.specs.declared.error.WireError.{WireError}
 use Rattle.pw_wire.specs.declared.error.WireError.TheVariants.{Truncated, LongVarint}
-use Rattle.pw_wire.specs.Reading.{◌>>=◌}
+use Rattle.pw_wire.specs.Decoding.{◌>>=◌}
 use Rattle.pw_wire.specs.Varint.{varint_within, varint_at}
 
 -- a number and its length, with what was read before it

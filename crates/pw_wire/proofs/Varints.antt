@@ -3,10 +3,10 @@ use Rattle.std.proofs.Common.{◌≡◌, ℕ, zero, suc, ◌+◌, ◌*◌, ◌/�
 use Rattle.std.proofs.lemmas.Bool.{cases_lt}
 use Rattle.pw_wire.specs.declared.error.WireError.{WireError}
 use Rattle.pw_wire.specs.declared.error.WireError.TheVariants.{Truncated, LongVarint, BadField, GroupWire, BadWire}
-use Rattle.pw_wire.specs.Reading.{◌>>=◌, IsBytes}
-use Rattle.pw_wire.specs.Varint.{SpellsNumber, IsVarint, AllGoOn, IsVarintFault, varint_within, varint_at, spelling_within, varint_spelling}
+use Rattle.pw_wire.specs.Decoding.{◌>>=◌, IsBytes}
+use Rattle.pw_wire.specs.Varint.{EncodesNumber, IsVarint, AllGoOn, IsVarintFault, varint_within, varint_at, encoding_within, varint_encoding}
 use Rattle.pw_wire.proofs.Places.{within-nil, within-last, within-goes_on, within-tenth, within-too_long}
-use Rattle.pw_wire.proofs.Spelling.{limit, spelling-last, spelling-goes_on}
+use Rattle.pw_wire.proofs.Encoding.{limit, encoding-last, encoding-goes_on}
 
 -- ---- steps that may fail
 
@@ -35,26 +35,26 @@ err_is A d e h = cc
 -- ---- a varint is read
 
 -- a number with its bytes is read, where so many bytes are allowed
-pub within_again : (left : ℕ) (front rest : List ℕ) (n : ℕ) → SpellsNumber front n → length front ≤ suc left → n < limit left → varint_within left (front ++ rest) ≡ Ok (n, length front)
-within_again left [] rest n spelled short fits = absurd spelled
-within_again zero (b ∷ []) rest n spelled short fits = rw (spelled.1) (within-tenth b rest (omega arith))
-within_again (suc left) (b ∷ []) rest n spelled short fits = rw (spelled.1) (within-last left b rest spelled.0)
-within_again zero (b ∷ c ∷ front) rest n spelled short fits = absurd (omega arith)
-within_again (suc left) (b ∷ c ∷ front) rest n spelled short fits =
-    let high = spelled.2 in
+pub within_again : (left : ℕ) (front rest : List ℕ) (n : ℕ) → EncodesNumber front n → length front ≤ suc left → n < limit left → varint_within left (front ++ rest) ≡ Ok (n, length front)
+within_again left [] rest n encoded short fits = absurd encoded
+within_again zero (b ∷ []) rest n encoded short fits = rw (encoded.1) (within-tenth b rest (omega arith))
+within_again (suc left) (b ∷ []) rest n encoded short fits = rw (encoded.1) (within-last left b rest encoded.0)
+within_again zero (b ∷ c ∷ front) rest n encoded short fits = absurd (omega arith)
+within_again (suc left) (b ∷ c ∷ front) rest n encoded short fits =
+    let high = encoded.2 in
     let fits' : high < limit left = omega arith in
-    let again = within_again left (c ∷ front) rest high spelled.4 (omega arith) fits' in
+    let again = within_again left (c ∷ front) rest high encoded.4 (omega arith) fits' in
     let number : b - 128 + 128 * high ≡ n = omega arith in
-    within-goes_on left b (c ∷ front ++ rest) spelled.0 ∙ ap (λ r. r >>= λ h. Ok (b - 128 + 128 * h.0, suc h.1)) again ∙ ap (λ k. Ok (k, suc (suc (length front)))) number
+    within-goes_on left b (c ∷ front ++ rest) encoded.0 ∙ ap (λ r. r >>= λ h. Ok (b - 128 + 128 * h.0, suc h.1)) again ∙ ap (λ k. Ok (k, suc (suc (length front)))) number
 
 pub varint_again : (front rest : List ℕ) (n : ℕ) → IsVarint front n → varint_at (front ++ rest) ≡ Ok (n, length front)
-varint_again front rest n is = within_again 9 front rest n is.spelled is.short is.fits
+varint_again front rest n is = within_again 9 front rest n is.encoded is.short is.fits
 
 -- ---- what is read is a varint
 
 -- what was read took a varint from the front
 pub record TookVarint (left : ℕ) (bytes : List ℕ) (found : ℕ × ℕ) : Type 0 where
-  pub spelled : SpellsNumber (take found.1 bytes) found.0
+  pub encoded : EncodesNumber (take found.1 bytes) found.0
   pub positive : 1 ≤ found.1
   pub short : found.1 ≤ suc left
   pub within : found.1 ≤ length bytes
@@ -64,14 +64,14 @@ rest_bytes : (b : ℕ) (bytes : List ℕ) → IsBytes (b ∷ bytes) → IsBytes 
 rest_bytes b bytes fits i = fits (suc i)
 
 -- one byte more at the front
-pub spells_before : (b : ℕ) (bytes : List ℕ) (n high : ℕ) → 128 ≤ b → b < 256 → n + 128 ≡ b + 128 * high → SpellsNumber bytes high → SpellsNumber (b ∷ bytes) n
-spells_before b [] n high le lt e spelled = absurd spelled
-spells_before b (c ∷ bytes) n high le lt e spelled = (le, lt, high, e, spelled)
+pub encodes_before : (b : ℕ) (bytes : List ℕ) (n high : ℕ) → 128 ≤ b → b < 256 → n + 128 ≡ b + 128 * high → EncodesNumber bytes high → EncodesNumber (b ∷ bytes) n
+encodes_before b [] n high le lt e encoded = absurd encoded
+encodes_before b (c ∷ bytes) n high le lt e encoded = (le, lt, high, e, encoded)
 
 -- a byte that goes on, before a varint
 goes_before : (left b : ℕ) (bytes : List ℕ) (n k : ℕ) → 128 ≤ b → b < 256 → TookVarint left bytes (n, k) → TookVarint (suc left) (b ∷ bytes) (b - 128 + 128 * n, suc k)
 goes_before left b bytes n k le lt took = record {
-  spelled = spells_before b (take k bytes) (b - 128 + 128 * n) n le lt (omega arith) took.spelled;
+  encoded = encodes_before b (take k bytes) (b - 128 + 128 * n) n le lt (omega arith) took.encoded;
   positive = omega arith;
   short = omega (arith, took.short);
   within = omega (arith, took.within);
@@ -80,7 +80,7 @@ goes_before left b bytes n k le lt took = record {
 
 -- one byte alone
 one_byte : (left b : ℕ) (bytes : List ℕ) → b < 128 → b < limit left → TookVarint left (b ∷ bytes) (b, 1)
-one_byte left b bytes lt fits = record { spelled = (lt, refl); positive = omega arith; short = omega arith; within = omega arith; fits = fits }
+one_byte left b bytes lt fits = record { encoded = (lt, refl); positive = omega arith; short = omega arith; within = omega arith; fits = fits }
 
 -- each limit is above a byte's seven bits, but the last
 limit_large : (left : ℕ) → 128 ≤ limit (suc left)
@@ -168,40 +168,40 @@ varint_fault bytes d e = fault_from_within bytes d (within_fault 9 bytes d e)
 pub varint_fault_again : (bytes : List ℕ) (d : WireError) → IsVarintFault bytes d → varint_at bytes ≡ Err d
 varint_fault_again bytes d h = fault_again 9 bytes d (fault_to_within bytes d h)
 
--- ---- the shortest spelling
+-- ---- the shortest encoding
 
-spelling_spells : (left n : ℕ) → n < limit left → SpellsNumber (spelling_within left n) n × (length (spelling_within left n) ≤ suc left)
-unfolding spelling_within
-spelling_spells zero n lt = ((omega arith, refl), omega arith)
-spelling_spells (suc left) n lt =
+encoding_encodes : (left n : ℕ) → n < limit left → EncodesNumber (encoding_within left n) n × (length (encoding_within left n) ≤ suc left)
+unfolding encoding_within
+encoding_encodes zero n lt = ((omega arith, refl), omega arith)
+encoding_encodes (suc left) n lt =
     elim (cases_lt n 128) [
-      | inl small ↦ rw (spelling-last (suc left) n small) ((small, refl), omega arith)
+      | inl small ↦ rw (encoding-last (suc left) n small) ((small, refl), omega arith)
       | inr le ↦
-          let above = spelling_spells left (n / 128) (omega arith) in
-          rw (spelling-goes_on left n le) (spells_before (n % 128 + 128) (spelling_within left (n / 128)) n (n / 128) (omega arith) (omega arith) (omega arith) above.0, omega (arith, above.1))
+          let above = encoding_encodes left (n / 128) (omega arith) in
+          rw (encoding-goes_on left n le) (encodes_before (n % 128 + 128) (encoding_within left (n / 128)) n (n / 128) (omega arith) (omega arith) (omega arith) above.0, omega (arith, above.1))
     ]
 
-pub varint_spelling_is : (n : ℕ) → n < 2 ^ 64 → IsVarint (varint_spelling n) n
-unfolding varint_spelling
-varint_spelling_is n lt = let both = spelling_spells 9 n lt in record { spelled = both.0; short = both.1; fits = lt }
+pub varint_encoding_is : (n : ℕ) → n < 2 ^ 64 → IsVarint (varint_encoding n) n
+unfolding varint_encoding
+varint_encoding_is n lt = let both = encoding_encodes 9 n lt in record { encoded = both.0; short = both.1; fits = lt }
 
-not_empty : (bytes : List ℕ) (n : ℕ) → SpellsNumber bytes n → 1 ≤ length bytes
-not_empty [] n spelled = absurd spelled
-not_empty (b ∷ bytes) n spelled = omega arith
+not_empty : (bytes : List ℕ) (n : ℕ) → EncodesNumber bytes n → 1 ≤ length bytes
+not_empty [] n encoded = absurd encoded
+not_empty (b ∷ bytes) n encoded = omega arith
 
-spelling_shortest : (left n : ℕ) (bytes : List ℕ) → n < limit left → SpellsNumber bytes n → length (spelling_within left n) ≤ length bytes
-unfolding spelling_within
-spelling_shortest left n [] lt spelled = absurd spelled
-spelling_shortest zero n (b ∷ bytes) lt spelled = omega arith
-spelling_shortest (suc left) n (b ∷ []) lt spelled = rw (spelling-last (suc left) n (omega arith)) (omega arith)
-spelling_shortest (suc left) n (b ∷ c ∷ bytes) lt spelled =
+encoding_shortest : (left n : ℕ) (bytes : List ℕ) → n < limit left → EncodesNumber bytes n → length (encoding_within left n) ≤ length bytes
+unfolding encoding_within
+encoding_shortest left n [] lt encoded = absurd encoded
+encoding_shortest zero n (b ∷ bytes) lt encoded = omega arith
+encoding_shortest (suc left) n (b ∷ []) lt encoded = rw (encoding-last (suc left) n (omega arith)) (omega arith)
+encoding_shortest (suc left) n (b ∷ c ∷ bytes) lt encoded =
     elim (cases_lt n 128) [
-      | inl small ↦ rw (spelling-last (suc left) n small) (omega arith)
+      | inl small ↦ rw (encoding-last (suc left) n small) (omega arith)
       | inr le ↦
-          let high : n / 128 ≡ spelled.2 = omega (arith, spelled.0, spelled.1, spelled.3) in
-          rw (spelling-goes_on left n le, high) (omega (arith, spelling_shortest left spelled.2 (c ∷ bytes) (omega (arith, spelled.0, spelled.1, spelled.3)) spelled.4))
+          let high : n / 128 ≡ encoded.2 = omega (arith, encoded.0, encoded.1, encoded.3) in
+          rw (encoding-goes_on left n le, high) (omega (arith, encoding_shortest left encoded.2 (c ∷ bytes) (omega (arith, encoded.0, encoded.1, encoded.3)) encoded.4))
     ]
 
-pub varint_spelling_shortest : (n : ℕ) (bytes : List ℕ) → IsVarint bytes n → length (varint_spelling n) ≤ length bytes
-unfolding varint_spelling
-varint_spelling_shortest n bytes is = spelling_shortest 9 n bytes is.fits is.spelled
+pub varint_encoding_shortest : (n : ℕ) (bytes : List ℕ) → IsVarint bytes n → length (varint_encoding n) ≤ length bytes
+unfolding varint_encoding
+varint_encoding_shortest n bytes is = encoding_shortest 9 n bytes is.fits is.encoded

@@ -3,8 +3,8 @@ use Rattle.std.specs.Prelude.{◌≡◌, ◌≢◌, ℕ, ◌+◌, ◌*◌, ◌/�
 use Rattle.std.specs.Int.{w32, w64, from_le_bytes}
 use Rattle.pw_wire.specs.declared.error.WireError.{WireError}
 use Rattle.pw_wire.specs.declared.error.WireError.TheVariants.{Truncated, LongVarint, BadField, GroupWire, BadWire}
-use Rattle.pw_wire.specs.Reading.{◌>>=◌}
-use Rattle.pw_wire.specs.Varint.{IsVarint, IsVarintFault, BeginsWithVarint, varint_at, varint_spelling}
+use Rattle.pw_wire.specs.Decoding.{◌>>=◌}
+use Rattle.pw_wire.specs.Varint.{IsVarint, IsVarintFault, BeginsWithVarint, varint_at, varint_encoding}
 
 -- what a field contains
 pub data FieldValue : Type 0 where
@@ -134,12 +134,12 @@ field_at bytes = do
   tag ← varint_at bytes
   field_behind tag bytes
 
--- ---- the shortest spellings
+-- ---- the shortest encodings
 
 -- a field of wire type 0
-unfoldable pub varint_field_spelling : ℕ → ℕ → List ℕ
-varint_field_spelling number n = varint_spelling (number * 8) ++ varint_spelling n
+unfoldable pub varint_field_encoding : ℕ → ℕ → List ℕ
+varint_field_encoding number n = varint_encoding (number * 8) ++ varint_encoding n
 
 -- a field of wire type 2
-unfoldable pub bytes_field_spelling : ℕ → List ℕ → List ℕ
-bytes_field_spelling number bytes = varint_spelling (number * 8 + 2) ++ (varint_spelling (length bytes) ++ bytes)
+unfoldable pub bytes_field_encoding : ℕ → List ℕ → List ℕ
+bytes_field_encoding number bytes = varint_encoding (number * 8 + 2) ++ (varint_encoding (length bytes) ++ bytes)

@@ -43,6 +43,6 @@ fields bytes = fields_within (length bytes) bytes
 unfoldable pub fault : List ℕ → Option WireError
 fault bytes = fault_within (length bytes) bytes
 
--- a spelling that is read as this field, whatever follows it
-abbrev pub IsReadAs : List ℕ → FieldView → Type 0
-IsReadAs spelling f = (rest : List ℕ) → (fields (spelling ++ rest) ≡ f ∷ fields rest) × (fault (spelling ++ rest) ≡ fault rest)
+-- an encoding that is read as this field, whatever follows it
+abbrev pub IsDecodedAs : List ℕ → FieldView → Type 0
+IsDecodedAs encoding f = (rest : List ℕ) → (fields (encoding ++ rest) ≡ f ∷ fields rest) × (fault (encoding ++ rest) ≡ fault rest)

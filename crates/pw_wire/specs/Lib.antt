@@ -1,4 +1,4 @@
-pub mod Reading
+pub mod Decoding
 pub mod Varint
 pub mod Field
 pub mod Fields

@@ -3,18 +3,18 @@ use Rattle.std.specs.Prelude.{◌≡◌, ℕ, zero, suc, ◌+◌, ◌*◌, ◌/�
 use Rattle.std.specs.List.{AllByRecursion}
 use Rattle.pw_wire.specs.declared.error.WireError.{WireError}
 use Rattle.pw_wire.specs.declared.error.WireError.TheVariants.{Truncated, LongVarint, BadField, GroupWire, BadWire}
-use Rattle.pw_wire.specs.Reading.{◌>>=◌}
+use Rattle.pw_wire.specs.Decoding.{◌>>=◌}
 
 -- Seven bits a byte, the lowest first. A byte below 128 is the last and stands for itself; one from 128
 -- on stands for its low seven bits, and the bytes after it for the bits above.
-abbrev pub SpellsNumber : List ℕ → ℕ → Type 0
-SpellsNumber [] n = ⊥
-SpellsNumber (b ∷ []) n = (b < 128) × (n ≡ b)
-SpellsNumber (b ∷ c ∷ bytes) n = (128 ≤ b) × (b < 256) × (high : ℕ) × (n + 128 ≡ b + 128 * high) × SpellsNumber (c ∷ bytes) high
+abbrev pub EncodesNumber : List ℕ → ℕ → Type 0
+EncodesNumber [] n = ⊥
+EncodesNumber (b ∷ []) n = (b < 128) × (n ≡ b)
+EncodesNumber (b ∷ c ∷ bytes) n = (128 ≤ b) × (b < 256) × (high : ℕ) × (n + 128 ≡ b + 128 * high) × EncodesNumber (c ∷ bytes) high
 
 -- A varint has at most ten bytes, and a number of 64 bits. Zeros at the top are allowed.
 pub record IsVarint (bytes : List ℕ) (n : ℕ) : Type 0 where
-  pub spelled : SpellsNumber bytes n
+  pub encoded : EncodesNumber bytes n
   pub short : length bytes ≤ 10
   pub fits : n < 2 ^ 64
 
@@ -48,11 +48,11 @@ varint_within (suc left) (b ∷ bytes) = if nat_lt b 128 then Ok (b, 1) else do
 abbrev pub varint_at : List ℕ → Result (ℕ × ℕ) WireError
 varint_at bytes = varint_within 9 bytes
 
--- The shortest spelling, with `left` bytes allowed before the last one.
-unfoldable pub spelling_within : ℕ → ℕ → List ℕ
-spelling_within zero n = n ∷ []
-spelling_within (suc left) n = if nat_lt n 128 then n ∷ [] else ((n % 128 + 128) ∷ spelling_within left (n / 128))
+-- The shortest encoding, with `left` bytes allowed before the last one.
+unfoldable pub encoding_within : ℕ → ℕ → List ℕ
+encoding_within zero n = n ∷ []
+encoding_within (suc left) n = if nat_lt n 128 then n ∷ [] else ((n % 128 + 128) ∷ encoding_within left (n / 128))
 
--- the shortest spelling of a number below 2 ^ 64
-unfoldable pub varint_spelling : ℕ → List ℕ
-varint_spelling n = spelling_within 9 n
+-- the shortest encoding of a number below 2 ^ 64
+unfoldable pub varint_encoding : ℕ → List ℕ
+varint_encoding n = encoding_within 9 n

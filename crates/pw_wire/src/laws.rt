@@ -3,10 +3,10 @@
 
 ghost use Rattle.std.specs.Prelude.{◌≡◌, ◌≢◌, ◌↔◌, ◌⊎◌, ℕ, ◌^◌, ◌<◌, ◌≤◌, List, [], length, Some, None};
 ghost use Rattle.pw_wire.specs.declared.error.WireError.{WireError};
-ghost use Rattle.pw_wire.specs.Reading.{IsBytes};
-ghost use Rattle.pw_wire.specs.Varint.{IsVarint, varint_spelling};
-ghost use Rattle.pw_wire.specs.Field.{FieldValue, FieldView, IsField, IsFieldFault, BeginsWithField, HasFieldFault, varint_field, bytes_field, varint_field_spelling, bytes_field_spelling};
-ghost use Rattle.pw_wire.specs.Fields.{AreFields, AreFieldsUntil, fields, fault, IsReadAs};
+ghost use Rattle.pw_wire.specs.Decoding.{IsBytes};
+ghost use Rattle.pw_wire.specs.Varint.{IsVarint, varint_encoding};
+ghost use Rattle.pw_wire.specs.Field.{FieldValue, FieldView, IsField, IsFieldFault, BeginsWithField, HasFieldFault, varint_field, bytes_field, varint_field_encoding, bytes_field_encoding};
+ghost use Rattle.pw_wire.specs.Fields.{AreFields, AreFieldsUntil, fields, fault, IsDecodedAs};
 
 /// Bytes that aren't empty begin with exactly one field, of one length, or have exactly one fault.
 pub fn field_or_fault()
@@ -27,17 +27,17 @@ pub fn all_fields()
         → (AreFieldsUntil bytes fs e) ↔ ((fault bytes ≡ Some e) × (fields bytes ≡ fs)) }
 {}
 
-/// The spelling of a number is a varint of it, and no other varint of it is shorter.
-pub fn spelled_varint()
-    ensures spelled { (n : ℕ) → n < 2 ^ 64 → IsVarint (varint_spelling n) n }
+/// The encoding of a number is a varint of it, and no other varint of it is shorter.
+pub fn encoded_varint()
+    ensures encoded { (n : ℕ) → n < 2 ^ 64 → IsVarint (varint_encoding n) n }
     ensures shortest { (n : ℕ) (bytes : List ℕ) → IsVarint bytes n
-        → length (varint_spelling n) ≤ length bytes }
+        → length (varint_encoding n) ≤ length bytes }
 {}
 
-/// A spelled field is read as that field, whatever follows it.
-pub fn spelled_fields()
+/// An encoded field is read as that field, whatever follows it.
+pub fn encoded_fields()
     ensures varint { (k n : ℕ) → 1 ≤ k → k < 2 ^ 29 → n < 2 ^ 64
-        → IsReadAs (varint_field_spelling k n) (varint_field k n) }
+        → IsDecodedAs (varint_field_encoding k n) (varint_field k n) }
     ensures bytes { (k : ℕ) (text : List ℕ) → 1 ≤ k → k < 2 ^ 29 → length text < 2 ^ 64
-        → IsReadAs (bytes_field_spelling k text) (bytes_field k text) }
+        → IsDecodedAs (bytes_field_encoding k text) (bytes_field k text) }
 {}

@@ -3,7 +3,7 @@
 //!
 //! `next_field` finds exactly the field that the bytes begin with, or the first check that fails there,
 //! and says by `fields` and `fault` what that tells of the whole message. What the `put_` calls append is
-//! the shortest spelling of a field, which is read back as that field, whatever follows it.
+//! the shortest encoding of a field, which is read back as that field, whatever follows it.
 #![tactic(auto)]
 
 mod error;
@@ -15,7 +15,7 @@ mod writing;
 
 pub use error::WireError;
 pub use field::{Field, Value};
-pub use laws::{all_fields, field_or_fault, spelled_fields, spelled_varint};
+pub use laws::{all_fields, field_or_fault, encoded_fields, encoded_varint};
 pub use reading::next_field;
 pub use writing::{put_bytes_field, put_varint, put_varint_field};
 

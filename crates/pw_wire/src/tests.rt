@@ -9,7 +9,7 @@ const TOO_LARGE: [u8; 10] = [255, 255, 255, 255, 255, 255, 255, 255, 255, 2];
 const GOES_ON: [u8; 11] = [128, 128, 128, 128, 128, 128, 128, 128, 128, 128, 0];
 
 #[test]
-fn varint_spellings(rt: HostRuntime) {
+fn varint_encodings(rt: HostRuntime) {
     assert_eq!(rt; read_varint(&[0]), Ok((0, 1)));
     assert_eq!(rt; read_varint(&[0x80, 0]), Ok((0, 2)));
     assert_eq!(rt; read_varint(&[0x96, 1, 7]), Ok((150, 2)));
@@ -101,6 +101,6 @@ fn text_of_a_fault(rt: HostRuntime) -> Result<(), Fail> {
 fn laws_return(_rt: HostRuntime) {
     field_or_fault();
     all_fields();
-    spelled_varint();
-    spelled_fields();
+    encoded_varint();
+    encoded_fields();
 }

@@ -1,6 +1,6 @@
 ghost use Rattle.std.specs.Prelude.{◌≡◌, ◌+◌, ◌<◌, ◌≤◌, ◌^◌, ◌++◌, OnOk, OnErr, vec_len, vec_capacity};
-ghost use Rattle.pw_wire.specs.Varint.{varint_spelling};
-ghost use Rattle.pw_wire.specs.Field.{varint_field_spelling, bytes_field_spelling};
+ghost use Rattle.pw_wire.specs.Varint.{varint_encoding};
+ghost use Rattle.pw_wire.specs.Field.{varint_field_encoding, bytes_field_encoding};
 
 use std::alloc::AllocError;
 
@@ -9,7 +9,7 @@ const VARINT_ROOM: usize = 10;
 
 /// Appends the shortest varint of a number, with no tag.
 pub fn put_varint(out: &mut Vec<u8>, n: u64) -> Result<(), AllocError>
-    ensures ok { OnOk result (out.new.items ≡ out.old.items ++ varint_spelling n) }
+    ensures ok { OnOk result (out.new.items ≡ out.old.items ++ varint_encoding n) }
     ensures err { OnErr result (out.new.items ≡ out.old.items) }
 {
     out.reserve(VARINT_ROOM)?;
@@ -17,12 +17,12 @@ pub fn put_varint(out: &mut Vec<u8>, n: u64) -> Result<(), AllocError>
     Ok(())
 }
 
-/// Appends a field of wire type 0, in its shortest spelling.
-#[tactic(auto, unfolding(crate::specs::Field::varint_field_spelling))]
+/// Appends a field of wire type 0, in its shortest encoding.
+#[tactic(auto, unfolding(crate::specs::Field::varint_field_encoding))]
 pub fn put_varint_field(out: &mut Vec<u8>, number: u32, n: u64) -> Result<(), AllocError>
     requires positive { 1 ≤ number }
     requires below { number < 2 ^ 29 }
-    ensures ok { OnOk result (out.new.items ≡ out.old.items ++ varint_field_spelling number n) }
+    ensures ok { OnOk result (out.new.items ≡ out.old.items ++ varint_field_encoding number n) }
     ensures err { OnErr result (out.new.items ≡ out.old.items) }
 {
     out.reserve(2 * VARINT_ROOM)?;
@@ -31,12 +31,12 @@ pub fn put_varint_field(out: &mut Vec<u8>, number: u32, n: u64) -> Result<(), Al
     Ok(())
 }
 
-/// Appends a field of wire type 2, as of bytes, a string or a message, in its shortest spelling.
-#[tactic(auto, unfolding(crate::specs::Field::bytes_field_spelling))]
+/// Appends a field of wire type 2, as of bytes, a string or a message, in its shortest encoding.
+#[tactic(auto, unfolding(crate::specs::Field::bytes_field_encoding))]
 pub fn put_bytes_field(out: &mut Vec<u8>, number: u32, bytes: &[u8]) -> Result<(), AllocError>
     requires positive { 1 ≤ number }
     requires below { number < 2 ^ 29 }
-    ensures ok { OnOk result (out.new.items ≡ out.old.items ++ bytes_field_spelling number bytes.now) }
+    ensures ok { OnOk result (out.new.items ≡ out.old.items ++ bytes_field_encoding number bytes.now) }
     ensures err { OnErr result (out.new.items ≡ out.old.items) }
 {
     let room = bytes.len().checked_add(2 * VARINT_ROOM).ok_or(AllocError)?;
@@ -49,7 +49,7 @@ pub fn put_bytes_field(out: &mut Vec<u8>, number: u32, bytes: &[u8]) -> Result<(
 /// Appends the shortest varint where there is room for ten bytes.
 fn push_varint(out: &mut Vec<u8>, n: u64)
     requires { vec_len out.old + VARINT_ROOM ≤ vec_capacity out.old }
-    ensures items { out.new.items ≡ out.old.items ++ varint_spelling n }
+    ensures items { out.new.items ≡ out.old.items ++ varint_encoding n }
     ensures len { vec_len out.new ≤ vec_len out.old + VARINT_ROOM }
     ensures capacity { vec_capacity out.old ≤ vec_capacity out.new }
 {

@@ -5,7 +5,7 @@ use Rattle.std.specs.List.{AllByRecursion}
 use Rattle.std.proofs.lemmas.Bool.{leb-true}
 use Rattle.std.proofs.lemmas.List.Concat.{flat_map-cons}
 use Rattle.std.proofs.lemmas.List.Sums.{sum_by-cons}
-use Rattle.pw_wire.specs.Field.{bytes_field_spelling}
+use Rattle.pw_wire.specs.Field.{bytes_field_encoding}
 use Rattle.pw_wire.specs.Fields.{fields}
 use Rattle.seg_core.specs.declared.error.SegError.TheVariants.{Chain, Loop, Entries, TooLarge}
 use Rattle.seg_core.specs.declared.body.Body.{Body}
@@ -14,12 +14,12 @@ use Rattle.seg_core.specs.Shapes.{path_segment_shape, as_entry_shape, signed_mes
 use Rattle.seg_core.specs.Steps.{◌>>=◌, each}
 use Rattle.seg_core.specs.Message.{text, texts, text_or_empty}
 use Rattle.seg_core.specs.SegmentView.{EntryView, SegmentView}
-use Rattle.seg_core.specs.Entry.{header_and_body_reading, as_entry_reading}
+use Rattle.seg_core.specs.Entry.{header_and_body_decoding, as_entry_decoding}
 use Rattle.seg_core.specs.WellFormed.{is_entry_count, is_chain, has_no_loop}
-use Rattle.seg_core.specs.Segment.{info_reading, segment_reading}
-use Rattle.seg_core.specs.Spelling.{bytes_spelling, as_entry_spelling, entries_spelling, segment_spelling, IsEntry, IsSegment}
+use Rattle.seg_core.specs.Segment.{info_decoding, segment_decoding}
+use Rattle.seg_core.specs.Encoding.{bytes_encoding, as_entry_encoding, entries_encoding, segment_encoding, IsEntry, IsSegment}
 use Rattle.seg_core.proofs.Readings.{step_ok, ok_is, after_checked, after_check, after_required}
-use Rattle.seg_core.proofs.WireSizes.{spelled_len, fields-length}
+use Rattle.seg_core.proofs.WireSizes.{encoded_len, fields-length}
 use Rattle.seg_core.proofs.Sizes.{bytes_field-mono, bytes_field-within, last-length, or_empty-length, parts-length, entry-length, signed-within}
 
 -- ---- one entry
@@ -40,10 +40,10 @@ entry_of body signed signature unsigned = record {
 -- an entry that was read from a message
 record WasRead (message : List ℕ) (e : EntryView) : Type 0 where
   says : IsEntry e
-  short : length (as_entry_spelling e) ≤ length message
+  short : length (as_entry_encoding e) ≤ length message
 
-entry_read : (message : List ℕ) (e : EntryView) → length message ≤ 16384 → as_entry_reading message ≡ Ok e → WasRead message e
-unfolding as_entry_reading
+entry_read : (message : List ℕ) (e : EntryView) → length message ≤ 16384 → as_entry_decoding message ≡ Ok e → WasRead message e
+unfolding as_entry_decoding
 entry_read message e le reading =
     let fs = fields message in
     let in_fields = after_checked as_entry_shape message _ e reading in
@@ -51,10 +51,10 @@ entry_read message e le reading =
     let signed = in_signed.0 in
     let parts = fields signed in
     let in_parts = after_checked signed_message_shape signed _ e in_signed.2 in
-    let in_body = step_ok (header_and_body_reading (text_or_empty 1 parts)) _ e in_parts in
+    let in_body = step_ok (header_and_body_decoding (text_or_empty 1 parts)) _ e in_parts in
     subst (WasRead message) (ok_is (entry_of in_body.0 (text_or_empty 1 parts) (text_or_empty 2 parts) (text 2 fs)) e in_body.2) (record {
       says = in_body.1;
-      short = entry-length message signed (bytes_spelling 1 (text_or_empty 1 parts) ++ bytes_spelling 2 (text_or_empty 2 parts)) le in_signed.1
+      short = entry-length message signed (bytes_encoding 1 (text_or_empty 1 parts) ++ bytes_encoding 2 (text_or_empty 2 parts)) le in_signed.1
           (parts-length signed (signed-within message signed le in_signed.1));
     })
 
@@ -63,7 +63,7 @@ entry_read message e le reading =
 record WereRead (messages : List (List ℕ)) (es : List EntryView) : Type 0 where
   say : AllByRecursion IsEntry es
   as_many : length es ≡ length messages
-  short : length (entries_spelling es) ≤ spelled_len 2 messages
+  short : length (entries_encoding es) ≤ encoded_len 2 messages
 
 one_more : (message : List ℕ) (messages : List (List ℕ)) (e : EntryView) (es : List EntryView) → WasRead message e → WereRead messages es → WereRead (message ∷ messages) (e ∷ es)
 one_more message messages e es first others = record {
@@ -71,16 +71,16 @@ one_more message messages e es first others = record {
   as_many = ap suc others.as_many;
   short =
       let was_short = others.short in
-      rw (flat_map-cons (λ e. bytes_field_spelling 2 (as_entry_spelling e)) e es, sum_by-cons (λ t. length (bytes_field_spelling 2 t)) message messages, length-append (bytes_field_spelling 2 (as_entry_spelling e)) (entries_spelling es))
-      (omega (arith, bytes_field-mono 2 (as_entry_spelling e) message first.short));
+      rw (flat_map-cons (λ e. bytes_field_encoding 2 (as_entry_encoding e)) e es, sum_by-cons (λ t. length (bytes_field_encoding 2 t)) message messages, length-append (bytes_field_encoding 2 (as_entry_encoding e)) (entries_encoding es))
+      (omega (arith, bytes_field-mono 2 (as_entry_encoding e) message first.short));
 }
 
-entries_read : (messages : List (List ℕ)) (es : List EntryView) → spelled_len 2 messages ≤ 16384 → each as_entry_reading messages ≡ Ok es → WereRead messages es
+entries_read : (messages : List (List ℕ)) (es : List EntryView) → encoded_len 2 messages ≤ 16384 → each as_entry_decoding messages ≡ Ok es → WereRead messages es
 entries_read [] es le reading = subst (WereRead []) (ok_is [] es reading) (record { say = tt; as_many = refl; short = omega arith })
 entries_read (message ∷ messages) es le reading =
-    let first = step_ok (as_entry_reading message) (λ e. each as_entry_reading messages >>= λ others. Ok (e ∷ others)) es reading in
-    let others = step_ok (each as_entry_reading messages) (λ others. Ok (first.0 ∷ others)) es first.2 in
-    let parts : spelled_len 2 (message ∷ messages) ≡ length (bytes_field_spelling 2 message) + spelled_len 2 messages = sum_by-cons (λ t. length (bytes_field_spelling 2 t)) message messages in
+    let first = step_ok (as_entry_decoding message) (λ e. each as_entry_decoding messages >>= λ others. Ok (e ∷ others)) es reading in
+    let others = step_ok (each as_entry_decoding messages) (λ others. Ok (first.0 ∷ others)) es first.2 in
+    let parts : encoded_len 2 (message ∷ messages) ≡ length (bytes_field_encoding 2 message) + encoded_len 2 messages = sum_by-cons (λ t. length (bytes_field_encoding 2 t)) message messages in
     let was = entry_read message first.0 (omega (arith, bytes_field-within 2 message)) first.1 in
     let were = entries_read messages others.0 (omega arith) others.1 in
     subst (WereRead (message ∷ messages)) (ok_is (first.0 ∷ others.0) es others.2) (one_more message messages first.0 others.0 was were)
@@ -90,22 +90,22 @@ entries_read (message ∷ messages) es le reading =
 abbrev segment_of : Info → List ℕ → List EntryView → SegmentView
 segment_of info bytes entries = record { timestamp = info.timestamp; segment_id = info.segment_id; info = bytes; entries = entries }
 
-segment-length : (message : List ℕ) (s : SegmentView) → length message ≤ 16384 → s.info ≡ text_or_empty 1 (fields message) → length (entries_spelling s.entries) ≤ spelled_len 2 (texts 2 (fields message)) → length (segment_spelling s) ≤ 16384
-unfolding segment_spelling
+segment-length : (message : List ℕ) (s : SegmentView) → length message ≤ 16384 → s.info ≡ text_or_empty 1 (fields message) → length (entries_encoding s.entries) ≤ encoded_len 2 (texts 2 (fields message)) → length (segment_encoding s) ≤ 16384
+unfolding segment_encoding
 segment-length message s le info entries =
     let fs = fields message in
-    rw (info, length-append (bytes_spelling 1 (text_or_empty 1 fs)) (entries_spelling s.entries))
+    rw (info, length-append (bytes_encoding 1 (text_or_empty 1 fs)) (entries_encoding s.entries))
     (omega (arith, fields-length message le, or_empty-length 1 (text 1 fs), last-length 1 (texts 1 fs)))
 
-pub reading-IsSegment : (message : List ℕ) (s : SegmentView) → segment_reading message ≡ Ok s → IsSegment s
-unfolding segment_reading
-reading-IsSegment message s reading =
+pub decoding-IsSegment : (message : List ℕ) (s : SegmentView) → segment_decoding message ≡ Ok s → IsSegment s
+unfolding segment_decoding
+decoding-IsSegment message s reading =
     let fs = fields message in
     let sized = after_check (nat_le (length message) 16384) TooLarge _ s reading in
     let in_fields = after_checked path_segment_shape message _ s sized.1 in
     let counted = after_check (is_entry_count (length (texts 2 fs))) Entries _ s in_fields in
-    let info = step_ok (info_reading (text_or_empty 1 fs)) _ s counted.1 in
-    let entries = step_ok (each as_entry_reading (texts 2 fs)) _ s info.2 in
+    let info = step_ok (info_decoding (text_or_empty 1 fs)) _ s counted.1 in
+    let entries = step_ok (each as_entry_decoding (texts 2 fs)) _ s info.2 in
     let chain = after_check (is_chain entries.0) Chain _ s entries.2 in
     let loop = after_check (has_no_loop entries.0) Loop _ s chain.1 in
     let le : length message ≤ 16384 = leb-true (length message) 16384 sized.0 in

@@ -2,7 +2,7 @@ pub mod Laws
 pub mod Readings
 pub mod RoundTrip
 pub mod Sizes
-pub mod SpelledFields
+pub mod EncodedFields
 pub mod WireSizes
 pub mod Paths
 pub mod Ranges
@@ -10,7 +10,7 @@ pub mod Noting
 pub mod Misfits
 pub mod Types
 pub mod Rows
-pub mod SpelledLengths
+pub mod EncodedLengths
 pub mod Written
 pub mod Responses
 pub mod ResponseTrip

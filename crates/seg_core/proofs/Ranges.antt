@@ -13,9 +13,9 @@ use Rattle.seg_core.specs.Steps.{each}
 use Rattle.seg_core.specs.Message.{number, text_or_empty, texts}
 use Rattle.pw_wire.specs.Fields.{fields}
 use Rattle.seg_core.specs.SegmentView.{EntryView, SegmentView}
-use Rattle.seg_core.specs.Entry.{names_an_as, hop_field_reading, hop_entry_reading, peer_entry_reading, body_reading, header_and_body_reading}
-use Rattle.seg_core.specs.Segment.{info_reading}
-use Rattle.seg_core.specs.Spelling.{body_of, IsEntry, IsSegment}
+use Rattle.seg_core.specs.Entry.{names_an_as, hop_field_decoding, hop_entry_decoding, peer_entry_decoding, body_decoding, header_and_body_decoding}
+use Rattle.seg_core.specs.Segment.{info_decoding}
+use Rattle.seg_core.specs.Encoding.{body_of, IsEntry, IsSegment}
 use Rattle.seg_core.specs.WellFormed.{HasEntryCount, IsEntryInRange, IsWellFormed, is_entry_count}
 use Rattle.seg_core.proofs.Readings.{step_ok, ok_is, after_checked, after_check, after_required, after_at_most}
 use Rattle.seg_core.proofs.Paths.{both, other, chain-IsChain, no_loop-HasNoLoop}
@@ -27,8 +27,8 @@ record IsHopInRange (hop : Hop) : Type 0 where
   egress : hop.egress < 2 ^ 16
   exp_time : hop.exp_time < 2 ^ 8
 
-hop_field_in_range : (message : List ℕ) (hop : Hop) → hop_field_reading message ≡ Ok hop → IsHopInRange hop
-unfolding hop_field_reading
+hop_field_in_range : (message : List ℕ) (hop : Hop) → hop_field_decoding message ≡ Ok hop → IsHopInRange hop
+unfolding hop_field_decoding
 hop_field_in_range message hop reading =
     let fs = fields message in
     let in_fields = after_checked hop_field_shape message _ hop reading in
@@ -39,8 +39,8 @@ hop_field_in_range message hop reading =
     subst IsHopInRange (ok_is (record { ingress = number 1 fs; egress = number 2 fs; exp_time = number 3 fs }) hop mac.1)
     (record { ingress = omega (arith, ingress.0); egress = omega (arith, egress.0); exp_time = omega (arith, exp_time.0) })
 
-hop_entry_in_range : (message : List ℕ) (hop : Hop) → hop_entry_reading message ≡ Ok hop → IsHopInRange hop
-unfolding hop_entry_reading
+hop_entry_in_range : (message : List ℕ) (hop : Hop) → hop_entry_decoding message ≡ Ok hop → IsHopInRange hop
+unfolding hop_entry_decoding
 hop_entry_in_range message hop reading =
     let fs = fields message in
     let in_fields = after_checked hop_entry_shape message _ hop reading in
@@ -53,8 +53,8 @@ record IsBodyInRange (body : Body) : Type 0 where
   asn : body.ia % 2 ^ 48 ≢ 0
   hop : IsHopInRange body.hop
 
-body_in_range : (message : List ℕ) (body : Body) → body_reading message ≡ Ok body → IsBodyInRange body
-unfolding body_reading
+body_in_range : (message : List ℕ) (body : Body) → body_decoding message ≡ Ok body → IsBodyInRange body
+unfolding body_decoding
 body_in_range message body reading =
     let fs = fields message in
     let ia = number 1 fs in
@@ -63,13 +63,13 @@ body_in_range message body reading =
     let named = after_check (names_an_as ia) Range _ body hop_entry.2 in
     let parts = both (not (ia / 2 ^ 48 == 0)) (not (ia % 2 ^ 48 == 0)) named.0 in
     let mtu = after_at_most (2 ^ 32 - 1) (number 5 fs) _ body named.1 in
-    let hop = step_ok (hop_entry_reading hop_entry.0) _ body mtu.1 in
-    let peers = step_ok (each peer_entry_reading (texts 4 fs)) _ body hop.2 in
+    let hop = step_ok (hop_entry_decoding hop_entry.0) _ body mtu.1 in
+    let peers = step_ok (each peer_entry_decoding (texts 4 fs)) _ body hop.2 in
     subst IsBodyInRange (ok_is (record { ia = ia; next = number 2 fs; hop = hop.0 }) body peers.2)
     (record { isd = other (ia / 2 ^ 48) 0 parts.0; asn = other (ia % 2 ^ 48) 0 parts.1; hop = hop_entry_in_range hop_entry.0 hop.0 hop.1 })
 
 entry_in_range : (e : EntryView) → IsEntry e → IsEntryInRange e
-unfolding header_and_body_reading
+unfolding header_and_body_decoding
 entry_in_range e says =
     let body = body_in_range (text_or_empty 2 (fields e.signed)) (body_of e) (after_checked header_and_body_shape e.signed _ (body_of e) says) in
     record { isd = body.isd; asn = body.asn; ingress = body.hop.ingress; egress = body.hop.egress; exp_time = body.hop.exp_time }
@@ -82,8 +82,8 @@ record IsInfoInRange (info : Info) : Type 0 where
   timestamp : info.timestamp < 2 ^ 32
   segment_id : info.segment_id < 2 ^ 16
 
-info_in_range : (message : List ℕ) (info : Info) → info_reading message ≡ Ok info → IsInfoInRange info
-unfolding info_reading
+info_in_range : (message : List ℕ) (info : Info) → info_decoding message ≡ Ok info → IsInfoInRange info
+unfolding info_decoding
 info_in_range message info reading =
     let fs = fields message in
     let in_fields = after_checked segment_information_shape message _ info reading in

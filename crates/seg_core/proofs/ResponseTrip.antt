@@ -1,4 +1,4 @@
--- The spelling of a response is read as its segments.
+-- The encoding of a response is read as its segments.
 use Rattle.std.proofs.Common.{◌≡◌, ℕ, ◌+◌, ◌≤◌, ◌<◌, ◌^◌, false, List, [], ◌∷◌, ◌++◌, length, map, Ok, None, refl, sym, ap, subst, ◌∙◌, arith, inl, inr, length-append}
 use Rattle.std.specs.Prelude.{◌==◌, nat_lt, nat_le}
 use Rattle.std.specs.List.{AllByRecursion, flat_map, list_any}
@@ -6,7 +6,7 @@ use Rattle.std.proofs.lemmas.Bool.{cases_Bool, le-leb, lt-ltb}
 use Rattle.std.proofs.lemmas.List.{append-nil}
 use Rattle.std.proofs.lemmas.List.Concat.{flat_map-cons}
 use Rattle.std.proofs.lemmas.List.Folds.{flat_map-map}
-use Rattle.pw_wire.specs.Field.{FieldView, varint_field, bytes_field, bytes_field_spelling}
+use Rattle.pw_wire.specs.Field.{FieldView, varint_field, bytes_field, bytes_field_encoding}
 use Rattle.pw_wire.proofs.Messages.{fields-varint_field, fault-varint_field}
 use Rattle.seg_core.specs.declared.error.SegError.TheVariants.{TooLarge}
 use Rattle.seg_core.specs.declared.seg_type.SegType.{SegType}
@@ -14,28 +14,28 @@ use Rattle.seg_core.specs.declared.seg_type.SegType.TheVariants.{Up, Down, Core}
 use Rattle.seg_core.specs.Shapes.{map_shape, map_entry_shape, segments_shape}
 use Rattle.seg_core.specs.Message.{misfit_after, texts}
 use Rattle.seg_core.specs.SegmentView.{SegmentView}
-use Rattle.seg_core.specs.Registration.{type_number, rows_of, new_type, segments_reading, map_entry_reading, map_reading, registration_reading}
-use Rattle.seg_core.specs.Spelling.{IsSegment, segment_spelling, segments_spelling, of_type, map_entry_spelling, response_spelling, by_type}
+use Rattle.seg_core.specs.Registration.{type_number, rows_of, new_type, segments_decoding, map_entry_decoding, map_decoding, registration_decoding}
+use Rattle.seg_core.specs.Encoding.{IsSegment, segment_encoding, segments_encoding, of_type, map_entry_encoding, response_encoding, by_type}
 use Rattle.seg_core.proofs.Sizes.{bytes_field-within}
-use Rattle.seg_core.proofs.SpelledFields.{HasFields, nothing, field_before, checked-is}
+use Rattle.seg_core.proofs.EncodedFields.{HasFields, nothing, field_before, checked-is}
 use Rattle.seg_core.proofs.Responses.{content_of, content-length}
-use Rattle.seg_core.proofs.RoundTrip.{goes_on, holds, reading-spelling}
+use Rattle.seg_core.proofs.RoundTrip.{goes_on, holds, decoding-encoding}
 
 -- ---- messages that are fields of one number
 
-abbrev messages_spelling : List (List ℕ) → List ℕ
-messages_spelling ts = flat_map (bytes_field_spelling 1) ts
+abbrev messages_encoding : List (List ℕ) → List ℕ
+messages_encoding ts = flat_map (bytes_field_encoding 1) ts
 
 abbrev messages_fields : List (List ℕ) → List FieldView
 messages_fields ts = map (bytes_field 1) ts
 
-messages_have : (ts : List (List ℕ)) → length (messages_spelling ts) < 2 ^ 64 → HasFields (messages_spelling ts) (messages_fields ts)
+messages_have : (ts : List (List ℕ)) → length (messages_encoding ts) < 2 ^ 64 → HasFields (messages_encoding ts) (messages_fields ts)
 messages_have [] fits = nothing
 messages_have (t ∷ ts) fits =
-    let parts : length (messages_spelling (t ∷ ts)) ≡ length (bytes_field_spelling 1 t) + length (messages_spelling ts) =
-    ap length (flat_map-cons (bytes_field_spelling 1) t ts) ∙ length-append (bytes_field_spelling 1 t) (messages_spelling ts) in
-    rw (flat_map-cons (bytes_field_spelling 1) t ts)
-    (field_before 1 t (messages_spelling ts) (messages_fields ts) (omega arith) (omega arith) (omega (arith, bytes_field-within 1 t)) (messages_have ts (omega arith)))
+    let parts : length (messages_encoding (t ∷ ts)) ≡ length (bytes_field_encoding 1 t) + length (messages_encoding ts) =
+    ap length (flat_map-cons (bytes_field_encoding 1) t ts) ∙ length-append (bytes_field_encoding 1 t) (messages_encoding ts) in
+    rw (flat_map-cons (bytes_field_encoding 1) t ts)
+    (field_before 1 t (messages_encoding ts) (messages_fields ts) (omega arith) (omega arith) (omega (arith, bytes_field-within 1 t)) (messages_have ts (omega arith)))
 
 map_fit : (before : List FieldView) (ts : List (List ℕ)) → misfit_after map_shape before (messages_fields ts) ≡ None
 map_fit before [] = refl
@@ -51,12 +51,12 @@ messages_there (t ∷ ts) = ap (λ us. t ∷ us) (messages_there ts)
 
 -- ---- the segments of one type
 
-segments_again : (count : ℕ) (ss : List SegmentView) → AllByRecursion IsSegment ss → count + length ss ≤ 16 → segments_reading count (map segment_spelling ss) ≡ Ok ss
-unfolding segments_reading
+segments_again : (count : ℕ) (ss : List SegmentView) → AllByRecursion IsSegment ss → count + length ss ≤ 16 → segments_decoding count (map segment_encoding ss) ≡ Ok ss
+unfolding segments_decoding
 segments_again count [] whole few = refl
 segments_again count (s ∷ ss) whole few =
     goes_on _ _ tt (Ok (s ∷ ss)) (holds (nat_lt count 16) TooLarge (lt-ltb count 16 (omega arith)))
-    (goes_on _ _ s (Ok (s ∷ ss)) (reading-spelling s whole.0)
+    (goes_on _ _ s (Ok (s ∷ ss)) (decoding-encoding s whole.0)
     (goes_on _ _ ss (Ok (s ∷ ss)) (segments_again (count + 1) ss whole.1 (omega arith)) refl))
 
 -- ---- an entry of the map
@@ -73,33 +73,33 @@ type_small Down = omega arith
 type_small Core = omega arith
 
 abbrev content_fields : SegType → List SegmentView → List FieldView
-content_fields kind ss = varint_field 1 (type_number kind) ∷ bytes_field 2 (segments_spelling ss) ∷ []
+content_fields kind ss = varint_field 1 (type_number kind) ∷ bytes_field 2 (segments_encoding ss) ∷ []
 
-content_has : (kind : SegType) (ss : List SegmentView) → length (segments_spelling ss) < 2 ^ 64 → HasFields (content_of kind ss) (content_fields kind ss)
+content_has : (kind : SegType) (ss : List SegmentView) → length (segments_encoding ss) < 2 ^ 64 → HasFields (content_of kind ss) (content_fields kind ss)
 content_has kind ss fits =
-    let value = subst (λ m. HasFields m (bytes_field 2 (segments_spelling ss) ∷ [])) (append-nil (bytes_field_spelling 2 (segments_spelling ss)))
-    (field_before 2 (segments_spelling ss) [] [] (omega arith) (omega arith) fits nothing) in
-    let rest = bytes_field_spelling 2 (segments_spelling ss) in
+    let value = subst (λ m. HasFields m (bytes_field 2 (segments_encoding ss) ∷ [])) (append-nil (bytes_field_encoding 2 (segments_encoding ss)))
+    (field_before 2 (segments_encoding ss) [] [] (omega arith) (omega arith) fits nothing) in
+    let rest = bytes_field_encoding 2 (segments_encoding ss) in
     record {
       fields_are = fields-varint_field 1 (type_number kind) rest (omega arith) (omega arith) (type_small kind) ∙ ap (λ fs. varint_field 1 (type_number kind) ∷ fs) value.fields_are;
       faultless = fault-varint_field 1 (type_number kind) rest (omega arith) (omega arith) (type_small kind) ∙ value.faultless;
     }
 
 -- segments, one after the other
-spelled_one_by_one : (ss : List SegmentView) → segments_spelling ss ≡ messages_spelling (map segment_spelling ss)
-spelled_one_by_one ss = sym (flat_map-map (bytes_field_spelling 1) segment_spelling ss)
+encoded_one_by_one : (ss : List SegmentView) → segments_encoding ss ≡ messages_encoding (map segment_encoding ss)
+encoded_one_by_one ss = sym (flat_map-map (bytes_field_encoding 1) segment_encoding ss)
 
 entry_again : (earlier : List ℕ) (count : ℕ) (kind : SegType) (ss : List SegmentView) → list_any (λ t. t == type_number kind) earlier ≡ false
-    → AllByRecursion IsSegment ss → count + length ss ≤ 16 → length (segments_spelling ss) < 2 ^ 64 → map_entry_reading earlier count (content_of kind ss) ≡ Ok (kind, ss)
-unfolding map_entry_reading
+    → AllByRecursion IsSegment ss → count + length ss ≤ 16 → length (segments_encoding ss) < 2 ^ 64 → map_entry_decoding earlier count (content_of kind ss) ≡ Ok (kind, ss)
+unfolding map_entry_decoding
 entry_again earlier count kind ss fresh whole few fits =
-    let ts = map segment_spelling ss in
-    let same = spelled_one_by_one ss in
-    let value : HasFields (segments_spelling ss) (messages_fields ts) = rw same (messages_have ts (rw (← same) fits)) in
+    let ts = map segment_encoding ss in
+    let same = encoded_one_by_one ss in
+    let value : HasFields (segments_encoding ss) (messages_fields ts) = rw same (messages_have ts (rw (← same) fits)) in
     goes_on _ _ (content_fields kind ss) (Ok (kind, ss)) (checked-is map_entry_shape (content_of kind ss) (content_fields kind ss) (content_has kind ss fits) refl)
     (goes_on _ _ kind (Ok (kind, ss)) (new_again earlier kind fresh)
-    (goes_on _ _ (messages_fields ts) (Ok (kind, ss)) (checked-is segments_shape (segments_spelling ss) (messages_fields ts) value (segments_fit [] ts))
-    (goes_on _ _ ss (Ok (kind, ss)) (ap (segments_reading count) (messages_there ts) ∙ segments_again count ss whole few) refl)))
+    (goes_on _ _ (messages_fields ts) (Ok (kind, ss)) (checked-is segments_shape (segments_encoding ss) (messages_fields ts) value (segments_fit [] ts))
+    (goes_on _ _ ss (Ok (kind, ss)) (ap (segments_decoding count) (messages_there ts) ∙ segments_again count ss whole few) refl)))
 
 -- ---- the map
 
@@ -114,24 +114,24 @@ later kind [] earlier = earlier
 later kind (s ∷ ss) earlier = type_number kind ∷ earlier
 
 type_read : (kind : SegType) (ss : List SegmentView) (earlier : List ℕ) (count : ℕ) (rest : List (List ℕ)) (others : List (SegType × SegmentView))
-    → list_any (λ t. t == type_number kind) earlier ≡ false → AllByRecursion IsSegment ss → count + length ss ≤ 16 → length (segments_spelling ss) < 2 ^ 64
-    → map_reading (later kind ss earlier) (count + length ss) rest ≡ Ok others → map_reading earlier count (type_texts kind ss ++ rest) ≡ Ok (rows_of kind ss ++ others)
-unfolding map_reading
+    → list_any (λ t. t == type_number kind) earlier ≡ false → AllByRecursion IsSegment ss → count + length ss ≤ 16 → length (segments_encoding ss) < 2 ^ 64
+    → map_decoding (later kind ss earlier) (count + length ss) rest ≡ Ok others → map_decoding earlier count (type_texts kind ss ++ rest) ≡ Ok (rows_of kind ss ++ others)
+unfolding map_decoding
 type_read kind [] earlier count rest others fresh whole few fits next =
     let same : count + 0 ≡ count = omega arith in
-    subst (λ (n : ℕ). map_reading earlier n rest ≡ Ok others) same next
+    subst (λ (n : ℕ). map_decoding earlier n rest ≡ Ok others) same next
 type_read kind (s ∷ ss) earlier count rest others fresh whole few fits next =
     goes_on _ _ (kind, s ∷ ss) (Ok (rows_of kind (s ∷ ss) ++ others)) (entry_again earlier count kind (s ∷ ss) fresh whole few fits)
     (goes_on _ _ others (Ok (rows_of kind (s ∷ ss) ++ others)) next refl)
 
-type_spelled : (kind : SegType) (ss : List SegmentView) (rest : List (List ℕ)) → map_entry_spelling kind ss ++ messages_spelling rest ≡ messages_spelling (type_texts kind ss ++ rest)
-type_spelled kind [] rest = refl
-type_spelled kind (s ∷ ss) rest = sym (flat_map-cons (bytes_field_spelling 1) (content_of kind (s ∷ ss)) rest)
+type_encoded : (kind : SegType) (ss : List SegmentView) (rest : List (List ℕ)) → map_entry_encoding kind ss ++ messages_encoding rest ≡ messages_encoding (type_texts kind ss ++ rest)
+type_encoded kind [] rest = refl
+type_encoded kind (s ∷ ss) rest = sym (flat_map-cons (bytes_field_encoding 1) (content_of kind (s ∷ ss)) rest)
 
-value_within : (kind : SegType) (ss : List SegmentView) → length (segments_spelling ss) ≤ length (map_entry_spelling kind ss)
+value_within : (kind : SegType) (ss : List SegmentView) → length (segments_encoding ss) ≤ length (map_entry_encoding kind ss)
 value_within kind [] = omega arith
 value_within kind (s ∷ ss) =
-    omega (arith, bytes_field-within 1 (content_of kind (s ∷ ss)), content-length kind (s ∷ ss), bytes_field-within 2 (segments_spelling (s ∷ ss)))
+    omega (arith, bytes_field-within 1 (content_of kind (s ∷ ss)), content-length kind (s ∷ ss), bytes_field-within 2 (segments_encoding (s ∷ ss)))
 
 -- ---- the segments of each type
 
@@ -165,8 +165,8 @@ fresh_core (s ∷ u) [] = refl
 fresh_core [] (t ∷ d) = refl
 fresh_core (s ∷ u) (t ∷ d) = refl
 
-none_left : (earlier : List ℕ) (count : ℕ) → map_reading earlier count [] ≡ Ok []
-unfolding map_reading
+none_left : (earlier : List ℕ) (count : ℕ) → map_decoding earlier count [] ≡ Ok []
+unfolding map_decoding
 none_left earlier count = refl
 
 -- ---- the response
@@ -174,24 +174,24 @@ none_left earlier count = refl
 contents : List (SegType × SegmentView) → List (List ℕ)
 contents rows = type_texts Up (of_type Up rows) ++ (type_texts Down (of_type Down rows) ++ (type_texts Core (of_type Core rows) ++ []))
 
-response_spelled : (rows : List (SegType × SegmentView)) → response_spelling rows ≡ messages_spelling (contents rows)
-unfolding response_spelling contents
-response_spelled rows =
+response_encoded : (rows : List (SegType × SegmentView)) → response_encoding rows ≡ messages_encoding (contents rows)
+unfolding response_encoding contents
+response_encoded rows =
     let u = of_type Up rows in
     let d = of_type Down rows in
     let c = of_type Core rows in
-    let core : map_entry_spelling Core c ≡ messages_spelling (type_texts Core c ++ []) = sym (append-nil (map_entry_spelling Core c)) ∙ type_spelled Core c [] in
-    let down : map_entry_spelling Down d ++ map_entry_spelling Core c ≡ messages_spelling (type_texts Down d ++ (type_texts Core c ++ [])) =
-    ap (λ xs. map_entry_spelling Down d ++ xs) core ∙ type_spelled Down d (type_texts Core c ++ []) in
-    ap (λ xs. map_entry_spelling Up u ++ xs) down ∙ type_spelled Up u (type_texts Down d ++ (type_texts Core c ++ []))
+    let core : map_entry_encoding Core c ≡ messages_encoding (type_texts Core c ++ []) = sym (append-nil (map_entry_encoding Core c)) ∙ type_encoded Core c [] in
+    let down : map_entry_encoding Down d ++ map_entry_encoding Core c ≡ messages_encoding (type_texts Down d ++ (type_texts Core c ++ [])) =
+    ap (λ xs. map_entry_encoding Down d ++ xs) core ∙ type_encoded Down d (type_texts Core c ++ []) in
+    ap (λ xs. map_entry_encoding Up u ++ xs) down ∙ type_encoded Up u (type_texts Down d ++ (type_texts Core c ++ []))
 
 response_parts : (rows : List (SegType × SegmentView))
-    → length (response_spelling rows) ≡ length (map_entry_spelling Up (of_type Up rows)) + (length (map_entry_spelling Down (of_type Down rows)) + length (map_entry_spelling Core (of_type Core rows)))
-unfolding response_spelling
+    → length (response_encoding rows) ≡ length (map_entry_encoding Up (of_type Up rows)) + (length (map_entry_encoding Down (of_type Down rows)) + length (map_entry_encoding Core (of_type Core rows)))
+unfolding response_encoding
 response_parts rows = simp length-append
 
-contents_read : (rows : List (SegType × SegmentView)) → AllByRecursion (λ row. IsSegment row.1) rows → length rows ≤ 16 → length (response_spelling rows) ≤ 131072
-    → map_reading [] 0 (contents rows) ≡ Ok (by_type rows)
+contents_read : (rows : List (SegType × SegmentView)) → AllByRecursion (λ row. IsSegment row.1) rows → length rows ≤ 16 → length (response_encoding rows) ≤ 131072
+    → map_decoding [] 0 (contents rows) ≡ Ok (by_type rows)
 unfolding contents
 contents_read rows whole few small =
     let u = of_type Up rows in
@@ -202,21 +202,21 @@ contents_read rows whole few small =
     let up = value_within Up u in
     let down = value_within Down d in
     let core = value_within Core c in
-    let last : map_reading (later Down d (later Up u [])) (0 + length u + length d) (type_texts Core c ++ []) ≡ Ok (rows_of Core c ++ []) =
+    let last : map_decoding (later Down d (later Up u [])) (0 + length u + length d) (type_texts Core c ++ []) ≡ Ok (rows_of Core c ++ []) =
     type_read Core c (later Down d (later Up u [])) (0 + length u + length d) [] [] (fresh_core u d) (whole_of Core rows whole) (omega arith) (omega arith)
     (none_left (later Core c (later Down d (later Up u []))) (0 + length u + length d + length c)) in
     let middle = type_read Down d (later Up u []) (0 + length u) (type_texts Core c ++ []) (rows_of Core c ++ []) (fresh_down u) (whole_of Down rows whole) (omega arith) (omega arith) last in
     type_read Up u [] 0 (type_texts Down d ++ (type_texts Core c ++ [])) (rows_of Down d ++ (rows_of Core c ++ [])) refl (whole_of Up rows whole) (omega arith) (omega arith) middle
     ∙ ap (λ xs. Ok (rows_of Up u ++ (rows_of Down d ++ xs))) (append-nil (rows_of Core c))
 
-pub reading-response : (rows : List (SegType × SegmentView)) → AllByRecursion (λ row. IsSegment row.1) rows → length rows ≤ 16 → length (response_spelling rows) ≤ 131072
-    → registration_reading (response_spelling rows) ≡ Ok (by_type rows)
-unfolding registration_reading
-reading-response rows whole few small =
+pub decoding-response : (rows : List (SegType × SegmentView)) → AllByRecursion (λ row. IsSegment row.1) rows → length rows ≤ 16 → length (response_encoding rows) ≤ 131072
+    → registration_decoding (response_encoding rows) ≡ Ok (by_type rows)
+unfolding registration_decoding
+decoding-response rows whole few small =
     let ts = contents rows in
-    let same = response_spelled rows in
-    let fits : length (messages_spelling ts) < 2 ^ 64 = rw (← same) (omega arith) in
-    let has : HasFields (response_spelling rows) (messages_fields ts) = rw same (messages_have ts fits) in
-    goes_on _ _ tt (Ok (by_type rows)) (holds (nat_le (length (response_spelling rows)) 131072) TooLarge (le-leb (length (response_spelling rows)) 131072 small))
-    (goes_on _ _ (messages_fields ts) (Ok (by_type rows)) (checked-is map_shape (response_spelling rows) (messages_fields ts) has (map_fit [] ts))
-    (ap (map_reading [] 0) (messages_there ts) ∙ contents_read rows whole few small))
+    let same = response_encoded rows in
+    let fits : length (messages_encoding ts) < 2 ^ 64 = rw (← same) (omega arith) in
+    let has : HasFields (response_encoding rows) (messages_fields ts) = rw same (messages_have ts fits) in
+    goes_on _ _ tt (Ok (by_type rows)) (holds (nat_le (length (response_encoding rows)) 131072) TooLarge (le-leb (length (response_encoding rows)) 131072 small))
+    (goes_on _ _ (messages_fields ts) (Ok (by_type rows)) (checked-is map_shape (response_encoding rows) (messages_fields ts) has (map_fit [] ts))
+    (ap (map_decoding [] 0) (messages_there ts) ∙ contents_read rows whole few small))

@@ -1,18 +1,18 @@
--- What is appended piece by piece is the spelling of a response.
+-- What is appended piece by piece is the encoding of a response.
 use Rattle.std.proofs.Common.{◌≡◌, ℕ, ◌+◌, ◌<◌, true, false, List, [], ◌∷◌, ◌++◌, length, drop, get_or, refl, sym, ap, ◌∙◌, arith, append_assoc, length-append, drop-cons, add-one}
 use Rattle.std.specs.Prelude.{◌==◌}
 use Rattle.std.proofs.lemmas.List.Concat.{flat_map-cons}
 use Rattle.std.specs.Borrow.{Bor}
 use denote.Enum.Bare.{sameb}
-use Rattle.pw_wire.specs.Varint.{varint_spelling, spelling_within}
-use Rattle.pw_wire.specs.Field.{varint_field_spelling, bytes_field_spelling}
+use Rattle.pw_wire.specs.Varint.{varint_encoding, encoding_within}
+use Rattle.pw_wire.specs.Field.{varint_field_encoding, bytes_field_encoding}
 use Rattle.seg_core.specs.contracts.seg_type.SegType.{the_type}
 use Rattle.seg_core.specs.declared.seg_type.SegType.{SegType}
 use Rattle.seg_core.specs.declared.seg_type.SegType.TheVariants.{Up, Down, Core}
 use Rattle.seg_core.specs.Registration.{type_number}
 use Rattle.seg_core.specs.SegmentView.{SegmentView}
-use Rattle.seg_core.specs.Spelling.{head_spelling, segment_spelling, segments_spelling, of_type, map_entry_spelling, referred}
-use Rattle.seg_core.proofs.SpelledLengths.{field-length}
+use Rattle.seg_core.specs.Encoding.{head_encoding, segment_encoding, segments_encoding, of_type, map_entry_encoding, referred}
+use Rattle.seg_core.proofs.EncodedLengths.{field-length}
 use Rattle.seg_core.proofs.Written.{field-put, both-put}
 
 -- types are equal where their numbers are
@@ -47,68 +47,68 @@ not_of_type kind row rows other = rw other refl
 
 -- the next row is of the type
 pub segment-next : (kind : SegType) (rows : List Referring) (i : ℕ) (row : Referring) (len : ℕ) (whole out headed done : List ℕ)
-    → i < length rows → row ≡ get_or rows i row → sameb the_type row.0 kind ≡ true → out ++ segments_spelling (of_type kind (referred (drop i rows))) ≡ whole
-    → len ≡ length (segment_spelling row.1.now) → headed ≡ out ++ head_spelling 1 len → done ≡ headed ++ segment_spelling row.1.now
-    → done ++ segments_spelling (of_type kind (referred (drop (i + 1) rows))) ≡ whole
+    → i < length rows → row ≡ get_or rows i row → sameb the_type row.0 kind ≡ true → out ++ segments_encoding (of_type kind (referred (drop i rows))) ≡ whole
+    → len ≡ length (segment_encoding row.1.now) → headed ≡ out ++ head_encoding 1 len → done ≡ headed ++ segment_encoding row.1.now
+    → done ++ segments_encoding (of_type kind (referred (drop (i + 1) rows))) ≡ whole
 segment-next kind rows i row len whole out headed done lt is same so_far long head one =
     let others = of_type kind (referred (drop (i + 1) rows)) in
-    let first = segment_spelling row.1.now in
-    let left : segments_spelling (of_type kind (referred (drop i rows))) ≡ bytes_field_spelling 1 first ++ segments_spelling others =
-    ap (λ rs. segments_spelling (of_type kind rs)) (split_at rows i row lt is)
-    ∙ ap segments_spelling (one_of_type kind (row.0, row.1.now) (referred (drop (i + 1) rows)) (sym (same-type row.0 kind) ∙ same))
-    ∙ flat_map-cons (λ s. bytes_field_spelling 1 (segment_spelling s)) row.1.now others in
-    ap (λ xs. xs ++ segments_spelling others) (field-put 1 len first out headed done long head one)
-    ∙ append_assoc out (bytes_field_spelling 1 first) (segments_spelling others)
+    let first = segment_encoding row.1.now in
+    let left : segments_encoding (of_type kind (referred (drop i rows))) ≡ bytes_field_encoding 1 first ++ segments_encoding others =
+    ap (λ rs. segments_encoding (of_type kind rs)) (split_at rows i row lt is)
+    ∙ ap segments_encoding (one_of_type kind (row.0, row.1.now) (referred (drop (i + 1) rows)) (sym (same-type row.0 kind) ∙ same))
+    ∙ flat_map-cons (λ s. bytes_field_encoding 1 (segment_encoding s)) row.1.now others in
+    ap (λ xs. xs ++ segments_encoding others) (field-put 1 len first out headed done long head one)
+    ∙ append_assoc out (bytes_field_encoding 1 first) (segments_encoding others)
     ∙ ap (λ xs. out ++ xs) (sym left)
     ∙ so_far
 
 -- the next row is of another type
 pub other-next : (kind : SegType) (rows : List Referring) (i : ℕ) (row : Referring) (whole out : List ℕ)
-    → i < length rows → row ≡ get_or rows i row → sameb the_type row.0 kind ≡ false → out ++ segments_spelling (of_type kind (referred (drop i rows))) ≡ whole
-    → out ++ segments_spelling (of_type kind (referred (drop (i + 1) rows))) ≡ whole
+    → i < length rows → row ≡ get_or rows i row → sameb the_type row.0 kind ≡ false → out ++ segments_encoding (of_type kind (referred (drop i rows))) ≡ whole
+    → out ++ segments_encoding (of_type kind (referred (drop (i + 1) rows))) ≡ whole
 other-next kind rows i row whole out lt is other so_far =
-    let left : segments_spelling (of_type kind (referred (drop i rows))) ≡ segments_spelling (of_type kind (referred (drop (i + 1) rows))) =
-    ap (λ rs. segments_spelling (of_type kind rs)) (split_at rows i row lt is)
-    ∙ ap segments_spelling (not_of_type kind (row.0, row.1.now) (referred (drop (i + 1) rows)) (sym (same-type row.0 kind) ∙ other)) in
+    let left : segments_encoding (of_type kind (referred (drop i rows))) ≡ segments_encoding (of_type kind (referred (drop (i + 1) rows))) =
+    ap (λ rs. segments_encoding (of_type kind rs)) (split_at rows i row lt is)
+    ∙ ap segments_encoding (not_of_type kind (row.0, row.1.now) (referred (drop (i + 1) rows)) (sym (same-type row.0 kind) ∙ other)) in
     ap (λ xs. out ++ xs) (sym left) ∙ so_far
 
 -- ---- the map entry of a type
 
-some_bytes : (s : SegmentView) (ss : List SegmentView) → length (segments_spelling (s ∷ ss)) ≡ 0 → ⊥
+some_bytes : (s : SegmentView) (ss : List SegmentView) → length (segments_encoding (s ∷ ss)) ≡ 0 → ⊥
 some_bytes s ss none =
-    let parts = length-append (bytes_field_spelling 1 (segment_spelling s)) (segments_spelling ss) in
-    omega (arith, ap length (flat_map-cons (λ s. bytes_field_spelling 1 (segment_spelling s)) s ss), parts, field-length 1 (segment_spelling s) (omega arith))
+    let parts = length-append (bytes_field_encoding 1 (segment_encoding s)) (segments_encoding ss) in
+    omega (arith, ap length (flat_map-cons (λ s. bytes_field_encoding 1 (segment_encoding s)) s ss), parts, field-length 1 (segment_encoding s) (omega arith))
 
 -- no bytes are those of no segments
-pub none-of : (kind : SegType) (ss : List SegmentView) → length (segments_spelling ss) ≡ 0 → map_entry_spelling kind ss ≡ []
+pub none-of : (kind : SegType) (ss : List SegmentView) → length (segments_encoding ss) ≡ 0 → map_entry_encoding kind ss ≡ []
 none-of kind [] none = refl
 none-of kind (s ∷ ss) none = absurd (some_bytes s ss none)
 
 -- a key, and the segments
 abbrev pub content_of : SegType → List SegmentView → List ℕ
-content_of kind ss = varint_field_spelling 1 (type_number kind) ++ bytes_field_spelling 2 (segments_spelling ss)
+content_of kind ss = varint_field_encoding 1 (type_number kind) ++ bytes_field_encoding 2 (segments_encoding ss)
 
-pub some-of : (kind : SegType) (ss : List SegmentView) → (length (segments_spelling ss) ≡ 0 → ⊥) → map_entry_spelling kind ss ≡ bytes_field_spelling 1 (content_of kind ss)
+pub some-of : (kind : SegType) (ss : List SegmentView) → (length (segments_encoding ss) ≡ 0 → ⊥) → map_entry_encoding kind ss ≡ bytes_field_encoding 1 (content_of kind ss)
 some-of kind [] some = absurd (some refl)
 some-of kind (s ∷ ss) some = refl
 
-key_length : (kind : SegType) → length (varint_field_spelling 1 (type_number kind)) ≡ 2
-unfolding varint_field_spelling varint_spelling spelling_within
+key_length : (kind : SegType) → length (varint_field_encoding 1 (type_number kind)) ≡ 2
+unfolding varint_field_encoding varint_encoding encoding_within
 key_length Up = refl
 key_length Down = refl
 key_length Core = refl
 
-pub content-length : (kind : SegType) (ss : List SegmentView) → length (content_of kind ss) ≡ 2 + length (bytes_field_spelling 2 (segments_spelling ss))
+pub content-length : (kind : SegType) (ss : List SegmentView) → length (content_of kind ss) ≡ 2 + length (bytes_field_encoding 2 (segments_encoding ss))
 content-length kind ss =
-    length-append (varint_field_spelling 1 (type_number kind)) (bytes_field_spelling 2 (segments_spelling ss))
-    ∙ ap (λ n. n + length (bytes_field_spelling 2 (segments_spelling ss))) (key_length kind)
+    length-append (varint_field_encoding 1 (type_number kind)) (bytes_field_encoding 2 (segments_encoding ss))
+    ∙ ap (λ n. n + length (bytes_field_encoding 2 (segments_encoding ss))) (key_length kind)
 
 pub type-put : (kind : SegType) (ss : List SegmentView) (value content : ℕ) (out headed keyed opened done : List ℕ)
-    → (length (segments_spelling ss) ≡ 0 → ⊥) → value ≡ length (segments_spelling ss) → content ≡ 2 + length (bytes_field_spelling 2 (segments_spelling ss))
-    → headed ≡ out ++ head_spelling 1 content → keyed ≡ headed ++ varint_field_spelling 1 (type_number kind) → opened ≡ keyed ++ head_spelling 2 value
-    → done ≡ opened ++ segments_spelling ss → done ≡ out ++ map_entry_spelling kind ss
+    → (length (segments_encoding ss) ≡ 0 → ⊥) → value ≡ length (segments_encoding ss) → content ≡ 2 + length (bytes_field_encoding 2 (segments_encoding ss))
+    → headed ≡ out ++ head_encoding 1 content → keyed ≡ headed ++ varint_field_encoding 1 (type_number kind) → opened ≡ keyed ++ head_encoding 2 value
+    → done ≡ opened ++ segments_encoding ss → done ≡ out ++ map_entry_encoding kind ss
 type-put kind ss value content out headed keyed opened done some same long head key inside rest =
-    let inner : done ≡ keyed ++ bytes_field_spelling 2 (segments_spelling ss) = field-put 2 value (segments_spelling ss) keyed opened done same inside rest in
-    let both : done ≡ headed ++ content_of kind ss = both-put (varint_field_spelling 1 (type_number kind)) (bytes_field_spelling 2 (segments_spelling ss)) headed keyed done key inner in
+    let inner : done ≡ keyed ++ bytes_field_encoding 2 (segments_encoding ss) = field-put 2 value (segments_encoding ss) keyed opened done same inside rest in
+    let both : done ≡ headed ++ content_of kind ss = both-put (varint_field_encoding 1 (type_number kind)) (bytes_field_encoding 2 (segments_encoding ss)) headed keyed done key inner in
     field-put 1 content (content_of kind ss) out headed done (long ∙ sym (content-length kind ss)) head both
     ∙ ap (λ xs. out ++ xs) (sym (some-of kind ss some))

@@ -1,41 +1,41 @@
--- The spelling of what was read of a message is no longer than the message.
+-- The encoding of what was read of a message is no longer than the message.
 use Rattle.std.proofs.Common.{◌≡◌, ℕ, ◌+◌, ◌≤◌, List, [], ◌∷◌, ◌++◌, length, Option, Some, None, arith, length-append}
 use Rattle.std.specs.Prelude.{unwrap_or}
 use Rattle.std.specs.Option.{option_or}
 use Rattle.std.proofs.lemmas.List.Sums.{sum_by-cons}
-use Rattle.pw_wire.specs.Field.{bytes_field_spelling}
+use Rattle.pw_wire.specs.Field.{bytes_field_encoding}
 use Rattle.pw_wire.specs.Fields.{fields}
 use Rattle.seg_core.specs.Message.{last_of, text, texts, text_or_empty}
-use Rattle.seg_core.specs.Spelling.{bytes_spelling, optional_spelling}
-use Rattle.seg_core.proofs.WireSizes.{varint_spelling-mono, spelled_len, fields-length}
+use Rattle.seg_core.specs.Encoding.{bytes_encoding, optional_encoding}
+use Rattle.seg_core.proofs.WireSizes.{varint_encoding-mono, encoded_len, fields-length}
 
 -- more bytes have no shorter field
-pub bytes_field-mono : (k : ℕ) (s t : List ℕ) → length s ≤ length t → length (bytes_field_spelling k s) ≤ length (bytes_field_spelling k t)
-unfolding bytes_field_spelling
-bytes_field-mono k s t le = simp length-append (omega (arith, varint_spelling-mono (length s) (length t) le))
+pub bytes_field-mono : (k : ℕ) (s t : List ℕ) → length s ≤ length t → length (bytes_field_encoding k s) ≤ length (bytes_field_encoding k t)
+unfolding bytes_field_encoding
+bytes_field-mono k s t le = simp length-append (omega (arith, varint_encoding-mono (length s) (length t) le))
 
 -- a field is no shorter than its bytes
-pub bytes_field-within : (k : ℕ) (t : List ℕ) → length t ≤ length (bytes_field_spelling k t)
-unfolding bytes_field_spelling
+pub bytes_field-within : (k : ℕ) (t : List ℕ) → length t ≤ length (bytes_field_encoding k t)
+unfolding bytes_field_encoding
 bytes_field-within k t = simp length-append (omega arith)
 
 -- ---- the last of the bytes under a number
 
-last_or : (k : ℕ) (o : Option (List ℕ)) (t : List ℕ) (n : ℕ) → length (optional_spelling k o) ≤ n → length (optional_spelling k (option_or o (Some t))) ≤ length (bytes_field_spelling k t) + n
+last_or : (k : ℕ) (o : Option (List ℕ)) (t : List ℕ) (n : ℕ) → length (optional_encoding k o) ≤ n → length (optional_encoding k (option_or o (Some t))) ≤ length (bytes_field_encoding k t) + n
 last_or k (Some s) t n le = omega arith
 last_or k None t n le = omega arith
 
 -- the last ones alone take no more than all
-pub last-length : (k : ℕ) (ts : List (List ℕ)) → length (optional_spelling k (last_of ts)) ≤ spelled_len k ts
+pub last-length : (k : ℕ) (ts : List (List ℕ)) → length (optional_encoding k (last_of ts)) ≤ encoded_len k ts
 last-length k [] = omega arith
-last-length k (t ∷ ts) = rw (sum_by-cons (λ t. length (bytes_field_spelling k t)) t ts) (last_or k (last_of ts) t (spelled_len k ts) (last-length k ts))
+last-length k (t ∷ ts) = rw (sum_by-cons (λ t. length (bytes_field_encoding k t)) t ts) (last_or k (last_of ts) t (encoded_len k ts) (last-length k ts))
 
-bytes-length : (k : ℕ) (t : List ℕ) → length (bytes_spelling k t) ≤ length (bytes_field_spelling k t)
+bytes-length : (k : ℕ) (t : List ℕ) → length (bytes_encoding k t) ≤ length (bytes_field_encoding k t)
 bytes-length k [] = omega arith
 bytes-length k (b ∷ t) = omega arith
 
 -- nor do they where empty bytes are left out
-pub or_empty-length : (k : ℕ) (o : Option (List ℕ)) → length (bytes_spelling k (unwrap_or o [])) ≤ length (optional_spelling k o)
+pub or_empty-length : (k : ℕ) (o : Option (List ℕ)) → length (bytes_encoding k (unwrap_or o [])) ≤ length (optional_encoding k o)
 or_empty-length k (Some t) = bytes-length k t
 or_empty-length k None = omega arith
 
@@ -43,24 +43,24 @@ or_empty-length k None = omega arith
 
 -- both left out where they are empty
 pub parts-length : (message : List ℕ) → length message ≤ 16384
-    → length (bytes_spelling 1 (text_or_empty 1 (fields message)) ++ bytes_spelling 2 (text_or_empty 2 (fields message))) ≤ length message
+    → length (bytes_encoding 1 (text_or_empty 1 (fields message)) ++ bytes_encoding 2 (text_or_empty 2 (fields message))) ≤ length message
 parts-length message le =
     let fs = fields message in
-    rw (length-append (bytes_spelling 1 (text_or_empty 1 fs)) (bytes_spelling 2 (text_or_empty 2 fs)))
+    rw (length-append (bytes_encoding 1 (text_or_empty 1 fs)) (bytes_encoding 2 (text_or_empty 2 fs)))
     (omega (arith, fields-length message le, or_empty-length 1 (text 1 fs), or_empty-length 2 (text 2 fs), last-length 1 (texts 1 fs), last-length 2 (texts 2 fs)))
 
 -- the first one with a part that got no longer, the second as it is
-pub entry-length : (message signed spelled : List ℕ) → length message ≤ 16384 → text 1 (fields message) ≡ Some signed → length spelled ≤ length signed
-    → length (bytes_field_spelling 1 spelled ++ optional_spelling 2 (text 2 (fields message))) ≤ length message
-entry-length message signed spelled le is shorter =
+pub entry-length : (message signed encoded : List ℕ) → length message ≤ 16384 → text 1 (fields message) ≡ Some signed → length encoded ≤ length signed
+    → length (bytes_field_encoding 1 encoded ++ optional_encoding 2 (text 2 (fields message))) ≤ length message
+entry-length message signed encoded le is shorter =
     let fs = fields message in
-    let first : length (bytes_field_spelling 1 signed) ≤ spelled_len 1 (texts 1 fs) = rw is at (last-length 1 (texts 1 fs)) in
-    rw (length-append (bytes_field_spelling 1 spelled) (optional_spelling 2 (text 2 fs)))
-    (omega (arith, fields-length message le, bytes_field-mono 1 spelled signed shorter, first, last-length 2 (texts 2 fs)))
+    let first : length (bytes_field_encoding 1 signed) ≤ encoded_len 1 (texts 1 fs) = rw is at (last-length 1 (texts 1 fs)) in
+    rw (length-append (bytes_field_encoding 1 encoded) (optional_encoding 2 (text 2 fs)))
+    (omega (arith, fields-length message le, bytes_field-mono 1 encoded signed shorter, first, last-length 2 (texts 2 fs)))
 
 -- the message that was there is within its message
 pub signed-within : (message signed : List ℕ) → length message ≤ 16384 → text 1 (fields message) ≡ Some signed → length signed ≤ 16384
 signed-within message signed le is =
     let fs = fields message in
-    let first : length (bytes_field_spelling 1 signed) ≤ spelled_len 1 (texts 1 fs) = rw is at (last-length 1 (texts 1 fs)) in
+    let first : length (bytes_field_encoding 1 signed) ≤ encoded_len 1 (texts 1 fs) = rw is at (last-length 1 (texts 1 fs)) in
     omega (arith, fields-length message le, first, bytes_field-within 1 signed)

@@ -1,4 +1,4 @@
--- A message is no shorter than the shortest spellings of what stands under its field numbers 1 and 2.
+-- A message is no shorter than the shortest encodings of what stands under its field numbers 1 and 2.
 use Rattle.std.proofs.Common.{◌≡◌, ℕ, zero, suc, ◌+◌, ◌*◌, ◌/◌, ◌%◌, ◌-◌, ◌^◌, ◌<◌, ◌≤◌, ◌⊎◌, Bool, true, false, List, [], ◌∷◌, length, take, drop, Result, Ok, Err, refl, ap, subst, arith, inl, inr, length-append, length-drop}
 use Rattle.std.specs.Prelude.{if◌then◌else◌, ◌==◌, nat_lt}
 use Rattle.std.specs.List.{sum_by}
@@ -8,39 +8,39 @@ use Rattle.std.proofs.lemmas.List.{length-take-le}
 use Rattle.std.proofs.lemmas.List.Sums.{sum_by-append}
 use Rattle.pw_wire.specs.declared.error.WireError.{WireError}
 use Rattle.pw_wire.specs.declared.error.WireError.TheVariants.{Truncated, LongVarint, BadField, GroupWire, BadWire}
-use Rattle.pw_wire.specs.Reading.{◌>>=◌}
-use Rattle.pw_wire.specs.Varint.{varint_within, varint_at, spelling_within, varint_spelling}
-use Rattle.pw_wire.specs.Field.{FieldValue, Varint, Fixed64, Bytes, Fixed32, FieldView, fixed64_at, fixed32_at, bytes_at, number_at, value_at, field_behind, field_at, bytes_field_spelling}
+use Rattle.pw_wire.specs.Decoding.{◌>>=◌}
+use Rattle.pw_wire.specs.Varint.{varint_within, varint_at, encoding_within, varint_encoding}
+use Rattle.pw_wire.specs.Field.{FieldValue, Varint, Fixed64, Bytes, Fixed32, FieldView, fixed64_at, fixed32_at, bytes_at, number_at, value_at, field_behind, field_at, bytes_field_encoding}
 use Rattle.pw_wire.specs.Fields.{fields, fields_within, before}
 use Rattle.seg_core.specs.Message.{bytes_in, texts}
 
 -- ---- the length of a varint
 
-spelling-mono : (left m n : ℕ) → m ≤ n → length (spelling_within left m) ≤ length (spelling_within left n)
-unfolding spelling_within
-spelling-mono zero m n le = omega arith
-spelling-mono (suc left) m n le =
+encoding-mono : (left m n : ℕ) → m ≤ n → length (encoding_within left m) ≤ length (encoding_within left n)
+unfolding encoding_within
+encoding-mono zero m n le = omega arith
+encoding-mono (suc left) m n le =
     elim (cases_lt n 128) [
       | inl lt ↦ let lt' : m < 128 = omega arith in rw (lt-ltb n 128 lt, lt-ltb m 128 lt') (omega arith)
       | inr ge ↦ elim (cases_lt m 128) [
         | inl lt ↦ rw (le-ltb n 128 ge, lt-ltb m 128 lt) (omega arith)
-        | inr ge' ↦ rw (le-ltb n 128 ge, le-ltb m 128 ge') (omega (arith, spelling-mono left (m / 128) (n / 128) (omega arith)))
+        | inr ge' ↦ rw (le-ltb n 128 ge, le-ltb m 128 ge') (omega (arith, encoding-mono left (m / 128) (n / 128) (omega arith)))
       ]
     ]
 
 -- a larger number has no shorter varint
-pub varint_spelling-mono : (m n : ℕ) → m ≤ n → length (varint_spelling m) ≤ length (varint_spelling n)
-unfolding varint_spelling
-varint_spelling-mono m n le = spelling-mono 9 m n le
+pub varint_encoding-mono : (m n : ℕ) → m ≤ n → length (varint_encoding m) ≤ length (varint_encoding n)
+unfolding varint_encoding
+varint_encoding-mono m n le = encoding-mono 9 m n le
 
 -- a number below 2 ^ 14 has at most two bytes, and one below 2 ^ 7 has one
-at_most_two : (n : ℕ) → n < 16384 → length (varint_spelling n) ≤ 2
-unfolding varint_spelling spelling_within
-at_most_two n lt = varint_spelling-mono n 16383 (omega arith)
+at_most_two : (n : ℕ) → n < 16384 → length (varint_encoding n) ≤ 2
+unfolding varint_encoding encoding_within
+at_most_two n lt = varint_encoding-mono n 16383 (omega arith)
 
-one : (n : ℕ) → n < 128 → length (varint_spelling n) ≤ 1
-unfolding varint_spelling spelling_within
-one n lt = varint_spelling-mono n 127 (omega arith)
+one : (n : ℕ) → n < 128 → length (varint_encoding n) ≤ 1
+unfolding varint_encoding encoding_within
+one n lt = varint_encoding-mono n 127 (omega arith)
 
 -- ---- the parts of what is read
 
@@ -85,8 +85,8 @@ within_took (suc left) (b ∷ bytes) found e =
           record { positive = omega arith; within = omega (arith, took.within) }
     ]
 
--- a varint of a small number is no shorter than its shortest spelling
-varint_small : (bytes : List ℕ) (found : ℕ × ℕ) → varint_at bytes ≡ Ok found → found.0 < 16384 → length (varint_spelling found.0) ≤ found.1
+-- a varint of a small number is no shorter than its shortest encoding
+varint_small : (bytes : List ℕ) (found : ℕ × ℕ) → varint_at bytes ≡ Ok found → found.0 < 16384 → length (varint_encoding found.0) ≤ found.1
 unfolding varint_within
 varint_small [] found e lt = absurd cc
 varint_small (b ∷ bytes) found e lt =
@@ -106,17 +106,17 @@ varint_small (b ∷ bytes) found e lt =
 
 -- ---- a value
 
--- how many bytes the shortest spelling of bytes takes behind its tag
+-- how many bytes the shortest encoding of bytes takes behind its tag
 abbrev value_len : FieldValue → ℕ
 value_len (Varint n) = 0
 value_len (Fixed64 n) = 0
-value_len (Bytes text) = length (varint_spelling (length text)) + length text
+value_len (Bytes text) = length (varint_encoding (length text)) + length text
 value_len (Fixed32 n) = 0
 
--- a value that was read took so many bytes, and has no shorter spelling
+-- a value that was read took so many bytes, and has no shorter encoding
 record TookValue (bytes : List ℕ) (found : FieldValue × ℕ) : Type 0 where
   within : found.1 ≤ length bytes
-  spelled : value_len found.0 ≤ found.1
+  encoded : value_len found.0 ≤ found.1
 
 took_bytes : (bytes : List ℕ) (found : FieldValue × ℕ) → length bytes ≤ 16384 → bytes_at bytes ≡ Ok found → TookValue bytes found
 unfolding bytes_at
@@ -132,9 +132,9 @@ took_bytes bytes found le e =
           let text_len : length (take len.0 (drop len.1 bytes)) ≡ len.0 = length-take-le len.0 (drop len.1 bytes) enough in
           let positive = took.positive in
           let within = took.within in
-          let short : length (varint_spelling len.0) ≤ len.1 = varint_small bytes len step.1 (omega arith) in
+          let short : length (varint_encoding len.0) ≤ len.1 = varint_small bytes len step.1 (omega arith) in
           subst (TookValue bytes) (ok_is (Bytes (take len.0 (drop len.1 bytes)), len.1 + len.0) found h.1)
-          (record { within = omega arith; spelled = rw text_len (omega arith) })
+          (record { within = omega arith; encoded = rw text_len (omega arith) })
     ]
 
 took_number : (bytes : List ℕ) (found : FieldValue × ℕ) → number_at bytes ≡ Ok found → TookValue bytes found
@@ -142,7 +142,7 @@ unfolding number_at
 took_number bytes found e =
     let step = step_ok (varint_at bytes) (λ n. Ok (Varint n.0, n.1)) found e in
     let took = within_took 9 bytes step.0 step.1 in
-    subst (TookValue bytes) (ok_is (Varint step.0.0, step.0.1) found step.2) (record { within = took.within; spelled = omega arith })
+    subst (TookValue bytes) (ok_is (Varint step.0.0, step.0.1) found step.2) (record { within = took.within; encoded = omega arith })
 
 took_fixed64 : (bytes : List ℕ) (found : FieldValue × ℕ) → fixed64_at bytes ≡ Ok found → TookValue bytes found
 took_fixed64 bytes found e =
@@ -151,7 +151,7 @@ took_fixed64 bytes found e =
       | inl h ↦ absurd (let bad = h.1 in cc)
       | inr h ↦
           let enough : 8 ≤ length bytes = ltb-false (length bytes) 8 h.0 in
-          subst (TookValue bytes) (ok_is value found h.1) (record { within = enough; spelled = omega arith })
+          subst (TookValue bytes) (ok_is value found h.1) (record { within = enough; encoded = omega arith })
     ]
 
 took_fixed32 : (bytes : List ℕ) (found : FieldValue × ℕ) → fixed32_at bytes ≡ Ok found → TookValue bytes found
@@ -161,7 +161,7 @@ took_fixed32 bytes found e =
       | inl h ↦ absurd (let bad = h.1 in cc)
       | inr h ↦
           let enough : 4 ≤ length bytes = ltb-false (length bytes) 4 h.0 in
-          subst (TookValue bytes) (ok_is value found h.1) (record { within = enough; spelled = omega arith })
+          subst (TookValue bytes) (ok_is value found h.1) (record { within = enough; encoded = omega arith })
     ]
 
 took_value : (kind : ℕ) (bytes : List ℕ) (found : FieldValue × ℕ) → length bytes ≤ 16384 → value_at kind bytes ≡ Ok found → TookValue bytes found
@@ -186,10 +186,10 @@ took_value kind bytes found le e =
 
 -- ---- a field
 
--- a field that was read took so many bytes, and has no shorter spelling if its tag takes one byte
+-- a field that was read took so many bytes, and has no shorter encoding if its tag takes one byte
 record TookField (bytes : List ℕ) (found : FieldView × ℕ) : Type 0 where
   within : found.1 ≤ length bytes
-  spelled : 1 + value_len found.0.value ≤ found.1
+  encoded : 1 + value_len found.0.value ≤ found.1
 
 took_behind : (tag : ℕ × ℕ) (bytes : List ℕ) (found : FieldView × ℕ) → TookBytes bytes tag.1 → length bytes ≤ 16384 → field_behind tag bytes ≡ Ok found → TookField bytes found
 unfolding field_behind
@@ -206,9 +206,9 @@ took_behind tag bytes found took le e =
             let positive = took.positive in
             let within = took.within in
             let inside = value.within in
-            let spelled = value.spelled in
+            let encoded = value.encoded in
             subst (TookField bytes) (ok_is (record { number = tag.0 / 8; value = step.0.0 }, tag.1 + step.0.1) found step.2)
-            (record { within = omega arith; spelled = omega arith })
+            (record { within = omega arith; encoded = omega arith })
         | inr h ↦ absurd (let bad = h.1 in cc)
       ]
     ]
@@ -221,23 +221,23 @@ took_field bytes found le e =
 
 -- ---- a message
 
--- how many bytes the shortest spellings of these take, as fields of one number
-abbrev pub spelled_len : ℕ → List (List ℕ) → ℕ
-spelled_len k all = sum_by (λ text. length (bytes_field_spelling k text)) all
+-- how many bytes the shortest encodings of these take, as fields of one number
+abbrev pub encoded_len : ℕ → List (List ℕ) → ℕ
+encoded_len k all = sum_by (λ text. length (bytes_field_encoding k text)) all
 
--- the spelling of a field of bytes, where its tag takes one byte
-bytes_field-length : (k : ℕ) (text : List ℕ) → k * 8 + 2 < 128 → length (bytes_field_spelling k text) ≤ 1 + (length (varint_spelling (length text)) + length text)
-unfolding bytes_field_spelling
+-- the encoding of a field of bytes, where its tag takes one byte
+bytes_field-length : (k : ℕ) (text : List ℕ) → k * 8 + 2 < 128 → length (bytes_field_encoding k text) ≤ 1 + (length (varint_encoding (length text)) + length text)
+unfolding bytes_field_encoding
 bytes_field-length k text lt = simp length-append (omega (arith, one (k * 8 + 2) lt))
 
 -- what a value adds under field numbers 1 and 2
-value_adds : (k : ℕ) (value : FieldValue) → k * 8 + 2 < 128 → spelled_len k (bytes_in value) ≤ 1 + value_len value
+value_adds : (k : ℕ) (value : FieldValue) → k * 8 + 2 < 128 → encoded_len k (bytes_in value) ≤ 1 + value_len value
 value_adds k (Varint n) lt = omega arith
 value_adds k (Fixed64 n) lt = omega arith
 value_adds k (Bytes text) lt = omega (arith, bytes_field-length k text lt)
 value_adds k (Fixed32 n) lt = omega arith
 
-field_adds : (f : FieldView) → spelled_len 1 (if f.number == 1 then bytes_in f.value else []) + spelled_len 2 (if f.number == 2 then bytes_in f.value else []) ≤ 1 + value_len f.value
+field_adds : (f : FieldView) → encoded_len 1 (if f.number == 1 then bytes_in f.value else []) + encoded_len 2 (if f.number == 2 then bytes_in f.value else []) ≤ 1 + value_len f.value
 field_adds f = elim (cases_Bool (f.number == 1)) [
   | inl is ↦ elim (cases_Bool (f.number == 2)) [
     | inl also ↦ let a : f.number ≡ 1 = eqb-true f.number 1 is in let b : f.number ≡ 2 = eqb-true f.number 2 also in absurd (omega arith)
@@ -249,14 +249,14 @@ field_adds f = elim (cases_Bool (f.number == 1)) [
   ]
 ]
 
--- both numbers' spellings
+-- both numbers' encodings
 abbrev both_len : List FieldView → ℕ
-both_len fs = spelled_len 1 (texts 1 fs) + spelled_len 2 (texts 2 fs)
+both_len fs = encoded_len 1 (texts 1 fs) + encoded_len 2 (texts 2 fs)
 
 both_len-cons : (f : FieldView) (fs : List FieldView) → both_len (f ∷ fs) ≤ (1 + value_len f.value) + both_len fs
 both_len-cons f fs =
-    rw (sum_by-append (λ text. length (bytes_field_spelling 1 text)) (if f.number == 1 then bytes_in f.value else []) (texts 1 fs))
-    (rw (sum_by-append (λ text. length (bytes_field_spelling 2 text)) (if f.number == 2 then bytes_in f.value else []) (texts 2 fs))
+    rw (sum_by-append (λ text. length (bytes_field_encoding 1 text)) (if f.number == 1 then bytes_in f.value else []) (texts 1 fs))
+    (rw (sum_by-append (λ text. length (bytes_field_encoding 2 text)) (if f.number == 2 then bytes_in f.value else []) (texts 2 fs))
     (omega (arith, field_adds f)))
 
 before_len : (bytes : List ℕ) (read : Result (FieldView × ℕ) WireError) (others : ℕ → List FieldView)
@@ -266,7 +266,7 @@ before_len : (bytes : List ℕ) (read : Result (FieldView × ℕ) WireError) (ot
 before_len bytes (Ok found) others took rest =
     let field = took found refl in
     let within = field.within in
-    let spelled = field.spelled in
+    let encoded = field.encoded in
     omega (arith, both_len-cons found.0 (others found.1), rest found.1)
 before_len bytes (Err e) others took rest = omega arith
 
@@ -278,7 +278,7 @@ within_len (suc most) (b ∷ bytes) le =
     before_len (b ∷ bytes) (field_at (b ∷ bytes)) (λ n. fields_within most (drop n (b ∷ bytes))) (λ found e. took_field (b ∷ bytes) found le e)
     (λ n. omega (arith, within_len most (drop n (b ∷ bytes)) (omega (arith, length-drop n (b ∷ bytes))), length-drop n (b ∷ bytes)))
 
--- A message is no shorter than what stands under its field numbers 1 and 2, in its shortest spelling.
-pub fields-length : (message : List ℕ) → length message ≤ 16384 → spelled_len 1 (texts 1 (fields message)) + spelled_len 2 (texts 2 (fields message)) ≤ length message
+-- A message is no shorter than what stands under its field numbers 1 and 2, in its shortest encoding.
+pub fields-length : (message : List ℕ) → length message ≤ 16384 → encoded_len 1 (texts 1 (fields message)) + encoded_len 2 (texts 2 (fields message)) ≤ length message
 unfolding fields
 fields-length message le = within_len (length message) message le

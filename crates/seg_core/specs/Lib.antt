@@ -9,5 +9,5 @@ pub mod WellFormed
 pub mod Segment
 pub mod Request
 pub mod Registration
-pub mod Spelling
+pub mod Encoding
 pub mod Earlier

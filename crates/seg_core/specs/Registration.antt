@@ -9,7 +9,7 @@ use Rattle.seg_core.specs.Shapes.{map_shape, map_entry_shape, segments_shape}
 use Rattle.seg_core.specs.Steps.{◌>>=◌, check}
 use Rattle.seg_core.specs.Message.{checked, number, texts, text_or_empty}
 use Rattle.seg_core.specs.SegmentView.{SegmentView}
-use Rattle.seg_core.specs.Segment.{segment_reading}
+use Rattle.seg_core.specs.Segment.{segment_decoding}
 
 -- the number of a type
 abbrev pub type_number : SegType → ℕ
@@ -30,12 +30,12 @@ abbrev pub rows_of : SegType → List SegmentView → List (SegType × SegmentVi
 rows_of kind segments = map (λ s. (kind, s)) segments
 
 -- The segments of one type, behind so many of the registration: the 17th is refused before it is read.
-unfoldable pub segments_reading : ℕ → List (List ℕ) → Result (List SegmentView) SegError
-segments_reading count [] = Ok []
-segments_reading count (message ∷ messages) = do
+unfoldable pub segments_decoding : ℕ → List (List ℕ) → Result (List SegmentView) SegError
+segments_decoding count [] = Ok []
+segments_decoding count (message ∷ messages) = do
   _ ← check (nat_lt count 16) TooLarge
-  first ← segment_reading message
-  others ← segments_reading (count + 1) messages
+  first ← segment_decoding message
+  others ← segments_decoding (count + 1) messages
   Ok (first ∷ others)
 
 -- The type of an entry of the map, behind entries of these types: each may have one.
@@ -46,25 +46,25 @@ new_type earlier n = do
   Ok kind
 
 -- One entry of the map, behind entries of these types with so many segments. Without a value it has no segments.
-unfoldable pub map_entry_reading : List ℕ → ℕ → List ℕ → Result (SegType × List SegmentView) SegError
-map_entry_reading earlier count message = do
+unfoldable pub map_entry_decoding : List ℕ → ℕ → List ℕ → Result (SegType × List SegmentView) SegError
+map_entry_decoding earlier count message = do
   fs ← checked map_entry_shape message
   kind ← new_type earlier (number 1 fs)
   value ← checked segments_shape (text_or_empty 2 fs)
-  segments ← segments_reading count (texts 1 value)
+  segments ← segments_decoding count (texts 1 value)
   Ok (kind, segments)
 
 -- the entries of the map, behind others
-unfoldable pub map_reading : List ℕ → ℕ → List (List ℕ) → Result (List (SegType × SegmentView)) SegError
-map_reading earlier count [] = Ok []
-map_reading earlier count (message ∷ messages) = do
-  first ← map_entry_reading earlier count message
-  others ← map_reading (type_number first.0 ∷ earlier) (count + length first.1) messages
+unfoldable pub map_decoding : List ℕ → ℕ → List (List ℕ) → Result (List (SegType × SegmentView)) SegError
+map_decoding earlier count [] = Ok []
+map_decoding earlier count (message ∷ messages) = do
+  first ← map_entry_decoding earlier count message
+  others ← map_decoding (type_number first.0 ∷ earlier) (count + length first.1) messages
   Ok (rows_of first.0 first.1 ++ others)
 
 -- the segments with their types, in the order of the message
-unfoldable pub registration_reading : List ℕ → Result (List (SegType × SegmentView)) SegError
-registration_reading message = do
+unfoldable pub registration_decoding : List ℕ → Result (List (SegType × SegmentView)) SegError
+registration_decoding message = do
   _ ← check (nat_le (length message) 131072) TooLarge
   fs ← checked map_shape message
-  map_reading [] 0 (texts 1 fs)
+  map_decoding [] 0 (texts 1 fs)

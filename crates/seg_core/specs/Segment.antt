@@ -7,24 +7,24 @@ use Rattle.seg_core.specs.Shapes.{path_segment_shape, segment_information_shape}
 use Rattle.seg_core.specs.Steps.{◌>>=◌, check, at_most, each}
 use Rattle.seg_core.specs.Message.{checked, number, texts, text_or_empty}
 use Rattle.seg_core.specs.SegmentView.{SegmentView}
-use Rattle.seg_core.specs.Entry.{as_entry_reading}
+use Rattle.seg_core.specs.Entry.{as_entry_decoding}
 use Rattle.seg_core.specs.WellFormed.{is_entry_count, is_chain, has_no_loop}
 
 -- when the segment was made, and its id
-unfoldable pub info_reading : List ℕ → Result Info SegError
-info_reading message = do
+unfoldable pub info_decoding : List ℕ → Result Info SegError
+info_decoding message = do
   fs ← checked segment_information_shape message
   timestamp ← at_most (2 ^ 32 - 1) (number 1 fs)
   segment_id ← at_most (2 ^ 16 - 1) (number 2 fs)
   Ok (record { timestamp = timestamp; segment_id = segment_id })
 
-unfoldable pub segment_reading : List ℕ → Result SegmentView SegError
-segment_reading message = do
+unfoldable pub segment_decoding : List ℕ → Result SegmentView SegError
+segment_decoding message = do
   _ ← check (nat_le (length message) 16384) TooLarge
   fs ← checked path_segment_shape message
   _ ← check (is_entry_count (length (texts 2 fs))) Entries
-  info ← info_reading (text_or_empty 1 fs)
-  entries ← each as_entry_reading (texts 2 fs)
+  info ← info_decoding (text_or_empty 1 fs)
+  entries ← each as_entry_decoding (texts 2 fs)
   _ ← check (is_chain entries) Chain
   _ ← check (has_no_loop entries) Loop
   Ok (record {

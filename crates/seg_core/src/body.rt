@@ -4,7 +4,7 @@ ghost use Rattle.std.specs.Prelude.{◌≡◌};
 ghost use Rattle.seg_core.specs.Steps.{Reads, each, seen_as};
 ghost use Rattle.seg_core.specs.Message.{texts};
 ghost use Rattle.pw_wire.specs.Fields.{fields};
-ghost use Rattle.seg_core.specs.Entry.{names_an_as, peer_entry_reading, body_reading, header_and_body_reading};
+ghost use Rattle.seg_core.specs.Entry.{names_an_as, peer_entry_decoding, body_decoding, header_and_body_decoding};
 
 use crate::error::SegError;
 use crate::hop::{Hop, read_hop_entry, read_peer_entry};
@@ -31,7 +31,7 @@ fn names_an_as(ia: u64) -> bool
 /// Reads peer entries, of which nothing is kept.
 fn check_peer_entries(peers: Texts<'_>) -> Result<(), SegError>
     ensures { Reads (λ u. u) result
-        (seen_as (λ _. tt) (each peer_entry_reading (texts peers.entry.number (fields peers.entry.rest.now)))) }
+        (seen_as (λ _. tt) (each peer_entry_decoding (texts peers.entry.number (fields peers.entry.rest.now)))) }
 {
     for peer in peers {
         read_peer_entry(peer)?;
@@ -42,7 +42,7 @@ fn check_peer_entries(peers: Texts<'_>) -> Result<(), SegError>
 /// Reads the peer entries of a body, of which there are seldom any.
 fn check_peers(slots: &Slots<'_>) -> Result<(), SegError>
     ensures { Reads (λ u. u) result
-        (seen_as (λ _. tt) (each peer_entry_reading (texts 4 (fields slots.now.message.now)))) }
+        (seen_as (λ _. tt) (each peer_entry_decoding (texts 4 (fields slots.now.message.now)))) }
 {
     if slots.text(4).is_none() {
         return Ok(());
@@ -50,9 +50,9 @@ fn check_peers(slots: &Slots<'_>) -> Result<(), SegError>
     check_peer_entries(slots.texts(4))
 }
 
-#[tactic(auto, unfolding(crate::specs::Entry::body_reading))]
+#[tactic(auto, unfolding(crate::specs::Entry::body_decoding))]
 fn read_body(message: &[u8]) -> Result<Body, SegError>
-    ensures { Reads (λ body. body) result (body_reading message.now) }
+    ensures { Reads (λ body. body) result (body_decoding message.now) }
 {
     let slots = slots_of(&BODY, message)?;
     let hop_entry = slots.required(3)?;
@@ -69,9 +69,9 @@ fn read_body(message: &[u8]) -> Result<Body, SegError>
 }
 
 /// Reads a header, of which nothing is kept here, and a body.
-#[tactic(auto, unfolding(crate::specs::Entry::header_and_body_reading))]
+#[tactic(auto, unfolding(crate::specs::Entry::header_and_body_decoding))]
 pub(crate) fn read_header_and_body(message: &[u8]) -> Result<Body, SegError>
-    ensures { Reads (λ body. body) result (header_and_body_reading message.now) }
+    ensures { Reads (λ body. body) result (header_and_body_decoding message.now) }
 {
     let slots = slots_of(&HEADER_AND_BODY, message)?;
     read_body(slots.text_or_empty(2))

@@ -3,7 +3,7 @@
 ghost use Rattle.std.specs.Prelude.{◌≡◌, IfOk, None, Some};
 ghost use Rattle.std.specs.Option.{option_map};
 ghost use Rattle.seg_core.specs.Steps.{Gives};
-ghost use Rattle.seg_core.specs.Entry.{as_entry_reading};
+ghost use Rattle.seg_core.specs.Entry.{as_entry_decoding};
 ghost use Rattle.seg_core.specs.EntryView.{entry_view};
 
 use crate::body::read_header_and_body;
@@ -62,9 +62,9 @@ fn copied(alloc: Global, text: Option<&[u8]>) -> Result<Option<Vec<u8>>, AllocEr
     }
 }
 
-#[tactic(auto, unfolding(crate::specs::Entry::as_entry_reading))]
+#[tactic(auto, unfolding(crate::specs::Entry::as_entry_decoding))]
 pub(crate) fn read_as_entry(alloc: Global, message: &[u8]) -> Result<Entry, SegError>
-    ensures { Gives entry_view result (as_entry_reading message.now) }
+    ensures { Gives entry_view result (as_entry_decoding message.now) }
 {
     let slots = slots_of(&AS_ENTRY, message)?;
     let signed_message = slots.required(1)?;

@@ -4,20 +4,20 @@
 ghost use Rattle.std.specs.Prelude.{◌≡◌, ◌↔◌, ◌≤◌, ℕ, List, length, Ok, IsTrue};
 ghost use Rattle.seg_core.specs.SegmentView.{EntryView, SegmentView};
 ghost use Rattle.seg_core.specs.WellFormed.{is_chain, has_no_loop, IsChain, HasNoLoop, IsWellFormed};
-ghost use Rattle.seg_core.specs.Segment.{segment_reading};
-ghost use Rattle.seg_core.specs.Registration.{registration_reading};
-ghost use Rattle.seg_core.specs.Spelling.{segment_spelling, IsSegment, response_spelling, by_type};
+ghost use Rattle.seg_core.specs.Segment.{segment_decoding};
+ghost use Rattle.seg_core.specs.Registration.{registration_decoding};
+ghost use Rattle.seg_core.specs.Encoding.{segment_encoding, IsSegment, response_encoding, by_type};
 ghost use Rattle.seg_core.specs.declared.seg_type.SegType.{SegType};
 ghost use Rattle.std.specs.List.{AllByRecursion};
 
 /// Each segment that is read is whole.
 pub fn read_segments_are_whole()
-    ensures { (message : List ℕ) (s : SegmentView) → segment_reading message ≡ Ok s → IsSegment s }
+    ensures { (message : List ℕ) (s : SegmentView) → segment_decoding message ≡ Ok s → IsSegment s }
 {}
 
-/// The spelling of a whole segment is read as that segment.
+/// The encoding of a whole segment is read as that segment.
 pub fn written_segments_are_read()
-    ensures { (s : SegmentView) → IsSegment s → segment_reading (segment_spelling s) ≡ Ok s }
+    ensures { (s : SegmentView) → IsSegment s → segment_decoding (segment_encoding s) ≡ Ok s }
 {}
 
 /// A whole segment is well-formed: 1 to 64 entries that are one path without a loop, and numbers in their ranges.
@@ -34,5 +34,5 @@ pub fn path_tests_are_exact()
 /// A response of at most 16 whole segments, in at most 131,072 bytes, is read as these, by type.
 pub fn written_responses_are_read()
     ensures { (rows : List (SegType × SegmentView)) → AllByRecursion (λ row. IsSegment row.1) rows → length rows ≤ 16
-        → length (response_spelling rows) ≤ 131072 → registration_reading (response_spelling rows) ≡ Ok (by_type rows) }
+        → length (response_encoding rows) ≤ 131072 → registration_decoding (response_encoding rows) ≡ Ok (by_type rows) }
 {}

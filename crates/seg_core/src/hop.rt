@@ -1,7 +1,7 @@
 //! Hop entries and peer entries, down to their hop fields.
 
 ghost use Rattle.seg_core.specs.Steps.{Reads};
-ghost use Rattle.seg_core.specs.Entry.{hop_field_reading, hop_entry_reading, peer_entry_reading};
+ghost use Rattle.seg_core.specs.Entry.{hop_field_decoding, hop_entry_decoding, peer_entry_decoding};
 
 use crate::error::SegError;
 use crate::limits::{check, u8_of, u16_of, u32_of};
@@ -19,9 +19,9 @@ pub(crate) struct Hop {
     pub exp_time: u8,
 }
 
-#[tactic(auto, unfolding(crate::specs::Entry::hop_field_reading))]
+#[tactic(auto, unfolding(crate::specs::Entry::hop_field_decoding))]
 fn read_hop_field(message: &[u8]) -> Result<Hop, SegError>
-    ensures { Reads (λ hop. hop) result (hop_field_reading message.now) }
+    ensures { Reads (λ hop. hop) result (hop_field_decoding message.now) }
 {
     let slots = slots_of(&HOP_FIELD, message)?;
     let ingress = u16_of(slots.number(1))?;
@@ -35,9 +35,9 @@ fn read_hop_field(message: &[u8]) -> Result<Hop, SegError>
     })
 }
 
-#[tactic(auto, unfolding(crate::specs::Entry::hop_entry_reading))]
+#[tactic(auto, unfolding(crate::specs::Entry::hop_entry_decoding))]
 pub(crate) fn read_hop_entry(message: &[u8]) -> Result<Hop, SegError>
-    ensures { Reads (λ hop. hop) result (hop_entry_reading message.now) }
+    ensures { Reads (λ hop. hop) result (hop_entry_decoding message.now) }
 {
     let slots = slots_of(&HOP_ENTRY, message)?;
     let hop_field = slots.required(1)?;
@@ -45,9 +45,9 @@ pub(crate) fn read_hop_entry(message: &[u8]) -> Result<Hop, SegError>
     read_hop_field(hop_field)
 }
 
-#[tactic(auto, unfolding(crate::specs::Entry::peer_entry_reading))]
+#[tactic(auto, unfolding(crate::specs::Entry::peer_entry_decoding))]
 pub(crate) fn read_peer_entry(message: &[u8]) -> Result<Hop, SegError>
-    ensures { Reads (λ hop. hop) result (peer_entry_reading message.now) }
+    ensures { Reads (λ hop. hop) result (peer_entry_decoding message.now) }
 {
     let slots = slots_of(&PEER_ENTRY, message)?;
     let hop_field = slots.required(4)?;

@@ -1,7 +1,7 @@
 //! When a segment was made, and its id.
 
 ghost use Rattle.seg_core.specs.Steps.{Reads};
-ghost use Rattle.seg_core.specs.Segment.{info_reading};
+ghost use Rattle.seg_core.specs.Segment.{info_decoding};
 
 use crate::error::SegError;
 use crate::limits::{u16_of, u32_of};
@@ -15,9 +15,9 @@ pub(crate) struct Info {
     pub segment_id: u16,
 }
 
-#[tactic(auto, unfolding(crate::specs::Segment::info_reading))]
+#[tactic(auto, unfolding(crate::specs::Segment::info_decoding))]
 pub(crate) fn read_info(message: &[u8]) -> Result<Info, SegError>
-    ensures { Reads (λ info. info) result (info_reading message.now) }
+    ensures { Reads (λ info. info) result (info_decoding message.now) }
 {
     let slots = slots_of(&SEGMENT_INFORMATION, message)?;
     let timestamp = u32_of(slots.number(1))?;

@@ -1,17 +1,17 @@
-//! How many bytes spellings take, so that a message can be written behind its length.
+//! How many bytes encodings take, so that a message can be written behind its length.
 
 ghost use Rattle.std.specs.Prelude.{◌≡◌, ℕ, ◌+◌, ◌<◌, ◌≤◌, List, length};
-ghost use Rattle.pw_wire.specs.Varint.{varint_spelling};
-ghost use Rattle.pw_wire.specs.Field.{bytes_field_spelling};
+ghost use Rattle.pw_wire.specs.Varint.{varint_encoding};
+ghost use Rattle.pw_wire.specs.Field.{bytes_field_encoding};
 ghost use Rattle.seg_core.specs.EntryView.{entry_view, entry_views};
-ghost use Rattle.seg_core.specs.Spelling.{bytes_spelling, optional_spelling, signed_spelling, as_entry_spelling, entries_spelling, segment_spelling};
+ghost use Rattle.seg_core.specs.Encoding.{bytes_encoding, optional_encoding, signed_encoding, as_entry_encoding, entries_encoding, segment_encoding};
 
 use crate::entry::Entry;
 use crate::segment::Segment;
 
 /// The bytes of a number's shortest varint.
 fn varint_len(n: u64) -> usize
-    ensures { result ≡ length (varint_spelling n) }
+    ensures { result ≡ length (varint_encoding n) }
 {
     let mut len = 1;
     let mut rest = n;
@@ -24,7 +24,7 @@ fn varint_len(n: u64) -> usize
 
 /// The bytes of the tag and the length of a field, under a number whose tag takes one byte.
 pub(crate) fn head_len(len: usize) -> usize
-    ensures exact { (k : ℕ) (bytes : List ℕ) → k < 15 → length bytes ≡ len → result + len ≡ length (bytes_field_spelling k bytes) }
+    ensures exact { (k : ℕ) (bytes : List ℕ) → k < 15 → length bytes ≡ len → result + len ≡ length (bytes_field_encoding k bytes) }
     ensures most { result ≤ 11 }
 {
     1 + varint_len(len as u64)
@@ -33,7 +33,7 @@ pub(crate) fn head_len(len: usize) -> usize
 /// The bytes of a field of bytes, which is left out where they are empty.
 fn bytes_len(bytes: &[u8]) -> usize
     requires { length bytes.now ≤ 16384 }
-    ensures { (k : ℕ) → k < 15 → result ≡ length (bytes_spelling k bytes.now) }
+    ensures { (k : ℕ) → k < 15 → result ≡ length (bytes_encoding k bytes.now) }
 {
     if bytes.is_empty() {
         return 0;
@@ -43,16 +43,16 @@ fn bytes_len(bytes: &[u8]) -> usize
 
 /// The bytes of an entry's signed message.
 pub(crate) fn signed_len(entry: &Entry) -> usize
-    requires { length (signed_spelling (entry_view entry.now)) ≤ 16384 }
-    ensures { result ≡ length (signed_spelling (entry_view entry.now)) }
+    requires { length (signed_encoding (entry_view entry.now)) ≤ 16384 }
+    ensures { result ≡ length (signed_encoding (entry_view entry.now)) }
 {
     bytes_len(&entry.signed) + bytes_len(&entry.signature)
 }
 
 /// The bytes of the field with what an entry has that is not signed, where it is there.
 fn unsigned_len(entry: &Entry) -> usize
-    requires { length (optional_spelling 2 (entry_view entry.now).unsigned) ≤ 16384 }
-    ensures { result ≡ length (optional_spelling 2 (entry_view entry.now).unsigned) }
+    requires { length (optional_encoding 2 (entry_view entry.now).unsigned) ≤ 16384 }
+    ensures { result ≡ length (optional_encoding 2 (entry_view entry.now).unsigned) }
 {
     match &entry.unsigned {
         None => 0,
@@ -62,8 +62,8 @@ fn unsigned_len(entry: &Entry) -> usize
 
 /// The bytes of an entry.
 pub(crate) fn entry_len(entry: &Entry) -> usize
-    requires { length (as_entry_spelling (entry_view entry.now)) ≤ 16384 }
-    ensures { result ≡ length (as_entry_spelling (entry_view entry.now)) }
+    requires { length (as_entry_encoding (entry_view entry.now)) ≤ 16384 }
+    ensures { result ≡ length (as_entry_encoding (entry_view entry.now)) }
 {
     let signed = signed_len(entry);
     head_len(signed) + signed + unsigned_len(entry)
@@ -71,8 +71,8 @@ pub(crate) fn entry_len(entry: &Entry) -> usize
 
 /// The bytes of a segment's entries, each behind its tag and its length.
 fn entries_len(entries: &[Entry]) -> usize
-    requires { length (entries_spelling (entry_views entries.now)) ≤ 16384 }
-    ensures { result ≡ length (entries_spelling (entry_views entries.now)) }
+    requires { length (entries_encoding (entry_views entries.now)) ≤ 16384 }
+    ensures { result ≡ length (entries_encoding (entry_views entries.now)) }
 {
     let mut len = 0;
     for entry in entries {
@@ -83,9 +83,9 @@ fn entries_len(entries: &[Entry]) -> usize
 }
 
 /// The bytes of a segment.
-#[tactic(auto, unfolding(crate::specs::Spelling::segment_spelling))]
+#[tactic(auto, unfolding(crate::specs::Encoding::segment_encoding))]
 pub(crate) fn segment_len(segment: &Segment) -> usize
-    ensures exact { result ≡ length (segment_spelling segment.now) }
+    ensures exact { result ≡ length (segment_encoding segment.now) }
     ensures most { result ≤ 16384 }
 {
     let entries = segment.entries();

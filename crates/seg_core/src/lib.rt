@@ -2,7 +2,7 @@
 //!
 //! To the layer above, each reader answers exactly what the definition of its message gives, the first refusal
 //! included, and a `Segment` is always whole: its numbers are those of its bytes, its entries are one path without a
-//! loop, and its one spelling has at most 16,384 bytes and is read as that segment again.
+//! loop, and its one encoding has at most 16,384 bytes and is read as that segment again.
 #![tactic(auto)]
 
 mod body;

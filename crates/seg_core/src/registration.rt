@@ -7,7 +7,7 @@ ghost use Rattle.seg_core.specs.Message.{texts};
 ghost use Rattle.seg_core.specs.SegmentView.{SegmentView};
 ghost use Rattle.seg_core.specs.declared.seg_type.SegType.{SegType};
 ghost use Rattle.seg_core.specs.Earlier.{AreIn};
-ghost use Rattle.seg_core.specs.Registration.{map_reading, map_entry_reading, segments_reading, registration_reading, rows_of};
+ghost use Rattle.seg_core.specs.Registration.{map_decoding, map_entry_decoding, segments_decoding, registration_decoding, rows_of};
 
 use crate::earlier::Earlier;
 use crate::error::SegError;
@@ -25,7 +25,7 @@ const MOST_BYTES: usize = 131_072;
 const MOST_SEGMENTS: usize = 16;
 
 /// Appends the segments of one type to those that came before them.
-#[tactic(auto, unfolding(crate::specs::Registration::segments_reading))]
+#[tactic(auto, unfolding(crate::specs::Registration::segments_decoding))]
 fn read_segments(
     alloc: Global,
     kind: SegType,
@@ -34,7 +34,7 @@ fn read_segments(
 ) -> Result<(), SegError>
     ensures { Gives (λ _. found.new.items) result
         (seen_as (λ segments. found.old.items ++ rows_of kind segments)
-        (segments_reading (length found.old.items) (texts messages.entry.number (fields messages.entry.rest.now)))) }
+        (segments_decoding (length found.old.items) (texts messages.entry.number (fields messages.entry.rest.now)))) }
 {
     for message in messages {
         check(found.len() < MOST_SEGMENTS, SegError::TooLarge)?;
@@ -44,7 +44,7 @@ fn read_segments(
 }
 
 /// Appends the segments of one entry of the map, which is behind entries of other types.
-#[tactic(auto, unfolding(crate::specs::Registration::map_entry_reading))]
+#[tactic(auto, unfolding(crate::specs::Registration::map_entry_decoding))]
 fn read_map_entry(
     alloc: Global,
     earlier: Earlier,
@@ -53,7 +53,7 @@ fn read_map_entry(
 ) -> Result<SegType, SegError>
     ensures { (numbers : List ℕ) → AreIn numbers earlier → Gives {Y = SegType × List (SegType × SegmentView)} (λ kind. (kind, found.new.items)) result
         (seen_as (λ entry. (entry.0, found.old.items ++ rows_of entry.0 entry.1))
-        (map_entry_reading numbers (length found.old.items) message.now)) }
+        (map_entry_decoding numbers (length found.old.items) message.now)) }
 {
     let slots = slots_of(&MAP_ENTRY, message)?;
     let kind = earlier.new_type(slots.number(1))?;
@@ -64,7 +64,7 @@ fn read_map_entry(
 
 /// Reads the entries of a map.
 fn read_map(alloc: Global, messages: Texts<'_>) -> Result<Vec<(SegType, Segment)>, SegError>
-    ensures { Gives (λ v. v.items) result (map_reading [] 0 (texts messages.entry.number (fields messages.entry.rest.now))) }
+    ensures { Gives (λ v. v.items) result (map_decoding [] 0 (texts messages.entry.number (fields messages.entry.rest.now))) }
 {
     let mut earlier = Earlier::none();
     let mut found = Vec::new(alloc);
@@ -77,9 +77,9 @@ fn read_map(alloc: Global, messages: Texts<'_>) -> Result<Vec<(SegType, Segment)
 
 /// Reads a `SegmentsRegistrationRequest`, all of its bytes: its segments and their types, in the order of the message.
 /// It is refused as too large first of all, and at its 17th segment before that is read.
-#[tactic(auto, unfolding(crate::specs::Registration::registration_reading))]
+#[tactic(auto, unfolding(crate::specs::Registration::registration_decoding))]
 pub fn read_registration(alloc: Global, message: &[u8]) -> Result<Vec<(SegType, Segment)>, SegError>
-    ensures { Gives (λ v. v.items) result (registration_reading message.now) }
+    ensures { Gives (λ v. v.items) result (registration_decoding message.now) }
 {
     check(message.len() <= MOST_BYTES, SegError::TooLarge)?;
     let slots = slots_of(&SEGMENT_MAP, message)?;

@@ -1,8 +1,8 @@
 //! Responses: maps from types to segments.
 
 ghost use Rattle.std.specs.Prelude.{◌≡◌, ℕ, ◌+◌, ◌++◌, List, length, IfOk, OnOk};
-ghost use Rattle.pw_wire.specs.Field.{bytes_field_spelling};
-ghost use Rattle.seg_core.specs.Spelling.{segments_spelling, of_type, map_entry_spelling, response_spelling, referred};
+ghost use Rattle.pw_wire.specs.Field.{bytes_field_encoding};
+ghost use Rattle.seg_core.specs.Encoding.{segments_encoding, of_type, map_entry_encoding, response_encoding, referred};
 
 use crate::lengths::{head_len, segment_len};
 use crate::seg_type::SegType;
@@ -23,7 +23,7 @@ fn sum(a: usize, b: usize) -> Result<usize, AllocError>
 
 /// The bytes of the segments of a type, each behind its tag and its length.
 fn segments_len(segments: &[(SegType, &Segment)], kind: SegType) -> Result<usize, AllocError>
-    ensures { IfOk result (λ len. len ≡ length (segments_spelling (of_type kind (referred segments.now)))) }
+    ensures { IfOk result (λ len. len ≡ length (segments_encoding (of_type kind (referred segments.now)))) }
 {
     let mut len = 0;
     for (of, segment) in segments {
@@ -41,7 +41,7 @@ fn put_segments(
     segments: &[(SegType, &Segment)],
     kind: SegType,
 ) -> Result<(), AllocError>
-    ensures { OnOk result (out.new.items ≡ out.old.items ++ segments_spelling (of_type kind (referred segments.now))) }
+    ensures { OnOk result (out.new.items ≡ out.old.items ++ segments_encoding (of_type kind (referred segments.now))) }
 {
     for (of, segment) in segments {
         if *of == kind {
@@ -54,14 +54,14 @@ fn put_segments(
 
 /// The bytes of a map entry's key and value, where the value takes so many bytes.
 fn content_len(value: usize) -> Result<usize, AllocError>
-    ensures { (bytes : List ℕ) → length bytes ≡ value → IfOk result (λ n. n ≡ 2 + length (bytes_field_spelling 2 bytes)) }
+    ensures { (bytes : List ℕ) → length bytes ≡ value → IfOk result (λ n. n ≡ 2 + length (bytes_field_encoding 2 bytes)) }
 {
     sum(KEY_LEN + head_len(value), value)
 }
 
 /// The bytes of the map entry of a type, which is there where the type has segments.
 fn type_len(segments: &[(SegType, &Segment)], kind: SegType) -> Result<usize, AllocError>
-    ensures { IfOk result (λ len. len ≡ length (map_entry_spelling kind (of_type kind (referred segments.now)))) }
+    ensures { IfOk result (λ len. len ≡ length (map_entry_encoding kind (of_type kind (referred segments.now)))) }
 {
     let value = segments_len(segments, kind)?;
     if value == 0 {
@@ -77,7 +77,7 @@ fn put_type(
     segments: &[(SegType, &Segment)],
     kind: SegType,
 ) -> Result<(), AllocError>
-    ensures { OnOk result (out.new.items ≡ out.old.items ++ map_entry_spelling kind (of_type kind (referred segments.now))) }
+    ensures { OnOk result (out.new.items ≡ out.old.items ++ map_entry_encoding kind (of_type kind (referred segments.now))) }
 {
     let value = segments_len(segments, kind)?;
     if value == 0 {
@@ -90,9 +90,9 @@ fn put_type(
 }
 
 /// The bytes of a response.
-#[tactic(auto, unfolding(crate::specs::Spelling::response_spelling))]
+#[tactic(auto, unfolding(crate::specs::Encoding::response_encoding))]
 fn response_len(segments: &[(SegType, &Segment)]) -> Result<usize, AllocError>
-    ensures { IfOk result (λ len. len ≡ length (response_spelling (referred segments.now))) }
+    ensures { IfOk result (λ len. len ≡ length (response_encoding (referred segments.now))) }
 {
     let up = type_len(segments, SegType::Up)?;
     let down = type_len(segments, SegType::Down)?;
@@ -101,12 +101,12 @@ fn response_len(segments: &[(SegType, &Segment)]) -> Result<usize, AllocError>
 }
 
 /// The bytes of a `SegmentsResponse`, as [`write_response`] gives them, of segments that the caller keeps elsewhere.
-#[tactic(auto, unfolding(crate::specs::Spelling::response_spelling))]
+#[tactic(auto, unfolding(crate::specs::Encoding::response_encoding))]
 pub fn write_response_of(
     alloc: Global,
     segments: &[(SegType, &Segment)],
 ) -> Result<Vec<u8>, AllocError>
-    ensures { IfOk result (λ v. v.items ≡ response_spelling (referred segments.now)) }
+    ensures { IfOk result (λ v. v.items ≡ response_encoding (referred segments.now)) }
 {
     let mut out = Vec::with_capacity(alloc, sum(response_len(segments)?, SLACK)?)?;
     put_type(&mut out, segments, SegType::Up)?;
@@ -117,7 +117,7 @@ pub fn write_response_of(
 
 /// The bytes of a `SegmentsResponse`: for each type that has segments, these, in their order.
 pub fn write_response(alloc: Global, segments: &[(SegType, Segment)]) -> Result<Vec<u8>, AllocError>
-    ensures { IfOk result (λ v. v.items ≡ response_spelling segments.now) }
+    ensures { IfOk result (λ v. v.items ≡ response_encoding segments.now) }
 {
     let mut referred = Vec::with_capacity(alloc, segments.len())?;
     for (kind, segment) in segments {

@@ -4,11 +4,11 @@ ghost use Rattle.std.specs.Prelude.{◌≡◌, ◌≤◌, IfOk, OnOk, length};
 ghost use Rattle.pw_wire.specs.Fields.{fields};
 ghost use Rattle.seg_core.specs.Steps.{Gives, each};
 ghost use Rattle.seg_core.specs.Message.{texts};
-ghost use Rattle.seg_core.specs.Entry.{as_entry_reading};
+ghost use Rattle.seg_core.specs.Entry.{as_entry_decoding};
 ghost use Rattle.seg_core.specs.EntryView.{entry_views};
 ghost use Rattle.seg_core.specs.WellFormed.{is_entry_count};
-ghost use Rattle.seg_core.specs.Segment.{segment_reading};
-ghost use Rattle.seg_core.specs.Spelling.{IsSegment};
+ghost use Rattle.seg_core.specs.Segment.{segment_decoding};
+ghost use Rattle.seg_core.specs.Encoding.{IsSegment};
 
 use crate::entry::{Entry, read_as_entry};
 use crate::error::SegError;
@@ -38,7 +38,7 @@ pub struct Segment {
 impl Model for Segment {
     ghost use Rattle.seg_core.specs.SegmentView.{SegmentView};
     ghost use Rattle.seg_core.specs.EntryView.{entry_views};
-    ghost use Rattle.seg_core.specs.Spelling.{IsSegment};
+    ghost use Rattle.seg_core.specs.Encoding.{IsSegment};
 
     ghost Value = { SegmentView };
 
@@ -96,7 +96,7 @@ impl Segment {
 
 /// Reads the entries of a segment, in order.
 fn read_entries(alloc: Global, messages: Texts<'_>) -> Result<Vec<Entry>, SegError>
-    ensures { Gives (λ v. entry_views v.items) result (each as_entry_reading (texts messages.entry.number (fields messages.entry.rest.now))) }
+    ensures { Gives (λ v. entry_views v.items) result (each as_entry_decoding (texts messages.entry.number (fields messages.entry.rest.now))) }
 {
     let mut entries = Vec::new(alloc);
     for message in messages {
@@ -120,9 +120,9 @@ fn is_entry_count(messages: Texts<'_>) -> bool
 }
 
 /// Reads a `PathSegment`, all of its bytes. It is refused as too large before anything in it is read.
-#[tactic(auto, unfolding(crate::specs::Segment::segment_reading))]
+#[tactic(auto, unfolding(crate::specs::Segment::segment_decoding))]
 pub fn read_segment(alloc: Global, message: &[u8]) -> Result<Segment, SegError>
-    ensures { Gives (λ s. s) result (segment_reading message.now) }
+    ensures { Gives (λ s. s) result (segment_decoding message.now) }
 {
     check(message.len() <= MOST_BYTES, SegError::TooLarge)?;
     let slots = slots_of(&PATH_SEGMENT, message)?;

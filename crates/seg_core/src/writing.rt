@@ -1,8 +1,8 @@
-//! Writing segments, in their one spelling.
+//! Writing segments, in their one encoding.
 
 ghost use Rattle.std.specs.Prelude.{◌≡◌, ◌<◌, ◌≤◌, ◌++◌, length, IfOk, OnOk};
 ghost use Rattle.seg_core.specs.EntryView.{entry_view, entry_views};
-ghost use Rattle.seg_core.specs.Spelling.{head_spelling, bytes_spelling, optional_spelling, signed_spelling, as_entry_spelling, entries_spelling, segment_spelling};
+ghost use Rattle.seg_core.specs.Encoding.{head_encoding, bytes_encoding, optional_encoding, signed_encoding, as_entry_encoding, entries_encoding, segment_encoding};
 
 use crate::entry::Entry;
 use crate::lengths::{entry_len, head_len, segment_len, signed_len};
@@ -14,10 +14,10 @@ use std::alloc::{AllocError, Global};
 pub(crate) const SLACK: usize = 20;
 
 /// Appends the tag of a field of bytes, and how many bytes it has.
-#[tactic(auto, unfolding(crate::specs::Spelling::head_spelling))]
+#[tactic(auto, unfolding(crate::specs::Encoding::head_encoding))]
 pub(crate) fn put_head(out: &mut Vec<u8>, number: u32, len: usize) -> Result<(), AllocError>
     requires { number < 15 }
-    ensures { OnOk result (out.new.items ≡ out.old.items ++ head_spelling number len) }
+    ensures { OnOk result (out.new.items ≡ out.old.items ++ head_encoding number len) }
 {
     put_varint(out, u64::from(number) * 8 + 2)?;
     put_varint(out, len as u64)
@@ -27,7 +27,7 @@ pub(crate) fn put_head(out: &mut Vec<u8>, number: u32, len: usize) -> Result<(),
 fn put_bytes(out: &mut Vec<u8>, number: u32, bytes: &[u8]) -> Result<(), AllocError>
     requires positive { 1 ≤ number }
     requires below { number < 15 }
-    ensures { OnOk result (out.new.items ≡ out.old.items ++ bytes_spelling number bytes.now) }
+    ensures { OnOk result (out.new.items ≡ out.old.items ++ bytes_encoding number bytes.now) }
 {
     if bytes.is_empty() {
         return Ok(());
@@ -37,7 +37,7 @@ fn put_bytes(out: &mut Vec<u8>, number: u32, bytes: &[u8]) -> Result<(), AllocEr
 
 /// Appends an entry's signed message.
 fn put_signed(out: &mut Vec<u8>, entry: &Entry) -> Result<(), AllocError>
-    ensures { OnOk result (out.new.items ≡ out.old.items ++ signed_spelling (entry_view entry.now)) }
+    ensures { OnOk result (out.new.items ≡ out.old.items ++ signed_encoding (entry_view entry.now)) }
 {
     put_bytes(out, 1, &entry.signed)?;
     put_bytes(out, 2, &entry.signature)
@@ -45,7 +45,7 @@ fn put_signed(out: &mut Vec<u8>, entry: &Entry) -> Result<(), AllocError>
 
 /// Appends what an entry has that is not signed, where it is there.
 fn put_unsigned(out: &mut Vec<u8>, entry: &Entry) -> Result<(), AllocError>
-    ensures { OnOk result (out.new.items ≡ out.old.items ++ optional_spelling 2 (entry_view entry.now).unsigned) }
+    ensures { OnOk result (out.new.items ≡ out.old.items ++ optional_encoding 2 (entry_view entry.now).unsigned) }
 {
     match &entry.unsigned {
         None => Ok(()),
@@ -55,8 +55,8 @@ fn put_unsigned(out: &mut Vec<u8>, entry: &Entry) -> Result<(), AllocError>
 
 /// Appends an entry.
 fn put_entry(out: &mut Vec<u8>, entry: &Entry) -> Result<(), AllocError>
-    requires { length (as_entry_spelling (entry_view entry.now)) ≤ 16384 }
-    ensures { OnOk result (out.new.items ≡ out.old.items ++ as_entry_spelling (entry_view entry.now)) }
+    requires { length (as_entry_encoding (entry_view entry.now)) ≤ 16384 }
+    ensures { OnOk result (out.new.items ≡ out.old.items ++ as_entry_encoding (entry_view entry.now)) }
 {
     put_head(out, 1, signed_len(entry))?;
     put_signed(out, entry)?;
@@ -65,8 +65,8 @@ fn put_entry(out: &mut Vec<u8>, entry: &Entry) -> Result<(), AllocError>
 
 /// Appends a segment's entries, each behind its tag and its length.
 fn put_entries(out: &mut Vec<u8>, entries: &[Entry]) -> Result<(), AllocError>
-    requires { length (entries_spelling (entry_views entries.now)) ≤ 16384 }
-    ensures { OnOk result (out.new.items ≡ out.old.items ++ entries_spelling (entry_views entries.now)) }
+    requires { length (entries_encoding (entry_views entries.now)) ≤ 16384 }
+    ensures { OnOk result (out.new.items ≡ out.old.items ++ entries_encoding (entry_views entries.now)) }
 {
     for entry in entries {
         put_head(out, 2, entry_len(entry))?;
@@ -77,15 +77,15 @@ fn put_entries(out: &mut Vec<u8>, entries: &[Entry]) -> Result<(), AllocError>
 
 /// Appends a segment.
 pub(crate) fn put_segment(out: &mut Vec<u8>, segment: &Segment) -> Result<(), AllocError>
-    ensures { OnOk result (out.new.items ≡ out.old.items ++ segment_spelling segment.now) }
+    ensures { OnOk result (out.new.items ≡ out.old.items ++ segment_encoding segment.now) }
 {
     put_bytes(out, 1, segment.info())?;
     put_entries(out, segment.entries())
 }
 
-/// The bytes of a `PathSegment`, in its one spelling, which `read_segment` reads as that segment again.
+/// The bytes of a `PathSegment`, in its one encoding, which `read_segment` reads as that segment again.
 pub fn write_segment(alloc: Global, segment: &Segment) -> Result<Vec<u8>, AllocError>
-    ensures { IfOk result (λ v. v.items ≡ segment_spelling segment.now) }
+    ensures { IfOk result (λ v. v.items ≡ segment_encoding segment.now) }
 {
     let mut out = Vec::with_capacity(alloc, segment_len(segment) + SLACK)?;
     put_segment(&mut out, segment)?;

@@ -1,7 +1,7 @@
 use Rattle.std.proofs.Common.{take, sym, ap, ◌∙◌, arith}
 use Rattle.std.specs.List.{filter}
 use Rattle.std.proofs.lemmas.List.{take-map, length-map}
-use Rattle.seg_core.specs.Spelling.{referred}
+use Rattle.seg_core.specs.Encoding.{referred}
 use Rattle.pathd.specs.Lookup.{matches}
 use Rattle.pathd.specs.Query.{query_view}
 use Rattle.pathd.specs.Row.{row_view}

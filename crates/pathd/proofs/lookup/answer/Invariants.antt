@@ -1,6 +1,6 @@
 use Rattle.std.proofs.Common.{◌≡◌, ◌≤◌, length, take}
 use Rattle.std.specs.List.{AllByRecursion, filter}
-use Rattle.seg_core.specs.Spelling.{IsSegment, referred}
+use Rattle.seg_core.specs.Encoding.{IsSegment, referred}
 use Rattle.pathd.specs.Lookup.{matches}
 use Rattle.pathd.specs.Query.{query_view}
 use Rattle.pathd.specs.Row.{row_views}

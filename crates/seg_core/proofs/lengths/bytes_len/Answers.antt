@@ -1,5 +1,5 @@
 use Rattle.std.proofs.Common.{◌∙◌, refl, sym, ap, length}
-use Rattle.seg_core.proofs.SpelledLengths.{bytes-some}
+use Rattle.seg_core.proofs.EncodedLengths.{bytes-some}
 use Rattle.seg_core.proofs.lengths.bytes_len.Goals as goal
 
 pub returns : goal.returns

@@ -1,7 +1,7 @@
 use Rattle.std.proofs.Common.{sym, arith}
 use Rattle.seg_core.specs.EntryView.{entry_view}
-use Rattle.seg_core.specs.Spelling.{signed_spelling}
-use Rattle.seg_core.proofs.SpelledLengths.{entry-parts}
+use Rattle.seg_core.specs.Encoding.{signed_encoding}
+use Rattle.seg_core.proofs.EncodedLengths.{entry-parts}
 use Rattle.seg_core.proofs.lengths.entry_len.Goals as goal
 
 pub signed_len-signed-requires : goal.signed_len-signed-requires
@@ -16,4 +16,4 @@ overflow_add-result-2 c = omega (arith, entry-parts (entry_view c.args.entry.now
 pub returns : goal.returns
 returns c =
     let e = entry_view c.args.entry.now in
-    omega (arith, entry-parts e, c.head_len.ensures.exact 1 (signed_spelling e) (omega arith) (sym c.signed_len-signed.ensures))
+    omega (arith, entry-parts e, c.head_len.ensures.exact 1 (signed_encoding e) (omega arith) (sym c.signed_len-signed.ensures))

@@ -1,6 +1,6 @@
 use Rattle.std.proofs.Common.{arith}
 use Rattle.seg_core.specs.EntryView.{entry_view}
-use Rattle.seg_core.proofs.SpelledLengths.{entry-parts}
+use Rattle.seg_core.proofs.EncodedLengths.{entry-parts}
 use Rattle.seg_core.proofs.lengths.signed_len.Goals as goal
 
 pub bytes_len-requires : goal.bytes_len-requires

@@ -1,5 +1,5 @@
 use Rattle.std.proofs.Common.{arith}
-use Rattle.seg_core.proofs.SpelledLengths.{varint-length-step, varint-length-last, varint-length-most}
+use Rattle.seg_core.proofs.EncodedLengths.{varint-length-step, varint-length-last, varint-length-most}
 use Rattle.seg_core.proofs.lengths.varint_len.Goals as goal
 
 pub overflow_add-len : goal.overflow_add-len

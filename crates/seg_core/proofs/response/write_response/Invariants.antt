@@ -1,5 +1,5 @@
 use Rattle.std.proofs.Common.{◌≡◌, take}
-use Rattle.seg_core.specs.Spelling.{referred}
+use Rattle.seg_core.specs.Encoding.{referred}
 use Rattle.seg_core.proofs.response.write_response.Given as goal
 
 abbrev pub invariant-loop-kind : goal.invariant-loop-kind

@@ -1,13 +1,13 @@
 use Rattle.std.proofs.Common.{rules}
 use Rattle.seg_core.specs.EntryView.{entry_views}
-use Rattle.seg_core.specs.Segment.{segment_reading}
-use Rattle.seg_core.proofs.Laws.{reading-IsSegment}
+use Rattle.seg_core.specs.Segment.{segment_decoding}
+use Rattle.seg_core.proofs.Laws.{decoding-IsSegment}
 use Rattle.seg_core.proofs.segment.read_segment.Goals as goal
 
 pub invariant_of-result : goal.invariant_of-result
-unfolding segment_reading
+unfolding segment_decoding
 invariant_of-result c =
-    reading-IsSegment c.args.message.now
+    decoding-IsSegment c.args.message.now
     (record {
       timestamp = c.in_ok-info.info.timestamp;
       segment_id = c.in_ok-info.info.segment_id;

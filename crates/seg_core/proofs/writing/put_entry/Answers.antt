@@ -1,7 +1,7 @@
 use Rattle.std.proofs.Common.{arith}
 use Rattle.std.proofs.lemmas.Result.{on_ok_weaker}
 use Rattle.seg_core.specs.EntryView.{entry_view}
-use Rattle.seg_core.proofs.SpelledLengths.{entry-parts}
+use Rattle.seg_core.proofs.EncodedLengths.{entry-parts}
 use Rattle.seg_core.proofs.Written.{entry-put}
 use Rattle.seg_core.proofs.writing.put_entry.Goals as goal
 

@@ -1,15 +1,15 @@
 use Rattle.std.proofs.Common.{◌≤◌, length, arith}
 use Rattle.std.proofs.lemmas.Result.{on_ok_weaker}
 use Rattle.seg_core.specs.EntryView.{entry_views}
-use Rattle.seg_core.specs.Spelling.{segment_spelling}
-use Rattle.seg_core.proofs.SpelledFields.{segment-length}
+use Rattle.seg_core.specs.Encoding.{segment_encoding}
+use Rattle.seg_core.proofs.EncodedFields.{segment-length}
 use Rattle.seg_core.proofs.Written.{segment-put}
 use Rattle.seg_core.proofs.writing.put_segment.Goals as goal
 
 pub put_entries-requires : goal.put_entries-requires
 put_entries-requires c =
     let s = c.args.segment.now in
-    let short : length (segment_spelling s) ≤ 16384 = c.entries.ensures.whole.short in
+    let short : length (segment_encoding s) ≤ 16384 = c.entries.ensures.whole.short in
     rw c.entries.ensures.same (omega (arith, segment-length s))
 
 pub returns : goal.returns

@@ -1,46 +1,46 @@
--- The one spelling of a segment and of a response: fields by number, numbers in the shortest varints, zero numbers
+-- The one encoding of a segment and of a response: fields by number, numbers in the shortest varints, zero numbers
 -- and empty bytes left out. What is kept of an entry is written as it came.
 use Rattle.std.specs.Prelude.{◌≡◌, ℕ, ◌+◌, ◌*◌, ◌≤◌, List, [], ◌∷◌, ◌++◌, length, map, filter, ◌==◌, IsTrue, Ok, Option, Some, None}
 use Rattle.std.specs.List.{flat_map, AllByRecursion}
 use Rattle.std.specs.Borrow.{Bor}
-use Rattle.pw_wire.specs.Varint.{varint_spelling}
-use Rattle.pw_wire.specs.Field.{varint_field_spelling, bytes_field_spelling}
+use Rattle.pw_wire.specs.Varint.{varint_encoding}
+use Rattle.pw_wire.specs.Field.{varint_field_encoding, bytes_field_encoding}
 use Rattle.seg_core.specs.declared.body.Body.{Body}
 use Rattle.seg_core.specs.declared.seg_type.SegType.{SegType}
 use Rattle.seg_core.specs.declared.seg_type.SegType.TheVariants.{Up, Down, Core}
 use Rattle.seg_core.specs.SegmentView.{EntryView, SegmentView}
-use Rattle.seg_core.specs.Entry.{header_and_body_reading}
-use Rattle.seg_core.specs.Segment.{info_reading}
+use Rattle.seg_core.specs.Entry.{header_and_body_decoding}
+use Rattle.seg_core.specs.Segment.{info_decoding}
 use Rattle.seg_core.specs.Registration.{type_number, rows_of}
 use Rattle.seg_core.specs.WellFormed.{is_entry_count, is_chain, has_no_loop}
 
 -- what stands before the bytes of a field: its tag, and how many bytes it has
-unfoldable pub head_spelling : ℕ → ℕ → List ℕ
-head_spelling k len = varint_spelling (k * 8 + 2) ++ varint_spelling len
+unfoldable pub head_encoding : ℕ → ℕ → List ℕ
+head_encoding k len = varint_encoding (k * 8 + 2) ++ varint_encoding len
 
 -- bytes, left out where they are empty
-abbrev pub bytes_spelling : ℕ → List ℕ → List ℕ
-bytes_spelling k [] = []
-bytes_spelling k (b ∷ bytes) = bytes_field_spelling k (b ∷ bytes)
+abbrev pub bytes_encoding : ℕ → List ℕ → List ℕ
+bytes_encoding k [] = []
+bytes_encoding k (b ∷ bytes) = bytes_field_encoding k (b ∷ bytes)
 
 -- a message that may be missing, written where it is there, even when it is empty
-abbrev pub optional_spelling : ℕ → Option (List ℕ) → List ℕ
-optional_spelling k None = []
-optional_spelling k (Some message) = bytes_field_spelling k message
+abbrev pub optional_encoding : ℕ → Option (List ℕ) → List ℕ
+optional_encoding k None = []
+optional_encoding k (Some message) = bytes_field_encoding k message
 
 -- a signed message
-abbrev pub signed_spelling : EntryView → List ℕ
-signed_spelling e = bytes_spelling 1 e.signed ++ bytes_spelling 2 e.signature
+abbrev pub signed_encoding : EntryView → List ℕ
+signed_encoding e = bytes_encoding 1 e.signed ++ bytes_encoding 2 e.signature
 
 -- the entry of one AS
-abbrev pub as_entry_spelling : EntryView → List ℕ
-as_entry_spelling e = bytes_field_spelling 1 (signed_spelling e) ++ optional_spelling 2 e.unsigned
+abbrev pub as_entry_encoding : EntryView → List ℕ
+as_entry_encoding e = bytes_field_encoding 1 (signed_encoding e) ++ optional_encoding 2 e.unsigned
 
-abbrev pub entries_spelling : List EntryView → List ℕ
-entries_spelling es = flat_map (λ e. bytes_field_spelling 2 (as_entry_spelling e)) es
+abbrev pub entries_encoding : List EntryView → List ℕ
+entries_encoding es = flat_map (λ e. bytes_field_encoding 2 (as_entry_encoding e)) es
 
-unfoldable pub segment_spelling : SegmentView → List ℕ
-segment_spelling s = bytes_spelling 1 s.info ++ entries_spelling s.entries
+unfoldable pub segment_encoding : SegmentView → List ℕ
+segment_encoding s = bytes_encoding 1 s.info ++ entries_encoding s.entries
 
 -- what the body of an entry says
 abbrev pub body_of : EntryView → Body
@@ -48,17 +48,17 @@ body_of e = record { ia = e.ia; next = e.next; hop = record { ingress = e.ingres
 
 -- an entry whose numbers are those of its signed body
 abbrev pub IsEntry : EntryView → Type 0
-IsEntry e = header_and_body_reading e.signed ≡ Ok (body_of e)
+IsEntry e = header_and_body_decoding e.signed ≡ Ok (body_of e)
 
--- What every segment is: its numbers are those of its bytes, its entries are 1 to 64 and one path, and its spelling
+-- What every segment is: its numbers are those of its bytes, its entries are 1 to 64 and one path, and its encoding
 -- has at most 16,384 bytes.
 pub record IsSegment (s : SegmentView) : Type 0 where
-  pub info_says : info_reading s.info ≡ Ok (record { timestamp = s.timestamp; segment_id = s.segment_id })
+  pub info_says : info_decoding s.info ≡ Ok (record { timestamp = s.timestamp; segment_id = s.segment_id })
   pub entries_say : AllByRecursion IsEntry s.entries
   pub counted : IsTrue (is_entry_count (length s.entries))
   pub chain : IsTrue (is_chain s.entries)
   pub no_loop : IsTrue (has_no_loop s.entries)
-  pub short : length (segment_spelling s) ≤ 16384
+  pub short : length (segment_encoding s) ≤ 16384
 
 -- ---- a response
 
@@ -67,23 +67,23 @@ abbrev pub referred : List (SegType × Bor SegmentView) → List (SegType × Seg
 referred rows = map (λ row. (row.0, row.1.now)) rows
 
 -- `Segments`: segments one after the other
-abbrev pub segments_spelling : List SegmentView → List ℕ
-segments_spelling segments = flat_map (λ s. bytes_field_spelling 1 (segment_spelling s)) segments
+abbrev pub segments_encoding : List SegmentView → List ℕ
+segments_encoding segments = flat_map (λ s. bytes_field_encoding 1 (segment_encoding s)) segments
 
 -- the segments of one type, in their order
 abbrev pub of_type : SegType → List (SegType × SegmentView) → List SegmentView
 of_type kind rows = map (λ row. row.1) (filter (λ row. type_number row.0 == type_number kind) rows)
 
 -- an entry of the map, for a type that has segments
-abbrev pub map_entry_spelling : SegType → List SegmentView → List ℕ
-map_entry_spelling kind [] = []
-map_entry_spelling kind (s ∷ segments) =
-    bytes_field_spelling 1 (varint_field_spelling 1 (type_number kind) ++ bytes_field_spelling 2 (segments_spelling (s ∷ segments)))
+abbrev pub map_entry_encoding : SegType → List SegmentView → List ℕ
+map_entry_encoding kind [] = []
+map_entry_encoding kind (s ∷ segments) =
+    bytes_field_encoding 1 (varint_field_encoding 1 (type_number kind) ++ bytes_field_encoding 2 (segments_encoding (s ∷ segments)))
 
 -- a map with an entry for each type that has segments, by type number
-unfoldable pub response_spelling : List (SegType × SegmentView) → List ℕ
-response_spelling rows =
-    map_entry_spelling Up (of_type Up rows) ++ (map_entry_spelling Down (of_type Down rows) ++ map_entry_spelling Core (of_type Core rows))
+unfoldable pub response_encoding : List (SegType × SegmentView) → List ℕ
+response_encoding rows =
+    map_entry_encoding Up (of_type Up rows) ++ (map_entry_encoding Down (of_type Down rows) ++ map_entry_encoding Core (of_type Core rows))
 
 -- all segments, by type number, and of one type in their order
 abbrev pub by_type : List (SegType × SegmentView) → List (SegType × SegmentView)

@@ -1,5 +1,5 @@
 use Rattle.pw_wire.proofs.Messages.{fields-varint_field, fault-varint_field, fields-bytes_field, fault-bytes_field}
-use Rattle.pw_wire.proofs.laws.spelled_fields.Goals as goal
+use Rattle.pw_wire.proofs.laws.encoded_fields.Goals as goal
 
 pub returns-clause-varint : goal.returns-clause-varint
 returns-clause-varint c = λ k n positive below fits rest. (fields-varint_field k n rest positive below fits, fault-varint_field k n rest positive below fits)
