@@ -1,5 +1,5 @@
 -- A field is read as its number and value, and what is read is one: both ways, for the fault too.
-use Rattle.std.proofs.Common.{◌≡◌, ◌≢◌, ℕ, zero, suc, ◌+◌, ◌*◌, ◌/◌, ◌%◌, ◌-◌, ◌^◌, ◌<◌, ◌≤◌, ◌⊎◌, Bool, true, false, cond, eqb, ltb, List, [], ◌∷◌, ◌++◌, length, take, drop, Result, Ok, Err, refl, sym, ap, subst, ◌∙◌, append_assoc, arith, inl, inr}
+use Rattle.std.proofs.Common.{◌≡◌, ◌≢◌, ℕ, zero, suc, ◌+◌, ◌*◌, ◌/◌, ◌%◌, ◌-◌, ◌^◌, ◌<◌, ◌≤◌, ◌⊎◌, Bool, true, false, cond, eqb, ltb, List, [], ◌++◌, length, take, drop, Result, Ok, Err, refl, sym, ap, subst, ◌∙◌, append_assoc, arith, inl, inr}
 use Rattle.std.specs.Int.{w32, w64, from_le_bytes}
 use Rattle.std.proofs.lemmas.Bool.{cases_lt, ltb-true, ltb-false, lt-ltb, le-ltb, ne_eqb}
 use Rattle.std.proofs.Math.Seq.{take-add}
@@ -7,9 +7,9 @@ use Rattle.std.proofs.lemmas.List.{take_at, drop_at, take-append-drop, length-ap
 use Rattle.pw_wire.specs.declared.error.WireError.{WireError}
 use Rattle.pw_wire.specs.declared.error.WireError.TheVariants.{Truncated, LongVarint, BadField, GroupWire, BadWire}
 use Rattle.pw_wire.specs.Decoding.{◌>>=◌, IsBytes}
-use Rattle.pw_wire.specs.Varint.{IsVarint, BeginsWithVarint, varint_within, varint_at}
+use Rattle.pw_wire.specs.Varint.{IsVarint, BeginsWithVarint, varint_at}
 use Rattle.pw_wire.specs.Field.{FieldValue, Varint, Fixed64, Bytes, Fixed32, FieldView, wire_type, IsValue, IsField, HasNumber, IsTagFault, IsValueFault, in_varint, in_fixed64, in_length, in_bytes, in_fixed32, IsFieldFault, in_tag, at_tag, in_value, fixed64_at, fixed32_at, bytes_at, number_at, value_at, field_behind, field_at}
-use Rattle.pw_wire.proofs.Places.{within-nil, within-last, within-goes_on, within-tenth, within-too_long}
+use Rattle.pw_wire.proofs.FieldSizes.{value_size, field_size, small_took}
 use Rattle.pw_wire.proofs.Varints.{bind_ok, bind_err, ok_is, err_is, varint_again, within_took, varint_fault, varint_fault_again}
 
 -- ---- the front
@@ -26,8 +26,8 @@ pub record ReadVarint (bytes : List ℕ) (n k : ℕ) : Type 0 where
 
 pub read_varint_is : (bytes : List ℕ) (n k : ℕ) → IsBytes bytes → varint_at bytes ≡ Ok (n, k) → ReadVarint bytes n k
 read_varint_is bytes n k fits e =
-    let took = within_took 9 bytes (n, k) fits e in
-    let is : IsVarint (take k bytes) n = record { encoded = took.encoded; short = omega (arith, length-take-le k bytes took.within, took.short); fits = took.fits } in
+    let took = within_took 9 bytes (n, k) e in
+    let is : IsVarint (take k bytes) n = record { encoded = took.encoded fits; short = omega (arith, length-take-le k bytes took.within, took.short); fits = took.fits fits } in
     record { begins = record { front = take k bytes; varint = is; parts = sym (take-append-drop k bytes) }; is_front = is; positive = took.positive; within = took.within }
 
 -- bytes that begin with a varint are read so
@@ -98,53 +98,58 @@ value_again (Fixed32 n) content rest is =
     let long : ltb (length (content ++ rest)) 4 ≡ false = le-ltb _ _ (omega (arith, length-append content rest, is.0)) in
     value-5 (content ++ rest) ∙ rw (long, take_at content rest 4 is.0, ← is.1, is.0) refl
 
--- a value that was read stands at the front
+-- a value that was read stands at the front, and bytes are no shorter than in their shortest encoding
 pub record TookValue (kind : ℕ) (bytes : List ℕ) (value : FieldValue) (len : ℕ) : Type 0 where
-  pub is : IsValue (take len bytes) value
+  pub is : IsBytes bytes → IsValue (take len bytes) value
   pub kind_is : kind ≡ wire_type value
   pub within : len ≤ length bytes
+  pub size : length bytes ≤ 16384 → value_size value ≤ len
 
 fixed64_took : (bytes : List ℕ) (found : FieldValue × ℕ) → fixed64_at bytes ≡ Ok found → TookValue 1 bytes found.0 found.1
 fixed64_took bytes found e =
     let g = guard_ok (ltb (length bytes) 8) Truncated (Fixed64 (from_le_bytes w64 (take 8 bytes)), 8) found e in
     let within : 8 ≤ length bytes = ltb-false _ _ g.0 in
-    subst (λ (p : FieldValue × ℕ). TookValue 1 bytes p.0 p.1) g.1 (record { is = (length-take-le 8 bytes within, refl); kind_is = refl; within = within })
+    subst (λ (p : FieldValue × ℕ). TookValue 1 bytes p.0 p.1) g.1 (record { is = λ fits. (length-take-le 8 bytes within, refl); kind_is = refl; within = within; size = λ le. omega arith })
 
 fixed32_took : (bytes : List ℕ) (found : FieldValue × ℕ) → fixed32_at bytes ≡ Ok found → TookValue 5 bytes found.0 found.1
 fixed32_took bytes found e =
     let g = guard_ok (ltb (length bytes) 4) Truncated (Fixed32 (from_le_bytes w32 (take 4 bytes)), 4) found e in
     let within : 4 ≤ length bytes = ltb-false _ _ g.0 in
-    subst (λ (p : FieldValue × ℕ). TookValue 5 bytes p.0 p.1) g.1 (record { is = (length-take-le 4 bytes within, refl); kind_is = refl; within = within })
+    subst (λ (p : FieldValue × ℕ). TookValue 5 bytes p.0 p.1) g.1 (record { is = λ fits. (length-take-le 4 bytes within, refl); kind_is = refl; within = within; size = λ le. omega arith })
 
-number_took : (bytes : List ℕ) (found : FieldValue × ℕ) → IsBytes bytes → number_at bytes ≡ Ok found → TookValue 0 bytes found.0 found.1
+number_took : (bytes : List ℕ) (found : FieldValue × ℕ) → number_at bytes ≡ Ok found → TookValue 0 bytes found.0 found.1
 unfolding number_at
-number_took bytes found fits e =
+number_took bytes found e =
     let h = bind_ok (varint_at bytes) (λ n. Ok (Varint n.0, n.1)) found e in
-    let read = read_varint_is bytes h.0.0 h.0.1 fits h.1 in
-    subst (λ (p : FieldValue × ℕ). TookValue 0 bytes p.0 p.1) (ok_is (Varint h.0.0, h.0.1) found h.2) (record { is = read.is_front; kind_is = refl; within = read.within })
+    subst (λ (p : FieldValue × ℕ). TookValue 0 bytes p.0 p.1) (ok_is (Varint h.0.0, h.0.1) found h.2)
+    (record { is = λ fits. (read_varint_is bytes h.0.0 h.0.1 fits h.1).is_front; kind_is = refl; within = (within_took 9 bytes h.0 h.1).within; size = λ le. omega arith })
 
-bytes_took : (bytes : List ℕ) (found : FieldValue × ℕ) → IsBytes bytes → bytes_at bytes ≡ Ok found → TookValue 2 bytes found.0 found.1
+bytes_took : (bytes : List ℕ) (found : FieldValue × ℕ) → bytes_at bytes ≡ Ok found → TookValue 2 bytes found.0 found.1
 unfolding bytes_at
-bytes_took bytes found fits e =
+bytes_took bytes found e =
     let h = bind_ok (varint_at bytes) (λ len. cond (ltb (length (drop len.1 bytes)) len.0) (Err Truncated) (Ok (Bytes (take len.0 (drop len.1 bytes)), len.1 + len.0))) found e in
     let n = h.0.0 in
     let k = h.0.1 in
-    let read = read_varint_is bytes n k fits h.1 in
+    let took = within_took 9 bytes h.0 h.1 in
     let g = guard_ok (ltb (length (drop k bytes)) n) Truncated (Bytes (take n (drop k bytes)), k + n) found h.2 in
     let room : n ≤ length (drop k bytes) = ltb-false _ _ g.0 in
     let len : length (take n (drop k bytes)) ≡ n = length-take-le n (drop k bytes) room in
-    let is : BeginsWithVarint (take (k + n) bytes) (length (take n (drop k bytes))) (take n (drop k bytes)) =
-    record { front = take k bytes; varint = subst (IsVarint (take k bytes)) (sym len) read.is_front; parts = take-add k n bytes } in
-    subst (λ (p : FieldValue × ℕ). TookValue 2 bytes p.0 p.1) g.1 (record { is = is; kind_is = refl; within = omega (arith, length-drop k bytes, read.within) })
+    let rest : length (drop k bytes) ≡ length bytes - k = length-drop k bytes in
+    let within : k ≤ length bytes = took.within in
+    let positive : 1 ≤ k = took.positive in
+    let is : IsBytes bytes → BeginsWithVarint (take (k + n) bytes) (length (take n (drop k bytes))) (take n (drop k bytes)) =
+    λ fits. record { front = take k bytes; varint = subst (IsVarint (take k bytes)) (sym len) (read_varint_is bytes n k fits h.1).is_front; parts = take-add k n bytes } in
+    let size : length bytes ≤ 16384 → value_size (Bytes (take n (drop k bytes))) ≤ k + n = λ le. rw len (omega (arith, small_took bytes n k h.1 (omega arith))) in
+    subst (λ (p : FieldValue × ℕ). TookValue 2 bytes p.0 p.1) g.1 (record { is = is; kind_is = refl; within = omega arith; size = size })
 
-pub value_took : (kind : ℕ) (bytes : List ℕ) (found : FieldValue × ℕ) → IsBytes bytes → value_at kind bytes ≡ Ok found → TookValue kind bytes found.0 found.1
-value_took zero bytes found fits e = number_took bytes found fits (sym (value-0 bytes) ∙ e)
-value_took (suc zero) bytes found fits e = fixed64_took bytes found (sym (value-1 bytes) ∙ e)
-value_took (suc (suc zero)) bytes found fits e = bytes_took bytes found fits (sym (value-2 bytes) ∙ e)
-value_took (suc (suc (suc zero))) bytes found fits e = absurd (let bad = value-3 bytes in cc)
-value_took (suc (suc (suc (suc zero)))) bytes found fits e = absurd (let bad = value-4 bytes in cc)
-value_took (suc (suc (suc (suc (suc zero))))) bytes found fits e = fixed32_took bytes found (sym (value-5 bytes) ∙ e)
-value_took (suc (suc (suc (suc (suc (suc k)))))) bytes found fits e = absurd (let bad = value-unknown (suc (suc (suc (suc (suc (suc k)))))) bytes (omega arith) in cc)
+pub value_took : (kind : ℕ) (bytes : List ℕ) (found : FieldValue × ℕ) → value_at kind bytes ≡ Ok found → TookValue kind bytes found.0 found.1
+value_took zero bytes found e = number_took bytes found (sym (value-0 bytes) ∙ e)
+value_took (suc zero) bytes found e = fixed64_took bytes found (sym (value-1 bytes) ∙ e)
+value_took (suc (suc zero)) bytes found e = bytes_took bytes found (sym (value-2 bytes) ∙ e)
+value_took (suc (suc (suc zero))) bytes found e = absurd (let bad = value-3 bytes in cc)
+value_took (suc (suc (suc (suc zero)))) bytes found e = absurd (let bad = value-4 bytes in cc)
+value_took (suc (suc (suc (suc (suc zero))))) bytes found e = fixed32_took bytes found (sym (value-5 bytes) ∙ e)
+value_took (suc (suc (suc (suc (suc (suc k)))))) bytes found e = absurd (let bad = value-unknown (suc (suc (suc (suc (suc (suc k)))))) bytes (omega arith) in cc)
 
 -- what is wrong with a kind that is neither a number nor bytes
 abbrev pub IsKindFault : ℕ → WireError → Type 0
@@ -272,8 +277,8 @@ field_again bytes number value len is =
     (field_of_parts bytes (is.content ++ is.rest) (number * 8 + wire_type value) (length is.tag) number (length is.content) value read value_is (omega arith))
 
 -- a tag and a value that were read make a field
-made_field : (bytes : List ℕ) (tag k : ℕ) (value : FieldValue) (m : ℕ) → ReadVarint bytes tag k → HasNumber tag → TookValue (tag % 8) (drop k bytes) value m → IsField bytes (tag / 8) value (k + m)
-made_field bytes tag k value m read good took =
+made_field : (bytes : List ℕ) (tag k : ℕ) (value : FieldValue) (m : ℕ) → IsBytes bytes → ReadVarint bytes tag k → HasNumber tag → TookValue (tag % 8) (drop k bytes) value m → IsField bytes (tag / 8) value (k + m)
+made_field bytes tag k value m fits read good took =
     let tag_is : tag ≡ tag / 8 * 8 + wire_type value = omega (arith, took.kind_is) in
     record {
       tag = take k bytes;
@@ -284,31 +289,42 @@ made_field bytes tag k value m read good took =
       positive = omega (arith, good.0);
       below = omega (arith, good.1);
       tag_is = subst (IsVarint (take k bytes)) tag_is read.is_front;
-      content_is = took.is;
+      content_is = took.is (rest_fits k bytes fits);
     }
 
--- a field of this length within the bytes
-abbrev pub HoldsField : List ℕ → FieldView → ℕ → Type 0
-HoldsField bytes f len = IsField bytes f.number f.value len × (1 ≤ len) × (len ≤ length bytes)
+-- a field that was read stands at the front, and takes no fewer bytes than a field like it does
+pub record TookField (bytes : List ℕ) (found : FieldView × ℕ) : Type 0 where
+  pub is : IsBytes bytes → IsField bytes found.0.number found.0.value found.1
+  pub positive : 1 ≤ found.1
+  pub within : found.1 ≤ length bytes
+  pub size : length bytes ≤ 16384 → field_size found.0 ≤ found.1
 
-field_of_decoding : (bytes : List ℕ) (found result : FieldView × ℕ) → HoldsField bytes found.0 found.1 → found ≡ result → HoldsField bytes result.0 result.1
-field_of_decoding bytes found result holds same = subst (λ (p : FieldView × ℕ). HoldsField bytes p.0 p.1) same holds
+took_same : (bytes : List ℕ) (found result : FieldView × ℕ) → TookField bytes found → found ≡ result → TookField bytes result
+took_same bytes found result took same = subst (TookField bytes) same took
 
 -- what was read is a field
-pub field_is : (bytes : List ℕ) (f : FieldView) (len : ℕ) → IsBytes bytes → field_at bytes ≡ Ok (f, len) → HoldsField bytes f len
+pub field_took : (bytes : List ℕ) (found : FieldView × ℕ) → field_at bytes ≡ Ok found → TookField bytes found
 unfolding field_at whole
-field_is bytes f len fits e =
-    let h = bind_ok (varint_at bytes) (λ tag. field_behind tag bytes) (f, len) e in
+field_took bytes found e =
+    let h = bind_ok (varint_at bytes) (λ tag. field_behind tag bytes) found e in
     let tag = h.0.0 in
     let k = h.0.1 in
-    let read = read_varint_is bytes tag k fits h.1 in
+    let front = within_took 9 bytes h.0 h.1 in
+    let positive : 1 ≤ k = front.positive in
+    let within : k ≤ length bytes = front.within in
     elim (tag_cases tag) [
       | inl bad ↦ absurd (let wrong = behind-bad (tag, k) bytes bad in let found = h.2 in cc)
       | inr good ↦
-          let b = bind_ok (value_at (tag % 8) (drop k bytes)) (whole (tag, k)) (f, len) (sym (behind-good (tag, k) bytes good) ∙ h.2) in
-          let took = value_took (tag % 8) (drop k bytes) b.0 (rest_fits k bytes fits) b.1 in
-          let short : k + b.0.1 ≤ length bytes = omega (arith, took.within, read.within, length-drop k bytes) in
-          field_of_decoding bytes (record { number = tag / 8; value = b.0.0 }, k + b.0.1) (f, len) (made_field bytes tag k b.0.0 b.0.1 read good took, omega (arith, read.positive), short) (ok_is (record { number = tag / 8; value = b.0.0 }, k + b.0.1) (f, len) b.2)
+          let b = bind_ok (value_at (tag % 8) (drop k bytes)) (whole (tag, k)) found (sym (behind-good (tag, k) bytes good) ∙ h.2) in
+          let value = value_took (tag % 8) (drop k bytes) b.0 b.1 in
+          let rest : length (drop k bytes) ≡ length bytes - k = length-drop k bytes in
+          let took : TookField bytes (record { number = tag / 8; value = b.0.0 }, k + b.0.1) = record {
+            is = λ fits. made_field bytes tag k b.0.0 b.0.1 fits (read_varint_is bytes tag k fits h.1) good value;
+            positive = omega arith;
+            within = omega (arith, value.within);
+            size = λ le. omega (arith, value.size (omega arith));
+          } in
+          took_same bytes (record { number = tag / 8; value = b.0.0 }, k + b.0.1) found took (ok_is (record { number = tag / 8; value = b.0.0 }, k + b.0.1) found b.2)
     ]
 
 -- a kind's fault is the tag's
@@ -355,41 +371,10 @@ fault_again bytes BadWire (at_tag tag rest begins h) =
 fault_again bytes d (in_value tag rest begins good h) =
     tagged_well bytes tag rest begins good ∙ ap (λ r. r >>= whole (tag, length begins.front)) (value_fails (tag % 8) rest d h)
 
--- a field takes at least one byte
-within_positive : (left : ℕ) (bytes : List ℕ) (found : ℕ × ℕ) → varint_within left bytes ≡ Ok found → 1 ≤ found.1
-within_positive left [] found e = absurd (let nil = within-nil left in cc)
-within_positive zero (b ∷ bytes) found e =
-    elim (cases_lt b 2) [
-      | inl lt ↦ subst (λ (p : ℕ × ℕ). 1 ≤ p.1) (ok_is (b, 1) found (sym (within-tenth b bytes lt) ∙ e)) (omega arith)
-      | inr le ↦ absurd (let long = within-too_long b bytes le in cc)
-    ]
-within_positive (suc left) (b ∷ bytes) found e =
-    elim (cases_lt b 128) [
-      | inl lt ↦ subst (λ (p : ℕ × ℕ). 1 ≤ p.1) (ok_is (b, 1) found (sym (within-last left b bytes lt) ∙ e)) (omega arith)
-      | inr le ↦
-          let h = bind_ok (varint_within left bytes) (λ high. Ok (b - 128 + 128 * high.0, suc high.1)) found (sym (within-goes_on left b bytes le) ∙ e) in
-          subst (λ (p : ℕ × ℕ). 1 ≤ p.1) (ok_is (b - 128 + 128 * h.0.0, suc h.0.1) found h.2) (omega arith)
-    ]
-
-positive_of : (found result : FieldView × ℕ) → 1 ≤ found.1 → found ≡ result → 1 ≤ result.1
-positive_of found result positive same = subst (λ (p : FieldView × ℕ). 1 ≤ p.1) same positive
-
-pub field_positive : (bytes : List ℕ) (found : FieldView × ℕ) → field_at bytes ≡ Ok found → 1 ≤ found.1
-unfolding field_at whole
-field_positive bytes found e =
-    let h = bind_ok (varint_at bytes) (λ tag. field_behind tag bytes) found e in
-    let positive = within_positive 9 bytes h.0 h.1 in
-    elim (tag_cases h.0.0) [
-      | inl bad ↦ absurd (let wrong = behind-bad h.0 bytes bad in let found = h.2 in cc)
-      | inr good ↦
-          let b = bind_ok (value_at (h.0.0 % 8) (drop h.0.1 bytes)) (whole h.0) found (sym (behind-good h.0 bytes good) ∙ h.2) in
-          positive_of (record { number = h.0.0 / 8; value = b.0.0 }, h.0.1 + b.0.1) found (omega (arith, positive)) (ok_is (record { number = h.0.0 / 8; value = b.0.0 }, h.0.1 + b.0.1) found b.2)
-    ]
-
 -- ---- exactly one
 
 by_reading : (bytes : List ℕ) → IsBytes bytes → bytes ≢ [] → (r : Result (FieldView × ℕ) WireError) → field_at bytes ≡ r → ((number : ℕ) × (value : FieldValue) × (len : ℕ) × IsField bytes number value len) ⊎ ((e : WireError) × IsFieldFault bytes e)
-by_reading bytes fits some (Ok found) e = inl (found.0.number, found.0.value, found.1, (field_is bytes found.0 found.1 fits e).0)
+by_reading bytes fits some (Ok found) e = inl (found.0.number, found.0.value, found.1, (field_took bytes found e).is fits)
 by_reading bytes fits some (Err d) e = inr (d, fault_is bytes d fits some e)
 
 -- bytes begin with a field, or a field's check fails there

@@ -1,6 +1,8 @@
+pub mod Exports
 pub mod Messages
 pub mod Places
 pub mod Encoding
 pub mod Varints
+pub mod FieldSizes
 pub mod FieldLemmas
 pub mod NextField

@@ -1,6 +1,8 @@
--- The fields and the fault of bytes that begin with a field.
-use Rattle.std.proofs.Common.{◌≡◌, ◌≢◌, ◌↔◌, ℕ, zero, suc, ◌+◌, ◌*◌, ◌^◌, ◌<◌, ◌≤◌, List, [], ◌∷◌, ◌++◌, length, drop, Option, Some, None, Result, Ok, Err, refl, sym, ap, subst, ◌∙◌, append_assoc, arith}
+-- The fields and the fault of bytes that begin with a field, and how long such bytes are.
+use Rattle.std.proofs.Common.{◌≡◌, ◌≢◌, ◌↔◌, ℕ, zero, suc, ◌+◌, ◌*◌, ◌-◌, ◌^◌, ◌<◌, ◌≤◌, List, [], ◌∷◌, ◌++◌, length, drop, Option, Some, None, Result, Ok, Err, refl, sym, ap, subst, ◌∙◌, append_assoc, arith}
+use Rattle.std.specs.List.{sum_by}
 use Rattle.std.proofs.lemmas.List.{length-append, length-drop, get_or-drop, drop_at}
+use Rattle.std.proofs.lemmas.List.Sums.{sum_by-cons}
 use Rattle.pw_wire.specs.declared.error.WireError.{WireError}
 use Rattle.pw_wire.specs.declared.error.WireError.TheVariants.{Truncated}
 use Rattle.pw_wire.specs.Decoding.{◌>>=◌, IsBytes}
@@ -9,7 +11,8 @@ use Rattle.pw_wire.specs.Field.{Varint, Bytes, FieldView, varint_field, bytes_fi
 use Rattle.pw_wire.specs.Fields.{AreFields, AreFieldsUntil, before, fault_or, fields_within, fault_within, fields, fault}
 use Rattle.pw_wire.proofs.Places.{within-nil}
 use Rattle.pw_wire.proofs.Varints.{varint_encoding_is}
-use Rattle.pw_wire.proofs.FieldLemmas.{begins_again, field_again, field_is, fault_again, fault_is, field_positive}
+use Rattle.pw_wire.proofs.FieldSizes.{field_size}
+use Rattle.pw_wire.proofs.FieldLemmas.{begins_again, field_again, TookField, field_took, fault_again, fault_is}
 
 -- ---- one step
 
@@ -51,7 +54,7 @@ fields_enough (suc m) zero (b ∷ bytes) le le' = absurd (omega arith)
 fields_enough (suc m) (suc k) [] le le' = refl
 fields_enough (suc m) (suc k) (b ∷ bytes) le le' =
     same_before (field_at (b ∷ bytes)) (λ n. fields_within m (drop n (b ∷ bytes))) (λ n. fields_within k (drop n (b ∷ bytes)))
-    (λ x e. let positive = field_positive (b ∷ bytes) x e in fields_enough m k (drop x.1 (b ∷ bytes)) (shorter b bytes x.1 m positive le) (shorter b bytes x.1 k positive le'))
+    (λ x e. let positive = (field_took (b ∷ bytes) x e).positive in fields_enough m k (drop x.1 (b ∷ bytes)) (shorter b bytes x.1 m positive le) (shorter b bytes x.1 k positive le'))
 
 fault_enough : (m k : ℕ) (bytes : List ℕ) → length bytes ≤ m → length bytes ≤ k → fault_within m bytes ≡ fault_within k bytes
 unfolding fault_within
@@ -63,7 +66,7 @@ fault_enough (suc m) zero (b ∷ bytes) le le' = absurd (omega arith)
 fault_enough (suc m) (suc k) [] le le' = refl
 fault_enough (suc m) (suc k) (b ∷ bytes) le le' =
     same_fault (field_at (b ∷ bytes)) (λ n. fault_within m (drop n (b ∷ bytes))) (λ n. fault_within k (drop n (b ∷ bytes)))
-    (λ x e. let positive = field_positive (b ∷ bytes) x e in fault_enough m k (drop x.1 (b ∷ bytes)) (shorter b bytes x.1 m positive le) (shorter b bytes x.1 k positive le'))
+    (λ x e. let positive = (field_took (b ∷ bytes) x e).positive in fault_enough m k (drop x.1 (b ∷ bytes)) (shorter b bytes x.1 m positive le) (shorter b bytes x.1 k positive le'))
 
 -- bytes that begin with a field have it, and then the fields behind it
 pub fields-read : (bytes : List ℕ) (f : FieldView) (n : ℕ) → field_at bytes ≡ Ok (f, n) → fields bytes ≡ f ∷ fields (drop n bytes)
@@ -71,14 +74,14 @@ unfolding fields fields_within
 fields-read [] f n e = absurd (let nil = nothing_read in cc)
 fields-read (b ∷ bytes) f n e =
     ap (λ r. before r (λ k. fields_within (length bytes) (drop k (b ∷ bytes)))) e
-    ∙ ap (λ fs. f ∷ fs) (fields_enough (length bytes) (length (drop n (b ∷ bytes))) (drop n (b ∷ bytes)) (shorter b bytes n (length bytes) (field_positive (b ∷ bytes) (f, n) e) (omega arith)) (omega arith))
+    ∙ ap (λ fs. f ∷ fs) (fields_enough (length bytes) (length (drop n (b ∷ bytes))) (drop n (b ∷ bytes)) (shorter b bytes n (length bytes) (field_took (b ∷ bytes) (f, n) e).positive (omega arith)) (omega arith))
 
 pub fault-read : (bytes : List ℕ) (f : FieldView) (n : ℕ) → field_at bytes ≡ Ok (f, n) → fault bytes ≡ fault (drop n bytes)
 unfolding fault fault_within
 fault-read [] f n e = absurd (let nil = nothing_read in cc)
 fault-read (b ∷ bytes) f n e =
     ap (λ r. fault_or r (λ k. fault_within (length bytes) (drop k (b ∷ bytes)))) e
-    ∙ fault_enough (length bytes) (length (drop n (b ∷ bytes))) (drop n (b ∷ bytes)) (shorter b bytes n (length bytes) (field_positive (b ∷ bytes) (f, n) e) (omega arith)) (omega arith)
+    ∙ fault_enough (length bytes) (length (drop n (b ∷ bytes))) (drop n (b ∷ bytes)) (shorter b bytes n (length bytes) (field_took (b ∷ bytes) (f, n) e).positive (omega arith)) (omega arith)
 
 -- bytes whose first field fails have no fields, and its fault
 pub fields-failed : (bytes : List ℕ) (d : WireError) → bytes ≢ [] → field_at bytes ≡ Err d → fields bytes ≡ []
@@ -113,11 +116,11 @@ reaches_read : (most b : ℕ) (bytes : List ℕ) → length (b ∷ bytes) ≤ su
     → ((rest : List ℕ) → length rest ≤ most → IsBytes rest → Reaches rest (fields rest) (fault rest))
     → (r : Result (FieldView × ℕ) WireError) → field_at (b ∷ bytes) ≡ r → Reaches (b ∷ bytes) (fields (b ∷ bytes)) (fault (b ∷ bytes))
 reaches_read most b bytes le fits later (Ok x) e =
-    let is = field_is (b ∷ bytes) x.0 x.1 fits e in
+    let took = field_took (b ∷ bytes) x e in
     let rest : List ℕ = drop x.1 (b ∷ bytes) in
-    let more = later rest (shorter b bytes x.1 most is.1 le) (rest_fits x.1 (b ∷ bytes) fits) in
+    let more = later rest (shorter b bytes x.1 most took.positive le) (rest_fits x.1 (b ∷ bytes) fits) in
     subst (λ (o : Option WireError). Reaches (b ∷ bytes) (fields (b ∷ bytes)) o) (sym (fault-read (b ∷ bytes) x.0 x.1 e))
-    (subst (λ (fs : List FieldView). Reaches (b ∷ bytes) fs (fault rest)) (sym (fields-read (b ∷ bytes) x.0 x.1 e)) (reaches_more (b ∷ bytes) x.0 x.1 (fields rest) (fault rest) is.0 more))
+    (subst (λ (fs : List FieldView). Reaches (b ∷ bytes) fs (fault rest)) (sym (fields-read (b ∷ bytes) x.0 x.1 e)) (reaches_more (b ∷ bytes) x.0 x.1 (fields rest) (fault rest) (took.is fits) more))
 reaches_read most b bytes le fits later (Err d) e =
     let some : (b ∷ bytes) ≢ [] = λ none. cc in
     subst (λ (o : Option WireError). Reaches (b ∷ bytes) (fields (b ∷ bytes)) o) (sym (fault-failed (b ∷ bytes) d some e))
@@ -160,6 +163,30 @@ whole bytes fs fits =
 pub until : (bytes : List ℕ) (fs : List FieldView) (e : WireError) → IsBytes bytes → (AreFieldsUntil bytes fs e) ↔ ((fault bytes ≡ Some e) × (fields bytes ≡ fs))
 until bytes fs e fits =
     (λ are. are_until fs bytes e are, λ told. subst (λ (gs : List FieldView). AreFieldsUntil bytes gs e) told.1 (subst (Reaches bytes (fields bytes)) told.0 (reaches (length bytes) bytes (omega arith) fits)))
+
+-- ---- how long a message is
+
+-- what was read and what is behind it are no longer than the bytes
+before-size : (bytes : List ℕ) (read : Result (FieldView × ℕ) WireError) (others : ℕ → List FieldView) → length bytes ≤ 16384
+    → ((found : FieldView × ℕ) → read ≡ Ok found → TookField bytes found) → ((n : ℕ) → sum_by field_size (others n) ≤ length bytes - n)
+    → sum_by field_size (before read others) ≤ length bytes
+before-size bytes (Ok found) others le took rest =
+    let field = took found refl in
+    rw (sum_by-cons field_size found.0 (others found.1)) (omega (arith, rest found.1, field.within, field.size le))
+before-size bytes (Err e) others le took rest = omega arith
+
+within-size : (most : ℕ) (bytes : List ℕ) → length bytes ≤ 16384 → sum_by field_size (fields_within most bytes) ≤ length bytes
+unfolding fields_within
+within-size zero bytes le = omega arith
+within-size (suc most) [] le = omega arith
+within-size (suc most) (b ∷ bytes) le =
+    before-size (b ∷ bytes) (field_at (b ∷ bytes)) (λ n. fields_within most (drop n (b ∷ bytes))) le (λ found e. field_took (b ∷ bytes) found e)
+    (λ n. omega (arith, within-size most (drop n (b ∷ bytes)) (omega (arith, length-drop n (b ∷ bytes))), length-drop n (b ∷ bytes)))
+
+-- A message of at most 2 ^ 14 bytes is no shorter than its fields in their shortest encodings.
+pub fields-size : (message : List ℕ) → length message ≤ 16384 → sum_by field_size (fields message) ≤ length message
+unfolding fields
+fields-size message le = within-size (length message) message le
 
 -- ---- encoded fields
 

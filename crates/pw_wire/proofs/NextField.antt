@@ -10,7 +10,7 @@ use Rattle.pw_wire.specs.Field.{FieldValue, FieldView, IsField, IsFieldFault, fi
 use Rattle.pw_wire.specs.Fields.{fields, fault}
 use Rattle.pw_wire.specs.View.{value_view, field_view, Finds, Steps}
 use Rattle.pw_wire.proofs.Varints.{ok_is, err_is}
-use Rattle.pw_wire.proofs.FieldLemmas.{field_again, field_is, fault_again, fault_is}
+use Rattle.pw_wire.proofs.FieldLemmas.{field_again, field_took, fault_again, fault_is}
 use Rattle.pw_wire.proofs.Messages.{fields-nil, fault-nil, nothing_read, fields-read, fault-read, fields-failed, fault-failed, not_nothing}
 
 -- the call answers what is read at the front
@@ -41,7 +41,7 @@ no_field bytes number value len none is =
 pub finds : (bytes : List ℕ) (r : Result (Option (Field × ℕ)) WireError) → IsBytes bytes → Answers bytes r → (number : ℕ) (value : FieldValue) (len : ℕ) → (Finds r number value len) ↔ (IsField bytes number value len)
 finds bytes (Ok None) fits none number value len = (λ found. absurd found, λ is. no_field bytes number value len none is)
 finds bytes (Ok (Some next)) fits read number value len = (
-  λ found. subst (λ (n : ℕ). IsField bytes n value len) found.0 (subst (λ (v : FieldValue). IsField bytes next.0.number v len) found.1 (subst (IsField bytes next.0.number (value_view next.0.value)) found.2 (field_is bytes (field_view next.0) next.1 fits read).0)),
+  λ found. subst (λ (n : ℕ). IsField bytes n value len) found.0 (subst (λ (v : FieldValue). IsField bytes next.0.number v len) found.1 (subst (IsField bytes next.0.number (value_view next.0.value)) found.2 ((field_took bytes (field_view next.0, next.1) read).is fits))),
   λ is.
       let same = ok_is (field_view next.0, next.1) (record { number = number; value = value }, len) (sym read ∙ field_again bytes number value len is) in
       (ap (λ (p : FieldView × ℕ). p.0.number) same, ap (λ (p : FieldView × ℕ). p.0.value) same, ap (λ (p : FieldView × ℕ). p.1) same),
@@ -60,6 +60,6 @@ fails bytes (Err d) fits failed e = (
 pub steps : (bytes : List ℕ) (r : Result (Option (Field × ℕ)) WireError) → IsBytes bytes → Answers bytes r → Steps bytes r
 steps bytes (Ok None) fits none = (none, ap fields none ∙ fields-nil, ap fault none ∙ fault-nil)
 steps bytes (Ok (Some next)) fits read =
-    let is = field_is bytes (field_view next.0) next.1 fits read in
-    (is.1, is.2, fields-read bytes (field_view next.0) next.1 read, fault-read bytes (field_view next.0) next.1 read)
+    let took = field_took bytes (field_view next.0, next.1) read in
+    (took.positive, took.within, fields-read bytes (field_view next.0) next.1 read, fault-read bytes (field_view next.0) next.1 read)
 steps bytes (Err e) fits failed = (fields-failed bytes e failed.0 failed.1, fault-failed bytes e failed.0 failed.1)

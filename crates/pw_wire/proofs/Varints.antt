@@ -54,11 +54,11 @@ varint_again front rest n is = within_again 9 front rest n is.encoded is.short i
 
 -- what was read took a varint from the front
 pub record TookVarint (left : ℕ) (bytes : List ℕ) (found : ℕ × ℕ) : Type 0 where
-  pub encoded : EncodesNumber (take found.1 bytes) found.0
+  pub encoded : IsBytes bytes → EncodesNumber (take found.1 bytes) found.0
   pub positive : 1 ≤ found.1
   pub short : found.1 ≤ suc left
   pub within : found.1 ≤ length bytes
-  pub fits : found.0 < limit left
+  pub fits : IsBytes bytes → found.0 < limit left
 
 rest_bytes : (b : ℕ) (bytes : List ℕ) → IsBytes (b ∷ bytes) → IsBytes bytes
 rest_bytes b bytes fits i = fits (suc i)
@@ -69,38 +69,37 @@ encodes_before b [] n high le lt e encoded = absurd encoded
 encodes_before b (c ∷ bytes) n high le lt e encoded = (le, lt, high, e, encoded)
 
 -- a byte that goes on, before a varint
-goes_before : (left b : ℕ) (bytes : List ℕ) (n k : ℕ) → 128 ≤ b → b < 256 → TookVarint left bytes (n, k) → TookVarint (suc left) (b ∷ bytes) (b - 128 + 128 * n, suc k)
-goes_before left b bytes n k le lt took = record {
-  encoded = encodes_before b (take k bytes) (b - 128 + 128 * n) n le lt (omega arith) took.encoded;
+goes_before : (left b : ℕ) (bytes : List ℕ) (n k : ℕ) → 128 ≤ b → TookVarint left bytes (n, k) → TookVarint (suc left) (b ∷ bytes) (b - 128 + 128 * n, suc k)
+goes_before left b bytes n k le took = record {
+  encoded = λ fits. encodes_before b (take k bytes) (b - 128 + 128 * n) n le (fits 0) (omega arith) (took.encoded (rest_bytes b bytes fits));
   positive = omega arith;
   short = omega (arith, took.short);
   within = omega (arith, took.within);
-  fits = omega (arith, took.fits);
+  fits = λ fits. omega (arith, took.fits (rest_bytes b bytes fits), fits 0);
 }
 
 -- one byte alone
 one_byte : (left b : ℕ) (bytes : List ℕ) → b < 128 → b < limit left → TookVarint left (b ∷ bytes) (b, 1)
-one_byte left b bytes lt fits = record { encoded = (lt, refl); positive = omega arith; short = omega arith; within = omega arith; fits = fits }
+one_byte left b bytes lt small = record { encoded = λ fits. (lt, refl); positive = omega arith; short = omega arith; within = omega arith; fits = λ fits. small }
 
 -- each limit is above a byte's seven bits, but the last
 limit_large : (left : ℕ) → 128 ≤ limit (suc left)
 limit_large zero = omega arith
 limit_large (suc left) = omega (arith, limit_large left)
 
-pub within_took : (left : ℕ) (bytes : List ℕ) (found : ℕ × ℕ) → IsBytes bytes → varint_within left bytes ≡ Ok found → TookVarint left bytes found
-within_took left [] found fits e = absurd (let nil = within-nil left in cc)
-within_took zero (b ∷ bytes) found fits e =
+pub within_took : (left : ℕ) (bytes : List ℕ) (found : ℕ × ℕ) → varint_within left bytes ≡ Ok found → TookVarint left bytes found
+within_took left [] found e = absurd (let nil = within-nil left in cc)
+within_took zero (b ∷ bytes) found e =
     elim (cases_lt b 2) [
       | inl lt ↦ subst (TookVarint 0 (b ∷ bytes)) (ok_is (b, 1) found (sym (within-tenth b bytes lt) ∙ e)) (one_byte 0 b bytes (omega arith) lt)
       | inr le ↦ absurd (let long = within-too_long b bytes le in cc)
     ]
-within_took (suc left) (b ∷ bytes) found fits e =
+within_took (suc left) (b ∷ bytes) found e =
     elim (cases_lt b 128) [
       | inl lt ↦ subst (TookVarint (suc left) (b ∷ bytes)) (ok_is (b, 1) found (sym (within-last left b bytes lt) ∙ e)) (one_byte (suc left) b bytes lt (omega (arith, limit_large left)))
       | inr le ↦
           let h = bind_ok (varint_within left bytes) (λ high. Ok (b - 128 + 128 * high.0, suc high.1)) found (sym (within-goes_on left b bytes le) ∙ e) in
-          subst (TookVarint (suc left) (b ∷ bytes)) (ok_is (b - 128 + 128 * h.0.0, suc h.0.1) found h.2)
-          (goes_before left b bytes h.0.0 h.0.1 le (fits 0) (within_took left bytes h.0 (rest_bytes b bytes fits) h.1))
+          subst (TookVarint (suc left) (b ∷ bytes)) (ok_is (b - 128 + 128 * h.0.0, suc h.0.1) found h.2) (goes_before left b bytes h.0.0 h.0.1 le (within_took left bytes h.0 h.1))
     ]
 
 -- ---- the fault

@@ -15,7 +15,7 @@ mod writing;
 
 pub use error::WireError;
 pub use field::{Field, Value};
-pub use laws::{all_fields, field_or_fault, encoded_fields, encoded_varint};
+pub use laws::{all_fields, encoded_fields, encoded_varint, field_or_fault};
 pub use reading::next_field;
 pub use writing::{put_bytes_field, put_varint, put_varint_field};
 

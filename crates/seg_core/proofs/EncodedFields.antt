@@ -8,7 +8,7 @@ use Rattle.seg_core.specs.Shapes.{path_segment_shape, as_entry_shape, signed_mes
 use Rattle.seg_core.specs.Message.{checked, misfit_after, text, texts, text_or_empty}
 use Rattle.seg_core.specs.SegmentView.{EntryView, SegmentView}
 use Rattle.seg_core.specs.Encoding.{bytes_encoding, optional_encoding, signed_encoding, as_entry_encoding, entries_encoding, segment_encoding}
-use Rattle.pw_wire.proofs.Messages.{fields-nil, fault-nil, fields-bytes_field, fault-bytes_field}
+use Rattle.pw_wire.proofs.Exports.{fields-nil, fault-nil, fields-bytes_field, fault-bytes_field}
 use Rattle.seg_core.proofs.Sizes.{bytes_field-within}
 
 -- ---- the fields of pieces

@@ -4,8 +4,7 @@ use Rattle.std.specs.Prelude.{◌==◌}
 use Rattle.std.proofs.lemmas.Bool.{cases_lt}
 use Rattle.pw_wire.specs.Varint.{encoding_within, varint_encoding}
 use Rattle.pw_wire.specs.Field.{bytes_field_encoding}
-use Rattle.pw_wire.proofs.Encoding.{limit, encoding-last, encoding-goes_on}
-use Rattle.pw_wire.proofs.Varints.{varint_encoding_is}
+use Rattle.pw_wire.proofs.Exports.{limit, encoding-last, encoding-goes_on, varint_encoding_is}
 use Rattle.seg_core.specs.declared.entry.Entry.{Entry}
 use Rattle.seg_core.specs.EntryView.{entry_view, entry_views}
 use Rattle.seg_core.specs.SegmentView.{EntryView}

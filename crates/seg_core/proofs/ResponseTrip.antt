@@ -7,7 +7,7 @@ use Rattle.std.proofs.lemmas.List.{append-nil}
 use Rattle.std.proofs.lemmas.List.Concat.{flat_map-cons}
 use Rattle.std.proofs.lemmas.List.Folds.{flat_map-map}
 use Rattle.pw_wire.specs.Field.{FieldView, varint_field, bytes_field, bytes_field_encoding}
-use Rattle.pw_wire.proofs.Messages.{fields-varint_field, fault-varint_field}
+use Rattle.pw_wire.proofs.Exports.{fields-varint_field, fault-varint_field}
 use Rattle.seg_core.specs.declared.error.SegError.TheVariants.{TooLarge}
 use Rattle.seg_core.specs.declared.seg_type.SegType.{SegType}
 use Rattle.seg_core.specs.declared.seg_type.SegType.TheVariants.{Up, Down, Core}

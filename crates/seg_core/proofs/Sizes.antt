@@ -7,7 +7,8 @@ use Rattle.pw_wire.specs.Field.{bytes_field_encoding}
 use Rattle.pw_wire.specs.Fields.{fields}
 use Rattle.seg_core.specs.Message.{last_of, text, texts, text_or_empty}
 use Rattle.seg_core.specs.Encoding.{bytes_encoding, optional_encoding}
-use Rattle.seg_core.proofs.WireSizes.{varint_encoding-mono, encoded_len, fields-length}
+use Rattle.pw_wire.proofs.Exports.{varint_encoding-mono}
+use Rattle.seg_core.proofs.WireSizes.{encoded_len, fields-length}
 
 -- more bytes have no shorter field
 pub bytes_field-mono : (k : ℕ) (s t : List ℕ) → length s ≤ length t → length (bytes_field_encoding k s) ≤ length (bytes_field_encoding k t)
