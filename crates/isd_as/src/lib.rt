@@ -17,6 +17,3 @@ pub use fault::IaError;
 pub use number::IsdAs;
 pub use reading::parse;
 pub use wildcard::covers;
-
-#[cfg(test)]
-mod tests;

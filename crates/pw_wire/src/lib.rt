@@ -18,6 +18,3 @@ pub use field::{Field, Value};
 pub use laws::{all_fields, encoded_fields, encoded_varint, field_or_fault};
 pub use reading::next_field;
 pub use writing::{put_bytes_field, put_varint, put_varint_field};
-
-#[cfg(test)]
-mod tests;

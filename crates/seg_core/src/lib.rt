@@ -22,8 +22,6 @@ mod seg_type;
 mod segment;
 mod shape;
 mod slots;
-#[cfg(test)]
-mod tests;
 mod texts;
 mod writing;
 

@@ -1,32 +1,12 @@
-//! What no clause says: a segment, its registration and its response worked through by hand, and each refusal once.
+//! Registrations, requests and responses.
 
-use super::*;
-use isd_as::IsdAs;
+use crate::worked::{CORE, DOWN, SEGMENT};
 use pw_wire::WireError;
+use seg_core::{SegError, SegType, read_registration, read_request, read_segment, write_response};
 use std::alloc::Global;
 use std::test::Fail;
 
-// Two entries, from 1-ff00:0:110 to 1-ff00:0:111.
-const SEGMENT: [u8; 88] = [
-    0x0a, 0x08, 0x08, 0x80, 0xe2, 0xcf, 0xaa, 0x06, 0x10, 0x07, // the segment's information
-    0x12, 0x29, 0x0a, 0x27, 0x0a, 0x25, // the first entry, its signed message, header and body
-    0x12, 0x23, 0x08, 0x90, 0x82, 0x80, 0x80, 0x80, 0xe0, 0x7f, // its AS
-    0x10, 0x91, 0x82, 0x80, 0x80, 0x80, 0xe0, 0x7f, // the next AS
-    0x1a, 0x0e, 0x0a, 0x0c, 0x10, 0x01, 0x18, 0x3f, 0x22, 0x06, // the hop entry and its hop field
-    0x01, 0x02, 0x03, 0x04, 0x05, 0x06, 0x28, 0xc0, 0x0b, // a MAC, and the MTU
-    0x12, 0x21, 0x0a, 0x1f, 0x0a, 0x1d, // the second entry
-    0x12, 0x1b, 0x08, 0x91, 0x82, 0x80, 0x80, 0x80, 0xe0, 0x7f, // its AS
-    0x1a, 0x0e, 0x0a, 0x0c, 0x08, 0x02, 0x18, 0x3f, 0x22, 0x06, // the hop entry and its hop field
-    0x0a, 0x0b, 0x0c, 0x0d, 0x0e, 0x0f, 0x28, 0xc0, 0x0b, // a MAC, and the MTU
-];
-
-// What stands before that segment where it is registered as a down segment.
-const DOWN: [u8; 8] = [0x0a, 0x5e, 0x08, 0x02, 0x12, 0x5a, 0x0a, 0x58];
-
-// The same for a core segment.
-const CORE: [u8; 8] = [0x0a, 0x5e, 0x08, 0x03, 0x12, 0x5a, 0x0a, 0x58];
-
-// The segment, registered as a down segment.
+/// The worked segment, registered as a down segment.
 fn registration(alloc: Global) -> Result<Vec<u8>, Fail> {
     let mut message = Vec::from_slice(alloc, &DOWN)?;
     message.extend_from_slice(&SEGMENT)?;
@@ -34,40 +14,10 @@ fn registration(alloc: Global) -> Result<Vec<u8>, Fail> {
 }
 
 #[test]
-fn segment_is_read_and_written(rt: HostRuntime) -> Result<(), Fail> {
-    let segment = read_segment(rt.alloc(), &SEGMENT)?;
-    assert_eq!(rt; segment.timestamp(), 1_700_000_000);
-    assert_eq!(rt; segment.segment_id(), 7);
-    let entries = segment.entries();
-    assert_eq!(rt; entries.len(), 2);
-    let first = &entries[0];
-    assert_eq!(rt; first.ia, IsdAs::from_u64(0x0001_ff00_0000_0110));
-    assert_eq!(rt; first.next, IsdAs::from_u64(0x0001_ff00_0000_0111));
-    assert_eq!(rt; (first.ingress, first.egress, first.exp_time), (0, 1, 63));
-    assert_eq!(rt; first.signed.as_slice(), &SEGMENT[16..53]);
-    assert!(rt; first.signature.is_empty());
-    assert!(rt; first.unsigned.is_none());
-    let second = &entries[1];
-    assert_eq!(rt; second.ia, first.next);
-    assert_eq!(rt; second.next, IsdAs::from_u64(0));
-    assert_eq!(rt;
-        (second.ingress, second.egress, second.exp_time),
-        (2, 0, 63)
-    );
-    assert_eq!(rt; second.signed.as_slice(), &SEGMENT[59..]);
-
-    let copy = segment.try_clone(rt.alloc())?;
-    let written = write_segment(rt.alloc(), &copy)?;
-    assert_eq!(rt; written.as_slice(), SEGMENT.as_slice());
-    Ok(())
-}
-
-#[test]
 fn registration_is_answered(rt: HostRuntime) -> Result<(), Fail> {
     let message = registration(rt.alloc())?;
     let rows = read_registration(rt.alloc(), &message)?;
-    assert_eq!(rt; rows.len(), 1);
-    assert_eq!(rt; rows[0].0, SegType::Down);
+    assert!(rt; rows.len() == 1 && rows[0].0 == SegType::Down);
     let response = write_response(rt.alloc(), &rows)?;
     assert_eq!(rt; response.as_slice(), message.as_slice());
     Ok(())
@@ -78,26 +28,37 @@ fn types_are_answered_by_number(rt: HostRuntime) -> Result<(), Fail> {
     let mut rows = Vec::new(rt.alloc());
     rows.push((SegType::Core, read_segment(rt.alloc(), &SEGMENT)?))?;
     rows.push((SegType::Down, read_segment(rt.alloc(), &SEGMENT)?))?;
-    let response = write_response(rt.alloc(), &rows)?;
     let mut expected = registration(rt.alloc())?;
     expected.extend_from_slice(&CORE)?;
     expected.extend_from_slice(&SEGMENT)?;
-    assert_eq!(rt; response.as_slice(), expected.as_slice());
-    let empty = write_response(rt.alloc(), &[])?;
-    assert!(rt; empty.is_empty());
+    for (rows, expected) in [(rows.as_slice(), expected.as_slice()), (&[], &[])] {
+        let response = write_response(rt.alloc(), rows)?;
+        assert_eq!(rt; response.as_slice(), expected);
+    }
     Ok(())
 }
 
-// A request from 1-ff00:0:110 to 1-ff00:0:111.
+/// The ends that a request names, as numbers.
+fn ends_of(message: &[u8]) -> Result<(u64, u64), SegError> {
+    read_request(message)
+}
+
+// A request from 1-ff00:0:110 to 1-ff00:0:111, and an empty one.
 #[test]
-fn request_is_read(rt: HostRuntime) -> Result<(), Fail> {
-    let ends = read_request(b"\x08\x90\x82\x80\x80\x80\xe0\x7f\x10\x91\x82\x80\x80\x80\xe0\x7f")?;
-    assert_eq!(rt; ends, (0x0001_ff00_0000_0110, 0x0001_ff00_0000_0111));
-    assert_eq!(rt; read_request(b"")?, (0, 0));
-    Ok(())
+fn request_is_read(rt: HostRuntime) {
+    let cases: [(&[u8], (u64, u64)); 2] = [
+        (
+            b"\x08\x90\x82\x80\x80\x80\xe0\x7f\x10\x91\x82\x80\x80\x80\xe0\x7f",
+            (0x0001_ff00_0000_0110, 0x0001_ff00_0000_0111),
+        ),
+        (b"", (0, 0)),
+    ];
+    for (message, ends) in cases {
+        assert_eq!(rt; ends_of(message), Ok(ends));
+    }
 }
 
-// How many segments a registration has.
+/// How many segments a registration has.
 fn count(alloc: Global, message: &[u8]) -> Result<usize, SegError> {
     Ok(read_registration(alloc, message)?.len())
 }
@@ -136,18 +97,6 @@ fn messages_are_refused(rt: HostRuntime) {
     for (message, expected) in cases {
         assert_eq!(rt; count(rt.alloc(), message), expected, "{message:?}");
     }
-}
-
-#[test]
-fn paths_are_refused(rt: HostRuntime) {
-    let alloc = rt.alloc();
-    let mut broken = SEGMENT;
-    broken[74] = 0;
-    assert_eq!(rt; read_segment(alloc, &broken).err(), Some(SegError::Chain));
-    let mut closed = SEGMENT;
-    closed[27] = 0x90;
-    closed[62] = 0x90;
-    assert_eq!(rt; read_segment(alloc, &closed).err(), Some(SegError::Loop));
 }
 
 // Sixteen segments of one type are read, and the seventeenth is refused.
