@@ -1,4 +1,4 @@
--- Encoding a number from its low bits on: what was pushed so far, and what is left of the number.
+-- Encoding a number from its low bits on: what was pushed so far, and what is left of the number. For `push_varint`.
 use Rattle.std.proofs.Common.{◌≡◌, ℕ, zero, suc, ◌+◌, ◌*◌, ◌/◌, ◌%◌, ◌-◌, ◌<◌, ◌≤◌, List, [], ◌∷◌, ◌++◌, refl, sym, ap, subst, ◌∙◌, append_assoc, arith}
 use Rattle.std.proofs.lemmas.Bool.{lt-ltb, le-ltb}
 use Rattle.pw_wire.specs.Varint.{encoding_within, varint_encoding}

@@ -1,4 +1,5 @@
--- A field is read as its number and value, and what is read is one: both ways, for the fault too.
+-- A field is read as its number and value, and what is read is one: both ways, for the fault too. For the law
+-- `field_or_fault`, and for `Messages` and `NextField`.
 use Rattle.std.proofs.Common.{◌≡◌, ◌≢◌, ℕ, zero, suc, ◌+◌, ◌*◌, ◌/◌, ◌%◌, ◌-◌, ◌^◌, ◌<◌, ◌≤◌, ◌⊎◌, Bool, true, false, cond, eqb, ltb, List, [], ◌++◌, length, take, drop, Result, Ok, Err, refl, sym, ap, subst, ◌∙◌, append_assoc, arith, inl, inr}
 use Rattle.std.specs.Int.{w32, w64, from_le_bytes}
 use Rattle.std.proofs.lemmas.Bool.{cases_lt, ltb-true, ltb-false, lt-ltb, le-ltb, ne_eqb}
@@ -8,7 +9,7 @@ use Rattle.pw_wire.specs.declared.error.WireError.{WireError}
 use Rattle.pw_wire.specs.declared.error.WireError.TheVariants.{Truncated, LongVarint, BadField, GroupWire, BadWire}
 use Rattle.pw_wire.specs.Decoding.{◌>>=◌, IsBytes}
 use Rattle.pw_wire.specs.Varint.{IsVarint, BeginsWithVarint, varint_at}
-use Rattle.pw_wire.specs.Field.{FieldValue, Varint, Fixed64, Bytes, Fixed32, FieldView, wire_type, IsValue, IsField, HasNumber, IsTagFault, IsValueFault, in_varint, in_fixed64, in_length, in_bytes, in_fixed32, IsFieldFault, in_tag, at_tag, in_value, fixed64_at, fixed32_at, bytes_at, number_at, value_at, field_behind, field_at}
+use Rattle.pw_wire.specs.Field.{FieldValue, Varint, Fixed64, Bytes, Fixed32, FieldView, wire_type, IsValue, IsField, HasNumber, IsTagFault, IsValueFault, in_varint, in_fixed64, in_length, in_bytes, in_fixed32, IsFieldFault, in_tag, at_tag, in_value, BeginsWithField, HasFieldFault, fixed64_at, fixed32_at, bytes_at, number_at, value_at, field_behind, field_at}
 use Rattle.pw_wire.proofs.FieldSizes.{value_size, field_size, small_took}
 use Rattle.pw_wire.proofs.Varints.{bind_ok, bind_err, ok_is, err_is, varint_again, within_took, varint_fault, varint_fault_again}
 
@@ -88,12 +89,12 @@ value_again (Varint n) content rest is = value-0 (content ++ rest) ∙ rw (varin
 value_again (Fixed64 n) content rest is =
     let long : ltb (length (content ++ rest)) 8 ≡ false = le-ltb _ _ (omega (arith, length-append content rest, is.0)) in
     value-1 (content ++ rest) ∙ rw (long, take_at content rest 8 is.0, ← is.1, is.0) refl
-value_again (Bytes text) content rest is =
-    let whole : content ++ rest ≡ is.front ++ (text ++ rest) = ap (λ bytes. bytes ++ rest) is.parts ∙ append_assoc is.front text rest in
-    let len : length content ≡ length is.front + length text = ap length is.parts ∙ length-append is.front text in
-    let long : ltb (length (text ++ rest)) (length text) ≡ false = le-ltb _ _ (omega (arith, length-append text rest)) in
-    value-2 (content ++ rest) ∙ ap bytes_at whole
-    ∙ rw (varint_again is.front (text ++ rest) (length text) is.varint, drop_at is.front (text ++ rest) (length is.front) refl, long, take_at text rest (length text) refl, len) refl
+value_again (Bytes bytes_field) content rest is =
+    let parts : content ++ rest ≡ is.front ++ (bytes_field ++ rest) = ap (λ bytes. bytes ++ rest) is.parts ∙ append_assoc is.front bytes_field rest in
+    let len : length content ≡ length is.front + length bytes_field = ap length is.parts ∙ length-append is.front bytes_field in
+    let long : ltb (length (bytes_field ++ rest)) (length bytes_field) ≡ false = le-ltb _ _ (omega (arith, length-append bytes_field rest)) in
+    value-2 (content ++ rest) ∙ ap bytes_at parts
+    ∙ rw (varint_again is.front (bytes_field ++ rest) (length bytes_field) is.varint, drop_at is.front (bytes_field ++ rest) (length is.front) refl, long, take_at bytes_field rest (length bytes_field) refl, len) refl
 value_again (Fixed32 n) content rest is =
     let long : ltb (length (content ++ rest)) 4 ≡ false = le-ltb _ _ (omega (arith, length-append content rest, is.0)) in
     value-5 (content ++ rest) ∙ rw (long, take_at content rest 4 is.0, ← is.1, is.0) refl
@@ -222,11 +223,11 @@ unfolding field_behind
 behind-high tag bytes le = rw (le-ltb tag.0 8 (omega arith), le-ltb tag.0 (2 ^ 32) le) refl
 
 -- a field's number and value, and how many bytes the tag and the value took
-whole : ℕ × ℕ → FieldValue × ℕ → Result (FieldView × ℕ) WireError
-whole tag value = Ok (record { number = tag.0 / 8; value = value.0 }, tag.1 + value.1)
+field_of : ℕ × ℕ → FieldValue × ℕ → Result (FieldView × ℕ) WireError
+field_of tag value = Ok (record { number = tag.0 / 8; value = value.0 }, tag.1 + value.1)
 
-behind-good : (tag : ℕ × ℕ) (bytes : List ℕ) → HasNumber tag.0 → field_behind tag bytes ≡ (value_at (tag.0 % 8) (drop tag.1 bytes) >>= whole tag)
-unfolding field_behind whole
+behind-good : (tag : ℕ × ℕ) (bytes : List ℕ) → HasNumber tag.0 → field_behind tag bytes ≡ (value_at (tag.0 % 8) (drop tag.1 bytes) >>= field_of tag)
+unfolding field_behind field_of
 behind-good tag bytes good = rw (le-ltb tag.0 8 good.0, lt-ltb tag.0 (2 ^ 32) good.1) refl
 
 -- a tag's number is 0 or too large, or it has one
@@ -253,16 +254,16 @@ unfolding field_at
 tagged bytes tag rest begins = ap (λ r. r >>= λ t. field_behind t bytes) (begins_again bytes tag rest begins).0
 
 -- and then the value behind it
-tagged_well : (bytes : List ℕ) (tag : ℕ) (rest : List ℕ) (begins : BeginsWithVarint bytes tag rest) → HasNumber tag → field_at bytes ≡ (value_at (tag % 8) rest >>= whole (tag, length begins.front))
+tagged_well : (bytes : List ℕ) (tag : ℕ) (rest : List ℕ) (begins : BeginsWithVarint bytes tag rest) → HasNumber tag → field_at bytes ≡ (value_at (tag % 8) rest >>= field_of (tag, length begins.front))
 tagged_well bytes tag rest begins good =
     tagged bytes tag rest begins ∙ behind-good (tag, length begins.front) bytes good
-    ∙ ap (λ bs. value_at (tag % 8) bs >>= whole (tag, length begins.front)) (begins_again bytes tag rest begins).1
+    ∙ ap (λ bs. value_at (tag % 8) bs >>= field_of (tag, length begins.front)) (begins_again bytes tag rest begins).1
 
 -- a tag and a value that are read make a field
-field_of_parts : (bytes rest : List ℕ) (tag k number m : ℕ) (value : FieldValue) → field_at bytes ≡ (value_at (tag % 8) rest >>= whole (tag, k)) → value_at (tag % 8) rest ≡ Ok (value, m) → tag / 8 ≡ number → field_at bytes ≡ Ok (record { number = number; value = value }, k + m)
-unfolding whole
+field_of_parts : (bytes rest : List ℕ) (tag k number m : ℕ) (value : FieldValue) → field_at bytes ≡ (value_at (tag % 8) rest >>= field_of (tag, k)) → value_at (tag % 8) rest ≡ Ok (value, m) → tag / 8 ≡ number → field_at bytes ≡ Ok (record { number = number; value = value }, k + m)
+unfolding field_of
 field_of_parts bytes rest tag k number m value read value_is number_is =
-    read ∙ ap (λ r. r >>= whole (tag, k)) value_is ∙ ap (λ (n : ℕ). Ok (record { number = n; value = value }, k + m)) number_is
+    read ∙ ap (λ r. r >>= field_of (tag, k)) value_is ∙ ap (λ (n : ℕ). Ok (record { number = n; value = value }, k + m)) number_is
 
 -- a field is read
 pub field_again : (bytes : List ℕ) (number : ℕ) (value : FieldValue) (len : ℕ) → IsField bytes number value len → field_at bytes ≡ Ok (record { number = number; value = value }, len)
@@ -304,7 +305,7 @@ took_same bytes found result took same = subst (TookField bytes) same took
 
 -- what was read is a field
 pub field_took : (bytes : List ℕ) (found : FieldView × ℕ) → field_at bytes ≡ Ok found → TookField bytes found
-unfolding field_at whole
+unfolding field_at field_of
 field_took bytes found e =
     let h = bind_ok (varint_at bytes) (λ tag. field_behind tag bytes) found e in
     let tag = h.0.0 in
@@ -315,7 +316,7 @@ field_took bytes found e =
     elim (tag_cases tag) [
       | inl bad ↦ absurd (let wrong = behind-bad (tag, k) bytes bad in let found = h.2 in cc)
       | inr good ↦
-          let b = bind_ok (value_at (tag % 8) (drop k bytes)) (whole (tag, k)) found (sym (behind-good (tag, k) bytes good) ∙ h.2) in
+          let b = bind_ok (value_at (tag % 8) (drop k bytes)) (field_of (tag, k)) found (sym (behind-good (tag, k) bytes good) ∙ h.2) in
           let value = value_took (tag % 8) (drop k bytes) b.0 b.1 in
           let rest : length (drop k bytes) ≡ length bytes - k = length-drop k bytes in
           let took : TookField bytes (record { number = tag / 8; value = b.0.0 }, k + b.0.1) = record {
@@ -334,7 +335,7 @@ kind_fault bytes tag d good (inr h) = subst (IsTagFault tag) (sym h.1) (good, h.
 
 -- what was not read has a fault
 pub fault_is : (bytes : List ℕ) (d : WireError) → IsBytes bytes → bytes ≢ [] → field_at bytes ≡ Err d → IsFieldFault bytes d
-unfolding field_at whole
+unfolding field_at field_of
 fault_is bytes d fits some e =
     elim (bind_err (varint_at bytes) (λ tag. field_behind tag bytes) d e) [
       | inl h ↦ in_tag some (varint_fault bytes d h)
@@ -344,7 +345,7 @@ fault_is bytes d fits some e =
           let read = read_varint_is bytes tag k fits h.1 in
           elim (tag_cases tag) [
             | inl bad ↦ at_tag tag (drop k bytes) read.begins (subst (IsTagFault tag) (err_is (FieldView × ℕ) BadField d (sym (behind-bad (tag, k) bytes bad) ∙ h.2)) bad)
-            | inr good ↦ elim (bind_err (value_at (tag % 8) (drop k bytes)) (whole (tag, k)) d (sym (behind-good (tag, k) bytes good) ∙ h.2)) [
+            | inr good ↦ elim (bind_err (value_at (tag % 8) (drop k bytes)) (field_of (tag, k)) d (sym (behind-good (tag, k) bytes good) ∙ h.2)) [
               | inl v ↦ elim (value_fault (tag % 8) (drop k bytes) d (rest_fits k bytes fits) v) [
                 | inl fault ↦ in_value tag (drop k bytes) read.begins good fault
                 | inr fault ↦ at_tag tag (drop k bytes) read.begins (kind_fault bytes tag d good fault)
@@ -363,22 +364,22 @@ fault_again bytes LongVarint (at_tag tag rest begins h) = absurd h
 fault_again bytes BadField (at_tag tag rest begins h) = tagged bytes tag rest begins ∙ behind-bad (tag, length begins.front) bytes h
 fault_again bytes GroupWire (at_tag tag rest begins h) =
     elim h.1 [
-      | inl three ↦ tagged_well bytes tag rest begins h.0 ∙ ap (λ k. value_at k rest >>= whole (tag, length begins.front)) three ∙ ap (λ r. r >>= whole (tag, length begins.front)) (value-3 rest)
-      | inr four ↦ tagged_well bytes tag rest begins h.0 ∙ ap (λ k. value_at k rest >>= whole (tag, length begins.front)) four ∙ ap (λ r. r >>= whole (tag, length begins.front)) (value-4 rest)
+      | inl three ↦ tagged_well bytes tag rest begins h.0 ∙ ap (λ k. value_at k rest >>= field_of (tag, length begins.front)) three ∙ ap (λ r. r >>= field_of (tag, length begins.front)) (value-3 rest)
+      | inr four ↦ tagged_well bytes tag rest begins h.0 ∙ ap (λ k. value_at k rest >>= field_of (tag, length begins.front)) four ∙ ap (λ r. r >>= field_of (tag, length begins.front)) (value-4 rest)
     ]
 fault_again bytes BadWire (at_tag tag rest begins h) =
-    tagged_well bytes tag rest begins h.0 ∙ ap (λ r. r >>= whole (tag, length begins.front)) (value-unknown (tag % 8) rest h.1)
+    tagged_well bytes tag rest begins h.0 ∙ ap (λ r. r >>= field_of (tag, length begins.front)) (value-unknown (tag % 8) rest h.1)
 fault_again bytes d (in_value tag rest begins good h) =
-    tagged_well bytes tag rest begins good ∙ ap (λ r. r >>= whole (tag, length begins.front)) (value_fails (tag % 8) rest d h)
+    tagged_well bytes tag rest begins good ∙ ap (λ r. r >>= field_of (tag, length begins.front)) (value_fails (tag % 8) rest d h)
 
 -- ---- exactly one
 
-by_reading : (bytes : List ℕ) → IsBytes bytes → bytes ≢ [] → (r : Result (FieldView × ℕ) WireError) → field_at bytes ≡ r → ((number : ℕ) × (value : FieldValue) × (len : ℕ) × IsField bytes number value len) ⊎ ((e : WireError) × IsFieldFault bytes e)
-by_reading bytes fits some (Ok found) e = inl (found.0.number, found.0.value, found.1, (field_took bytes found e).is fits)
+by_reading : (bytes : List ℕ) → IsBytes bytes → bytes ≢ [] → (r : Result (FieldView × ℕ) WireError) → field_at bytes ≡ r → BeginsWithField bytes ⊎ HasFieldFault bytes
+by_reading bytes fits some (Ok found) e = inl (record { field_number = found.0.number; value = found.0.value; len = found.1; field = (field_took bytes found e).is fits })
 by_reading bytes fits some (Err d) e = inr (d, fault_is bytes d fits some e)
 
 -- bytes begin with a field, or a field's check fails there
-pub one_of_both : (bytes : List ℕ) → IsBytes bytes → bytes ≢ [] → ((number : ℕ) × (value : FieldValue) × (len : ℕ) × IsField bytes number value len) ⊎ ((e : WireError) × IsFieldFault bytes e)
+pub one_of_both : (bytes : List ℕ) → IsBytes bytes → bytes ≢ [] → BeginsWithField bytes ⊎ HasFieldFault bytes
 one_of_both bytes fits some = by_reading bytes fits some (field_at bytes) refl
 
 pub not_both : (bytes : List ℕ) (number : ℕ) (value : FieldValue) (len : ℕ) (d : WireError) → IsField bytes number value len → IsFieldFault bytes d → ⊥

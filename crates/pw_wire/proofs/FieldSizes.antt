@@ -5,7 +5,7 @@ use Rattle.std.proofs.lemmas.Bool.{cases_lt, lt-ltb, le-ltb}
 use Rattle.pw_wire.specs.Varint.{varint_within, varint_at, encoding_within, varint_encoding}
 use Rattle.pw_wire.specs.Field.{FieldValue, Varint, Fixed64, Bytes, Fixed32, FieldView, bytes_field, bytes_field_encoding}
 use Rattle.pw_wire.proofs.Encoding.{encoding-last}
-use Rattle.pw_wire.proofs.Places.{within-nil, within-last, within-goes_on}
+use Rattle.pw_wire.proofs.VarintReading.{within-nil, within-last, within-goes_on}
 use Rattle.pw_wire.proofs.Varints.{bind_ok, ok_is, within_took}
 
 -- ---- a varint
@@ -67,6 +67,6 @@ abbrev pub field_size : FieldView → ℕ
 field_size f = 1 + value_size f.value
 
 -- what the encoding of bytes takes where its tag has one byte
-pub bytes_field-length : (k : ℕ) (bytes : List ℕ) → k < 16 → length (bytes_field_encoding k bytes) ≡ field_size (bytes_field k bytes)
+pub bytes_field-length : (field_number : ℕ) (bytes : List ℕ) → field_number < 16 → length (bytes_field_encoding field_number bytes) ≡ field_size (bytes_field field_number bytes)
 unfolding bytes_field_encoding
-bytes_field-length k bytes lt = simp length-append (omega (arith, one (k * 8 + 2) (omega arith)))
+bytes_field-length field_number bytes lt = simp length-append (omega (arith, one (field_number * 8 + 2) (omega arith)))

@@ -1,6 +1,6 @@
 pub mod Exports
 pub mod Messages
-pub mod Places
+pub mod VarintReading
 pub mod Encoding
 pub mod Varints
 pub mod FieldSizes

@@ -1,4 +1,5 @@
--- The fields and the fault of bytes that begin with a field, and how long such bytes are.
+-- The fields and the fault of bytes that begin with a field, and how long such bytes are. For the laws `all_fields` and
+-- `encoded_fields`, and for `NextField`.
 use Rattle.std.proofs.Common.{◌≡◌, ◌≢◌, ◌↔◌, ℕ, zero, suc, ◌+◌, ◌*◌, ◌-◌, ◌^◌, ◌<◌, ◌≤◌, List, [], ◌∷◌, ◌++◌, length, drop, Option, Some, None, Result, Ok, Err, refl, sym, ap, subst, ◌∙◌, append_assoc, arith}
 use Rattle.std.specs.List.{sum_by}
 use Rattle.std.proofs.lemmas.List.{length-append, length-drop, get_or-drop, drop_at}
@@ -8,8 +9,8 @@ use Rattle.pw_wire.specs.declared.error.WireError.TheVariants.{Truncated}
 use Rattle.pw_wire.specs.Decoding.{◌>>=◌, IsBytes}
 use Rattle.pw_wire.specs.Varint.{IsVarint, BeginsWithVarint, varint_encoding}
 use Rattle.pw_wire.specs.Field.{Varint, Bytes, FieldView, varint_field, bytes_field, IsField, IsFieldFault, in_tag, at_tag, in_value, field_behind, field_at, varint_field_encoding, bytes_field_encoding}
-use Rattle.pw_wire.specs.Fields.{AreFields, AreFieldsUntil, before, fault_or, fields_within, fault_within, fields, fault}
-use Rattle.pw_wire.proofs.Places.{within-nil}
+use Rattle.pw_wire.specs.Fields.{AreFields, AreFieldsUntil, fields_from, fault_from, fields_within, fault_within, fields, fault}
+use Rattle.pw_wire.proofs.VarintReading.{within-nil}
 use Rattle.pw_wire.proofs.Varints.{varint_encoding_is}
 use Rattle.pw_wire.proofs.FieldSizes.{field_size}
 use Rattle.pw_wire.proofs.FieldLemmas.{begins_again, field_again, TookField, field_took, fault_again, fault_is}
@@ -31,11 +32,11 @@ pub nothing_read : field_at [] ≡ Err Truncated
 unfolding field_at
 nothing_read = ap (λ r. r >>= λ tag. field_behind tag []) (within-nil 9)
 
-same_before : (r : Result (FieldView × ℕ) WireError) (g h : ℕ → List FieldView) → ((x : FieldView × ℕ) → r ≡ Ok x → g x.1 ≡ h x.1) → before r g ≡ before r h
-same_before (Ok x) g h same = ap (λ fs. x.0 ∷ fs) (same x refl)
-same_before (Err e) g h same = refl
+same_fields : (r : Result (FieldView × ℕ) WireError) (g h : ℕ → List FieldView) → ((x : FieldView × ℕ) → r ≡ Ok x → g x.1 ≡ h x.1) → fields_from r g ≡ fields_from r h
+same_fields (Ok x) g h same = ap (λ fs. x.0 ∷ fs) (same x refl)
+same_fields (Err e) g h same = refl
 
-same_fault : (r : Result (FieldView × ℕ) WireError) (g h : ℕ → Option WireError) → ((x : FieldView × ℕ) → r ≡ Ok x → g x.1 ≡ h x.1) → fault_or r g ≡ fault_or r h
+same_fault : (r : Result (FieldView × ℕ) WireError) (g h : ℕ → Option WireError) → ((x : FieldView × ℕ) → r ≡ Ok x → g x.1 ≡ h x.1) → fault_from r g ≡ fault_from r h
 same_fault (Ok x) g h same = same x refl
 same_fault (Err e) g h same = refl
 
@@ -53,7 +54,7 @@ fields_enough (suc m) zero [] le le' = refl
 fields_enough (suc m) zero (b ∷ bytes) le le' = absurd (omega arith)
 fields_enough (suc m) (suc k) [] le le' = refl
 fields_enough (suc m) (suc k) (b ∷ bytes) le le' =
-    same_before (field_at (b ∷ bytes)) (λ n. fields_within m (drop n (b ∷ bytes))) (λ n. fields_within k (drop n (b ∷ bytes)))
+    same_fields (field_at (b ∷ bytes)) (λ n. fields_within m (drop n (b ∷ bytes))) (λ n. fields_within k (drop n (b ∷ bytes)))
     (λ x e. let positive = (field_took (b ∷ bytes) x e).positive in fields_enough m k (drop x.1 (b ∷ bytes)) (shorter b bytes x.1 m positive le) (shorter b bytes x.1 k positive le'))
 
 fault_enough : (m k : ℕ) (bytes : List ℕ) → length bytes ≤ m → length bytes ≤ k → fault_within m bytes ≡ fault_within k bytes
@@ -73,26 +74,26 @@ pub fields-read : (bytes : List ℕ) (f : FieldView) (n : ℕ) → field_at byte
 unfolding fields fields_within
 fields-read [] f n e = absurd (let nil = nothing_read in cc)
 fields-read (b ∷ bytes) f n e =
-    ap (λ r. before r (λ k. fields_within (length bytes) (drop k (b ∷ bytes)))) e
+    ap (λ r. fields_from r (λ k. fields_within (length bytes) (drop k (b ∷ bytes)))) e
     ∙ ap (λ fs. f ∷ fs) (fields_enough (length bytes) (length (drop n (b ∷ bytes))) (drop n (b ∷ bytes)) (shorter b bytes n (length bytes) (field_took (b ∷ bytes) (f, n) e).positive (omega arith)) (omega arith))
 
 pub fault-read : (bytes : List ℕ) (f : FieldView) (n : ℕ) → field_at bytes ≡ Ok (f, n) → fault bytes ≡ fault (drop n bytes)
 unfolding fault fault_within
 fault-read [] f n e = absurd (let nil = nothing_read in cc)
 fault-read (b ∷ bytes) f n e =
-    ap (λ r. fault_or r (λ k. fault_within (length bytes) (drop k (b ∷ bytes)))) e
+    ap (λ r. fault_from r (λ k. fault_within (length bytes) (drop k (b ∷ bytes)))) e
     ∙ fault_enough (length bytes) (length (drop n (b ∷ bytes))) (drop n (b ∷ bytes)) (shorter b bytes n (length bytes) (field_took (b ∷ bytes) (f, n) e).positive (omega arith)) (omega arith)
 
 -- bytes whose first field fails have no fields, and its fault
 pub fields-failed : (bytes : List ℕ) (d : WireError) → bytes ≢ [] → field_at bytes ≡ Err d → fields bytes ≡ []
 unfolding fields fields_within
 fields-failed [] d some e = absurd (some refl)
-fields-failed (b ∷ bytes) d some e = ap (λ r. before r (λ k. fields_within (length bytes) (drop k (b ∷ bytes)))) e
+fields-failed (b ∷ bytes) d some e = ap (λ r. fields_from r (λ k. fields_within (length bytes) (drop k (b ∷ bytes)))) e
 
 pub fault-failed : (bytes : List ℕ) (d : WireError) → bytes ≢ [] → field_at bytes ≡ Err d → fault bytes ≡ Some d
 unfolding fault fault_within
 fault-failed [] d some e = absurd (some refl)
-fault-failed (b ∷ bytes) d some e = ap (λ r. fault_or r (λ k. fault_within (length bytes) (drop k (b ∷ bytes)))) e
+fault-failed (b ∷ bytes) d some e = ap (λ r. fault_from r (λ k. fault_within (length bytes) (drop k (b ∷ bytes)))) e
 
 -- ---- all fields
 
@@ -105,8 +106,8 @@ Reaches bytes fs None = AreFields bytes fs
 Reaches bytes fs (Some e) = AreFieldsUntil bytes fs e
 
 reaches_more : (bytes : List ℕ) (f : FieldView) (len : ℕ) (fs : List FieldView) (o : Option WireError) → IsField bytes f.number f.value len → Reaches (drop len bytes) fs o → Reaches bytes (f ∷ fs) o
-reaches_more bytes f len fs None is more = (len, is, more)
-reaches_more bytes f len fs (Some e) is more = (len, is, more)
+reaches_more bytes f len fs None is more = record { len = len; field = is; others = more }
+reaches_more bytes f len fs (Some e) is more = record { len = len; field = is; others = more }
 
 fields_of_nothing : AreFields [] (fields [])
 fields_of_nothing = subst (AreFields []) (sym fields-nil) refl
@@ -136,9 +137,9 @@ reaches (suc most) (b ∷ bytes) le fits = reaches_read most b bytes le fits (λ
 are_fields : (fs : List FieldView) (bytes : List ℕ) → AreFields bytes fs → (fault bytes ≡ None) × (fields bytes ≡ fs)
 are_fields [] bytes e = (ap fault e ∙ fault-nil, ap fields e ∙ fields-nil)
 are_fields (f ∷ fs) bytes more =
-    let read = field_again bytes f.number f.value more.0 more.1 in
-    let others = are_fields fs (drop more.0 bytes) more.2 in
-    (fault-read bytes f more.0 read ∙ others.0, fields-read bytes f more.0 read ∙ ap (λ gs. f ∷ gs) others.1)
+    let read = field_again bytes f.number f.value more.len more.field in
+    let others = are_fields fs (drop more.len bytes) more.others in
+    (fault-read bytes f more.len read ∙ others.0, fields-read bytes f more.len read ∙ ap (λ gs. f ∷ gs) others.1)
 
 -- no varint stands in no bytes
 no_varint : (n : ℕ) (rest : List ℕ) → BeginsWithVarint [] n rest → ⊥
@@ -152,9 +153,9 @@ not_nothing bytes e (in_value tag rest begins good h) none = no_varint tag rest 
 are_until : (fs : List FieldView) (bytes : List ℕ) (e : WireError) → AreFieldsUntil bytes fs e → (fault bytes ≡ Some e) × (fields bytes ≡ fs)
 are_until [] bytes e h = let failed = fault_again bytes e h in let some = not_nothing bytes e h in (fault-failed bytes e some failed, fields-failed bytes e some failed)
 are_until (f ∷ fs) bytes e more =
-    let read = field_again bytes f.number f.value more.0 more.1 in
-    let others = are_until fs (drop more.0 bytes) e more.2 in
-    (fault-read bytes f more.0 read ∙ others.0, fields-read bytes f more.0 read ∙ ap (λ gs. f ∷ gs) others.1)
+    let read = field_again bytes f.number f.value more.len more.field in
+    let others = are_until fs (drop more.len bytes) e more.others in
+    (fault-read bytes f more.len read ∙ others.0, fields-read bytes f more.len read ∙ ap (λ gs. f ∷ gs) others.1)
 
 pub whole : (bytes : List ℕ) (fs : List FieldView) → IsBytes bytes → (AreFields bytes fs) ↔ ((fault bytes ≡ None) × (fields bytes ≡ fs))
 whole bytes fs fits =
@@ -167,20 +168,20 @@ until bytes fs e fits =
 -- ---- how long a message is
 
 -- what was read and what is behind it are no longer than the bytes
-before-size : (bytes : List ℕ) (read : Result (FieldView × ℕ) WireError) (others : ℕ → List FieldView) → length bytes ≤ 16384
+from-size : (bytes : List ℕ) (read : Result (FieldView × ℕ) WireError) (others : ℕ → List FieldView) → length bytes ≤ 16384
     → ((found : FieldView × ℕ) → read ≡ Ok found → TookField bytes found) → ((n : ℕ) → sum_by field_size (others n) ≤ length bytes - n)
-    → sum_by field_size (before read others) ≤ length bytes
-before-size bytes (Ok found) others le took rest =
+    → sum_by field_size (fields_from read others) ≤ length bytes
+from-size bytes (Ok found) others le took rest =
     let field = took found refl in
     rw (sum_by-cons field_size found.0 (others found.1)) (omega (arith, rest found.1, field.within, field.size le))
-before-size bytes (Err e) others le took rest = omega arith
+from-size bytes (Err e) others le took rest = omega arith
 
 within-size : (most : ℕ) (bytes : List ℕ) → length bytes ≤ 16384 → sum_by field_size (fields_within most bytes) ≤ length bytes
 unfolding fields_within
 within-size zero bytes le = omega arith
 within-size (suc most) [] le = omega arith
 within-size (suc most) (b ∷ bytes) le =
-    before-size (b ∷ bytes) (field_at (b ∷ bytes)) (λ n. fields_within most (drop n (b ∷ bytes))) le (λ found e. field_took (b ∷ bytes) found e)
+    from-size (b ∷ bytes) (field_at (b ∷ bytes)) (λ n. fields_within most (drop n (b ∷ bytes))) le (λ found e. field_took (b ∷ bytes) found e)
     (λ n. omega (arith, within-size most (drop n (b ∷ bytes)) (omega (arith, length-drop n (b ∷ bytes))), length-drop n (b ∷ bytes)))
 
 -- A message of at most 2 ^ 14 bytes is no shorter than its fields in their shortest encodings.
@@ -191,56 +192,56 @@ fields-size message le = within-size (length message) message le
 -- ---- encoded fields
 
 -- an encoded field is one, whatever follows
-varint_field_is : (k n : ℕ) (rest : List ℕ) → 1 ≤ k → k < 2 ^ 29 → n < 2 ^ 64 → IsField (varint_field_encoding k n ++ rest) k (Varint n) (length (varint_field_encoding k n))
+varint_field_is : (field_number n : ℕ) (rest : List ℕ) → 1 ≤ field_number → field_number < 2 ^ 29 → n < 2 ^ 64 → IsField (varint_field_encoding field_number n ++ rest) field_number (Varint n) (length (varint_field_encoding field_number n))
 unfolding varint_field_encoding
-varint_field_is k n rest positive below fits = record {
-  tag = varint_encoding (k * 8);
+varint_field_is field_number n rest positive below fits = record {
+  tag = varint_encoding (field_number * 8);
   content = varint_encoding n;
   rest = rest;
-  parts = append_assoc (varint_encoding (k * 8)) (varint_encoding n) rest;
-  len_is = length-append (varint_encoding (k * 8)) (varint_encoding n);
+  parts = append_assoc (varint_encoding (field_number * 8)) (varint_encoding n) rest;
+  len_is = length-append (varint_encoding (field_number * 8)) (varint_encoding n);
   positive = positive;
   below = below;
-  tag_is = let same : k * 8 ≡ k * 8 + 0 = omega arith in subst (IsVarint (varint_encoding (k * 8))) same (varint_encoding_is (k * 8) (omega arith));
+  tag_is = let same : field_number * 8 ≡ field_number * 8 + 0 = omega arith in subst (IsVarint (varint_encoding (field_number * 8))) same (varint_encoding_is (field_number * 8) (omega arith));
   content_is = varint_encoding_is n fits;
 }
 
-bytes_field_is : (k : ℕ) (text rest : List ℕ) → 1 ≤ k → k < 2 ^ 29 → length text < 2 ^ 64 → IsField (bytes_field_encoding k text ++ rest) k (Bytes text) (length (bytes_field_encoding k text))
+bytes_field_is : (field_number : ℕ) (bytes rest : List ℕ) → 1 ≤ field_number → field_number < 2 ^ 29 → length bytes < 2 ^ 64 → IsField (bytes_field_encoding field_number bytes ++ rest) field_number (Bytes bytes) (length (bytes_field_encoding field_number bytes))
 unfolding bytes_field_encoding
-bytes_field_is k text rest positive below fits = record {
-  tag = varint_encoding (k * 8 + 2);
-  content = varint_encoding (length text) ++ text;
+bytes_field_is field_number bytes rest positive below fits = record {
+  tag = varint_encoding (field_number * 8 + 2);
+  content = varint_encoding (length bytes) ++ bytes;
   rest = rest;
-  parts = append_assoc (varint_encoding (k * 8 + 2)) (varint_encoding (length text) ++ text) rest;
-  len_is = length-append (varint_encoding (k * 8 + 2)) (varint_encoding (length text) ++ text);
+  parts = append_assoc (varint_encoding (field_number * 8 + 2)) (varint_encoding (length bytes) ++ bytes) rest;
+  len_is = length-append (varint_encoding (field_number * 8 + 2)) (varint_encoding (length bytes) ++ bytes);
   positive = positive;
   below = below;
-  tag_is = varint_encoding_is (k * 8 + 2) (omega arith);
-  content_is = record { front = varint_encoding (length text); varint = varint_encoding_is (length text) fits; parts = refl };
+  tag_is = varint_encoding_is (field_number * 8 + 2) (omega arith);
+  content_is = record { front = varint_encoding (length bytes); varint = varint_encoding_is (length bytes) fits; parts = refl };
 }
 
 -- an encoded varint field is read, whatever follows
-pub fields-varint_field : (k n : ℕ) (rest : List ℕ) → 1 ≤ k → k < 2 ^ 29 → n < 2 ^ 64 → fields (varint_field_encoding k n ++ rest) ≡ varint_field k n ∷ fields rest
-fields-varint_field k n rest positive below fits =
-    let s : List ℕ = varint_field_encoding k n in
-    fields-read (s ++ rest) (varint_field k n) (length s) (field_again (s ++ rest) k (Varint n) (length s) (varint_field_is k n rest positive below fits))
-    ∙ ap (λ bytes. varint_field k n ∷ fields bytes) (drop_at s rest (length s) refl)
+pub fields-varint_field : (field_number n : ℕ) (rest : List ℕ) → 1 ≤ field_number → field_number < 2 ^ 29 → n < 2 ^ 64 → fields (varint_field_encoding field_number n ++ rest) ≡ varint_field field_number n ∷ fields rest
+fields-varint_field field_number n rest positive below fits =
+    let s : List ℕ = varint_field_encoding field_number n in
+    fields-read (s ++ rest) (varint_field field_number n) (length s) (field_again (s ++ rest) field_number (Varint n) (length s) (varint_field_is field_number n rest positive below fits))
+    ∙ ap (λ others. varint_field field_number n ∷ fields others) (drop_at s rest (length s) refl)
 
-pub fault-varint_field : (k n : ℕ) (rest : List ℕ) → 1 ≤ k → k < 2 ^ 29 → n < 2 ^ 64 → fault (varint_field_encoding k n ++ rest) ≡ fault rest
-fault-varint_field k n rest positive below fits =
-    let s : List ℕ = varint_field_encoding k n in
-    fault-read (s ++ rest) (varint_field k n) (length s) (field_again (s ++ rest) k (Varint n) (length s) (varint_field_is k n rest positive below fits))
+pub fault-varint_field : (field_number n : ℕ) (rest : List ℕ) → 1 ≤ field_number → field_number < 2 ^ 29 → n < 2 ^ 64 → fault (varint_field_encoding field_number n ++ rest) ≡ fault rest
+fault-varint_field field_number n rest positive below fits =
+    let s : List ℕ = varint_field_encoding field_number n in
+    fault-read (s ++ rest) (varint_field field_number n) (length s) (field_again (s ++ rest) field_number (Varint n) (length s) (varint_field_is field_number n rest positive below fits))
     ∙ ap fault (drop_at s rest (length s) refl)
 
 -- an encoded field of bytes is read, whatever follows
-pub fields-bytes_field : (k : ℕ) (text rest : List ℕ) → 1 ≤ k → k < 2 ^ 29 → length text < 2 ^ 64 → fields (bytes_field_encoding k text ++ rest) ≡ bytes_field k text ∷ fields rest
-fields-bytes_field k text rest positive below fits =
-    let s : List ℕ = bytes_field_encoding k text in
-    fields-read (s ++ rest) (bytes_field k text) (length s) (field_again (s ++ rest) k (Bytes text) (length s) (bytes_field_is k text rest positive below fits))
-    ∙ ap (λ bytes. bytes_field k text ∷ fields bytes) (drop_at s rest (length s) refl)
+pub fields-bytes_field : (field_number : ℕ) (bytes rest : List ℕ) → 1 ≤ field_number → field_number < 2 ^ 29 → length bytes < 2 ^ 64 → fields (bytes_field_encoding field_number bytes ++ rest) ≡ bytes_field field_number bytes ∷ fields rest
+fields-bytes_field field_number bytes rest positive below fits =
+    let s : List ℕ = bytes_field_encoding field_number bytes in
+    fields-read (s ++ rest) (bytes_field field_number bytes) (length s) (field_again (s ++ rest) field_number (Bytes bytes) (length s) (bytes_field_is field_number bytes rest positive below fits))
+    ∙ ap (λ others. bytes_field field_number bytes ∷ fields others) (drop_at s rest (length s) refl)
 
-pub fault-bytes_field : (k : ℕ) (text rest : List ℕ) → 1 ≤ k → k < 2 ^ 29 → length text < 2 ^ 64 → fault (bytes_field_encoding k text ++ rest) ≡ fault rest
-fault-bytes_field k text rest positive below fits =
-    let s : List ℕ = bytes_field_encoding k text in
-    fault-read (s ++ rest) (bytes_field k text) (length s) (field_again (s ++ rest) k (Bytes text) (length s) (bytes_field_is k text rest positive below fits))
+pub fault-bytes_field : (field_number : ℕ) (bytes rest : List ℕ) → 1 ≤ field_number → field_number < 2 ^ 29 → length bytes < 2 ^ 64 → fault (bytes_field_encoding field_number bytes ++ rest) ≡ fault rest
+fault-bytes_field field_number bytes rest positive below fits =
+    let s : List ℕ = bytes_field_encoding field_number bytes in
+    fault-read (s ++ rest) (bytes_field field_number bytes) (length s) (field_again (s ++ rest) field_number (Bytes bytes) (length s) (bytes_field_is field_number bytes rest positive below fits))
     ∙ ap fault (drop_at s rest (length s) refl)

@@ -1,4 +1,4 @@
--- What one call found, by the field that is read there.
+-- What one call of `next_field` found, by the field that is read there.
 use Rattle.std.proofs.Common.{◌≡◌, ◌≢◌, ◌↔◌, ℕ, Bool, true, false, eqb, List, [], length, Option, Some, None, Result, Ok, Err, sym, ap, subst, ◌∙◌}
 use Rattle.std.proofs.lemmas.Bool.{eqb-true, eqb-false}
 use Rattle.std.proofs.lemmas.List.{nil_from_length}
@@ -41,10 +41,10 @@ no_field bytes number value len none is =
 pub finds : (bytes : List ℕ) (r : Result (Option (Field × ℕ)) WireError) → IsBytes bytes → Answers bytes r → (number : ℕ) (value : FieldValue) (len : ℕ) → (Finds r number value len) ↔ (IsField bytes number value len)
 finds bytes (Ok None) fits none number value len = (λ found. absurd found, λ is. no_field bytes number value len none is)
 finds bytes (Ok (Some next)) fits read number value len = (
-  λ found. subst (λ (n : ℕ). IsField bytes n value len) found.0 (subst (λ (v : FieldValue). IsField bytes next.0.number v len) found.1 (subst (IsField bytes next.0.number (value_view next.0.value)) found.2 ((field_took bytes (field_view next.0, next.1) read).is fits))),
+  λ found. subst (λ (n : ℕ). IsField bytes n value len) found.number_is (subst (λ (v : FieldValue). IsField bytes next.0.number v len) found.value_is (subst (IsField bytes next.0.number (value_view next.0.value)) found.len_is ((field_took bytes (field_view next.0, next.1) read).is fits))),
   λ is.
       let same = ok_is (field_view next.0, next.1) (record { number = number; value = value }, len) (sym read ∙ field_again bytes number value len is) in
-      (ap (λ (p : FieldView × ℕ). p.0.number) same, ap (λ (p : FieldView × ℕ). p.0.value) same, ap (λ (p : FieldView × ℕ). p.1) same),
+      record { number_is = ap (λ (p : FieldView × ℕ). p.0.number) same; value_is = ap (λ (p : FieldView × ℕ). p.0.value) same; len_is = ap (λ (p : FieldView × ℕ). p.1) same },
 )
 finds bytes (Err e) fits failed number value len =
     (λ found. absurd found, λ is. let read = field_again bytes number value len is in let wrong = failed.1 in absurd cc)
@@ -58,8 +58,8 @@ fails bytes (Err d) fits failed e = (
 )
 
 pub steps : (bytes : List ℕ) (r : Result (Option (Field × ℕ)) WireError) → IsBytes bytes → Answers bytes r → Steps bytes r
-steps bytes (Ok None) fits none = (none, ap fields none ∙ fields-nil, ap fault none ∙ fault-nil)
+steps bytes (Ok None) fits none = record { nothing = none; no_fields = ap fields none ∙ fields-nil; no_fault = ap fault none ∙ fault-nil }
 steps bytes (Ok (Some next)) fits read =
     let took = field_took bytes (field_view next.0, next.1) read in
-    (took.positive, took.within, fields-read bytes (field_view next.0) next.1 read, fault-read bytes (field_view next.0) next.1 read)
+    record { positive = took.positive; within = took.within; fields_are = fields-read bytes (field_view next.0) next.1 read; fault_is = fault-read bytes (field_view next.0) next.1 read }
 steps bytes (Err e) fits failed = (fields-failed bytes e failed.0 failed.1, fault-failed bytes e failed.0 failed.1)

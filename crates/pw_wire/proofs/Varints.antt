@@ -1,11 +1,12 @@
--- A varint is read as its number, and what is read is one: both ways, for the fault too.
+-- A varint is read as its number, and what is read is one: both ways, for the fault too. For the law `encoded_varint`,
+-- and for `FieldLemmas`.
 use Rattle.std.proofs.Common.{◌≡◌, ℕ, zero, suc, ◌+◌, ◌*◌, ◌/◌, ◌%◌, ◌-◌, ◌^◌, ◌<◌, ◌≤◌, ◌⊎◌, List, [], ◌∷◌, ◌++◌, length, take, get_or, Result, Ok, Err, refl, sym, ap, subst, ◌∙◌, arith, inl, inr}
 use Rattle.std.proofs.lemmas.Bool.{cases_lt}
 use Rattle.pw_wire.specs.declared.error.WireError.{WireError}
 use Rattle.pw_wire.specs.declared.error.WireError.TheVariants.{Truncated, LongVarint, BadField, GroupWire, BadWire}
 use Rattle.pw_wire.specs.Decoding.{◌>>=◌, IsBytes}
 use Rattle.pw_wire.specs.Varint.{EncodesNumber, IsVarint, AllGoOn, IsVarintFault, varint_within, varint_at, encoding_within, varint_encoding}
-use Rattle.pw_wire.proofs.Places.{within-nil, within-last, within-goes_on, within-tenth, within-too_long}
+use Rattle.pw_wire.proofs.VarintReading.{within-nil, within-last, within-goes_on, within-tenth, within-too_long}
 use Rattle.pw_wire.proofs.Encoding.{limit, encoding-last, encoding-goes_on}
 
 -- ---- steps that may fail
@@ -20,19 +21,24 @@ pub bind_err : {A B : Type 0} (r : Result A WireError) (f : A → Result B WireE
 bind_err (Ok x) f d e = inr (x, refl, e)
 bind_err (Err c) f d e = inl cc
 
-abbrev done : {A : Type 0} → A → Result A WireError
-done x = Ok x
+abbrev ok_of : {A : Type 0} → A → Result A WireError
+ok_of x = Ok x
 
-abbrev failed : (A : Type 0) → WireError → Result A WireError
-failed A e = Err e
+abbrev err_of : (A : Type 0) → WireError → Result A WireError
+err_of A e = Err e
 
-pub ok_is : {A : Type 0} (x y : A) → done x ≡ done y → x ≡ y
+pub ok_is : {A : Type 0} (x y : A) → ok_of x ≡ ok_of y → x ≡ y
 ok_is x y e = cc
 
-pub err_is : (A : Type 0) (d e : WireError) → failed A d ≡ failed A e → d ≡ e
+pub err_is : (A : Type 0) (d e : WireError) → err_of A d ≡ err_of A e → d ≡ e
 err_is A d e h = cc
 
 -- ---- a varint is read
+
+-- a byte that goes on is read with the bytes behind it
+goes_on_again : (left b : ℕ) (bytes : List ℕ) (n high k : ℕ) → 128 ≤ b → b - 128 + 128 * high ≡ n → varint_within left bytes ≡ Ok (high, k) → varint_within (suc left) (b ∷ bytes) ≡ Ok (n, suc k)
+goes_on_again left b bytes n high k large number read =
+    within-goes_on left b bytes large ∙ ap (λ r. r >>= λ h. Ok (b - 128 + 128 * h.0, suc h.1)) read ∙ ap (λ (m : ℕ). Ok (m, suc k)) number
 
 -- a number with its bytes is read, where so many bytes are allowed
 pub within_again : (left : ℕ) (front rest : List ℕ) (n : ℕ) → EncodesNumber front n → length front ≤ suc left → n < limit left → varint_within left (front ++ rest) ≡ Ok (n, length front)
@@ -41,11 +47,10 @@ within_again zero (b ∷ []) rest n encoded short fits = rw (encoded.1) (within-
 within_again (suc left) (b ∷ []) rest n encoded short fits = rw (encoded.1) (within-last left b rest encoded.0)
 within_again zero (b ∷ c ∷ front) rest n encoded short fits = absurd (omega arith)
 within_again (suc left) (b ∷ c ∷ front) rest n encoded short fits =
-    let high = encoded.2 in
-    let fits' : high < limit left = omega arith in
-    let again = within_again left (c ∷ front) rest high encoded.4 (omega arith) fits' in
-    let number : b - 128 + 128 * high ≡ n = omega arith in
-    within-goes_on left b (c ∷ front ++ rest) encoded.0 ∙ ap (λ r. r >>= λ h. Ok (b - 128 + 128 * h.0, suc h.1)) again ∙ ap (λ k. Ok (k, suc (suc (length front)))) number
+    let large : 128 ≤ b = omega (arith, encoded.byte_is) in
+    let number : b - 128 + 128 * encoded.high ≡ n = omega (arith, encoded.byte_is, encoded.number_is) in
+    let fits' : encoded.high < limit left = omega arith in
+    goes_on_again left b (c ∷ front ++ rest) n encoded.high (length (c ∷ front)) large number (within_again left (c ∷ front) rest encoded.high encoded.above (omega arith) fits')
 
 pub varint_again : (front rest : List ℕ) (n : ℕ) → IsVarint front n → varint_at (front ++ rest) ≡ Ok (n, length front)
 varint_again front rest n is = within_again 9 front rest n is.encoded is.short is.fits
@@ -64,14 +69,14 @@ rest_bytes : (b : ℕ) (bytes : List ℕ) → IsBytes (b ∷ bytes) → IsBytes 
 rest_bytes b bytes fits i = fits (suc i)
 
 -- one byte more at the front
-pub encodes_before : (b : ℕ) (bytes : List ℕ) (n high : ℕ) → 128 ≤ b → b < 256 → n + 128 ≡ b + 128 * high → EncodesNumber bytes high → EncodesNumber (b ∷ bytes) n
-encodes_before b [] n high le lt e encoded = absurd encoded
-encodes_before b (c ∷ bytes) n high le lt e encoded = (le, lt, high, e, encoded)
+pub encodes_before : (b low : ℕ) (bytes : List ℕ) (n high : ℕ) → b ≡ 128 + low → low < 128 → n ≡ low + 128 * high → EncodesNumber bytes high → EncodesNumber (b ∷ bytes) n
+encodes_before b low [] n high byte lt number encoded = absurd encoded
+encodes_before b low (c ∷ bytes) n high byte lt number encoded = record { low = low; high = high; byte_is = byte; seven_bits = lt; number_is = number; above = encoded }
 
 -- a byte that goes on, before a varint
 goes_before : (left b : ℕ) (bytes : List ℕ) (n k : ℕ) → 128 ≤ b → TookVarint left bytes (n, k) → TookVarint (suc left) (b ∷ bytes) (b - 128 + 128 * n, suc k)
 goes_before left b bytes n k le took = record {
-  encoded = λ fits. encodes_before b (take k bytes) (b - 128 + 128 * n) n le (fits 0) (omega arith) (took.encoded (rest_bytes b bytes fits));
+  encoded = λ fits. encodes_before b (b - 128) (take k bytes) (b - 128 + 128 * n) n (omega arith) (omega (arith, fits 0)) refl (took.encoded (rest_bytes b bytes fits));
   positive = omega arith;
   short = omega (arith, took.short);
   within = omega (arith, took.within);
@@ -177,7 +182,7 @@ encoding_encodes (suc left) n lt =
       | inl small ↦ rw (encoding-last (suc left) n small) ((small, refl), omega arith)
       | inr le ↦
           let above = encoding_encodes left (n / 128) (omega arith) in
-          rw (encoding-goes_on left n le) (encodes_before (n % 128 + 128) (encoding_within left (n / 128)) n (n / 128) (omega arith) (omega arith) (omega arith) above.0, omega (arith, above.1))
+          rw (encoding-goes_on left n le) (encodes_before (n % 128 + 128) (n % 128) (encoding_within left (n / 128)) n (n / 128) (omega arith) (omega arith) (omega arith) above.0, omega (arith, above.1))
     ]
 
 pub varint_encoding_is : (n : ℕ) → n < 2 ^ 64 → IsVarint (varint_encoding n) n
@@ -197,8 +202,8 @@ encoding_shortest (suc left) n (b ∷ c ∷ bytes) lt encoded =
     elim (cases_lt n 128) [
       | inl small ↦ rw (encoding-last (suc left) n small) (omega arith)
       | inr le ↦
-          let high : n / 128 ≡ encoded.2 = omega (arith, encoded.0, encoded.1, encoded.3) in
-          rw (encoding-goes_on left n le, high) (omega (arith, encoding_shortest left encoded.2 (c ∷ bytes) (omega (arith, encoded.0, encoded.1, encoded.3)) encoded.4))
+          let high : n / 128 ≡ encoded.high = omega (arith, encoded.seven_bits, encoded.number_is) in
+          rw (encoding-goes_on left n le, high) (omega (arith, encoding_shortest left encoded.high (c ∷ bytes) (omega (arith, encoded.number_is)) encoded.above))
     ]
 
 pub varint_encoding_shortest : (n : ℕ) (bytes : List ℕ) → IsVarint bytes n → length (varint_encoding n) ≤ length bytes

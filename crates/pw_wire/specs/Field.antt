@@ -20,10 +20,10 @@ pub record FieldView : Type 0 where
 
 -- a field of a number, and one of bytes
 abbrev pub varint_field : ℕ → ℕ → FieldView
-varint_field number n = record { number = number; value = Varint n }
+varint_field field_number n = record { number = field_number; value = Varint n }
 
 abbrev pub bytes_field : ℕ → List ℕ → FieldView
-bytes_field number bytes = record { number = number; value = Bytes bytes }
+bytes_field field_number bytes = record { number = field_number; value = Bytes bytes }
 
 -- ---- what a field is
 
@@ -36,27 +36,30 @@ wire_type (Fixed32 n) = 5
 
 -- the bytes of a value, behind its tag; fixed numbers have their lowest byte first
 abbrev pub IsValue : List ℕ → FieldValue → Type 0
-IsValue bytes (Varint n) = IsVarint bytes n
-IsValue bytes (Fixed64 n) = (length bytes ≡ 8) × (n ≡ from_le_bytes w64 bytes)
-IsValue bytes (Bytes text) = BeginsWithVarint bytes (length text) text
-IsValue bytes (Fixed32 n) = (length bytes ≡ 4) × (n ≡ from_le_bytes w32 bytes)
+IsValue encoding (Varint n) = IsVarint encoding n
+IsValue encoding (Fixed64 n) = (length encoding ≡ 8) × (n ≡ from_le_bytes w64 encoding)
+IsValue encoding (Bytes bytes) = BeginsWithVarint encoding (length bytes) bytes
+IsValue encoding (Fixed32 n) = (length encoding ≡ 4) × (n ≡ from_le_bytes w32 encoding)
 
 -- Bytes that begin with a field of this length: a tag, which is the varint of the field's number times 8
 -- plus its wire type, and a value.
-pub record IsField (bytes : List ℕ) (number : ℕ) (value : FieldValue) (len : ℕ) : Type 0 where
+pub record IsField (bytes : List ℕ) (field_number : ℕ) (value : FieldValue) (len : ℕ) : Type 0 where
   pub tag : List ℕ
   pub content : List ℕ
   pub rest : List ℕ
   pub parts : bytes ≡ tag ++ (content ++ rest)
   pub len_is : len ≡ length tag + length content
-  pub positive : 0 < number
-  pub below : number < 2 ^ 29
-  pub tag_is : IsVarint tag (number * 8 + wire_type value)
+  pub positive : 0 < field_number
+  pub below : field_number < 2 ^ 29
+  pub tag_is : IsVarint tag (field_number * 8 + wire_type value)
   pub content_is : IsValue content value
 
 -- some field stands at the front
-abbrev pub BeginsWithField : List ℕ → Type 0
-BeginsWithField bytes = (number : ℕ) × (value : FieldValue) × (len : ℕ) × IsField bytes number value len
+pub record BeginsWithField (bytes : List ℕ) : Type 0 where
+  pub field_number : ℕ
+  pub value : FieldValue
+  pub len : ℕ
+  pub field : IsField bytes field_number value len
 
 -- ---- what is wrong where no field stands
 
@@ -138,8 +141,8 @@ field_at bytes = do
 
 -- a field of wire type 0
 unfoldable pub varint_field_encoding : ℕ → ℕ → List ℕ
-varint_field_encoding number n = varint_encoding (number * 8) ++ varint_encoding n
+varint_field_encoding field_number n = varint_encoding (field_number * 8) ++ varint_encoding n
 
 -- a field of wire type 2
 unfoldable pub bytes_field_encoding : ℕ → List ℕ → List ℕ
-bytes_field_encoding number bytes = varint_encoding (number * 8 + 2) ++ (varint_encoding (length bytes) ++ bytes)
+bytes_field_encoding field_number bytes = varint_encoding (field_number * 8 + 2) ++ (varint_encoding (length bytes) ++ bytes)

@@ -3,37 +3,47 @@ use Rattle.std.specs.Prelude.{◌≡◌, ℕ, zero, suc, List, [], ◌∷◌, �
 use Rattle.pw_wire.specs.declared.error.WireError.{WireError}
 use Rattle.pw_wire.specs.Field.{FieldView, IsField, IsFieldFault, field_at}
 
+-- ---- what a message is
+
+-- The bytes begin with this field, and the bytes behind it are what `Others` says.
+pub record BeginsWith (f : FieldView) (Others : List ℕ → Type 0) (bytes : List ℕ) : Type 0 where
+  pub len : ℕ
+  pub field : IsField bytes f.number f.value len
+  pub others : Others (drop len bytes)
+
 -- the bytes are these fields, one after the other
 abbrev pub AreFields : List ℕ → List FieldView → Type 0
 AreFields bytes [] = bytes ≡ []
-AreFields bytes (f ∷ fs) = (len : ℕ) × IsField bytes f.number f.value len × AreFields (drop len bytes) fs
+AreFields bytes (f ∷ fs) = BeginsWith f (λ rest. AreFields rest fs) bytes
 
 -- the bytes begin with these fields, and behind them no field stands, for this fault
 abbrev pub AreFieldsUntil : List ℕ → List FieldView → WireError → Type 0
 AreFieldsUntil bytes [] error = IsFieldFault bytes error
-AreFieldsUntil bytes (f ∷ fs) error = (len : ℕ) × IsField bytes f.number f.value len × AreFieldsUntil (drop len bytes) fs error
+AreFieldsUntil bytes (f ∷ fs) error = BeginsWith f (λ rest. AreFieldsUntil rest fs error) bytes
 
--- a field that was read, before the fields from a later byte on
-abbrev pub before : Result (FieldView × ℕ) WireError → (ℕ → List FieldView) → List FieldView
-before (Ok next) others = next.0 ∷ others next.1
-before (Err e) others = []
+-- ---- reading one
 
--- the fault of what was read, else that from a later byte on
-abbrev pub fault_or : Result (FieldView × ℕ) WireError → (ℕ → Option WireError) → Option WireError
-fault_or (Ok next) later = later next.1
-fault_or (Err e) later = Some e
+-- the fields where this was read at the front: it, and the fields from a later byte on, or none
+abbrev pub fields_from : Result (FieldView × ℕ) WireError → (ℕ → List FieldView) → List FieldView
+fields_from (Ok next) others = next.0 ∷ others next.1
+fields_from (Err e) others = []
+
+-- the fault where this was read at the front: its own, else that from a later byte on
+abbrev pub fault_from : Result (FieldView × ℕ) WireError → (ℕ → Option WireError) → Option WireError
+fault_from (Ok next) later = later next.1
+fault_from (Err e) later = Some e
 
 -- the fields, where `most` is at least how many there are
 unfoldable pub fields_within : ℕ → List ℕ → List FieldView
 fields_within zero bytes = []
 fields_within (suc most) [] = []
-fields_within (suc most) (b ∷ bytes) = before (field_at (b ∷ bytes)) (λ n. fields_within most (drop n (b ∷ bytes)))
+fields_within (suc most) (b ∷ bytes) = fields_from (field_at (b ∷ bytes)) (λ n. fields_within most (drop n (b ∷ bytes)))
 
 -- and the fault behind at most so many
 unfoldable pub fault_within : ℕ → List ℕ → Option WireError
 fault_within zero bytes = None
 fault_within (suc most) [] = None
-fault_within (suc most) (b ∷ bytes) = fault_or (field_at (b ∷ bytes)) (λ n. fault_within most (drop n (b ∷ bytes)))
+fault_within (suc most) (b ∷ bytes) = fault_from (field_at (b ∷ bytes)) (λ n. fault_within most (drop n (b ∷ bytes)))
 
 -- the fields of the bytes, up to the first fault
 unfoldable pub fields : List ℕ → List FieldView

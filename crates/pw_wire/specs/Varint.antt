@@ -5,12 +5,23 @@ use Rattle.pw_wire.specs.declared.error.WireError.{WireError}
 use Rattle.pw_wire.specs.declared.error.WireError.TheVariants.{Truncated, LongVarint, BadField, GroupWire, BadWire}
 use Rattle.pw_wire.specs.Decoding.{◌>>=◌}
 
--- Seven bits a byte, the lowest first. A byte below 128 is the last and stands for itself; one from 128
--- on stands for its low seven bits, and the bytes after it for the bits above.
+-- ---- what a varint is
+
+-- A byte that goes on is 128 and the low seven bits of the number; the bytes behind it encode the bits above.
+pub record GoesOn (EncodesAbove : ℕ → Type 0) (byte n : ℕ) : Type 0 where
+  pub low : ℕ
+  pub high : ℕ
+  pub byte_is : byte ≡ 128 + low
+  pub seven_bits : low < 128
+  pub number_is : n ≡ low + 128 * high
+  pub above : EncodesAbove high
+
+-- Seven bits a byte, the lowest first: a byte below 128 is the last and stands for itself, and each one before it
+-- goes on.
 abbrev pub EncodesNumber : List ℕ → ℕ → Type 0
 EncodesNumber [] n = ⊥
 EncodesNumber (b ∷ []) n = (b < 128) × (n ≡ b)
-EncodesNumber (b ∷ c ∷ bytes) n = (128 ≤ b) × (b < 256) × (high : ℕ) × (n + 128 ≡ b + 128 * high) × EncodesNumber (c ∷ bytes) high
+EncodesNumber (b ∷ c ∷ bytes) n = GoesOn (λ high. EncodesNumber (c ∷ bytes) high) b n
 
 -- A varint has at most ten bytes, and a number of 64 bits. Zeros at the top are allowed.
 pub record IsVarint (bytes : List ℕ) (n : ℕ) : Type 0 where
@@ -36,6 +47,8 @@ pub record BeginsWithVarint (bytes : List ℕ) (n : ℕ) (rest : List ℕ) : Typ
   pub varint : IsVarint front n
   pub parts : bytes ≡ front ++ rest
 
+-- ---- reading one
+
 -- Reading with `left` bytes allowed before the last possible one: the number, and how many bytes it took.
 unfoldable pub varint_within : ℕ → List ℕ → Result (ℕ × ℕ) WireError
 varint_within left [] = Err Truncated
@@ -47,6 +60,8 @@ varint_within (suc left) (b ∷ bytes) = if nat_lt b 128 then Ok (b, 1) else do
 -- the varint at the front, and its length
 abbrev pub varint_at : List ℕ → Result (ℕ × ℕ) WireError
 varint_at bytes = varint_within 9 bytes
+
+-- ---- the shortest encoding
 
 -- The shortest encoding, with `left` bytes allowed before the last one.
 unfoldable pub encoding_within : ℕ → ℕ → List ℕ

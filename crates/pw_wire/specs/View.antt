@@ -26,17 +26,33 @@ abbrev pub field_read : Result (Field × ℕ) WireError → Result (FieldView ×
 field_read (Ok found) = Ok (field_view found.0, found.1)
 field_read (Err e) = Err e
 
+-- what was found is the field of this number and value, and has this length
+pub record IsFound (found : Field × ℕ) (field_number : ℕ) (value : FieldValue) (len : ℕ) : Type 0 where
+  pub number_is : found.0.number ≡ field_number
+  pub value_is : value_view found.0.value ≡ value
+  pub len_is : found.1 ≡ len
+
 -- a call found this field, of this length
 abbrev pub Finds : Result (Option (Field × ℕ)) WireError → ℕ → FieldValue → ℕ → Type 0
-Finds (Ok (Some next)) number value len = (next.0.number ≡ number) × (value_view next.0.value ≡ value) × (next.1 ≡ len)
-Finds (Ok None) number value len = ⊥
-Finds (Err e) number value len = ⊥
+Finds (Ok (Some next)) field_number value len = IsFound next field_number value len
+Finds (Ok None) field_number value len = ⊥
+Finds (Err e) field_number value len = ⊥
 
--- What one call tells of the whole message: nothing is left, or a field and then the fields and the fault
--- of what follows it, or the fault.
+-- nothing is left of the message
+pub record IsEnd (bytes : List ℕ) : Type 0 where
+  pub nothing : bytes ≡ []
+  pub no_fields : fields bytes ≡ []
+  pub no_fault : fault bytes ≡ None
+
+-- A field stands at the front, and then come the fields and the fault of what is behind it.
+pub record IsStep (bytes : List ℕ) (f : FieldView) (len : ℕ) : Type 0 where
+  pub positive : 1 ≤ len
+  pub within : len ≤ length bytes
+  pub fields_are : fields bytes ≡ f ∷ fields (drop len bytes)
+  pub fault_is : fault bytes ≡ fault (drop len bytes)
+
+-- What one call tells of the whole message: its end, a step in it, or its fault.
 abbrev pub Steps : List ℕ → Result (Option (Field × ℕ)) WireError → Type 0
-Steps bytes (Ok None) = (bytes ≡ []) × (fields bytes ≡ []) × (fault bytes ≡ None)
-Steps bytes (Ok (Some next)) =
-    (1 ≤ next.1) × (next.1 ≤ length bytes)
-    × (fields bytes ≡ field_view next.0 ∷ fields (drop next.1 bytes)) × (fault bytes ≡ fault (drop next.1 bytes))
+Steps bytes (Ok None) = IsEnd bytes
+Steps bytes (Ok (Some next)) = IsStep bytes (field_view next.0) next.1
 Steps bytes (Err e) = (fields bytes ≡ []) × (fault bytes ≡ Some e)

@@ -36,8 +36,8 @@ pub fn encoded_varint()
 
 /// An encoded field is read as that field, whatever follows it.
 pub fn encoded_fields()
-    ensures varint { (k n : ℕ) → 1 ≤ k → k < 2 ^ 29 → n < 2 ^ 64
-        → IsDecodedAs (varint_field_encoding k n) (varint_field k n) }
-    ensures bytes { (k : ℕ) (text : List ℕ) → 1 ≤ k → k < 2 ^ 29 → length text < 2 ^ 64
-        → IsDecodedAs (bytes_field_encoding k text) (bytes_field k text) }
+    ensures varint { (field_number n : ℕ) → 1 ≤ field_number → field_number < 2 ^ 29 → n < 2 ^ 64
+        → IsDecodedAs (varint_field_encoding field_number n) (varint_field field_number n) }
+    ensures bytes { (field_number : ℕ) (bytes : List ℕ) → 1 ≤ field_number → field_number < 2 ^ 29 → length bytes < 2 ^ 64
+        → IsDecodedAs (bytes_field_encoding field_number bytes) (bytes_field field_number bytes) }
 {}

@@ -11,8 +11,8 @@ use crate::varint::read_varint;
 #[inline(always)]
 pub fn next_field(bytes: &[u8]) -> Result<Option<(Field<'_>, usize)>, WireError>
     ensures none { (result ≡ Ok None) ↔ (bytes.now ≡ []) }
-    ensures field { (number : ℕ) (value : FieldValue) (len : ℕ)
-        → (Finds result number value len) ↔ (IsField bytes.now number value len) }
+    ensures field { (field_number : ℕ) (value : FieldValue) (len : ℕ)
+        → (Finds result field_number value len) ↔ (IsField bytes.now field_number value len) }
     ensures fault { (e : WireError) → (result ≡ Err e) ↔ (IsFieldFault bytes.now e) }
 
     // What this tells of the whole message.
@@ -51,7 +51,7 @@ fn value_behind(kind: u64, bytes: &[u8]) -> Result<(Value<'_>, usize), WireError
     match kind {
         0 => number(bytes),
         1 => fixed64(bytes),
-        2 => text(bytes),
+        2 => bytes_field(bytes),
         3 | 4 => Err(WireError::GroupWire),
         5 => fixed32(bytes),
         _ => Err(WireError::BadWire),
@@ -68,7 +68,7 @@ fn number(bytes: &[u8]) -> Result<(Value<'_>, usize), WireError>
 }
 
 #[tactic(auto, unfolding(crate::specs::Field::bytes_at))]
-fn text(bytes: &[u8]) -> Result<(Value<'_>, usize), WireError>
+fn bytes_field(bytes: &[u8]) -> Result<(Value<'_>, usize), WireError>
     ensures exact { value_read result ≡ bytes_at bytes.now }
     ensures within { IfOk result (λ found. found.1 ≤ length bytes.now) }
 {

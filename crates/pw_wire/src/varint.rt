@@ -25,24 +25,24 @@ fn long_varint(bytes: &[u8]) -> Result<(u64, usize), WireError>
     ensures within { IfOk result (λ found. found.1 ≤ length bytes.now) }
 {
     let mut low: u64 = 0;
-    let mut place: u64 = 1;
+    let mut shift: u32 = 0;
     for i in 0..9 {
         if i >= bytes.len() {
             return Err(WireError::Truncated);
         }
         let byte = u64::from(bytes[i]);
         if byte < 128 {
-            return Ok((low + byte * place, i + 1));
+            return Ok((low + (byte << shift), i + 1));
         }
-        low += (byte - 128) * place;
-        place *= 128;
+        low += (byte - 128) << shift;
+        shift += 7;
     }
     if bytes.len() <= 9 {
         return Err(WireError::Truncated);
     }
     let last = u64::from(bytes[9]);
     if last < 2 {
-        Ok((low + last * place, 10))
+        Ok((low + (last << shift), 10))
     } else {
         Err(WireError::LongVarint)
     }

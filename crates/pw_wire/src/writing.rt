@@ -19,29 +19,29 @@ pub fn put_varint(out: &mut Vec<u8>, n: u64) -> Result<(), AllocError>
 
 /// Appends a field of wire type 0, in its shortest encoding.
 #[tactic(auto, unfolding(crate::specs::Field::varint_field_encoding))]
-pub fn put_varint_field(out: &mut Vec<u8>, number: u32, n: u64) -> Result<(), AllocError>
-    requires positive { 1 ≤ number }
-    requires below { number < 2 ^ 29 }
-    ensures ok { OnOk result (out.new.items ≡ out.old.items ++ varint_field_encoding number n) }
+pub fn put_varint_field(out: &mut Vec<u8>, field_number: u32, n: u64) -> Result<(), AllocError>
+    requires positive { 1 ≤ field_number }
+    requires below { field_number < 2 ^ 29 }
+    ensures ok { OnOk result (out.new.items ≡ out.old.items ++ varint_field_encoding field_number n) }
     ensures err { OnErr result (out.new.items ≡ out.old.items) }
 {
     out.reserve(2 * VARINT_ROOM)?;
-    push_varint(out, u64::from(number) * 8);
+    push_varint(out, u64::from(field_number) * 8);
     push_varint(out, n);
     Ok(())
 }
 
 /// Appends a field of wire type 2, as of bytes, a string or a message, in its shortest encoding.
 #[tactic(auto, unfolding(crate::specs::Field::bytes_field_encoding))]
-pub fn put_bytes_field(out: &mut Vec<u8>, number: u32, bytes: &[u8]) -> Result<(), AllocError>
-    requires positive { 1 ≤ number }
-    requires below { number < 2 ^ 29 }
-    ensures ok { OnOk result (out.new.items ≡ out.old.items ++ bytes_field_encoding number bytes.now) }
+pub fn put_bytes_field(out: &mut Vec<u8>, field_number: u32, bytes: &[u8]) -> Result<(), AllocError>
+    requires positive { 1 ≤ field_number }
+    requires below { field_number < 2 ^ 29 }
+    ensures ok { OnOk result (out.new.items ≡ out.old.items ++ bytes_field_encoding field_number bytes.now) }
     ensures err { OnErr result (out.new.items ≡ out.old.items) }
 {
     let room = bytes.len().checked_add(2 * VARINT_ROOM).ok_or(AllocError)?;
     out.reserve(room)?;
-    push_varint(out, u64::from(number) * 8 + 2);
+    push_varint(out, u64::from(field_number) * 8 + 2);
     push_varint(out, bytes.len() as u64);
     out.extend_from_slice(bytes)
 }

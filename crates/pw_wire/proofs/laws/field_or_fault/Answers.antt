@@ -5,7 +5,7 @@ pub returns-clause-one : goal.returns-clause-one
 returns-clause-one c = one_of_both
 
 pub returns-clause-not_both : goal.returns-clause-not_both
-returns-clause-not_both c = λ bytes is fault. not_both bytes is.0 is.1 is.2 fault.0 is.3 fault.1
+returns-clause-not_both c = λ bytes is fault. not_both bytes is.field_number is.value is.len fault.0 is.field fault.1
 
 pub returns-clause-one_field : goal.returns-clause-one_field
 returns-clause-one_field c = one_field
