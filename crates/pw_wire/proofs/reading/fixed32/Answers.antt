@@ -1,0 +1,5 @@
+use Rattle.std.proofs.Common.{rules}
+use Rattle.pw_wire.proofs.reading.fixed32.Goals as goal
+
+pub returns-clause-within : goal.returns-clause-within
+returns-clause-within c = search rules
