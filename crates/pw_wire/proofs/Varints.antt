@@ -33,6 +33,16 @@ ok_is x y e = cc
 pub err_is : (A : Type 0) (d e : WireError) → err_of A d ≡ err_of A e → d ≡ e
 err_is A d e h = cc
 
+-- ---- one number
+
+-- bytes encode one number at most
+pub one_number : (bytes : List ℕ) (m n : ℕ) → EncodesNumber bytes m → EncodesNumber bytes n → m ≡ n
+one_number [] m n first second = absurd first
+one_number (b ∷ []) m n first second = first.1 ∙ sym second.1
+one_number (b ∷ c ∷ bytes) m n first second =
+    let high : first.high ≡ second.high = one_number (c ∷ bytes) first.high second.high first.above second.above in
+    omega (arith, first.byte_is, first.number_is, second.byte_is, second.number_is)
+
 -- ---- a varint is read
 
 -- a byte that goes on is read with the bytes behind it

@@ -4,7 +4,7 @@
 ghost use Rattle.std.specs.Prelude.{◌≡◌, ◌≢◌, ◌↔◌, ◌⊎◌, ℕ, ◌^◌, ◌<◌, ◌≤◌, List, [], length, Some, None};
 ghost use Rattle.pw_wire.specs.declared.error.WireError.{WireError};
 ghost use Rattle.pw_wire.specs.Decoding.{IsBytes};
-ghost use Rattle.pw_wire.specs.Varint.{IsVarint, varint_encoding};
+ghost use Rattle.pw_wire.specs.Varint.{EncodesNumber, IsVarint, varint_encoding};
 ghost use Rattle.pw_wire.specs.Field.{FieldValue, FieldView, IsField, IsFieldFault, BeginsWithField, HasFieldFault, varint_field, bytes_field, varint_field_encoding, bytes_field_encoding};
 ghost use Rattle.pw_wire.specs.Fields.{AreFields, AreFieldsUntil, fields, fault, IsDecodedAs};
 
@@ -27,8 +27,10 @@ pub fn all_fields()
         → (AreFieldsUntil bytes fs e) ↔ ((fault bytes ≡ Some e) × (fields bytes ≡ fs)) }
 {}
 
-/// The encoding of a number is a varint of it, and no other varint of it is shorter.
+/// Bytes encode one number at most. The encoding of a number is a varint of it, and no other varint of it is shorter.
 pub fn encoded_varint()
+    ensures one_number { (bytes : List ℕ) (m n : ℕ)
+        → EncodesNumber bytes m → EncodesNumber bytes n → m ≡ n }
     ensures encoded { (n : ℕ) → n < 2 ^ 64 → IsVarint (varint_encoding n) n }
     ensures shortest { (n : ℕ) (bytes : List ℕ) → IsVarint bytes n
         → length (varint_encoding n) ≤ length bytes }
