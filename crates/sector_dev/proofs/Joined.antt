@@ -1,11 +1,12 @@
 -- Transfers one after another.
-use Rattle.std.proofs.Common.{◌≡◌, ℕ, ◌+◌, ◌-◌, ◌*◌, ◌<◌, ◌≤◌, inl, inr, List, [], ◌∷◌, ◌++◌, length, get_or, take, drop, refl, sym, ◌∙◌, ap, subst, arith, length-append, length-drop, get_or-take, Result, Ok, Err, OnOk, Bool, IsTrue, add-zero}
+use Rattle.std.proofs.Common.{◌≡◌, ◌≢◌, ℕ, ◌+◌, ◌-◌, ◌*◌, ◌<◌, ◌≤◌, inl, inr, List, [], ◌∷◌, ◌++◌, length, get_or, take, drop, refl, sym, ◌∙◌, ap, subst, arith, length-append, length-drop, get_or-take, Result, Ok, Err, OnOk, Bool, IsTrue, add-zero}
 use Rattle.std.proofs.lemmas.Bool.{cases_lt}
+use Rattle.std.proofs.lemmas.Bool.Decides.{nat_tests}
 use Rattle.std.proofs.lemmas.List.{take_at, drop_at, drop-drop, drop-take, take-take, take-append-drop, take-append-le, length-take-le, get_or_append_left, get_or-append_right}
 use borrow.Rule.Slice.PartMut.{put_mid, post_of}
 use Rattle.sector_dev.specs.Disk.{Span, Moment, History, part, overwritten}
-use Rattle.sector_dev.specs.Calls.{Lands}
-use Rattle.sector_dev.specs.PositionedFile.{FileState, IsHonestFile, DirtiesOnly, CoversDirty, TransfersIn}
+use Rattle.sector_dev.specs.Calls.{Lands, one_more}
+use Rattle.sector_dev.specs.PositionedFile.{FileState, IsHonestFile, DirtiesOnly, CoversDirty, TransfersIn, failures_after_transfer}
 use Rattle.sector_dev.specs.FileDevice.{LandsWhole, WritesWhole, front}
 use Rattle.sector_dev.specs.Image.{IsClean}
 use Rattle.sector_dev.proofs.Images.{clean_before}
@@ -167,6 +168,13 @@ failed_by error = Err error
 
 abbrev pub stopped : {F : Type 0} (T : Type 0) → F → Result T F
 stopped T e = Err e
+
+-- a transfer that moved some bytes is no failure, and one that moved none of some is
+pub failures_moved : (asked n failures : ℕ) → n ≢ 0 → failures_after_transfer asked (moved (Unit {0}) n) failures ≡ failures
+failures_moved asked n failures some = grind (arith, nat_tests)
+
+pub failures_stuck : (asked n failures : ℕ) → 0 < asked → n ≡ 0 → failures_after_transfer asked (moved (Unit {0}) n) failures ≡ one_more failures
+failures_stuck asked n failures some none = grind (arith, nat_tests)
 
 -- honest before is honest after, where that stays
 pub honest_file : (old new : FileState) → new.is_honest ≡ old.is_honest → IsHonestFile old → IsHonestFile new

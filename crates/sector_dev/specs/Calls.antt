@@ -2,10 +2,14 @@
 use Rattle.std.specs.Prelude.{◌≡◌, ℕ, ◌+◌, ◌-◌, ◌*◌, ◌^◌, min, List, length, Result, Ok, Err, OnOk, OnErr}
 use Rattle.sector_dev.specs.Disk.{Disk, IsHonest, History, reads_of, part, written, synced}
 
--- how many calls have failed after one that gave this result; 2^64 - 1 stays
+-- a count of what failed, with one more; 2^64 - 1 stays
+abbrev pub one_more : ℕ → ℕ
+one_more count = min (count + 1) (2 ^ 64 - 1)
+
+-- how many calls have failed after one that gave this result
 abbrev pub counted : {T E : Type 0} → Result T E → ℕ → ℕ
 counted (Ok _) faults = faults
-counted (Err _) faults = min (faults + 1) (2 ^ 64 - 1)
+counted (Err _) faults = one_more faults
 
 -- what no call changes
 pub record Keeps (old new : Disk) : Type 0 where

@@ -5,7 +5,7 @@ use Rattle.sector_dev.specs.declared.mem_file.MemFile.{MemFile}
 
 -- an honest file of these bytes, which are there as soon as they are written
 abbrev pub memory_state : MemFile → FileState
-memory_state file = record { is_honest = true; bytes = file.bytes.items; dirty = [] }
+memory_state file = record { is_honest = true; bytes = file.bytes.items; dirty = []; failures = file.failures }
 
 -- how many bytes one transfer moves at most
 abbrev pub most_moved : MemFile → ℕ

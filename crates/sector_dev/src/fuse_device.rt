@@ -5,7 +5,7 @@ ghost use Rattle.sector_dev.specs.Calls.{counted, ReadCall, WriteCall, SyncCall}
 use crate::{DevError, Device, MemDevice};
 
 /// What becomes of the write at which a fuse stops: its first `keep` bytes land, and its others become `fill`.
-#[derive(Clone, Copy, Debug, PartialEq, Eq)]
+#[derive(Clone, Copy)]
 pub struct Tear {
     pub keep: usize,
     pub fill: u8,

@@ -3,13 +3,16 @@ ghost use Rattle.std.specs.Prelude.{◌≡◌, true, []};
 ghost use Rattle.sector_dev.specs.Disk.{AreBytes};
 
 use crate::PositionedFile;
+use crate::positioned_file::failures_after;
 use std::io;
 
-/// An honest file in memory, of which one transfer moves some bytes at most. Its calls never fail.
+/// An honest file in memory, of which one transfer moves some bytes at most. Its calls never answer an error; a transfer
+/// that moves nothing, where it is to move some bytes, counts as a failure.
 #[derive(Drop)]
 pub struct MemFile {
     bytes: Vec<u8>,
     at_most: usize,
+    failures: u64,
     ghost are_bytes: { AreBytes bytes.items },
 }
 
@@ -18,10 +21,14 @@ impl MemFile {
 
     /// A file of these bytes. A transfer moves at most `at_most` of them.
     pub fn new(bytes: Vec<u8>, at_most: usize) -> MemFile
-        ensures state { memory_state result ≡ record { is_honest = true; bytes = bytes.items; dirty = [] } }
+        ensures state { memory_state result ≡ record { is_honest = true; bytes = bytes.items; dirty = []; failures = 0 } }
         ensures most { most_moved result ≡ at_most }
     {
-        MemFile { bytes, at_most }
+        MemFile {
+            bytes,
+            at_most,
+            failures: 0,
+        }
     }
 
     // How many bytes one transfer moves at an offset, of so many that are asked for.
@@ -47,6 +54,7 @@ impl PositionedFile for MemFile {
 
     fn size(&mut self) -> io::Result<u64>
         ensures same { LeavesFile (memory_state self.old) (memory_state self.new) }
+        ensures failures { (memory_state self.new).failures ≡ (memory_state self.old).failures }
         ensures size { result ≡ Ok (length (memory_state self.old).bytes) }
     {
         Ok(self.bytes.len() as u64)
@@ -57,6 +65,7 @@ impl PositionedFile for MemFile {
         ensures moved { result ≡ Ok (moved_at self.old offset (length into.old)) }
     {
         let n = self.room(offset, into.len());
+        self.failures = failures_after(into.len(), &Ok(n), self.failures);
         if n == 0 {
             return Ok(0);
         }
@@ -70,6 +79,7 @@ impl PositionedFile for MemFile {
         ensures moved { result ≡ Ok (moved_at self.old offset (length bytes.now)) }
     {
         let n = self.room(offset, bytes.len());
+        self.failures = failures_after(bytes.len(), &Ok(n), self.failures);
         if n == 0 {
             return Ok(0);
         }

@@ -7,6 +7,7 @@ abbrev pub invariant-loop-done : goal.invariant-loop-done
 invariant-loop-done g l = record {
   bound : l.done ≤ length l.into;
   same : LeavesFile (g.F.PositionedFile.state l.fn.file) (g.F.PositionedFile.state l.file);
+  failures : (g.F.PositionedFile.state l.file).failures ≡ (g.F.PositionedFile.state l.fn.file).failures;
   read : IsHonestFile (g.F.PositionedFile.state l.fn.file) → take l.done l.into ≡ part l.offset l.done (g.F.PositionedFile.state l.fn.file).bytes;
 }
 
