@@ -1,13 +1,12 @@
--- What a loop over sectors has done so far, and what a stop leaves of it.
+-- What the loop of `fill` has done so far, and what a stop leaves of it.
 use Rattle.std.proofs.Common.{◌≡◌, ℕ, ◌+◌, ◌*◌, ◌<◌, ◌≤◌, inl, inr, List, length, Result, refl, sym, ◌∙◌, ap, subst, arith}
 use Rattle.std.proofs.lemmas.Bool.{cases_lt}
 use Rattle.sector_dev.specs.Disk.{History, Disk, IsHonest, IsWhole, reads_of, part, overwritten}
 use Rattle.sector_dev.specs.Calls.{WriteCall}
 use Rattle.sector_dev.specs.Stretch.{Stretch}
 use Rattle.sector_dev.proofs.Contents.{length-overwritten, overwritten_before, overwritten_behind, part_below, part_new}
-use Rattle.sector_dev.proofs.Images.{every_written}
 use Rattle.sector_dev.proofs.Parts.{success, history_written}
-use Rattle.sector_dev.proofs.Stretches.{honest_after, honest_before, at_exit, stretch_here, stretch_write}
+use Rattle.sector_dev.proofs.Stretches.{honest_after, from_here, from_write}
 use Rattle.device_calls.specs.Filled.{IsSameOutside, IsKeptOutside}
 
 -- a write within the range changes nothing outside
@@ -33,7 +32,7 @@ module _ (at count : ℕ) (sector : List ℕ) (start : Disk) where
 
   pub filling_none : Filling at count sector start start 0
   filling_none = record {
-    any_moment = stretch_here Kept start (λ honest content image. record { before = content; image = image; outside = record { size = refl; same = λ i _. refl } });
+    any_moment = from_here (IsSameOutside (512 * at) (512 * count)) start (λ content. record { size = refl; same = λ i _. refl });
     outside = λ honest. record { size = refl; same = λ i _. refl };
     filled = λ honest k below. absurd (omega arith);
     faults = refl;
@@ -48,16 +47,9 @@ module _ (at count : ℕ) (sector : List ℕ) (start : Disk) where
 
     pub filling_moment : {T E : Type 0} (result : Result T E) → WriteCall (at + i) sector result now later → Stretch start later Kept
     filling_moment result call =
-        stretch_write Kept start now later (at + i) sector result so_far.any_moment call
-        (λ honest landed size.
-        let at_start = honest_before start now so_far.any_moment.keeps honest in
-        every_written Kept Kept now.history (512 * (at + i)) landed (omega (arith, long at_start, size)) (whole honest).bytes
-        (at_exit Kept start now so_far.any_moment at_start)
-        (λ content torn same_size torn_size old. record {
-          before = old.before;
-          image = old.image;
-          outside = same_outside (512 * at) (512 * count) (512 * (at + i)) torn old.before content (omega arith) (omega (arith, torn_size, size)) (omega (arith, same_size, torn_size, size, long at_start)) old.outside;
-        }))
+        from_write (IsSameOutside (512 * at) (512 * count)) start now later (at + i) sector result (omega (arith, one_sector)) whole so_far.any_moment call
+        (λ before content torn long_content size outside.
+        same_outside (512 * at) (512 * count) (512 * (at + i)) torn before content (omega arith) (omega (arith, size, one_sector)) (omega (arith, size, one_sector, long_content)) outside)
 
     pub filling_outside : {T E : Type 0} (result : Result T E) → WriteCall (at + i) sector result now later → IsHonest start → IsSameOutside (512 * at) (512 * count) (reads_of start) (reads_of later)
     filling_outside result call honest =

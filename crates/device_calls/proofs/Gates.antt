@@ -1,4 +1,4 @@
--- What a stop leaves while a gate is opened behind a payload.
+-- What a stop leaves while `commit` opens a gate before a payload, call by call.
 use Rattle.std.proofs.Common.{◌≡◌, inl, inr, ℕ, ◌+◌, ◌-◌, ◌*◌, ◌<◌, ◌≤◌, List, [], length, get_or, Some, None, Result, Ok, Err, OnOk, sym, ◌∙◌, ap, subst, arith}
 use Rattle.std.proofs.lemmas.Bool.{cases_eq}
 use Rattle.std.proofs.lemmas.Bool.Decides.{nat_tests}
@@ -6,10 +6,10 @@ use Rattle.sector_dev.specs.Disk.{Span, History, Disk, IsHonest, IsWhole, AreByt
 use Rattle.sector_dev.specs.Image.{IsCleanPart, IsImage, EveryImage}
 use Rattle.sector_dev.specs.Calls.{WriteCall, SyncCall}
 use Rattle.sector_dev.specs.Stretch.{Stretch}
-use Rattle.sector_dev.proofs.Contents.{length-overwritten, overwritten_within, part_above, part_new}
-use Rattle.sector_dev.proofs.Images.{clean_part_none, clean_part_beside, image_part, image_written, torn_outside, image_after_sync}
+use Rattle.sector_dev.proofs.Contents.{length-overwritten, overwritten_before, overwritten_within, part_above, part_new}
+use Rattle.sector_dev.proofs.Images.{clean_part_none, clean_part_beside, image_part, every_written, image_after_sync}
 use Rattle.sector_dev.proofs.Parts.{success, history_written, history_synced}
-use Rattle.sector_dev.proofs.Stretches.{honest_after, honest_before, stretch_here, stretch_write}
+use Rattle.sector_dev.proofs.Stretches.{honest_after, honest_before, stretch_here, stretch_sync, stretch_write}
 use Rattle.device_calls.specs.Gated.{IsClosed, stands_for, IsBeforeOrAfter}
 
 module _ (gate at n : ℕ) where
@@ -29,11 +29,9 @@ module _ (gate at n : ℕ) where
   -- a write behind a closed gate leaves it closed
   pub still_closed : (history : History) (landed : List ℕ) → gate < at → 512 * at + length landed ≤ length history.now.reads → AreBytes history.now.reads → EveryImage history.now (IsClosed gate)
       → EveryImage (written (512 * at) landed history).now (IsClosed gate)
-  still_closed history landed before inside bytes closed content image is_open =
-      let torn = image_written history (512 * at) landed content inside bytes image in
-      let long : length content ≡ length history.now.reads = image.size ∙ length-overwritten (512 * at) landed history.now.reads inside in
-      closed torn.before torn.image
-      (sym (torn_outside history (512 * at) (length landed) content torn (omega (arith, long)) (512 * gate) (λ from. absurd (omega arith))) ∙ is_open)
+  still_closed history landed before inside bytes closed =
+      every_written (IsClosed gate) (IsClosed gate) history (512 * at) landed inside bytes closed
+      (λ content torn long size was_closed is_open. was_closed (sym (overwritten_before (512 * at) torn content (512 * gate) (omega (arith, long)) (omega arith)) ∙ is_open))
 
   -- a write of the gate leaves the payload whole, once it is synced
   pub still_whole : (history : History) (landed payload : List ℕ) → gate < at → length landed ≡ 512 → history.now.dirty ≡ [] → 512 * at + n ≤ length history.now.reads → part (512 * at) n history.now.reads ≡ payload
@@ -45,18 +43,23 @@ module _ (gate at n : ℕ) where
       ∙ part_above (512 * gate) landed history.now.reads (512 * at) n (omega (arith, one_sector)) (omega (arith, one_sector))
       ∙ whole
 
-module _ (gate at : ℕ) (payload : List ℕ) (before : gate < at) (start : Disk) (inside : 512 * at + length payload ≤ 512 * start.sectors) (whole : IsHonest start → IsWhole start) where
+module _ (gate at : ℕ) (payload : List ℕ) (before : gate < at) (start : Disk) (inside : 512 * at + length payload ≤ 512 * start.sectors) (whole : IsHonest start → IsWhole start)
+    (closed : IsHonest start → EveryImage start.history.now (IsClosed gate)) where
   abbrev Either : List ℕ → Type 0
   Either = IsBeforeOrAfter gate at (length payload) payload
 
   -- nothing counts while the payload is written
-  pub payload_written : {T E : Type 0} (result : Result T E) (later : Disk) → (IsHonest start → EveryImage start.history.now (IsClosed gate)) → WriteCall at payload result start later → Stretch start later Either
-  payload_written result later closed call =
-      stretch_write Either start start later at payload result
+  pub payload_written : {T E : Type 0} (result : Result T E) (one : Disk) → WriteCall at payload result start one → Stretch start one Either
+  payload_written result one call =
+      stretch_write Either start start one at payload result
       (stretch_here Either start (λ honest content image. inl (stands_closed gate at (length payload) content (closed honest content image)))) call
       (λ honest landed size content image.
       inl (stands_closed gate at (length payload) content
       (still_closed gate at (length payload) start.history landed before (omega (arith, (whole honest).size, size)) (whole honest).bytes (closed honest) content image)))
+
+  -- nor while it is synced
+  pub payload_synced : {T E S F : Type 0} (first : Result T E) (result : Result S F) (one two : Disk) → WriteCall at payload first start one → SyncCall result one two → Stretch start two Either
+  payload_synced first result one two wrote sync = stretch_sync Either start one two result (payload_written first one wrote) sync
 
   module _ {T E : Type 0} (u v : T) (one two : Disk) (wrote : WriteCall at payload (success E u) start one) (synced_one : SyncCall (success E v) one two) where
     abbrev honest_two : IsHonest start → IsHonest two
@@ -84,13 +87,17 @@ module _ (gate at : ℕ) (payload : List ℕ) (before : gate < at) (start : Disk
         ∙ part_new (512 * at) payload start.history.now.reads (omega (arith, (whole honest).size))
 
     -- then the gate decides
-    pub gate_written : {S F : Type 0} (open_gate : List ℕ) (result : Result S F) (three : Disk) → length open_gate ≡ 512 → Stretch start two Either → WriteCall gate open_gate result two three → Stretch start three Either
-    gate_written open_gate result three one_sector so_far call =
-        stretch_write Either start two three gate open_gate result so_far call
+    pub gate_written : {S F : Type 0} (open_gate : List ℕ) (result : Result S F) (three : Disk) → length open_gate ≡ 512 → WriteCall gate open_gate result two three → Stretch start three Either
+    gate_written open_gate result three one_sector call =
+        stretch_write Either start two three gate open_gate result (payload_synced (success E u) (success E v) one two wrote synced_one) call
         (λ honest_now landed size content image.
         let honest = honest_before start one wrote.keeps (honest_before one two synced_one.keeps honest_now) in
         either_way gate at (length payload) payload content
         (still_whole gate at (length payload) two.history landed payload before (size ∙ one_sector) (clean_two honest) (omega (arith, size_two honest)) (payload_two honest) content image))
+
+    -- while it is synced, too
+    pub gate_kept : {S F A B : Type 0} (open_gate : List ℕ) (third : Result S F) (result : Result A B) (three four : Disk) → length open_gate ≡ 512 → WriteCall gate open_gate third two three → SyncCall result three four → Stretch start four Either
+    gate_kept open_gate third result three four one_sector call sync = stretch_sync Either start three four result (gate_written open_gate third three one_sector call) sync
 
     -- and once it is synced the payload counts
     pub gate_synced : {S F : Type 0} (w x : S) (open_gate : List ℕ) (three four : Disk) → length open_gate ≡ 512 → get_or open_gate 0 0 ≡ 0xA7 → WriteCall gate open_gate (success F w) two three → SyncCall (success F x) three four → IsHonest start

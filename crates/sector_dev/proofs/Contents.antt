@@ -1,4 +1,4 @@
--- A content of which a part is overwritten.
+-- A content of which a part is overwritten. Cited by this crate and by those above it, `device_calls` among them.
 use Rattle.std.proofs.Common.{◌≡◌, inl, inr, ℕ, ◌+◌, ◌-◌, ◌<◌, ◌≤◌, List, length, get_or, drop, sym, ◌∙◌, ap, arith, rules, length-append, length-take, length-drop, get_or-take, get_or-drop}
 use Rattle.std.proofs.lemmas.List.{places, same_lists, get_or_past, get_or_default, take_all}
 use Rattle.std.proofs.lemmas.Bool.{cases_lt}

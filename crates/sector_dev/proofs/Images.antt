@@ -1,4 +1,5 @@
--- What a stop may leave, before a call and after it.
+-- What a stop may leave, before a call and after it: images, and which bytes are clean. Cited by this crate and by those
+-- above it, `device_calls` among them.
 use Rattle.std.proofs.Common.{◌≡◌, ◌⊎◌, inl, inr, ℕ, ◌+◌, ◌-◌, ◌≤◌, List, [], ◌∷◌, length, get_or, refl, sym, ◌∙◌, ap, subst, arith}
 use Rattle.std.proofs.lemmas.Bool.{cases_lt}
 use Rattle.std.proofs.lemmas.List.Elements.{All-nil, All-cons, All-head, All-tail}
@@ -58,13 +59,13 @@ pub image_after_sync : (history : History) (content : List ℕ) → IsImage (syn
 image_after_sync history content image = image_is_reads (synced history).now content refl image
 
 -- an image after a write is one from before it, with other bytes in the range
-pub record IsTorn (history : History) (at n : ℕ) (content : List ℕ) : Type 0 where
+record IsTorn (history : History) (at n : ℕ) (content : List ℕ) : Type 0 where
   pub before : List ℕ
   pub image : IsImage history.now before
   pub size : length before ≡ length content
   pub is : content ≡ overwritten at (part at n content) before
 
-pub image_written : (history : History) (at : ℕ) (landed : List ℕ) (content : List ℕ) → at + length landed ≤ length history.now.reads → AreBytes history.now.reads → IsImage (written at landed history).now content
+image_written : (history : History) (at : ℕ) (landed : List ℕ) (content : List ℕ) → at + length landed ≤ length history.now.reads → AreBytes history.now.reads → IsImage (written at landed history).now content
     → IsTorn history at (length landed) content
 image_written history at landed content inside bytes image = record {
   before = before;
@@ -117,21 +118,6 @@ image_written history at landed content inside bytes image = record {
             ∙ clean_now i (λ _. behind) clean ∙ overwritten_behind at landed reads i inside behind
       ]
     ]
-
--- outside the range it is that one
-pub torn_outside : (history : History) (at n : ℕ) (content : List ℕ) → (torn : IsTorn history at n content) → at + n ≤ length content → (i : ℕ) → (at ≤ i → at + n ≤ i) → get_or content i 0 ≡ get_or torn.before i 0
-torn_outside history at n content torn inside i beside =
-    ap (λ (list : List ℕ). get_or list i 0) torn.is
-    ∙ elim (cases_lt i at) [
-      | inl early ↦ overwritten_before at (part at n content) torn.before i (omega (arith, same)) early
-      | inr from ↦ overwritten_behind at (part at n content) torn.before i (omega (arith, same, new_size)) (omega (arith, new_size, beside from))
-    ]
-  where
-    new_size : length (part at n content) ≡ n
-    new_size = length-part at n content inside
-
-    same : length torn.before ≡ length content
-    same = torn.size
 
 -- If a content with P, overwritten in the range by whatever bytes, has Q, then each image after the write has Q.
 pub every_written : (P Q : List ℕ → Type 0) (history : History) (at : ℕ) (landed : List ℕ) → at + length landed ≤ length history.now.reads → AreBytes history.now.reads → EveryImage history.now P

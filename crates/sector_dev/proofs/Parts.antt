@@ -1,4 +1,5 @@
--- What one call of an honest device leaves of a part that it doesn't meet, whatever the call answered.
+-- What one call of an honest device leaves, and what it leaves of a part that it doesn't meet, whatever it answered. For
+-- the crates above, `device_calls` among them.
 use Rattle.std.proofs.Common.{◌≡◌, ◌⊎◌, inl, inr, ℕ, ◌+◌, ◌*◌, ◌≤◌, List, length, sym, ◌∙◌, ap, subst, arith, Result, Ok, Err}
 use Rattle.sector_dev.specs.Disk.{History, Disk, IsHonest, reads_of, part, written, synced}
 use Rattle.sector_dev.specs.Image.{IsCleanPart}

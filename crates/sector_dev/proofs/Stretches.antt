@@ -1,12 +1,12 @@
--- How a caller goes from call to call.
-use Rattle.std.proofs.Common.{◌≡◌, ℕ, ◌*◌, ◌≤◌, ◌^◌, ◌-◌, List, [], ◌∷◌, ◌++◌, length, drop, Bool, IsTrue, refl, sym, ◌∙◌, ap, subst, arith, append_assoc, Result, Ok, Err, OnOk, OnErr, All}
+-- How a caller goes from call to call. For the crates above, `device_calls` among them.
+use Rattle.std.proofs.Common.{◌≡◌, ℕ, ◌+◌, ◌*◌, ◌≤◌, ◌^◌, ◌-◌, List, [], ◌∷◌, ◌++◌, length, drop, Bool, IsTrue, refl, sym, ◌∙◌, ap, subst, arith, append_assoc, Result, Ok, Err, OnOk, OnErr, All}
 use Rattle.std.proofs.lemmas.List.{drop_at, append-nil, same_from_push}
 use Rattle.std.proofs.lemmas.List.Elements.{All-nil, All-cons, All-head, All-tail, All-append, All-same, All-weaker}
-use Rattle.sector_dev.specs.Disk.{Moment, History, Disk, IsHonest, moments, written, synced}
-use Rattle.sector_dev.specs.Image.{EveryImage}
+use Rattle.sector_dev.specs.Disk.{Moment, History, Disk, IsHonest, IsWhole, reads_of, moments, overwritten, written, synced}
+use Rattle.sector_dev.specs.Image.{EveryImage, IsFromImage}
 use Rattle.sector_dev.specs.Calls.{counted, Keeps, ReadCall, WriteCall, SyncCall}
 use Rattle.sector_dev.specs.Stretch.{Leaves, Stretch}
-use Rattle.sector_dev.proofs.Images.{image_synced}
+use Rattle.sector_dev.proofs.Images.{image_synced, every_written}
 
 -- Whether a device is honest stays.
 pub honest_after : (old new : Disk) → Keeps old new → IsHonest old → IsHonest new
@@ -141,6 +141,29 @@ module _ (P : List ℕ → Type 0) where
             leaves_written mid.history new.history (512 * sector) lands.landed lands.history
             (at_exit old mid so_far (honest_before old mid so_far.keeps honest)) (after honest lands.landed lands.size);
       })
+
+-- A stretch in which what a stop leaves comes, by a relation, from an image of the start.
+module _ (R : List ℕ → List ℕ → Type 0) (start : Disk) where
+  abbrev From : List ℕ → Type 0
+  From = IsFromImage start.history.now R
+
+  pub from_here : ((content : List ℕ) → R content content) → Stretch start start From
+  from_here same = stretch_here From start (λ honest content image. record { before = content; image = image; related = same content })
+
+  -- a write that keeps the relation, whatever lands
+  pub from_write : {T E : Type 0} (mid new : Disk) (sector : ℕ) (bytes : List ℕ) (result : Result T E) → 512 * sector + length bytes ≤ 512 * start.sectors → (IsHonest mid → IsWhole mid) → Stretch start mid From → WriteCall sector bytes result mid new
+      → ((before content torn : List ℕ) → length content ≡ 512 * start.sectors → length torn ≡ length bytes → R before content → R before (overwritten (512 * sector) torn content)) → Stretch start new From
+  from_write mid new sector bytes result inside whole so_far call step =
+      stretch_write From start mid new sector bytes result so_far call
+      (λ honest landed size.
+      let long : length (reads_of mid) ≡ 512 * start.sectors = omega (arith, (whole honest).size, so_far.keeps.sectors) in
+      every_written From From mid.history (512 * sector) landed (omega (arith, long, size)) (whole honest).bytes
+      (at_exit From start mid so_far (honest_before start mid so_far.keeps honest))
+      (λ content torn same_size torn_size old. record {
+        before = old.before;
+        image = old.image;
+        related = step old.before content torn (same_size ∙ long) (torn_size ∙ size) old.related;
+      }))
 
 -- What has P has also what follows from it.
 pub stretch_weaker : (P Q : List ℕ → Type 0) (old new : Disk) → ((content : List ℕ) → P content → Q content) → Stretch old new P → Stretch old new Q
