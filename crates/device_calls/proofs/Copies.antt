@@ -1,12 +1,13 @@
 -- What a stop leaves while `recover` copies a payload, call by call.
 use Rattle.std.proofs.Common.{◌≡◌, ℕ, ◌+◌, ◌*◌, ◌<◌, ◌≤◌, List, length, get_or, Some, None, Result, Ok, Err, OnOk, cond, eqb, refl, ◌∙◌, ap, subst, arith}
-use Rattle.sector_dev.specs.Disk.{History, Disk, IsHonest, IsWhole, reads_of, part, overwritten, written, synced}
+use Rattle.sector_dev.specs.Disk.{History, Disk, IsHonest, IsWhole, reads_of, part, overwrite, after_write, after_sync}
 use Rattle.sector_dev.specs.Image.{IsImage, EveryImage}
 use Rattle.sector_dev.specs.Calls.{ReadCall, WriteCall, SyncCall}
 use Rattle.sector_dev.specs.Stretch.{Stretch}
-use Rattle.sector_dev.proofs.Contents.{overwritten_before, part_below}
+use Rattle.sector_dev.proofs.Contents.{overwrite_before, part_below}
 use Rattle.sector_dev.proofs.Images.{image_after_sync}
-use Rattle.sector_dev.proofs.Parts.{success, history_written, history_synced}
+use Rattle.sector_dev.proofs.Results.{success}
+use Rattle.sector_dev.proofs.Parts.{history_written, history_synced}
 use Rattle.sector_dev.proofs.Stretches.{honest_after, stretch_read, stretch_sync, from_here, from_write}
 use Rattle.device_calls.specs.Gated.{stands_for, StandsAlike, StandsAsBefore}
 
@@ -16,10 +17,10 @@ module _ (gate at n : ℕ) where
   stands_same xs ys byte bytes = λ i. cond (eqb (byte i) 0xA7) (Some (bytes i)) None
 
   -- a write behind both changes nothing of it
-  pub stands_beside : (spare : ℕ) (torn content : List ℕ) → gate < at → 512 * at + n ≤ 512 * spare → 512 * spare + length torn ≤ length content → stands_for gate at n (overwritten (512 * spare) torn content) ≡ stands_for gate at n content
+  pub stands_beside : (spare : ℕ) (torn content : List ℕ) → gate < at → 512 * at + n ≤ 512 * spare → 512 * spare + length torn ≤ length content → stands_for gate at n (overwrite (512 * spare) torn content) ≡ stands_for gate at n content
   stands_beside spare torn content before apart inside =
-      stands_same (overwritten (512 * spare) torn content) content
-      (overwritten_before (512 * spare) torn content (512 * gate) (omega arith) (omega arith))
+      stands_same (overwrite (512 * spare) torn content) content
+      (overwrite_before (512 * spare) torn content (512 * gate) (omega arith) (omega arith))
       (part_below (512 * spare) torn content (512 * at) n inside apart)
 
   module _ (spare : ℕ) (before : gate < at) (apart : 512 * at + n ≤ 512 * spare) (start : Disk) where
@@ -54,10 +55,10 @@ module _ (gate at n : ℕ) where
         let honest_one = honest_after start one first.keeps honest in
         let honest_two = honest_after one two read.keeps honest_one in
         let honest_three = honest_after two three write.keeps honest_two in
-        let is_two : two.history ≡ synced start.history = read.history honest_one ∙ history_synced E u start one first honest in
-        let is_four : four.history ≡ synced (written (512 * spare) bytes (synced start.history)) =
-        last.done honest_three ∙ ap synced (history_written E w spare bytes two three write honest_two ∙ ap (λ (h : History). written (512 * spare) bytes h) is_two) in
-        let is_content : content ≡ overwritten (512 * spare) bytes start.history.now.reads =
-        image_after_sync (written (512 * spare) bytes (synced start.history)) content (subst (λ (h : History). IsImage h.now content) is_four image) in
+        let is_two : two.history ≡ after_sync start.history = read.history honest_one ∙ history_synced E u start one first honest in
+        let is_four : four.history ≡ after_sync (after_write (512 * spare) bytes (after_sync start.history)) =
+        last.done honest_three ∙ ap after_sync (history_written E w spare bytes two three write honest_two ∙ ap (λ (h : History). after_write (512 * spare) bytes h) is_two) in
+        let is_content : content ≡ overwrite (512 * spare) bytes start.history.now.reads =
+        image_after_sync (after_write (512 * spare) bytes (after_sync start.history)) content (subst (λ (h : History). IsImage h.now content) is_four image) in
         ap (λ (list : List ℕ). stands_for gate at n list) is_content
         ∙ stands_beside spare bytes start.history.now.reads before apart (omega (arith, (whole honest).size))

@@ -1,21 +1,22 @@
 -- What the loop of `fill` has done so far, and what a stop leaves of it.
 use Rattle.std.proofs.Common.{◌≡◌, ℕ, ◌+◌, ◌*◌, ◌<◌, ◌≤◌, inl, inr, List, length, Result, refl, sym, ◌∙◌, ap, subst, arith}
 use Rattle.std.proofs.lemmas.Bool.{cases_lt}
-use Rattle.sector_dev.specs.Disk.{History, Disk, IsHonest, IsWhole, reads_of, part, overwritten}
+use Rattle.sector_dev.specs.Disk.{History, Disk, IsHonest, IsWhole, reads_of, part, overwrite}
 use Rattle.sector_dev.specs.Calls.{WriteCall}
 use Rattle.sector_dev.specs.Stretch.{Stretch}
-use Rattle.sector_dev.proofs.Contents.{length-overwritten, overwritten_before, overwritten_behind, part_below, part_new}
-use Rattle.sector_dev.proofs.Parts.{success, history_written}
+use Rattle.sector_dev.proofs.Contents.{length-overwrite, overwrite_before, overwrite_behind, part_below, part_new}
+use Rattle.sector_dev.proofs.Results.{success}
+use Rattle.sector_dev.proofs.Parts.{history_written}
 use Rattle.sector_dev.proofs.Stretches.{honest_after, from_here, from_write}
 use Rattle.device_calls.specs.Filled.{IsSameOutside, IsKeptOutside}
 
 -- a write within the range changes nothing outside
-same_outside : (at n from : ℕ) (bytes old new : List ℕ) → at ≤ from → from + length bytes ≤ at + n → from + length bytes ≤ length new → IsSameOutside at n old new → IsSameOutside at n old (overwritten from bytes new)
+same_outside : (at n from : ℕ) (bytes old new : List ℕ) → at ≤ from → from + length bytes ≤ at + n → from + length bytes ≤ length new → IsSameOutside at n old new → IsSameOutside at n old (overwrite from bytes new)
 same_outside at n from bytes old new low high inside so_far = record {
-  size = length-overwritten from bytes new inside ∙ so_far.size;
+  size = length-overwrite from bytes new inside ∙ so_far.size;
   same = λ i beside. elim (cases_lt i from) [
-    | inl early ↦ overwritten_before from bytes new i (omega arith) early ∙ so_far.same i beside
-    | inr late ↦ overwritten_behind from bytes new i inside (omega (arith, beside (omega arith))) ∙ so_far.same i beside
+    | inl early ↦ overwrite_before from bytes new i (omega arith) early ∙ so_far.same i beside
+    | inr late ↦ overwrite_behind from bytes new i inside (omega (arith, beside (omega arith))) ∙ so_far.same i beside
   ];
 }
 
@@ -68,7 +69,7 @@ module _ (at count : ℕ) (sector : List ℕ) (start : Disk) where
             | inl early ↦ part_below (512 * (at + i)) sector (reads_of now) (512 * (at + k)) 512 (omega (arith, long honest)) (omega arith) ∙ so_far.filled honest k early
             | inr late ↦
                 let last : k ≡ i = omega arith in
-                (λ j. part (512 * (at + last j)) (sym one_sector j) (overwritten (512 * (at + i)) sector (reads_of now)))
+                (λ j. part (512 * (at + last j)) (sym one_sector j) (overwrite (512 * (at + i)) sector (reads_of now)))
                 ∙ part_new (512 * (at + i)) sector (reads_of now) (omega (arith, long honest))
           ];
       faults = call.faults ∙ so_far.faults;

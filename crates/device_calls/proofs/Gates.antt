@@ -2,13 +2,14 @@
 use Rattle.std.proofs.Common.{◌≡◌, inl, inr, ℕ, ◌+◌, ◌-◌, ◌*◌, ◌<◌, ◌≤◌, List, [], length, get_or, Some, None, Result, Ok, Err, OnOk, sym, ◌∙◌, ap, subst, arith}
 use Rattle.std.proofs.lemmas.Bool.{cases_eq}
 use Rattle.std.proofs.lemmas.Bool.Decides.{nat_tests}
-use Rattle.sector_dev.specs.Disk.{Span, History, Disk, IsHonest, IsWhole, AreBytes, part, overwritten, written, synced}
+use Rattle.sector_dev.specs.Disk.{Span, History, Disk, IsHonest, IsWhole, AreBytes, part, overwrite, after_write, after_sync}
 use Rattle.sector_dev.specs.Image.{IsCleanPart, IsImage, EveryImage}
 use Rattle.sector_dev.specs.Calls.{WriteCall, SyncCall}
 use Rattle.sector_dev.specs.Stretch.{Stretch}
-use Rattle.sector_dev.proofs.Contents.{length-overwritten, overwritten_before, overwritten_within, part_above, part_new}
+use Rattle.sector_dev.proofs.Contents.{length-overwrite, overwrite_before, overwrite_within, part_above, part_new}
 use Rattle.sector_dev.proofs.Images.{clean_part_none, clean_part_beside, image_part, every_written, image_after_sync}
-use Rattle.sector_dev.proofs.Parts.{success, history_written, history_synced}
+use Rattle.sector_dev.proofs.Results.{success}
+use Rattle.sector_dev.proofs.Parts.{history_written, history_synced}
 use Rattle.sector_dev.proofs.Stretches.{honest_after, honest_before, stretch_here, stretch_sync, stretch_write}
 use Rattle.device_calls.specs.Gated.{IsClosed, stands_for, IsBeforeOrAfter}
 
@@ -28,16 +29,16 @@ module _ (gate at n : ℕ) where
 
   -- a write behind a closed gate leaves it closed
   pub still_closed : (history : History) (landed : List ℕ) → gate < at → 512 * at + length landed ≤ length history.now.reads → AreBytes history.now.reads → EveryImage history.now (IsClosed gate)
-      → EveryImage (written (512 * at) landed history).now (IsClosed gate)
+      → EveryImage (after_write (512 * at) landed history).now (IsClosed gate)
   still_closed history landed before inside bytes closed =
       every_written (IsClosed gate) (IsClosed gate) history (512 * at) landed inside bytes closed
-      (λ content torn long size was_closed is_open. was_closed (sym (overwritten_before (512 * at) torn content (512 * gate) (omega (arith, long)) (omega arith)) ∙ is_open))
+      (λ content torn long size was_closed is_open. was_closed (sym (overwrite_before (512 * at) torn content (512 * gate) (omega (arith, long)) (omega arith)) ∙ is_open))
 
   -- a write of the gate leaves the payload whole, once it is synced
   pub still_whole : (history : History) (landed payload : List ℕ) → gate < at → length landed ≡ 512 → history.now.dirty ≡ [] → 512 * at + n ≤ length history.now.reads → part (512 * at) n history.now.reads ≡ payload
-      → EveryImage (written (512 * gate) landed history).now (λ content. part (512 * at) n content ≡ payload)
+      → EveryImage (after_write (512 * gate) landed history).now (λ content. part (512 * at) n content ≡ payload)
   still_whole history landed payload before one_sector clean inside whole content image =
-      image_part (written (512 * gate) landed history).now content (512 * at) n image
+      image_part (after_write (512 * gate) landed history).now content (512 * at) n image
       (clean_part_beside (512 * gate) (length landed) history.now.dirty (512 * at) n (inl (omega (arith, one_sector)))
       (subst (λ (dirty : List Span). IsCleanPart dirty (512 * at) n) (sym clean) (clean_part_none (512 * at) n)))
       ∙ part_above (512 * gate) landed history.now.reads (512 * at) n (omega (arith, one_sector)) (omega (arith, one_sector))
@@ -66,20 +67,20 @@ module _ (gate at : ℕ) (payload : List ℕ) (before : gate < at) (start : Disk
     honest_two honest = honest_after one two synced_one.keeps (honest_after start one wrote.keeps honest)
 
     -- what the two calls made
-    is_two : IsHonest start → two.history ≡ synced (written (512 * at) payload start.history)
+    is_two : IsHonest start → two.history ≡ after_sync (after_write (512 * at) payload start.history)
     is_two honest =
         history_synced E v one two synced_one (honest_after start one wrote.keeps honest)
-        ∙ ap synced (history_written E u at payload start one wrote honest)
+        ∙ ap after_sync (history_written E u at payload start one wrote honest)
 
     clean_two : IsHonest start → two.history.now.dirty ≡ []
     clean_two honest = ap (λ (h : History). h.now.dirty) (is_two honest)
 
-    reads_two : IsHonest start → two.history.now.reads ≡ overwritten (512 * at) payload start.history.now.reads
+    reads_two : IsHonest start → two.history.now.reads ≡ overwrite (512 * at) payload start.history.now.reads
     reads_two honest = ap (λ (h : History). h.now.reads) (is_two honest)
 
     size_two : IsHonest start → length two.history.now.reads ≡ 512 * start.sectors
     size_two honest =
-        ap length (reads_two honest) ∙ length-overwritten (512 * at) payload start.history.now.reads (omega (arith, (whole honest).size)) ∙ (whole honest).size
+        ap length (reads_two honest) ∙ length-overwrite (512 * at) payload start.history.now.reads (omega (arith, (whole honest).size)) ∙ (whole honest).size
 
     payload_two : IsHonest start → part (512 * at) (length payload) two.history.now.reads ≡ payload
     payload_two honest =
@@ -104,15 +105,15 @@ module _ (gate at : ℕ) (payload : List ℕ) (before : gate < at) (start : Disk
         → EveryImage four.history.now (λ content. stands_for gate at (length payload) content ≡ Some payload)
     gate_synced {S} {F} w x open_gate three four one_sector opens call sync honest content image =
         let honest_now = honest_two honest in
-        let is_four = history_synced F x three four sync (honest_after two three call.keeps honest_now) ∙ ap synced (history_written F w gate open_gate two three call honest_now) in
-        let written_gate = written (512 * gate) open_gate two.history in
+        let is_four = history_synced F x three four sync (honest_after two three call.keeps honest_now) ∙ ap after_sync (history_written F w gate open_gate two three call honest_now) in
+        let written_gate = after_write (512 * gate) open_gate two.history in
         let image_four = subst (λ (h : History). IsImage h.now content) is_four image in
-        let is_content : content ≡ overwritten (512 * gate) open_gate two.history.now.reads = image_after_sync written_gate content image_four in
+        let is_content : content ≡ overwrite (512 * gate) open_gate two.history.now.reads = image_after_sync written_gate content image_four in
         let long : 512 * gate + 512 ≤ length two.history.now.reads = omega (arith, size_two honest) in
         let first : 512 * gate - 512 * gate ≡ 0 = omega arith in
         let is_open : get_or content (512 * gate) 0 ≡ 0xA7 =
         ap (λ (list : List ℕ). get_or list (512 * gate) 0) is_content
-        ∙ overwritten_within (512 * gate) open_gate two.history.now.reads (512 * gate) (omega arith) (omega arith) (omega (arith, one_sector))
+        ∙ overwrite_within (512 * gate) open_gate two.history.now.reads (512 * gate) (omega arith) (omega arith) (omega (arith, one_sector))
         ∙ ap (λ (i : ℕ). get_or open_gate i 0) first ∙ opens in
         stands_open gate at (length payload) content is_open
         ∙ ap (λ (list : List ℕ). Some list)

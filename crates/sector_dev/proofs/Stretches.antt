@@ -2,9 +2,9 @@
 use Rattle.std.proofs.Common.{◌≡◌, ℕ, ◌+◌, ◌*◌, ◌≤◌, ◌^◌, ◌-◌, List, [], ◌∷◌, ◌++◌, length, drop, Bool, IsTrue, refl, sym, ◌∙◌, ap, subst, arith, append_assoc, Result, Ok, Err, OnOk, OnErr, All}
 use Rattle.std.proofs.lemmas.List.{drop_at, append-nil, same_from_push}
 use Rattle.std.proofs.lemmas.List.Elements.{All-nil, All-cons, All-head, All-tail, All-append, All-same, All-weaker}
-use Rattle.sector_dev.specs.Disk.{Moment, History, Disk, IsHonest, IsWhole, reads_of, moments, overwritten, written, synced}
+use Rattle.sector_dev.specs.Disk.{Moment, History, Disk, IsHonest, IsWhole, reads_of, moments, overwrite, after_write, after_sync}
 use Rattle.sector_dev.specs.Image.{EveryImage, IsFromImage}
-use Rattle.sector_dev.specs.Calls.{counted, Keeps, ReadCall, WriteCall, SyncCall}
+use Rattle.sector_dev.specs.Calls.{count_after, Keeps, ReadCall, WriteCall, SyncCall}
 use Rattle.sector_dev.specs.Stretch.{Leaves, Stretch}
 use Rattle.sector_dev.proofs.Images.{image_synced, every_written}
 
@@ -22,9 +22,9 @@ pub keeps_then : (old mid new : Disk) → Keeps old mid → Keeps mid new → Ke
 keeps_then old mid new first second = record { is_honest = second.is_honest ∙ first.is_honest; sectors = second.sectors ∙ first.sectors }
 
 -- The count of failed calls never falls, and goes on where a call failed.
-pub counted_later : {T E : Type 0} (result : Result T E) (faults : ℕ) → faults ≤ 2 ^ 64 - 1 → faults ≤ counted result faults
-counted_later (Ok _) faults small = omega arith
-counted_later (Err _) faults small = omega arith
+pub count_never_falls : {T E : Type 0} (result : Result T E) (faults : ℕ) → faults ≤ 2 ^ 64 - 1 → faults ≤ count_after result faults
+count_never_falls (Ok _) faults small = omega arith
+count_never_falls (Err _) faults small = omega arith
 
 -- each of these moments leaves what has P
 abbrev pub AllLeave : (List ℕ → Type 0) → List Moment → Type 0
@@ -85,14 +85,14 @@ module _ (P : List ℕ → Type 0) where
   leaves_same : (old new : History) → new ≡ old → EveryImage old.now P → Leaves old new P
   leaves_same old new same here = subst (λ (h : History). Leaves old h P) (sym same) (leaves_here old here)
 
-  pub leaves_synced : (old new : History) → new ≡ synced old → EveryImage old.now P → Leaves old new P
+  pub leaves_synced : (old new : History) → new ≡ after_sync old → EveryImage old.now P → Leaves old new P
   leaves_synced old new same here =
       subst (λ (h : History). Leaves old h P) (sym same)
-      (leaves_more old (synced old) refl here (λ content image. here content (image_synced old content image)))
+      (leaves_more old (after_sync old) refl here (λ content image. here content (image_synced old content image)))
 
-  pub leaves_written : (old new : History) (at : ℕ) (landed : List ℕ) → new ≡ written at landed old → EveryImage old.now P → EveryImage (written at landed old).now P → Leaves old new P
+  pub leaves_written : (old new : History) (at : ℕ) (landed : List ℕ) → new ≡ after_write at landed old → EveryImage old.now P → EveryImage (after_write at landed old).now P → Leaves old new P
   leaves_written old new at landed same here after =
-      subst (λ (h : History). Leaves old h P) (sym same) (leaves_more old (written at landed old) refl here after)
+      subst (λ (h : History). Leaves old h P) (sym same) (leaves_more old (after_write at landed old) refl here after)
 
   -- A stretch so far: what holds at its start and at its end.
   pub at_entry : (old new : Disk) → Stretch old new P → IsHonest old → EveryImage old.history.now P
@@ -126,13 +126,13 @@ module _ (P : List ℕ → Type 0) where
       here : IsHonest mid → EveryImage mid.history.now P
       here honest = at_exit old mid so_far (honest_before old mid so_far.keeps honest)
 
-      by_result : (r : Result T E) → (IsHonest mid → OnOk r (new.history ≡ synced mid.history)) → (IsHonest mid → OnErr r (new.history ≡ mid.history)) → IsHonest mid → Leaves mid.history new.history P
+      by_result : (r : Result T E) → (IsHonest mid → OnOk r (new.history ≡ after_sync mid.history)) → (IsHonest mid → OnErr r (new.history ≡ mid.history)) → IsHonest mid → Leaves mid.history new.history P
       by_result (Ok _) done unchanged honest = leaves_synced mid.history new.history (done honest) (here honest)
       by_result (Err _) done unchanged honest = leaves_same mid.history new.history (unchanged honest) (here honest)
 
   -- A write: whatever lands in its range, each image has P.
   pub stretch_write : {T E : Type 0} (old mid new : Disk) (sector : ℕ) (bytes : List ℕ) (result : Result T E) → Stretch old mid P → WriteCall sector bytes result mid new
-      → (IsHonest mid → (landed : List ℕ) → length landed ≡ length bytes → EveryImage (written (512 * sector) landed mid.history).now P) → Stretch old new P
+      → (IsHonest mid → (landed : List ℕ) → length landed ≡ length bytes → EveryImage (after_write (512 * sector) landed mid.history).now P) → Stretch old new P
   stretch_write old mid new sector bytes result so_far call after =
       stretch_then old mid new so_far
       (record {
@@ -152,7 +152,7 @@ module _ (R : List ℕ → List ℕ → Type 0) (start : Disk) where
 
   -- a write that keeps the relation, whatever lands
   pub from_write : {T E : Type 0} (mid new : Disk) (sector : ℕ) (bytes : List ℕ) (result : Result T E) → 512 * sector + length bytes ≤ 512 * start.sectors → (IsHonest mid → IsWhole mid) → Stretch start mid From → WriteCall sector bytes result mid new
-      → ((before content torn : List ℕ) → length content ≡ 512 * start.sectors → length torn ≡ length bytes → R before content → R before (overwritten (512 * sector) torn content)) → Stretch start new From
+      → ((before content torn : List ℕ) → length content ≡ 512 * start.sectors → length torn ≡ length bytes → R before content → R before (overwrite (512 * sector) torn content)) → Stretch start new From
   from_write mid new sector bytes result inside whole so_far call step =
       stretch_write From start mid new sector bytes result so_far call
       (λ honest landed size.

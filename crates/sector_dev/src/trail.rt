@@ -17,8 +17,8 @@ impl HoldsBytes for Vec<u8> {
     ghost bytes = { λ v. v.items };
 }
 
-/// What a trail is made of.
-trait Told {
+/// What a trail is made from.
+trait TrailSource {
     ghost use Rattle.std.specs.Prelude.{List};
     ghost use Rattle.sector_dev.specs.Disk.{Span, Moment};
 
@@ -28,9 +28,9 @@ trait Told {
 }
 
 // Nothing has been, and nothing is dirty.
-struct Nothing;
+struct FreshStart;
 
-impl Told for Nothing {
+impl TrailSource for FreshStart {
     ghost past = { λ _. [] };
 
     ghost dirty = { λ _. [] };
@@ -38,26 +38,26 @@ impl Told for Nothing {
 
 // Nothing has been, and what is dirty in a file is dirty.
 #[derive(Drop)]
-struct Over<'a, F> {
+struct FileStart<'a, F> {
     file: &'a F,
 }
 
-impl<'a, F: PositionedFile> Told for Over<'a, F> {
+impl<'a, F: PositionedFile> TrailSource for FileStart<'a, F> {
     ghost past = { λ _. [] };
 
-    ghost dirty = { λ over. (F.state over.file.now).dirty };
+    ghost dirty = { λ start. (F.state start.file.now).dirty };
 }
 
 // A write of a range of what held these bytes.
 #[derive(Drop)]
-struct Written<'a, B> {
+struct WriteStep<'a, B> {
     trail: &'a Trail,
     before: &'a B,
     start: u64,
     len: usize,
 }
 
-impl<'a, B: HoldsBytes> Told for Written<'a, B> {
+impl<'a, B: HoldsBytes> TrailSource for WriteStep<'a, B> {
     ghost past = { λ step. step.trail.now.past ++ record { reads = B.bytes step.before.now; dirty = step.trail.now.dirty } ∷ [] };
 
     ghost dirty = { λ step. record { start = step.start; len = step.len } ∷ step.trail.now.dirty };
@@ -65,12 +65,12 @@ impl<'a, B: HoldsBytes> Told for Written<'a, B> {
 
 // A sync of what holds these bytes.
 #[derive(Drop)]
-struct Synced<'a, B> {
+struct SyncStep<'a, B> {
     trail: &'a Trail,
     held: &'a B,
 }
 
-impl<'a, B: HoldsBytes> Told for Synced<'a, B> {
+impl<'a, B: HoldsBytes> TrailSource for SyncStep<'a, B> {
     ghost past = { λ step. step.trail.now.past ++ record { reads = B.bytes step.held.now; dirty = step.trail.now.dirty } ∷ [] };
 
     ghost dirty = { λ _. [] };
@@ -93,9 +93,9 @@ unsafe impl Send for Trail {}
 const _: () = prove!(size_of::<Trail>() == 0);
 
 impl Trail {
-    // The one function that is proved by hand: a trail is what it is told to be.
-    fn of<T: Told>(_told: &T) -> Trail
-        ensures { (result.past ≡ T.past _told.now) × (result.dirty ≡ T.dirty _told.now) }
+    // The one function that is proved by hand: a trail is what its source says.
+    fn of<T: TrailSource>(_source: &T) -> Trail
+        ensures { (result.past ≡ T.past _source.now) × (result.dirty ≡ T.dirty _source.now) }
     {
         Trail {}
     }
@@ -104,14 +104,14 @@ impl Trail {
     pub(crate) fn new() -> Trail
         ensures { (result.past ≡ []) × (result.dirty ≡ []) }
     {
-        Trail::of(&Nothing)
+        Trail::of(&FreshStart)
     }
 
     /// Nothing has been, and what is dirty in a file is dirty.
     pub(crate) fn over<F: PositionedFile>(file: &F) -> Trail
         ensures { (result.past ≡ []) × (result.dirty ≡ (F.state file.now).dirty) }
     {
-        Trail::of(&Over { file })
+        Trail::of(&FileStart { file })
     }
 
     /// After a write of a range of what held these bytes.
@@ -119,7 +119,7 @@ impl Trail {
         ensures { (result.past ≡ self.now.past ++ record { reads = B.bytes before.now; dirty = self.now.dirty } ∷ [])
             × (result.dirty ≡ record { start = start; len = len } ∷ self.now.dirty) }
     {
-        Trail::of(&Written {
+        Trail::of(&WriteStep {
             trail: self,
             before,
             start,
@@ -132,6 +132,6 @@ impl Trail {
         ensures { (result.past ≡ self.now.past ++ record { reads = B.bytes held.now; dirty = self.now.dirty } ∷ [])
             × (result.dirty ≡ []) }
     {
-        Trail::of(&Synced { trail: self, held })
+        Trail::of(&SyncStep { trail: self, held })
     }
 }

@@ -32,7 +32,7 @@ use denote.Triple.Entry as Entry
 use denote.Triple.Spec.{Meets, triple_of}
 use denote.Triple.Table.{entered}
 use denote.Triple.Walked.{says, Stays, stay_dropped, walk_of, Walks, ends_at, walked, Goes-dropped, walk_Meets}
-use Rattle.sector_dev.specs.declared.trail.Told.{Ghosts}
+use Rattle.sector_dev.specs.declared.trail.TrailSource.{Ghosts}
 use Rattle.sector_dev.specs.contracts.trail.Trail as trail
 use Rattle.sector_dev.specs.contracts.trail.Trail.of.Key.{name as key}
 use Rattle.sector_dev.specs.contracts.trail.Trail.of as f
@@ -59,19 +59,19 @@ module _ (F : RattleType) (held : Ghosts F.Denot) (dict : Dict) where
     clauses = f.clauses F held dict 𝓛 mem run
 
     module _ (C : Calls 𝓤 𝓛.H) (Λ : Loops 𝓤 𝓛.H) (κs : Lfts 2) (qs : Shares 2) (a : Entry.Args ended.signature κs) where
-      abbrev told : Val
-      told = vptr a.0.ref_ptr.0 a.0.ref_ptr.1
+      abbrev source : Val
+      source = vptr a.0.ref_ptr.0 a.0.ref_ptr.1
 
       abbrev words : List Val × Unit {0}
-      words = (told ∷ [], tt)
+      words = (source ∷ [], tt)
 
       walk : (bounds : _) → ent 𝓤 (on_entry 𝓛 ended.signature κs qs a words)
-          (WpFn 𝓤 H C Λ function (told ∷ []) ((walk_of 𝓛 ended stayed clauses).post ((κs, qs, bounds, a, words), tt)))
+          (WpFn 𝓤 H C Λ function (source ∷ []) ((walk_of 𝓛 ended stayed clauses).post ((κs, qs, bounds, a, words), tt)))
       walk bounds =
           let made : trail.the_row.Denot = record { past = held.past a.0.now; dirty = held.dirty a.0.now } in
           qed 𝓛 (raw (alive 𝓛 ended.signature κs qs) ∷ ‵ (owns (types_at ended.signature.params κs) a words) ∷ []) ∵
           move ! (1 ∷ []) $ drop ! $
-          enter ! C Λ function (told ∷ []) _ $
+          enter ! C Λ function (source ∷ []) _ $
           alloc_all ! (λ l. pass_all ! refl ((tt, tt), tt) $
           sets ! (agg ! (no_more !)) refl (tt, tt) $
           returns ! (look_at ! 0 refl) $ free_all ! refl $
