@@ -21,17 +21,17 @@ same_outside at n from bytes old new low high inside so_far = record {
 }
 
 -- the first i of the sectors are written
-pub record Filling (at count : ℕ) (sector : List ℕ) (start now : Disk) (i : ℕ) : Type 0 where
+pub record FillProgress (at count : ℕ) (sector : List ℕ) (start now : Disk) (i : ℕ) : Type 0 where
   pub any_moment : Stretch start now (IsKeptOutside (512 * at) (512 * count) start.history.now)
   pub outside : IsHonest start → IsSameOutside (512 * at) (512 * count) (reads_of start) (reads_of now)
   pub filled : IsHonest start → (k : ℕ) → k < i → part (512 * (at + k)) 512 (reads_of now) ≡ sector
   pub faults : now.faults ≡ start.faults
 
 module _ (at count : ℕ) (sector : List ℕ) (start : Disk) where
-  abbrev Kept : List ℕ → Type 0
-  Kept = IsKeptOutside (512 * at) (512 * count) start.history.now
+  abbrev IsKept : List ℕ → Type 0
+  IsKept = IsKeptOutside (512 * at) (512 * count) start.history.now
 
-  pub filling_none : Filling at count sector start start 0
+  pub filling_none : FillProgress at count sector start start 0
   filling_none = record {
     any_moment = from_here (IsSameOutside (512 * at) (512 * count)) start (λ content. record { size = refl; same = λ i _. refl });
     outside = λ honest. record { size = refl; same = λ i _. refl };
@@ -39,14 +39,14 @@ module _ (at count : ℕ) (sector : List ℕ) (start : Disk) where
     faults = refl;
   }
 
-  module _ (one_sector : length sector ≡ 512) (inside : at + count ≤ start.sectors) (now later : Disk) (i : ℕ) (below : i < count) (so_far : Filling at count sector start now i) (whole : IsHonest now → IsWhole now) where
+  module _ (one_sector : length sector ≡ 512) (inside : at + count ≤ start.sectors) (now later : Disk) (i : ℕ) (below : i < count) (so_far : FillProgress at count sector start now i) (whole : IsHonest now → IsWhole now) where
     abbrev honest_now : IsHonest start → IsHonest now
     honest_now honest = honest_after start now so_far.any_moment.keeps honest
 
     long : IsHonest start → length (reads_of now) ≡ 512 * start.sectors
     long honest = omega (arith, (whole (honest_now honest)).size, so_far.any_moment.keeps.sectors)
 
-    pub filling_moment : {T E : Type 0} (result : Result T E) → WriteCall (at + i) sector result now later → Stretch start later Kept
+    pub filling_moment : {T E : Type 0} (result : Result T E) → WriteCall (at + i) sector result now later → Stretch start later IsKept
     filling_moment result call =
         from_write (IsSameOutside (512 * at) (512 * count)) start now later (at + i) sector result (omega (arith, one_sector)) whole so_far.any_moment call
         (λ before content torn long_content size outside.
@@ -59,7 +59,7 @@ module _ (at count : ℕ) (sector : List ℕ) (start : Disk) where
         subst (λ (list : List ℕ). IsSameOutside (512 * at) (512 * count) (reads_of start) list) (sym is)
         (same_outside (512 * at) (512 * count) (512 * (at + i)) lands.landed (reads_of start) (reads_of now) (omega arith) (omega (arith, lands.size)) (omega (arith, lands.size, long honest)) (so_far.outside honest))
 
-    pub filling_more : {T : Type 0} (E : Type 0) (u : T) → WriteCall (at + i) sector (success E u) now later → Filling at count sector start later (i + 1)
+    pub filling_more : {T : Type 0} (E : Type 0) (u : T) → WriteCall (at + i) sector (success E u) now later → FillProgress at count sector start later (i + 1)
     filling_more E u call = record {
       any_moment = filling_moment (success E u) call;
       outside = filling_outside (success E u) call;

@@ -45,7 +45,7 @@ pub fn commit<D: Device>(device: &mut D, gate: u64, at: u64, payload: &[u8]) -> 
     device.sync() // It counts once this has succeeded.
 }
 
-/// Makes sure of what a stop left, and keeps a copy of the payload in a spare place.
+/// Makes sure of what a stop left, and keeps a copy of the payload in spare sectors.
 pub fn recover<D: Device>(
     device: &mut D,
     gate: u64,

@@ -5,11 +5,11 @@ use std::cell::Cell;
 use std::test::Fail;
 
 #[derive(Drop)]
-struct Counter {
+struct PassCounter {
     passes: u64,
 }
 
-impl Gate for Counter {
+impl Gate for PassCounter {
     ghost use Rattle.std.specs.Prelude.{◌≡◌, ◌+◌, min, ◌^◌, ◌-◌};
 
     ghost passed = { λ old new. new.passes ≡ min (old.passes + 1) (2 ^ 64 - 1) };
@@ -22,7 +22,7 @@ impl Gate for Counter {
 #[test]
 fn a_held_device_passes_its_gate_once_a_sync(rt: HostRuntime) -> Result<(), Fail> {
     let memory = FaultDevice::new(MemDevice::new(rt.alloc(), 4)?, 5);
-    let mut device = HeldDevice::new(memory, Counter { passes: 0 });
+    let mut device = HeldDevice::new(memory, PassCounter { passes: 0 });
     for (number, passes) in [0, 1, 1, 1, 1, 2].into_iter().enumerate() {
         let answer = call(&rt, &mut device, number as u64);
         assert_eq!(rt; answer.is_ok(), number < 5, "{number}");
@@ -37,17 +37,17 @@ fn a_held_device_passes_its_gate_once_a_sync(rt: HostRuntime) -> Result<(), Fail
 
 // Counts the syncs of a device where its gate sees it.
 #[derive(Drop)]
-struct Counted<'a, D> {
+struct SyncCounter<'a, D> {
     device: D,
     syncs: &'a Cell<u64>,
 }
 
-impl<'a, D: Device> Device for Counted<'a, D> {
-    ghost disk = { λ counted. D.disk counted.device };
+impl<'a, D: Device> Device for SyncCounter<'a, D> {
+    ghost disk = { λ counter. D.disk counter.device };
 
-    ghost fits = { λ counted. D.fits counted.device };
+    ghost fits = { λ counter. D.fits counter.device };
 
-    ghost whole = { λ counted. D.whole counted.device };
+    ghost whole = { λ counter. D.whole counter.device };
 
     fn sectors(&self) -> u64 {
         self.device.sectors()
@@ -91,7 +91,7 @@ impl<'a> Gate for Witness<'a> {
 #[test]
 fn a_gate_is_passed_before_its_sync(rt: HostRuntime) -> Result<(), Fail> {
     let syncs = Cell::new(0);
-    let counted = Counted {
+    let counter = SyncCounter {
         device: MemDevice::new(rt.alloc(), 4)?,
         syncs: &syncs,
     };
@@ -99,7 +99,7 @@ fn a_gate_is_passed_before_its_sync(rt: HostRuntime) -> Result<(), Fail> {
         syncs: &syncs,
         seen: 9,
     };
-    let mut device = HeldDevice::new(counted, witness);
+    let mut device = HeldDevice::new(counter, witness);
     for before in [0, 1, 2] {
         assert!(rt; device.sync().is_ok());
         assert_eq!(rt; device.gate().seen, before);
@@ -114,7 +114,7 @@ fn sent<T: Send>(value: T) -> T {
 
 #[test]
 fn a_device_may_go_to_another_thread(rt: HostRuntime) -> Result<(), Fail> {
-    let held = HeldDevice::new(MemDevice::new(rt.alloc(), 4)?, Counter { passes: 0 });
+    let held = HeldDevice::new(MemDevice::new(rt.alloc(), 4)?, PassCounter { passes: 0 });
     let mut device = sent(held);
     assert!(rt; call(&rt, &mut device, 4).is_ok());
     assert_sectors(&rt, &mut device, [(0, 0), (0x33, 0x33), (0, 0), (0, 0)]);

@@ -68,10 +68,10 @@ part_within at bytes content from n inside low high =
   where
     entry : (k : ℕ) → k < n → get_or (part from n (overwrite at bytes content)) k 0 ≡ get_or (part (from - at) n bytes) k 0
     entry k below =
-        let place : from + k - at ≡ from - at + k = omega arith in
+        let index : from + k - at ≡ from - at + k = omega arith in
         get_or-part from n (overwrite at bytes content) k below
         ∙ overwrite_within at bytes content (from + k) (omega arith) (omega arith) (omega arith)
-        ∙ ap (λ (j : ℕ). get_or bytes j 0) place
+        ∙ ap (λ (j : ℕ). get_or bytes j 0) index
         ∙ sym (get_or-part (from - at) n bytes k below)
 
 -- the whole of what was written
@@ -98,9 +98,9 @@ overwrite_same at n content inside =
       | inr from ↦ elim (cases_lt i (at + n)) [
         | inr behind ↦ overwrite_behind at (part at n content) content i (omega (arith, long)) (omega (arith, long))
         | inl to ↦
-            let place : at + (i - at) ≡ i = omega arith in
+            let index : at + (i - at) ≡ i = omega arith in
             overwrite_within at (part at n content) content i (omega arith) from (omega (arith, long))
-            ∙ get_or-part at n content (i - at) (omega arith) ∙ ap (λ (j : ℕ). get_or content j 0) place
+            ∙ get_or-part at n content (i - at) (omega arith) ∙ ap (λ (j : ℕ). get_or content j 0) index
       ]
     ]
 

@@ -7,7 +7,7 @@ use Rattle.sector_dev.specs.Disk.{Span, Moment, History, AreBytes, part, overwri
 use Rattle.sector_dev.specs.Image.{IsClean, IsCleanPart, IsImage, EveryImage}
 use Rattle.sector_dev.proofs.Contents.{length-overwrite, overwrite_before, overwrite_within, overwrite_behind, length-part, get_or-part, same_part, same_content, overwrite_same, overwrite_twice, bytes_overwrite, bytes-part}
 
--- a range leaves this place alone
+-- a range leaves this byte alone
 abbrev pub IsBeside : ℕ → Span → Type 0
 IsBeside i span = span.start ≤ i → span.start + span.len ≤ i
 
@@ -110,9 +110,9 @@ image_written history at landed content inside bytes image = record {
           ∙ overwrite_before at landed reads i (omega arith) early
       | inr from ↦ elim (cases_lt i (at + length landed)) [
         | inl to ↦
-            let place : at + (i - at) ≡ i = omega arith in
+            let index : at + (i - at) ≡ i = omega arith in
             overwrite_within at old content i (omega (arith, size)) from (omega (arith, old_size))
-            ∙ get_or-part at (length landed) reads (i - at) (omega arith) ∙ ap (λ (j : ℕ). get_or reads j 0) place
+            ∙ get_or-part at (length landed) reads (i - at) (omega arith) ∙ ap (λ (j : ℕ). get_or reads j 0) index
         | inr behind ↦
             overwrite_behind at old content i (omega (arith, size, old_size)) (omega (arith, old_size))
             ∙ clean_now i (λ _. behind) clean ∙ overwrite_behind at landed reads i inside behind

@@ -1,5 +1,6 @@
--- Transfers one after another.
-use Rattle.std.proofs.Common.{◌≡◌, ◌≢◌, ℕ, ◌+◌, ◌-◌, ◌*◌, ◌<◌, ◌≤◌, inl, inr, List, [], ◌∷◌, ◌++◌, length, get_or, take, drop, refl, sym, ◌∙◌, ap, subst, arith, length-append, length-drop, get_or-take, Result, Ok, Err, OnOk, Bool, IsTrue, add-zero}
+-- Transfers one after another, for `read_whole` and `write_whole`, and what they make of a device over the file, for
+-- `FileDevice::write`.
+use Rattle.std.proofs.Common.{◌≡◌, ◌≢◌, ℕ, ◌+◌, ◌-◌, ◌*◌, ◌<◌, ◌≤◌, inl, inr, List, [], ◌∷◌, ◌++◌, length, get_or, take, drop, refl, sym, ◌∙◌, ap, subst, arith, length-append, length-drop, get_or-take, Result, OnOk, Bool, IsTrue, add-zero}
 use Rattle.std.proofs.lemmas.Bool.{cases_lt}
 use Rattle.std.proofs.lemmas.Bool.Decides.{nat_tests}
 use Rattle.std.proofs.lemmas.List.{take_at, drop_at, drop-drop, drop-take, take-take, take-append-drop, take-append-le, length-take-le, get_or_append_left, get_or-append_right}
@@ -74,9 +75,9 @@ overwrite_more at first second content inside =
           ]
       | inr late ↦ elim (cases_lt i (at + length first + length second)) [
         | inl within ↦
-            let place : i - (at + length first) ≡ i - at - length first = omega arith in
+            let index : i - (at + length first) ≡ i - at - length first = omega arith in
             overwrite_within (at + length first) second one i (omega (arith, long)) late within
-            ∙ ap (λ (j : ℕ). get_or second j 0) place
+            ∙ ap (λ (j : ℕ). get_or second j 0) index
             ∙ sym (get_or-append_right first second (length first) (i - at) 0 refl (omega arith))
             ∙ sym (overwrite_within at (first ++ second) content i (omega arith) (omega arith) (omega (arith, both)))
         | inr behind ↦

@@ -31,8 +31,8 @@ abbrev pub AllLeave : (List ℕ → Type 0) → List Moment → Type 0
 AllLeave P list = All (λ (moment : Moment). EveryImage moment P) list
 
 module _ (P : List ℕ → Type 0) where
-  abbrev Leaving : Moment → Type 0
-  Leaving moment = EveryImage moment P
+  abbrev ImagesHave : Moment → Type 0
+  ImagesHave moment = EveryImage moment P
 
   -- the moments from a state on are itself and the later ones
   moments_since : (old new : History) (later : List Moment) → moments new ≡ moments old ++ later → drop (length old.past) (moments new) ≡ old.now ∷ later
@@ -45,16 +45,16 @@ module _ (P : List ℕ → Type 0) where
   leaves_by old new later goes_on here after = record {
     later = later;
     goes_on = goes_on;
-    every = All-same Leaving (drop (length old.past) (moments new)) (old.now ∷ later) (moments_since old new later goes_on) (All-cons Leaving old.now later here after);
+    every = All-same ImagesHave (drop (length old.past) (moments new)) (old.now ∷ later) (moments_since old new later goes_on) (All-cons ImagesHave old.now later here after);
   }
 
   all_since : (old new : History) (leaves : Leaves old new P) → AllLeave P (old.now ∷ leaves.later)
   all_since old new leaves =
-      All-same Leaving (old.now ∷ leaves.later) (drop (length old.past) (moments new)) (sym (moments_since old new leaves.later leaves.goes_on)) leaves.every
+      All-same ImagesHave (old.now ∷ leaves.later) (drop (length old.past) (moments new)) (sym (moments_since old new leaves.later leaves.goes_on)) leaves.every
 
   -- what has been left so far, at the start
   pub leaves_at_entry : (old new : History) → Leaves old new P → EveryImage old.now P
-  leaves_at_entry old new leaves = All-head Leaving old.now leaves.later (all_since old new leaves)
+  leaves_at_entry old new leaves = All-head ImagesHave old.now leaves.later (all_since old new leaves)
 
   -- and at the end
   pub leaves_at_exit : (old new : History) → Leaves old new P → EveryImage new.now P
@@ -63,24 +63,24 @@ module _ (P : List ℕ → Type 0) where
       last : (past : List Moment) (now : Moment) (later : List Moment) → moments new ≡ (past ++ now ∷ []) ++ later → AllLeave P (now ∷ later) → EveryImage new.now P
       last past now [] goes_on all =
           let same : new.now ≡ now = (same_from_push new.past past new.now now (goes_on ∙ append-nil (past ++ now ∷ []))).1 in
-          subst Leaving (sym same) (All-head Leaving now [] all)
-      last past now (m ∷ later) goes_on all = last (past ++ now ∷ []) m later (goes_on ∙ sym (append_assoc (past ++ now ∷ []) (m ∷ []) later)) (All-tail Leaving now (m ∷ later) all)
+          subst ImagesHave (sym same) (All-head ImagesHave now [] all)
+      last past now (m ∷ later) goes_on all = last (past ++ now ∷ []) m later (goes_on ∙ sym (append_assoc (past ++ now ∷ []) (m ∷ []) later)) (All-tail ImagesHave now (m ∷ later) all)
 
   pub leaves_here : (history : History) → EveryImage history.now P → Leaves history history P
-  leaves_here history here = leaves_by history history [] (sym (append-nil (moments history))) here (All-nil Leaving)
+  leaves_here history here = leaves_by history history [] (sym (append-nil (moments history))) here (All-nil ImagesHave)
 
   pub leaves_then : (old mid new : History) → Leaves old mid P → Leaves mid new P → Leaves old new P
   leaves_then old mid new first second =
       leaves_by old new (first.later ++ second.later)
       (second.goes_on ∙ ap (λ (list : List Moment). list ++ second.later) first.goes_on ∙ append_assoc (moments old) first.later second.later)
       (leaves_at_entry old mid first)
-      (All-append Leaving first.later second.later (All-tail Leaving old.now first.later (all_since old mid first)) (All-tail Leaving mid.now second.later (all_since mid new second)))
+      (All-append ImagesHave first.later second.later (All-tail ImagesHave old.now first.later (all_since old mid first)) (All-tail ImagesHave mid.now second.later (all_since mid new second)))
 
   -- one moment more
   leaves_more : (old new : History) → new.past ≡ moments old → EveryImage old.now P → EveryImage new.now P → Leaves old new P
   leaves_more old new past here after =
       leaves_by old new (new.now ∷ []) (ap (λ (list : List Moment). list ++ new.now ∷ []) past) here
-      (All-cons Leaving new.now [] after (All-nil Leaving))
+      (All-cons ImagesHave new.now [] after (All-nil ImagesHave))
 
   leaves_same : (old new : History) → new ≡ old → EveryImage old.now P → Leaves old new P
   leaves_same old new same here = subst (λ (h : History). Leaves old h P) (sym same) (leaves_here old here)

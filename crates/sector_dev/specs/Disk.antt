@@ -48,7 +48,7 @@ pub record IsWhole (disk : Disk) : Type 0 where
 abbrev pub part : ℕ → ℕ → List ℕ → List ℕ
 part at n content = take n (drop at content)
 
--- the content with these bytes at an offset, in place of as many
+-- the content with these bytes at an offset, instead of as many
 abbrev pub overwrite : ℕ → List ℕ → List ℕ → List ℕ
 overwrite at bytes content = take at content ++ bytes ++ drop (at + length bytes) content
 

@@ -3,7 +3,7 @@
 use Rattle.std.specs.Prelude.{◌≡◌, ℕ, ◌+◌, ◌<◌, ◌≤◌, List, length, drop, slice_index, All}
 use Rattle.sector_dev.specs.Disk.{Span, Moment, History, moments, AreBytes}
 
--- no range has the byte at this place
+-- no range has the byte at this offset
 abbrev pub IsClean : List Span → ℕ → Type 0
 IsClean dirty i = All (λ (span : Span). span.start ≤ i → span.start + span.len ≤ i) dirty
 

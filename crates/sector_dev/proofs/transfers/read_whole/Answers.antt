@@ -1,3 +1,4 @@
+-- A transfer more of a read.
 use Rattle.std.proofs.Common.{◌+◌, arith, ◌∙◌, ap}
 use Rattle.std.proofs.lemmas.Grind.{common_steps}
 use Rattle.sector_dev.specs.Disk.{part}

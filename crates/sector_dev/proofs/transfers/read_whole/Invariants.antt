@@ -1,3 +1,4 @@
+-- The first bytes are read, and no transfer has failed.
 use Rattle.std.proofs.Common.{◌≡◌, ◌-◌, ◌≤◌, length, take}
 use Rattle.sector_dev.specs.Disk.{part}
 use Rattle.sector_dev.specs.PositionedFile.{IsHonestFile, LeavesFile}

@@ -1,3 +1,4 @@
+-- The first bytes have landed, and no transfer has failed.
 use Rattle.std.proofs.Common.{◌≡◌, ◌+◌, ◌-◌, ◌≤◌, length, take}
 use Rattle.sector_dev.specs.Disk.{overwrite}
 use Rattle.sector_dev.specs.PositionedFile.{IsHonestFile, DirtiesOnly}

@@ -1,3 +1,4 @@
+-- What a write of the file does to the device, and that what the device calls clean is clean in the file.
 use Rattle.std.proofs.Common.{◌*◌, Bool, IsTrue, refl, sym, subst, arith, Err}
 use Rattle.sector_dev.specs.Disk.{Disk}
 use Rattle.sector_dev.specs.Calls.{WriteCall}

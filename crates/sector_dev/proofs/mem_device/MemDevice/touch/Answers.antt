@@ -1,3 +1,4 @@
+-- Nothing lands: what is there, written again, is the same content.
 use Rattle.std.proofs.Common.{◌≡◌, ◌∷◌, ◌∙◌, ap, true, ◌+◌, ◌*◌, ◌≤◌, ℕ, length, arith, sym}
 use Rattle.sector_dev.specs.Disk.{Span, part, overwrite}
 use Rattle.sector_dev.proofs.Contents.{length-part, overwrite_same}
