@@ -1,7 +1,7 @@
 -- A range of a content, and all the rest of it.
 use Rattle.std.specs.Prelude.{◌≡◌, ℕ, ◌+◌, ◌≤◌, List, length, slice_index}
 use Rattle.sector_dev.specs.Disk.{Moment}
-use Rattle.sector_dev.specs.Image.{IsImage}
+use Rattle.sector_dev.specs.Image.{IsFromImage}
 
 -- two contents of one length differ in the n bytes at an offset alone
 pub record IsSameOutside (at n : ℕ) (old new : List ℕ) : Type 0 where
@@ -9,7 +9,5 @@ pub record IsSameOutside (at n : ℕ) (old new : List ℕ) : Type 0 where
   pub same : (i : ℕ) → (at ≤ i → at + n ≤ i) → slice_index new i ≡ slice_index old i
 
 -- the content is, outside the n bytes at an offset, an image of this moment
-pub record IsKeptOutside (at n : ℕ) (moment : Moment) (content : List ℕ) : Type 0 where
-  pub before : List ℕ
-  pub image : IsImage moment before
-  pub outside : IsSameOutside at n before content
+abbrev pub IsKeptOutside : ℕ → ℕ → Moment → List ℕ → Type 0
+IsKeptOutside at n moment content = IsFromImage moment (IsSameOutside at n) content

@@ -1,7 +1,7 @@
 -- A payload behind a gate: it counts where the first byte of the gate's sector is 0xA7.
 use Rattle.std.specs.Prelude.{◌≡◌, ◌≢◌, ◌⊎◌, ℕ, ◌*◌, List, Option, Some, None, slice_index, if◌then◌else◌, ◌==◌}
 use Rattle.sector_dev.specs.Disk.{Moment, part}
-use Rattle.sector_dev.specs.Image.{IsImage}
+use Rattle.sector_dev.specs.Image.{IsFromImage}
 
 -- the gate in this sector is not open
 abbrev pub IsClosed : ℕ → List ℕ → Type 0
@@ -15,8 +15,10 @@ stands_for gate sector n content = if slice_index content (512 * gate) == 0xA7 t
 abbrev pub IsBeforeOrAfter : ℕ → ℕ → ℕ → List ℕ → List ℕ → Type 0
 IsBeforeOrAfter gate sector n payload content = (stands_for gate sector n content ≡ None) ⊎ (stands_for gate sector n content ≡ Some payload)
 
+-- two contents stand for the same
+abbrev pub StandsAlike : ℕ → ℕ → ℕ → List ℕ → List ℕ → Type 0
+StandsAlike gate sector n old new = stands_for gate sector n new ≡ stands_for gate sector n old
+
 -- the content stands for what some image of this moment stands for
-pub record StandsAsBefore (gate sector n : ℕ) (moment : Moment) (content : List ℕ) : Type 0 where
-  pub before : List ℕ
-  pub image : IsImage moment before
-  pub same : stands_for gate sector n content ≡ stands_for gate sector n before
+abbrev pub StandsAsBefore : ℕ → ℕ → ℕ → Moment → List ℕ → Type 0
+StandsAsBefore gate sector n moment content = IsFromImage moment (StandsAlike gate sector n) content

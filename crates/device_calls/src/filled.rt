@@ -1,7 +1,7 @@
 //! A range of sectors, written one after another.
 ghost use Rattle.std.specs.Prelude.{◌≡◌, ℕ, ◌+◌, ◌*◌, ◌<◌, ◌≤◌, length, OnOk};
 ghost use Rattle.sector_dev.specs.Disk.{IsHonest, reads_of, part};
-ghost use Rattle.sector_dev.specs.Calls.{counted};
+ghost use Rattle.sector_dev.specs.Calls.{count_after};
 ghost use Rattle.sector_dev.specs.Stretch.{Stretch};
 ghost use Rattle.device_calls.specs.Filled.{IsSameOutside, IsKeptOutside};
 
@@ -22,7 +22,7 @@ pub fn fill<D: Device>(device: &mut D, at: u64, count: u64, sector: &[u8]) -> Re
         → (k : ℕ) → k < count → part (512 * (at + k)) 512 (reads_of (D.disk device.new)) ≡ sector.now) }
 
     // It fails only where the device does.
-    ensures faults { (D.disk device.new).faults ≡ counted result (D.disk device.old).faults }
+    ensures faults { (D.disk device.new).faults ≡ count_after result (D.disk device.old).faults }
 {
     for i in 0..count {
         device.write(at + i, sector)?;

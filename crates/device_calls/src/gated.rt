@@ -2,7 +2,7 @@
 ghost use Rattle.std.specs.Prelude.{◌≡◌, ◌+◌, ◌*◌, ◌%◌, ◌<◌, ◌≤◌, Some, length, slice_index, OnOk};
 ghost use Rattle.sector_dev.specs.Disk.{IsHonest, reads_of, part};
 ghost use Rattle.sector_dev.specs.Image.{EveryImage};
-ghost use Rattle.sector_dev.specs.Calls.{counted};
+ghost use Rattle.sector_dev.specs.Calls.{count_after};
 ghost use Rattle.sector_dev.specs.Stretch.{Stretch};
 ghost use Rattle.device_calls.specs.Gated.{IsClosed, stands_for, IsBeforeOrAfter, StandsAsBefore};
 
@@ -37,7 +37,7 @@ pub fn commit<D: Device>(device: &mut D, gate: u64, at: u64, payload: &[u8]) -> 
         (λ content. stands_for gate at (length payload.now) content ≡ Some payload.now)) }
 
     // It fails only where the device does.
-    ensures faults { (D.disk device.new).faults ≡ counted result (D.disk device.old).faults }
+    ensures faults { (D.disk device.new).faults ≡ count_after result (D.disk device.old).faults }
 {
     device.write(at, payload)?;
     device.sync()?;
@@ -45,7 +45,7 @@ pub fn commit<D: Device>(device: &mut D, gate: u64, at: u64, payload: &[u8]) -> 
     device.sync() // It counts once this has succeeded.
 }
 
-/// Makes sure of what a stop left, and keeps a copy of the payload in a spare place.
+/// Makes sure of what a stop left, and keeps a copy of the payload in spare sectors.
 pub fn recover<D: Device>(
     device: &mut D,
     gate: u64,
@@ -72,7 +72,7 @@ pub fn recover<D: Device>(
         (reads_of (D.disk device.new)) ≡ part (512 * at) (length payload.old) (reads_of (D.disk device.old))) }
 
     // It fails only where the device does.
-    ensures faults { (D.disk device.new).faults ≡ counted result (D.disk device.old).faults }
+    ensures faults { (D.disk device.new).faults ≡ count_after result (D.disk device.old).faults }
 {
     device.sync()?;
     device.read(at, payload)?;

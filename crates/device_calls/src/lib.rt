@@ -9,6 +9,3 @@ mod gated;
 
 pub use filled::fill;
 pub use gated::{OPEN, commit, recover};
-
-#[cfg(test)]
-mod tests;

@@ -1,23 +1,23 @@
--- A content of which a part is overwritten.
+-- A content of which a part is overwritten. Cited by this crate and by those above it, `device_calls` among them.
 use Rattle.std.proofs.Common.{◌≡◌, inl, inr, ℕ, ◌+◌, ◌-◌, ◌<◌, ◌≤◌, List, length, get_or, drop, sym, ◌∙◌, ap, arith, rules, length-append, length-take, length-drop, get_or-take, get_or-drop}
 use Rattle.std.proofs.lemmas.List.{places, same_lists, get_or_past, get_or_default, take_all}
 use Rattle.std.proofs.lemmas.Bool.{cases_lt}
-use Rattle.sector_dev.specs.Disk.{part, overwritten, AreBytes}
+use Rattle.sector_dev.specs.Disk.{part, overwrite, AreBytes}
 
-pub length-overwritten : (at : ℕ) (bytes content : List ℕ) → at + length bytes ≤ length content → length (overwritten at bytes content) ≡ length content
-length-overwritten at bytes content inside = simp (length-append, length-take, length-drop) (omega arith)
+pub length-overwrite : (at : ℕ) (bytes content : List ℕ) → at + length bytes ≤ length content → length (overwrite at bytes content) ≡ length content
+length-overwrite at bytes content inside = simp (length-append, length-take, length-drop) (omega arith)
 
 -- before the range it is as it was
-pub overwritten_before : (at : ℕ) (bytes content : List ℕ) (i : ℕ) → at ≤ length content → i < at → get_or (overwritten at bytes content) i 0 ≡ get_or content i 0
-overwritten_before at bytes content i inside before = search (rules, places)
+pub overwrite_before : (at : ℕ) (bytes content : List ℕ) (i : ℕ) → at ≤ length content → i < at → get_or (overwrite at bytes content) i 0 ≡ get_or content i 0
+overwrite_before at bytes content i inside before = search (rules, places)
 
 -- in the range it is what was written
-pub overwritten_within : (at : ℕ) (bytes content : List ℕ) (i : ℕ) → at ≤ length content → at ≤ i → i < at + length bytes → get_or (overwritten at bytes content) i 0 ≡ get_or bytes (i - at) 0
-overwritten_within at bytes content i inside from to = search (rules, places)
+pub overwrite_within : (at : ℕ) (bytes content : List ℕ) (i : ℕ) → at ≤ length content → at ≤ i → i < at + length bytes → get_or (overwrite at bytes content) i 0 ≡ get_or bytes (i - at) 0
+overwrite_within at bytes content i inside from to = search (rules, places)
 
 -- behind the range it is as it was
-pub overwritten_behind : (at : ℕ) (bytes content : List ℕ) (i : ℕ) → at + length bytes ≤ length content → at + length bytes ≤ i → get_or (overwritten at bytes content) i 0 ≡ get_or content i 0
-overwritten_behind at bytes content i inside behind = search (rules, places)
+pub overwrite_behind : (at : ℕ) (bytes content : List ℕ) (i : ℕ) → at + length bytes ≤ length content → at + length bytes ≤ i → get_or (overwrite at bytes content) i 0 ≡ get_or content i 0
+overwrite_behind at bytes content i inside behind = search (rules, places)
 
 pub length-part : (at n : ℕ) (content : List ℕ) → at + n ≤ length content → length (part at n content) ≡ n
 length-part at n content inside = simp (length-take, length-drop) (omega arith)
@@ -46,36 +46,36 @@ same_content xs ys same agree =
     same_lists xs ys same (λ k d below. get_or_default xs k d 0 below ∙ agree k below ∙ sym (get_or_default ys k d 0 (omega arith)))
 
 -- a part before what is overwritten
-pub part_below : (at : ℕ) (bytes content : List ℕ) (from n : ℕ) → at + length bytes ≤ length content → from + n ≤ at → part from n (overwritten at bytes content) ≡ part from n content
+pub part_below : (at : ℕ) (bytes content : List ℕ) (from n : ℕ) → at + length bytes ≤ length content → from + n ≤ at → part from n (overwrite at bytes content) ≡ part from n content
 part_below at bytes content from n inside below =
-    same_part from n (overwritten at bytes content) content (length-overwritten at bytes content inside)
-    (λ i low high. overwritten_before at bytes content i (omega arith) (omega arith))
+    same_part from n (overwrite at bytes content) content (length-overwrite at bytes content inside)
+    (λ i low high. overwrite_before at bytes content i (omega arith) (omega arith))
 
 -- a part behind it
-pub part_above : (at : ℕ) (bytes content : List ℕ) (from n : ℕ) → at + length bytes ≤ length content → at + length bytes ≤ from → part from n (overwritten at bytes content) ≡ part from n content
+pub part_above : (at : ℕ) (bytes content : List ℕ) (from n : ℕ) → at + length bytes ≤ length content → at + length bytes ≤ from → part from n (overwrite at bytes content) ≡ part from n content
 part_above at bytes content from n inside above =
-    same_part from n (overwritten at bytes content) content (length-overwritten at bytes content inside)
-    (λ i low high. overwritten_behind at bytes content i inside (omega arith))
+    same_part from n (overwrite at bytes content) content (length-overwrite at bytes content inside)
+    (λ i low high. overwrite_behind at bytes content i inside (omega arith))
 
 -- a part within it
-pub part_within : (at : ℕ) (bytes content : List ℕ) (from n : ℕ) → at + length bytes ≤ length content → at ≤ from → from + n ≤ at + length bytes → part from n (overwritten at bytes content) ≡ part (from - at) n bytes
+pub part_within : (at : ℕ) (bytes content : List ℕ) (from n : ℕ) → at + length bytes ≤ length content → at ≤ from → from + n ≤ at + length bytes → part from n (overwrite at bytes content) ≡ part (from - at) n bytes
 part_within at bytes content from n inside low high =
-    let whole = overwritten at bytes content in
-    let long : length whole ≡ length content = length-overwritten at bytes content inside in
+    let whole = overwrite at bytes content in
+    let long : length whole ≡ length content = length-overwrite at bytes content inside in
     let one : length (part from n whole) ≡ n = length-part from n whole (omega arith) in
     let two : length (part (from - at) n bytes) ≡ n = length-part (from - at) n bytes (omega arith) in
     same_content (part from n whole) (part (from - at) n bytes) (one ∙ sym two) (λ k below. entry k (omega arith))
   where
-    entry : (k : ℕ) → k < n → get_or (part from n (overwritten at bytes content)) k 0 ≡ get_or (part (from - at) n bytes) k 0
+    entry : (k : ℕ) → k < n → get_or (part from n (overwrite at bytes content)) k 0 ≡ get_or (part (from - at) n bytes) k 0
     entry k below =
-        let place : from + k - at ≡ from - at + k = omega arith in
-        get_or-part from n (overwritten at bytes content) k below
-        ∙ overwritten_within at bytes content (from + k) (omega arith) (omega arith) (omega arith)
-        ∙ ap (λ (j : ℕ). get_or bytes j 0) place
+        let index : from + k - at ≡ from - at + k = omega arith in
+        get_or-part from n (overwrite at bytes content) k below
+        ∙ overwrite_within at bytes content (from + k) (omega arith) (omega arith) (omega arith)
+        ∙ ap (λ (j : ℕ). get_or bytes j 0) index
         ∙ sym (get_or-part (from - at) n bytes k below)
 
 -- the whole of what was written
-pub part_new : (at : ℕ) (bytes content : List ℕ) → at + length bytes ≤ length content → part at (length bytes) (overwritten at bytes content) ≡ bytes
+pub part_new : (at : ℕ) (bytes content : List ℕ) → at + length bytes ≤ length content → part at (length bytes) (overwrite at bytes content) ≡ bytes
 part_new at bytes content inside =
     let zero_on : at - at ≡ 0 = omega arith in
     part_within at bytes content at (length bytes) inside (omega arith) (omega arith)
@@ -83,59 +83,59 @@ part_new at bytes content inside =
     ∙ take_all (length bytes) bytes (omega arith)
 
 -- what is there written again changes nothing
-pub overwritten_same : (at n : ℕ) (content : List ℕ) → at + n ≤ length content → overwritten at (part at n content) content ≡ content
-overwritten_same at n content inside =
+pub overwrite_same : (at n : ℕ) (content : List ℕ) → at + n ≤ length content → overwrite at (part at n content) content ≡ content
+overwrite_same at n content inside =
     let bytes = part at n content in
     let long : length bytes ≡ n = length-part at n content inside in
-    same_content (overwritten at bytes content) content (length-overwritten at bytes content (omega arith)) (λ i below. entry i)
+    same_content (overwrite at bytes content) content (length-overwrite at bytes content (omega arith)) (λ i below. entry i)
   where
     long : length (part at n content) ≡ n
     long = length-part at n content inside
 
-    entry : (i : ℕ) → get_or (overwritten at (part at n content) content) i 0 ≡ get_or content i 0
+    entry : (i : ℕ) → get_or (overwrite at (part at n content) content) i 0 ≡ get_or content i 0
     entry i = elim (cases_lt i at) [
-      | inl before ↦ overwritten_before at (part at n content) content i (omega arith) before
+      | inl before ↦ overwrite_before at (part at n content) content i (omega arith) before
       | inr from ↦ elim (cases_lt i (at + n)) [
-        | inr behind ↦ overwritten_behind at (part at n content) content i (omega (arith, long)) (omega (arith, long))
+        | inr behind ↦ overwrite_behind at (part at n content) content i (omega (arith, long)) (omega (arith, long))
         | inl to ↦
-            let place : at + (i - at) ≡ i = omega arith in
-            overwritten_within at (part at n content) content i (omega arith) from (omega (arith, long))
-            ∙ get_or-part at n content (i - at) (omega arith) ∙ ap (λ (j : ℕ). get_or content j 0) place
+            let index : at + (i - at) ≡ i = omega arith in
+            overwrite_within at (part at n content) content i (omega arith) from (omega (arith, long))
+            ∙ get_or-part at n content (i - at) (omega arith) ∙ ap (λ (j : ℕ). get_or content j 0) index
       ]
     ]
 
 -- of two writes of one range the last one counts
-pub overwritten_twice : (at : ℕ) (bytes last content : List ℕ) → at + length bytes ≤ length content → length last ≡ length bytes → overwritten at last (overwritten at bytes content) ≡ overwritten at last content
-overwritten_twice at bytes last content inside same =
-    same_content (overwritten at last once) (overwritten at last content)
-    (length-overwritten at last once (omega (arith, long)) ∙ long ∙ sym (length-overwritten at last content (omega arith))) (λ i below. entry i)
+pub overwrite_twice : (at : ℕ) (bytes last content : List ℕ) → at + length bytes ≤ length content → length last ≡ length bytes → overwrite at last (overwrite at bytes content) ≡ overwrite at last content
+overwrite_twice at bytes last content inside same =
+    same_content (overwrite at last once) (overwrite at last content)
+    (length-overwrite at last once (omega (arith, long)) ∙ long ∙ sym (length-overwrite at last content (omega arith))) (λ i below. entry i)
   where
     once : List ℕ
-    once = overwritten at bytes content
+    once = overwrite at bytes content
 
     long : length once ≡ length content
-    long = length-overwritten at bytes content inside
+    long = length-overwrite at bytes content inside
 
-    entry : (i : ℕ) → get_or (overwritten at last once) i 0 ≡ get_or (overwritten at last content) i 0
+    entry : (i : ℕ) → get_or (overwrite at last once) i 0 ≡ get_or (overwrite at last content) i 0
     entry i = elim (cases_lt i at) [
       | inl before ↦
-          overwritten_before at last once i (omega (arith, long)) before ∙ overwritten_before at bytes content i (omega arith) before
-          ∙ sym (overwritten_before at last content i (omega arith) before)
+          overwrite_before at last once i (omega (arith, long)) before ∙ overwrite_before at bytes content i (omega arith) before
+          ∙ sym (overwrite_before at last content i (omega arith) before)
       | inr from ↦ elim (cases_lt i (at + length last)) [
-        | inl to ↦ overwritten_within at last once i (omega (arith, long)) from to ∙ sym (overwritten_within at last content i (omega arith) from to)
+        | inl to ↦ overwrite_within at last once i (omega (arith, long)) from to ∙ sym (overwrite_within at last content i (omega arith) from to)
         | inr behind ↦
-            overwritten_behind at last once i (omega (arith, long)) behind ∙ overwritten_behind at bytes content i inside (omega arith)
-            ∙ sym (overwritten_behind at last content i (omega arith) behind)
+            overwrite_behind at last once i (omega (arith, long)) behind ∙ overwrite_behind at bytes content i inside (omega arith)
+            ∙ sym (overwrite_behind at last content i (omega arith) behind)
       ]
     ]
 
 -- bytes written over bytes are bytes
-pub bytes_overwritten : (at : ℕ) (bytes content : List ℕ) → at + length bytes ≤ length content → AreBytes bytes → AreBytes content → AreBytes (overwritten at bytes content)
-bytes_overwritten at bytes content inside new old i = elim (cases_lt i at) [
-  | inl before ↦ omega (arith, overwritten_before at bytes content i (omega arith) before, old i)
+pub bytes_overwrite : (at : ℕ) (bytes content : List ℕ) → at + length bytes ≤ length content → AreBytes bytes → AreBytes content → AreBytes (overwrite at bytes content)
+bytes_overwrite at bytes content inside new old i = elim (cases_lt i at) [
+  | inl before ↦ omega (arith, overwrite_before at bytes content i (omega arith) before, old i)
   | inr from ↦ elim (cases_lt i (at + length bytes)) [
-    | inr behind ↦ omega (arith, overwritten_behind at bytes content i inside behind, old i)
-    | inl to ↦ omega (arith, overwritten_within at bytes content i (omega arith) from to, new (i - at))
+    | inr behind ↦ omega (arith, overwrite_behind at bytes content i inside behind, old i)
+    | inl to ↦ omega (arith, overwrite_within at bytes content i (omega arith) from to, new (i - at))
   ]
 ]
 

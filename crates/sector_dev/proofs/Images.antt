@@ -1,12 +1,13 @@
--- What a stop may leave, before a call and after it.
+-- What a stop may leave, before a call and after it: images, and which bytes are clean. Cited by this crate and by those
+-- above it, `device_calls` among them.
 use Rattle.std.proofs.Common.{◌≡◌, ◌⊎◌, inl, inr, ℕ, ◌+◌, ◌-◌, ◌≤◌, List, [], ◌∷◌, length, get_or, refl, sym, ◌∙◌, ap, subst, arith}
 use Rattle.std.proofs.lemmas.Bool.{cases_lt}
 use Rattle.std.proofs.lemmas.List.Elements.{All-nil, All-cons, All-head, All-tail}
-use Rattle.sector_dev.specs.Disk.{Span, Moment, History, AreBytes, part, overwritten, written, synced}
+use Rattle.sector_dev.specs.Disk.{Span, Moment, History, AreBytes, part, overwrite, after_write, after_sync}
 use Rattle.sector_dev.specs.Image.{IsClean, IsCleanPart, IsImage, EveryImage}
-use Rattle.sector_dev.proofs.Contents.{length-overwritten, overwritten_before, overwritten_within, overwritten_behind, length-part, get_or-part, same_part, same_content, overwritten_same, overwritten_twice, bytes_overwritten, bytes-part}
+use Rattle.sector_dev.proofs.Contents.{length-overwrite, overwrite_before, overwrite_within, overwrite_behind, length-part, get_or-part, same_part, same_content, overwrite_same, overwrite_twice, bytes_overwrite, bytes-part}
 
--- a range leaves this place alone
+-- a range leaves this byte alone
 abbrev pub IsBeside : ℕ → Span → Type 0
 IsBeside i span = span.start ≤ i → span.start + span.len ≤ i
 
@@ -51,38 +52,38 @@ pub image_part : (moment : Moment) (content : List ℕ) (at n : ℕ) → IsImage
 image_part moment content at n image clean = same_part at n content moment.reads image.size (λ i from to. image.clean i (clean i from to))
 
 -- a sync that succeeds only takes images away
-pub image_synced : (history : History) (content : List ℕ) → IsImage (synced history).now content → IsImage history.now content
+pub image_synced : (history : History) (content : List ℕ) → IsImage (after_sync history).now content → IsImage history.now content
 image_synced history content image = record { size = image.size; bytes = image.bytes; clean = λ i _. image.clean i (clean_none i) }
 
-pub image_after_sync : (history : History) (content : List ℕ) → IsImage (synced history).now content → content ≡ history.now.reads
-image_after_sync history content image = image_is_reads (synced history).now content refl image
+pub image_after_sync : (history : History) (content : List ℕ) → IsImage (after_sync history).now content → content ≡ history.now.reads
+image_after_sync history content image = image_is_reads (after_sync history).now content refl image
 
 -- an image after a write is one from before it, with other bytes in the range
-pub record IsTorn (history : History) (at n : ℕ) (content : List ℕ) : Type 0 where
+record IsTorn (history : History) (at n : ℕ) (content : List ℕ) : Type 0 where
   pub before : List ℕ
   pub image : IsImage history.now before
   pub size : length before ≡ length content
-  pub is : content ≡ overwritten at (part at n content) before
+  pub is : content ≡ overwrite at (part at n content) before
 
-pub image_written : (history : History) (at : ℕ) (landed : List ℕ) (content : List ℕ) → at + length landed ≤ length history.now.reads → AreBytes history.now.reads → IsImage (written at landed history).now content
+image_written : (history : History) (at : ℕ) (landed : List ℕ) (content : List ℕ) → at + length landed ≤ length history.now.reads → AreBytes history.now.reads → IsImage (after_write at landed history).now content
     → IsTorn history at (length landed) content
 image_written history at landed content inside bytes image = record {
   before = before;
   image = record {
-    size = length-overwritten at old content (omega (arith, size, old_size)) ∙ size;
-    bytes = bytes_overwritten at old content (omega (arith, size, old_size)) (bytes-part at (length landed) reads bytes) image.bytes;
+    size = length-overwrite at old content (omega (arith, size, old_size)) ∙ size;
+    bytes = bytes_overwrite at old content (omega (arith, size, old_size)) (bytes-part at (length landed) reads bytes) image.bytes;
     clean = λ i clean. entry i clean;
   };
-  size = length-overwritten at old content (omega (arith, size, old_size));
-  is = sym (overwritten_same at (length landed) content (omega (arith, size)))
-      ∙ sym (overwritten_twice at old torn content (omega (arith, size, old_size)) (torn_size ∙ sym old_size));
+  size = length-overwrite at old content (omega (arith, size, old_size));
+  is = sym (overwrite_same at (length landed) content (omega (arith, size)))
+      ∙ sym (overwrite_twice at old torn content (omega (arith, size, old_size)) (torn_size ∙ sym old_size));
 }
   where
     reads : List ℕ
     reads = history.now.reads
 
     size : length content ≡ length reads
-    size = image.size ∙ length-overwritten at landed reads inside
+    size = image.size ∙ length-overwrite at landed reads inside
 
     old : List ℕ
     old = part at (length landed) reads
@@ -97,47 +98,32 @@ image_written history at landed content inside bytes image = record {
     torn_size = length-part at (length landed) content (omega (arith, size))
 
     before : List ℕ
-    before = overwritten at old content
+    before = overwrite at old content
 
-    clean_now : (i : ℕ) → (at ≤ i → at + length landed ≤ i) → IsClean history.now.dirty i → get_or content i 0 ≡ get_or (overwritten at landed reads) i 0
+    clean_now : (i : ℕ) → (at ≤ i → at + length landed ≤ i) → IsClean history.now.dirty i → get_or content i 0 ≡ get_or (overwrite at landed reads) i 0
     clean_now i beside clean = image.clean i (clean_beside at (length landed) history.now.dirty i beside clean)
 
     entry : (i : ℕ) → IsClean history.now.dirty i → get_or before i 0 ≡ get_or reads i 0
     entry i clean = elim (cases_lt i at) [
       | inl early ↦
-          overwritten_before at old content i (omega (arith, size)) early ∙ clean_now i (λ from. absurd (omega arith)) clean
-          ∙ overwritten_before at landed reads i (omega arith) early
+          overwrite_before at old content i (omega (arith, size)) early ∙ clean_now i (λ from. absurd (omega arith)) clean
+          ∙ overwrite_before at landed reads i (omega arith) early
       | inr from ↦ elim (cases_lt i (at + length landed)) [
         | inl to ↦
-            let place : at + (i - at) ≡ i = omega arith in
-            overwritten_within at old content i (omega (arith, size)) from (omega (arith, old_size))
-            ∙ get_or-part at (length landed) reads (i - at) (omega arith) ∙ ap (λ (j : ℕ). get_or reads j 0) place
+            let index : at + (i - at) ≡ i = omega arith in
+            overwrite_within at old content i (omega (arith, size)) from (omega (arith, old_size))
+            ∙ get_or-part at (length landed) reads (i - at) (omega arith) ∙ ap (λ (j : ℕ). get_or reads j 0) index
         | inr behind ↦
-            overwritten_behind at old content i (omega (arith, size, old_size)) (omega (arith, old_size))
-            ∙ clean_now i (λ _. behind) clean ∙ overwritten_behind at landed reads i inside behind
+            overwrite_behind at old content i (omega (arith, size, old_size)) (omega (arith, old_size))
+            ∙ clean_now i (λ _. behind) clean ∙ overwrite_behind at landed reads i inside behind
       ]
     ]
 
--- outside the range it is that one
-pub torn_outside : (history : History) (at n : ℕ) (content : List ℕ) → (torn : IsTorn history at n content) → at + n ≤ length content → (i : ℕ) → (at ≤ i → at + n ≤ i) → get_or content i 0 ≡ get_or torn.before i 0
-torn_outside history at n content torn inside i beside =
-    ap (λ (list : List ℕ). get_or list i 0) torn.is
-    ∙ elim (cases_lt i at) [
-      | inl early ↦ overwritten_before at (part at n content) torn.before i (omega (arith, same)) early
-      | inr from ↦ overwritten_behind at (part at n content) torn.before i (omega (arith, same, new_size)) (omega (arith, new_size, beside from))
-    ]
-  where
-    new_size : length (part at n content) ≡ n
-    new_size = length-part at n content inside
-
-    same : length torn.before ≡ length content
-    same = torn.size
-
 -- If a content with P, overwritten in the range by whatever bytes, has Q, then each image after the write has Q.
 pub every_written : (P Q : List ℕ → Type 0) (history : History) (at : ℕ) (landed : List ℕ) → at + length landed ≤ length history.now.reads → AreBytes history.now.reads → EveryImage history.now P
-    → ((content torn : List ℕ) → length content ≡ length history.now.reads → length torn ≡ length landed → P content → Q (overwritten at torn content)) → EveryImage (written at landed history).now Q
+    → ((content torn : List ℕ) → length content ≡ length history.now.reads → length torn ≡ length landed → P content → Q (overwrite at torn content)) → EveryImage (after_write at landed history).now Q
 every_written P Q history at landed inside bytes each step content image =
     let torn = image_written history at landed content inside bytes image in
-    let long : length content ≡ length history.now.reads = image.size ∙ length-overwritten at landed history.now.reads inside in
+    let long : length content ≡ length history.now.reads = image.size ∙ length-overwrite at landed history.now.reads inside in
     let size : length (part at (length landed) content) ≡ length landed = length-part at (length landed) content (omega (arith, long)) in
     subst Q (sym torn.is) (step torn.before (part at (length landed) content) torn.image.size size (each torn.before torn.image))

@@ -1,15 +1,18 @@
--- Transfers one after another.
-use Rattle.std.proofs.Common.{◌≡◌, ℕ, ◌+◌, ◌-◌, ◌*◌, ◌<◌, ◌≤◌, inl, inr, List, [], ◌∷◌, ◌++◌, length, get_or, take, drop, refl, sym, ◌∙◌, ap, subst, arith, length-append, length-drop, get_or-take, Result, Ok, Err, OnOk, Bool, IsTrue, add-zero}
+-- Transfers one after another, for `read_whole` and `write_whole`, and what they make of a device over the file, for
+-- `FileDevice::write`.
+use Rattle.std.proofs.Common.{◌≡◌, ◌≢◌, ℕ, ◌+◌, ◌-◌, ◌*◌, ◌<◌, ◌≤◌, inl, inr, List, [], ◌∷◌, ◌++◌, length, get_or, take, drop, refl, sym, ◌∙◌, ap, subst, arith, length-append, length-drop, get_or-take, Result, OnOk, Bool, IsTrue, add-zero}
 use Rattle.std.proofs.lemmas.Bool.{cases_lt}
+use Rattle.std.proofs.lemmas.Bool.Decides.{nat_tests}
 use Rattle.std.proofs.lemmas.List.{take_at, drop_at, drop-drop, drop-take, take-take, take-append-drop, take-append-le, length-take-le, get_or_append_left, get_or-append_right}
 use borrow.Rule.Slice.PartMut.{put_mid, post_of}
-use Rattle.sector_dev.specs.Disk.{Span, Moment, History, part, overwritten}
-use Rattle.sector_dev.specs.Calls.{Lands}
-use Rattle.sector_dev.specs.PositionedFile.{FileState, IsHonestFile, DirtiesOnly, CoversDirty, TransfersIn}
+use Rattle.sector_dev.specs.Disk.{Span, Moment, History, part, overwrite}
+use Rattle.sector_dev.specs.Calls.{Lands, one_more}
+use Rattle.sector_dev.specs.PositionedFile.{FileState, IsHonestFile, DirtiesOnly, CoversDirty, TransfersIn, failures_after_transfer}
 use Rattle.sector_dev.specs.FileDevice.{LandsWhole, WritesWhole, front}
 use Rattle.sector_dev.specs.Image.{IsClean}
 use Rattle.sector_dev.proofs.Images.{clean_before}
-use Rattle.sector_dev.proofs.Contents.{length-overwritten, overwritten_before, overwritten_within, overwritten_behind, length-part, part_above, same_content, overwritten_same}
+use Rattle.sector_dev.proofs.Results.{success, failure}
+use Rattle.sector_dev.proofs.Contents.{length-overwrite, overwrite_before, overwrite_within, overwrite_behind, length-part, part_above, same_content, overwrite_same}
 
 -- the first m, and then the next n
 pub take_join : (m n : ℕ) (bytes : List ℕ) → take m bytes ++ take n (drop m bytes) ≡ take (m + n) bytes
@@ -39,23 +42,23 @@ read_more done n offset into rest bytes below most so_far next =
     ∙ (λ i. so_far i ++ next i) ∙ part_more offset done n bytes
 
 -- two writes, one behind the other
-pub overwritten_more : (at : ℕ) (first second content : List ℕ) → at + (length first + length second) ≤ length content → overwritten (at + length first) second (overwritten at first content) ≡ overwritten at (first ++ second) content
-overwritten_more at first second content inside =
+pub overwrite_more : (at : ℕ) (first second content : List ℕ) → at + (length first + length second) ≤ length content → overwrite (at + length first) second (overwrite at first content) ≡ overwrite at (first ++ second) content
+overwrite_more at first second content inside =
     same_content twice once
-    (length-overwritten (at + length first) second one (omega (arith, long)) ∙ long ∙ sym (length-overwritten at (first ++ second) content (omega (arith, both))))
+    (length-overwrite (at + length first) second one (omega (arith, long)) ∙ long ∙ sym (length-overwrite at (first ++ second) content (omega (arith, both))))
     (λ i below. entry i)
   where
     one : List ℕ
-    one = overwritten at first content
+    one = overwrite at first content
 
     twice : List ℕ
-    twice = overwritten (at + length first) second one
+    twice = overwrite (at + length first) second one
 
     once : List ℕ
-    once = overwritten at (first ++ second) content
+    once = overwrite at (first ++ second) content
 
     long : length one ≡ length content
-    long = length-overwritten at first content (omega arith)
+    long = length-overwrite at first content (omega arith)
 
     both : length (first ++ second) ≡ length first + length second
     both = length-append first second
@@ -63,55 +66,55 @@ overwritten_more at first second content inside =
     entry : (i : ℕ) → get_or twice i 0 ≡ get_or once i 0
     entry i = elim (cases_lt i (at + length first)) [
       | inl early ↦
-          overwritten_before (at + length first) second one i (omega (arith, long)) early ∙ elim (cases_lt i at) [
-            | inl before ↦ overwritten_before at first content i (omega arith) before ∙ sym (overwritten_before at (first ++ second) content i (omega arith) before)
+          overwrite_before (at + length first) second one i (omega (arith, long)) early ∙ elim (cases_lt i at) [
+            | inl before ↦ overwrite_before at first content i (omega arith) before ∙ sym (overwrite_before at (first ++ second) content i (omega arith) before)
             | inr from ↦
-                overwritten_within at first content i (omega arith) from early
+                overwrite_within at first content i (omega arith) from early
                 ∙ sym (get_or_append_left first second 0 (i - at) (omega arith))
-                ∙ sym (overwritten_within at (first ++ second) content i (omega arith) from (omega (arith, both)))
+                ∙ sym (overwrite_within at (first ++ second) content i (omega arith) from (omega (arith, both)))
           ]
       | inr late ↦ elim (cases_lt i (at + length first + length second)) [
         | inl within ↦
-            let place : i - (at + length first) ≡ i - at - length first = omega arith in
-            overwritten_within (at + length first) second one i (omega (arith, long)) late within
-            ∙ ap (λ (j : ℕ). get_or second j 0) place
+            let index : i - (at + length first) ≡ i - at - length first = omega arith in
+            overwrite_within (at + length first) second one i (omega (arith, long)) late within
+            ∙ ap (λ (j : ℕ). get_or second j 0) index
             ∙ sym (get_or-append_right first second (length first) (i - at) 0 refl (omega arith))
-            ∙ sym (overwritten_within at (first ++ second) content i (omega arith) (omega arith) (omega (arith, both)))
+            ∙ sym (overwrite_within at (first ++ second) content i (omega arith) (omega arith) (omega (arith, both)))
         | inr behind ↦
-            overwritten_behind (at + length first) second one i (omega (arith, long)) behind
-            ∙ overwritten_behind at first content i (omega arith) (omega arith)
-            ∙ sym (overwritten_behind at (first ++ second) content i (omega (arith, both)) (omega (arith, both)))
+            overwrite_behind (at + length first) second one i (omega (arith, long)) behind
+            ∙ overwrite_behind at first content i (omega arith) (omega arith)
+            ∙ sym (overwrite_behind at (first ++ second) content i (omega (arith, both)) (omega (arith, both)))
       ]
     ]
 
 -- what a write within the front changes of it
-pub front_overwritten : (size at : ℕ) (landed content : List ℕ) → at + length landed ≤ size → size ≤ length content → take size (overwritten at landed content) ≡ overwritten at landed (take size content)
-front_overwritten size at landed content inside covered =
-    same_content (take size (overwritten at landed content)) (overwritten at landed (take size content)) (one ∙ sym two) (λ i below. entry i (omega (arith, one)))
+pub front_overwrite : (size at : ℕ) (landed content : List ℕ) → at + length landed ≤ size → size ≤ length content → take size (overwrite at landed content) ≡ overwrite at landed (take size content)
+front_overwrite size at landed content inside covered =
+    same_content (take size (overwrite at landed content)) (overwrite at landed (take size content)) (one ∙ sym two) (λ i below. entry i (omega (arith, one)))
   where
-    long : length (overwritten at landed content) ≡ length content
-    long = length-overwritten at landed content (omega arith)
+    long : length (overwrite at landed content) ≡ length content
+    long = length-overwrite at landed content (omega arith)
 
     cut : length (take size content) ≡ size
     cut = length-take-le size content covered
 
-    one : length (take size (overwritten at landed content)) ≡ size
-    one = length-take-le size (overwritten at landed content) (omega (arith, long))
+    one : length (take size (overwrite at landed content)) ≡ size
+    one = length-take-le size (overwrite at landed content) (omega (arith, long))
 
-    two : length (overwritten at landed (take size content)) ≡ size
-    two = length-overwritten at landed (take size content) (omega (arith, cut)) ∙ cut
+    two : length (overwrite at landed (take size content)) ≡ size
+    two = length-overwrite at landed (take size content) (omega (arith, cut)) ∙ cut
 
-    entry : (i : ℕ) → i < size → get_or (take size (overwritten at landed content)) i 0 ≡ get_or (overwritten at landed (take size content)) i 0
+    entry : (i : ℕ) → i < size → get_or (take size (overwrite at landed content)) i 0 ≡ get_or (overwrite at landed (take size content)) i 0
     entry i below =
-        get_or-take size (overwritten at landed content) i 0 below ∙ elim (cases_lt i at) [
+        get_or-take size (overwrite at landed content) i 0 below ∙ elim (cases_lt i at) [
           | inl before ↦
-              overwritten_before at landed content i (omega arith) before ∙ sym (get_or-take size content i 0 below)
-              ∙ sym (overwritten_before at landed (take size content) i (omega (arith, cut)) before)
+              overwrite_before at landed content i (omega arith) before ∙ sym (get_or-take size content i 0 below)
+              ∙ sym (overwrite_before at landed (take size content) i (omega (arith, cut)) before)
           | inr from ↦ elim (cases_lt i (at + length landed)) [
-            | inl to ↦ overwritten_within at landed content i (omega arith) from to ∙ sym (overwritten_within at landed (take size content) i (omega (arith, cut)) from to)
+            | inl to ↦ overwrite_within at landed content i (omega arith) from to ∙ sym (overwrite_within at landed (take size content) i (omega (arith, cut)) from to)
             | inr behind ↦
-                overwritten_behind at landed content i (omega arith) behind ∙ sym (get_or-take size content i 0 below)
-                ∙ sym (overwritten_behind at landed (take size content) i (omega (arith, cut)) behind)
+                overwrite_behind at landed content i (omega arith) behind ∙ sym (get_or-take size content i 0 below)
+                ∙ sym (overwrite_behind at landed (take size content) i (omega (arith, cut)) behind)
           ]
         ]
 
@@ -123,57 +126,54 @@ part-front size at n content inside =
     ∙ ap (λ (list : List ℕ). take n list) (drop-take at (size - at) content) ∙ take-take n (size - at) (drop at content) (omega arith)
 
 -- a transfer more of a write
-pub write_more : (done n offset : ℕ) (bytes content new : List ℕ) → done + n ≤ length bytes → offset + length bytes ≤ length content → new ≡ overwritten offset (take done bytes) content
-    → overwritten (offset + done) (take n (drop done bytes)) new ≡ overwritten offset (take (done + n) bytes) content
+pub write_more : (done n offset : ℕ) (bytes content new : List ℕ) → done + n ≤ length bytes → offset + length bytes ≤ length content → new ≡ overwrite offset (take done bytes) content
+    → overwrite (offset + done) (take n (drop done bytes)) new ≡ overwrite offset (take (done + n) bytes) content
 write_more done n offset bytes content new below inside so_far =
     let first : length (take done bytes) ≡ done = length-take-le done bytes (omega arith) in
     let second : length (take n (drop done bytes)) ≡ n = length-take-le n (drop done bytes) (omega (arith, length-drop done bytes)) in
-    (λ i. overwritten (offset + sym first i) (take n (drop done bytes)) (so_far i))
-    ∙ overwritten_more offset (take done bytes) (take n (drop done bytes)) content (omega (arith, first, second))
-    ∙ ap (λ (list : List ℕ). overwritten offset list content) (take_join done n bytes)
+    (λ i. overwrite (offset + sym first i) (take n (drop done bytes)) (so_far i))
+    ∙ overwrite_more offset (take done bytes) (take n (drop done bytes)) content (omega (arith, first, second))
+    ∙ ap (λ (list : List ℕ). overwrite offset list content) (take_join done n bytes)
 
 -- a write that ends early, after a last transfer that left any bytes
 pub ended_early : (done offset : ℕ) (bytes landed content new later : List ℕ) → done ≤ length bytes → offset + length bytes ≤ length content → length landed ≡ length bytes - done
-    → new ≡ overwritten offset (take done bytes) content → later ≡ overwritten (offset + done) landed new → later ≡ overwritten offset (take done bytes ++ landed) content
+    → new ≡ overwrite offset (take done bytes) content → later ≡ overwrite (offset + done) landed new → later ≡ overwrite offset (take done bytes ++ landed) content
 ended_early done offset bytes landed content new later below inside size so_far last =
     let first : length (take done bytes) ≡ done = length-take-le done bytes below in
-    last ∙ (λ i. overwritten (offset + sym first i) landed (so_far i))
-    ∙ overwritten_more offset (take done bytes) landed content (omega (arith, first))
+    last ∙ (λ i. overwrite (offset + sym first i) landed (so_far i))
+    ∙ overwrite_more offset (take done bytes) landed content (omega (arith, first))
 
 -- what is behind a write stays, and may be thought of as written again
-pub overwritten_and_rest : (at : ℕ) (first content : List ℕ) (n : ℕ) → at + length first + n ≤ length content → overwritten at (first ++ part (at + length first) n content) content ≡ overwritten at first content
-overwritten_and_rest at first content n inside =
+pub overwrite_and_rest : (at : ℕ) (first content : List ℕ) (n : ℕ) → at + length first + n ≤ length content → overwrite at (first ++ part (at + length first) n content) content ≡ overwrite at first content
+overwrite_and_rest at first content n inside =
     let there = part (at + length first) n content in
-    let one = overwritten at first content in
+    let one = overwrite at first content in
     let size : length there ≡ n = length-part (at + length first) n content (omega arith) in
-    let long : length one ≡ length content = length-overwritten at first content (omega arith) in
+    let long : length one ≡ length content = length-overwrite at first content (omega arith) in
     let same : there ≡ part (at + length first) n one = sym (part_above at first content (at + length first) n (omega arith) (omega arith)) in
-    sym (overwritten_more at first there content (omega (arith, size)))
-    ∙ ap (λ (list : List ℕ). overwritten (at + length first) list one) same
-    ∙ overwritten_same (at + length first) n one (omega (arith, long))
+    sym (overwrite_more at first there content (omega (arith, size)))
+    ∙ ap (λ (list : List ℕ). overwrite (at + length first) list one) same
+    ∙ overwrite_same (at + length first) n one (omega (arith, long))
 
-overwritten_and_rest_at : (done at : ℕ) (bytes content : List ℕ) → done ≤ length bytes → at + length bytes ≤ length content → overwritten at (take done bytes ++ part (at + done) (length bytes - done) content) content ≡ overwritten at (take done bytes) content
-overwritten_and_rest_at done at bytes content below inside =
+overwrite_and_rest_at : (done at : ℕ) (bytes content : List ℕ) → done ≤ length bytes → at + length bytes ≤ length content → overwrite at (take done bytes ++ part (at + done) (length bytes - done) content) content ≡ overwrite at (take done bytes) content
+overwrite_and_rest_at done at bytes content below inside =
     let first : length (take done bytes) ≡ done = length-take-le done bytes below in
-    ap (λ (k : ℕ). overwritten at (take done bytes ++ part (at + k) (length bytes - done) content) content) (sym first)
-    ∙ overwritten_and_rest at (take done bytes) content (length bytes - done) (omega (arith, first))
+    ap (λ (k : ℕ). overwrite at (take done bytes ++ part (at + k) (length bytes - done) content) content) (sym first)
+    ∙ overwrite_and_rest at (take done bytes) content (length bytes - done) (omega (arith, first))
 
--- what a transfer answered
-abbrev pub moved : (E : Type 0) → ℕ → Result ℕ E
-moved E n = Ok n
+-- a transfer that moved some bytes is no failure, and one that moved none of some is
+pub failures_moved : (asked n failures : ℕ) → n ≢ 0 → failures_after_transfer asked (success (Unit {0}) n) failures ≡ failures
+failures_moved asked n failures some = grind (arith, nat_tests)
 
-abbrev pub failed_by : {E : Type 0} → E → Result ℕ E
-failed_by error = Err error
-
-abbrev pub stopped : {F : Type 0} (T : Type 0) → F → Result T F
-stopped T e = Err e
+pub failures_stuck : (asked n failures : ℕ) → 0 < asked → n ≡ 0 → failures_after_transfer asked (success (Unit {0}) n) failures ≡ one_more failures
+failures_stuck asked n failures some none = grind (arith, nat_tests)
 
 -- honest before is honest after, where that stays
 pub honest_file : (old new : FileState) → new.is_honest ≡ old.is_honest → IsHonestFile old → IsHonestFile new
 honest_file old new same honest = subst (λ (b : Bool). IsTrue b) (sym same) honest
 
 module _ (offset done : ℕ) (bytes : List ℕ) (start mid later : FileState) (below : done ≤ length bytes) (same : mid.is_honest ≡ start.is_honest)
-    (so_far : IsHonestFile start → offset + length bytes ≤ length start.bytes → mid.bytes ≡ overwritten offset (take done bytes) start.bytes) (dirtied : IsHonestFile start → DirtiesOnly offset (length bytes) start.dirty mid.dirty) where
+    (so_far : IsHonestFile start → offset + length bytes ≤ length start.bytes → mid.bytes ≡ overwrite offset (take done bytes) start.bytes) (dirtied : IsHonestFile start → DirtiesOnly offset (length bytes) start.dirty mid.dirty) where
   abbrev rest : List ℕ
   rest = take (length bytes - done) (drop done bytes)
 
@@ -184,15 +184,15 @@ module _ (offset done : ℕ) (bytes : List ℕ) (start mid later : FileState) (b
   first_size = length-take-le done bytes below
 
   mid_size : IsHonestFile start → offset + length bytes ≤ length start.bytes → length mid.bytes ≡ length start.bytes
-  mid_size honest inside = ap length (so_far honest inside) ∙ length-overwritten offset (take done bytes) start.bytes (omega (arith, first_size))
+  mid_size honest inside = ap length (so_far honest inside) ∙ length-overwrite offset (take done bytes) start.bytes (omega (arith, first_size))
 
   -- a transfer that moved some bytes
-  pub write_step : {E : Type 0} (n : ℕ) → TransfersIn (offset + done) rest (moved E n) mid later → IsHonestFile start → offset + length bytes ≤ length start.bytes → later.bytes ≡ overwritten offset (take (done + n) bytes) start.bytes
+  pub write_step : {E : Type 0} (n : ℕ) → TransfersIn (offset + done) rest (success E n) mid later → IsHonestFile start → offset + length bytes ≤ length start.bytes → later.bytes ≡ overwrite offset (take (done + n) bytes) start.bytes
   write_step n call honest inside =
       let most : n ≤ length rest = call.most in
       let lands = call.lands (honest_file start mid same honest) (omega (arith, rest_size, mid_size honest inside)) in
       lands
-      ∙ ap (λ (list : List ℕ). overwritten (offset + done) list mid.bytes) (take-take n (length bytes - done) (drop done bytes) (omega (arith, rest_size, most)))
+      ∙ ap (λ (list : List ℕ). overwrite (offset + done) list mid.bytes) (take-take n (length bytes - done) (drop done bytes) (omega (arith, rest_size, most)))
       ∙ write_more done n offset bytes start.bytes mid.bytes (omega (arith, rest_size, most)) inside (so_far honest inside)
 
   -- one that did anything
@@ -201,34 +201,34 @@ module _ (offset done : ℕ) (bytes : List ℕ) (start mid later : FileState) (b
       call.dirty (honest_file start mid same honest) i (dirtied honest i clean beside) (λ from. omega (arith, beside (omega arith), rest_size))
 
   -- one that moved none
-  pub write_stuck : {T E F : Type 0} (e : F) (n : ℕ) → n ≡ 0 → TransfersIn (offset + done) rest (moved E n) mid later → WritesWhole offset bytes (stopped T e) start later
+  pub write_stuck : {T E F : Type 0} (e : F) (n : ℕ) → n ≡ 0 → TransfersIn (offset + done) rest (success E n) mid later → WritesWhole offset bytes (failure T e) start later
   write_stuck {T} {E} {F} e n none call = record {
     is_honest = call.is_honest ∙ same;
-    dirty = write_dirties (moved E n) call;
+    dirty = write_dirties (success E n) call;
     lands = λ honest inside.
         let there = part (offset + done) (length bytes - done) start.bytes in
         let size : length there ≡ length bytes - done = length-part (offset + done) (length bytes - done) start.bytes (omega arith) in
-        let now = write_step n call honest inside ∙ ap (λ (k : ℕ). overwritten offset (take k bytes) start.bytes) (ap (λ (k : ℕ). done + k) none ∙ add-zero done) in
+        let now = write_step n call honest inside ∙ ap (λ (k : ℕ). overwrite offset (take k bytes) start.bytes) (ap (λ (k : ℕ). done + k) none ∙ add-zero done) in
         record {
           landed = take done bytes ++ there;
           size = length-append (take done bytes) there ∙ omega (arith, first_size, size);
           done = tt;
-          is = now ∙ sym (overwritten_and_rest_at done offset bytes start.bytes below inside);
+          is = now ∙ sym (overwrite_and_rest_at done offset bytes start.bytes below inside);
         };
   }
 
   -- one that failed
-  pub write_failed : {T E F : Type 0} (e : F) (error : E) → TransfersIn (offset + done) rest (failed_by error) mid later → WritesWhole offset bytes (stopped T e) start later
+  pub write_failed : {T E F : Type 0} (e : F) (error : E) → TransfersIn (offset + done) rest (failure ℕ error) mid later → WritesWhole offset bytes (failure T e) start later
   write_failed e error call = record {
     is_honest = call.is_honest ∙ same;
-    dirty = write_dirties (failed_by error) call;
+    dirty = write_dirties (failure ℕ error) call;
     lands = λ honest inside.
         let last = call.lands (honest_file start mid same honest) (omega (arith, rest_size, mid_size honest inside)) in
         record {
-          landed = take done bytes ++ last.0;
-          size = length-append (take done bytes) last.0 ∙ omega (arith, first_size, last.1, rest_size);
+          landed = take done bytes ++ last.landed;
+          size = length-append (take done bytes) last.landed ∙ omega (arith, first_size, last.size, rest_size);
           done = tt;
-          is = ended_early done offset bytes last.0 start.bytes mid.bytes later.bytes below inside (last.1 ∙ rest_size) (so_far honest inside) last.2;
+          is = ended_early done offset bytes last.landed start.bytes mid.bytes later.bytes below inside (last.size ∙ rest_size) (so_far honest inside) last.is;
         };
   }
 
@@ -244,8 +244,8 @@ module _ (sectors at : ℕ) (bytes : List ℕ) (old new : FileState) (past later
       → LandsWhole (512 * at) bytes told old.bytes new.bytes → ((landed : List ℕ) → OnOk told (landed ≡ bytes) → OnOk result (landed ≡ bytes))
       → (later ≡ past ++ before.now ∷ []) × (dirtied ≡ record { start = 512 * at; len = length bytes } ∷ dirty) → Lands at bytes result before after
   file_lands told result inside covered lands answer trail =
-      let reads : front sectors new.bytes ≡ overwritten (512 * at) lands.landed (front sectors old.bytes) =
-      ap (λ (list : List ℕ). front sectors list) lands.is ∙ front_overwritten (512 * sectors) (512 * at) lands.landed old.bytes (omega (arith, lands.size)) covered in
+      let reads : front sectors new.bytes ≡ overwrite (512 * at) lands.landed (front sectors old.bytes) =
+      ap (λ (list : List ℕ). front sectors list) lands.is ∙ front_overwrite (512 * sectors) (512 * at) lands.landed old.bytes (omega (arith, lands.size)) covered in
       let spans : dirtied ≡ record { start = 512 * at; len = length lands.landed } ∷ dirty =
       trail.1 ∙ ap (λ (n : ℕ). span n ∷ dirty) (sym lands.size) in
       record {
@@ -260,11 +260,11 @@ module _ (sectors at : ℕ) (bytes : List ℕ) (old new : FileState) (past later
 
 -- what was covered is covered after a write of which the device knows
 pub covers_written : (at n : ℕ) (dirty dirtied : List Span) (old new : FileState) → CoversDirty dirty old → DirtiesOnly at n old.dirty new.dirty → dirtied ≡ record { start = at; len = n } ∷ dirty → CoversDirty dirtied new
-covers_written at n dirty dirtied old new covers written is i clean =
+covers_written at n dirty dirtied old new covers after_write is i clean =
     let both = clean_before at n dirty i (subst (λ (spans : List Span). IsClean spans i) is clean) in
-    written i (covers i both.1) both.0
+    after_write i (covers i both.1) both.0
 
 -- a write within the front leaves the file as long as it was
 pub covered_after : {T E : Type 0} (size at : ℕ) (bytes : List ℕ) (told : Result T E) (old new : List ℕ) → at + length bytes ≤ size → size ≤ length old → LandsWhole at bytes told old new → size ≤ length new
 covered_after size at bytes told old new inside covered lands =
-    omega (arith, ap length lands.is, length-overwritten at lands.landed old (omega (arith, lands.size)))
+    omega (arith, ap length lands.is, length-overwrite at lands.landed old (omega (arith, lands.size)))

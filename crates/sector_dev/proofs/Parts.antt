@@ -1,23 +1,21 @@
--- What one call of an honest device leaves of a part that it doesn't meet, whatever the call answered.
+-- What one call of an honest device leaves, and what it leaves of a part that it doesn't meet, whatever it answered. For
+-- the crates above, `device_calls` among them.
 use Rattle.std.proofs.Common.{◌≡◌, ◌⊎◌, inl, inr, ℕ, ◌+◌, ◌*◌, ◌≤◌, List, length, sym, ◌∙◌, ap, subst, arith, Result, Ok, Err}
-use Rattle.sector_dev.specs.Disk.{History, Disk, IsHonest, reads_of, part, written, synced}
+use Rattle.sector_dev.specs.Disk.{History, Disk, IsHonest, reads_of, part, after_write, after_sync}
 use Rattle.sector_dev.specs.Image.{IsCleanPart}
 use Rattle.sector_dev.specs.Calls.{ReadCall, WriteCall, SyncCall}
+use Rattle.sector_dev.proofs.Results.{success}
 use Rattle.sector_dev.proofs.Contents.{part_below, part_above}
 use Rattle.sector_dev.proofs.Images.{clean_part_none, clean_part_beside}
 
--- a result that is no error
-abbrev pub success : {T : Type 0} (E : Type 0) → T → Result T E
-success E value = Ok value
-
 -- A write that succeeded: these bytes landed.
-pub history_written : {T : Type 0} (E : Type 0) (u : T) (sector : ℕ) (bytes : List ℕ) (old new : Disk) → WriteCall sector bytes (success E u) old new → IsHonest old → new.history ≡ written (512 * sector) bytes old.history
+pub history_written : {T : Type 0} (E : Type 0) (u : T) (sector : ℕ) (bytes : List ℕ) (old new : Disk) → WriteCall sector bytes (success E u) old new → IsHonest old → new.history ≡ after_write (512 * sector) bytes old.history
 history_written E u sector bytes old new call honest =
     let lands = call.lands honest in
-    lands.history ∙ ap (λ (landed : List ℕ). written (512 * sector) landed old.history) lands.done
+    lands.history ∙ ap (λ (landed : List ℕ). after_write (512 * sector) landed old.history) lands.done
 
 -- A sync that succeeded: nothing is dirty.
-pub history_synced : {T : Type 0} (E : Type 0) (u : T) (old new : Disk) → SyncCall (success E u) old new → IsHonest old → new.history ≡ synced old.history
+pub history_synced : {T : Type 0} (E : Type 0) (u : T) (old new : Disk) → SyncCall (success E u) old new → IsHonest old → new.history ≡ after_sync old.history
 history_synced E u old new call honest = call.done honest
 
 -- A read leaves all as it is.

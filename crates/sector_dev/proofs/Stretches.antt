@@ -1,12 +1,12 @@
--- How a caller goes from call to call.
-use Rattle.std.proofs.Common.{◌≡◌, ℕ, ◌*◌, ◌≤◌, ◌^◌, ◌-◌, List, [], ◌∷◌, ◌++◌, length, drop, Bool, IsTrue, refl, sym, ◌∙◌, ap, subst, arith, append_assoc, Result, Ok, Err, OnOk, OnErr, All}
+-- How a caller goes from call to call. For the crates above, `device_calls` among them.
+use Rattle.std.proofs.Common.{◌≡◌, ℕ, ◌+◌, ◌*◌, ◌≤◌, ◌^◌, ◌-◌, List, [], ◌∷◌, ◌++◌, length, drop, Bool, IsTrue, refl, sym, ◌∙◌, ap, subst, arith, append_assoc, Result, Ok, Err, OnOk, OnErr, All}
 use Rattle.std.proofs.lemmas.List.{drop_at, append-nil, same_from_push}
 use Rattle.std.proofs.lemmas.List.Elements.{All-nil, All-cons, All-head, All-tail, All-append, All-same, All-weaker}
-use Rattle.sector_dev.specs.Disk.{Moment, History, Disk, IsHonest, moments, written, synced}
-use Rattle.sector_dev.specs.Image.{EveryImage}
-use Rattle.sector_dev.specs.Calls.{counted, Keeps, ReadCall, WriteCall, SyncCall}
+use Rattle.sector_dev.specs.Disk.{Moment, History, Disk, IsHonest, IsWhole, reads_of, moments, overwrite, after_write, after_sync}
+use Rattle.sector_dev.specs.Image.{EveryImage, IsFromImage}
+use Rattle.sector_dev.specs.Calls.{count_after, Keeps, ReadCall, WriteCall, SyncCall}
 use Rattle.sector_dev.specs.Stretch.{Leaves, Stretch}
-use Rattle.sector_dev.proofs.Images.{image_synced}
+use Rattle.sector_dev.proofs.Images.{image_synced, every_written}
 
 -- Whether a device is honest stays.
 pub honest_after : (old new : Disk) → Keeps old new → IsHonest old → IsHonest new
@@ -22,17 +22,17 @@ pub keeps_then : (old mid new : Disk) → Keeps old mid → Keeps mid new → Ke
 keeps_then old mid new first second = record { is_honest = second.is_honest ∙ first.is_honest; sectors = second.sectors ∙ first.sectors }
 
 -- The count of failed calls never falls, and goes on where a call failed.
-pub counted_later : {T E : Type 0} (result : Result T E) (faults : ℕ) → faults ≤ 2 ^ 64 - 1 → faults ≤ counted result faults
-counted_later (Ok _) faults small = omega arith
-counted_later (Err _) faults small = omega arith
+pub count_never_falls : {T E : Type 0} (result : Result T E) (faults : ℕ) → faults ≤ 2 ^ 64 - 1 → faults ≤ count_after result faults
+count_never_falls (Ok _) faults small = omega arith
+count_never_falls (Err _) faults small = omega arith
 
 -- each of these moments leaves what has P
 abbrev pub AllLeave : (List ℕ → Type 0) → List Moment → Type 0
 AllLeave P list = All (λ (moment : Moment). EveryImage moment P) list
 
 module _ (P : List ℕ → Type 0) where
-  abbrev Leaving : Moment → Type 0
-  Leaving moment = EveryImage moment P
+  abbrev ImagesHave : Moment → Type 0
+  ImagesHave moment = EveryImage moment P
 
   -- the moments from a state on are itself and the later ones
   moments_since : (old new : History) (later : List Moment) → moments new ≡ moments old ++ later → drop (length old.past) (moments new) ≡ old.now ∷ later
@@ -45,16 +45,16 @@ module _ (P : List ℕ → Type 0) where
   leaves_by old new later goes_on here after = record {
     later = later;
     goes_on = goes_on;
-    every = All-same Leaving (drop (length old.past) (moments new)) (old.now ∷ later) (moments_since old new later goes_on) (All-cons Leaving old.now later here after);
+    every = All-same ImagesHave (drop (length old.past) (moments new)) (old.now ∷ later) (moments_since old new later goes_on) (All-cons ImagesHave old.now later here after);
   }
 
   all_since : (old new : History) (leaves : Leaves old new P) → AllLeave P (old.now ∷ leaves.later)
   all_since old new leaves =
-      All-same Leaving (old.now ∷ leaves.later) (drop (length old.past) (moments new)) (sym (moments_since old new leaves.later leaves.goes_on)) leaves.every
+      All-same ImagesHave (old.now ∷ leaves.later) (drop (length old.past) (moments new)) (sym (moments_since old new leaves.later leaves.goes_on)) leaves.every
 
   -- what has been left so far, at the start
   pub leaves_at_entry : (old new : History) → Leaves old new P → EveryImage old.now P
-  leaves_at_entry old new leaves = All-head Leaving old.now leaves.later (all_since old new leaves)
+  leaves_at_entry old new leaves = All-head ImagesHave old.now leaves.later (all_since old new leaves)
 
   -- and at the end
   pub leaves_at_exit : (old new : History) → Leaves old new P → EveryImage new.now P
@@ -63,36 +63,36 @@ module _ (P : List ℕ → Type 0) where
       last : (past : List Moment) (now : Moment) (later : List Moment) → moments new ≡ (past ++ now ∷ []) ++ later → AllLeave P (now ∷ later) → EveryImage new.now P
       last past now [] goes_on all =
           let same : new.now ≡ now = (same_from_push new.past past new.now now (goes_on ∙ append-nil (past ++ now ∷ []))).1 in
-          subst Leaving (sym same) (All-head Leaving now [] all)
-      last past now (m ∷ later) goes_on all = last (past ++ now ∷ []) m later (goes_on ∙ sym (append_assoc (past ++ now ∷ []) (m ∷ []) later)) (All-tail Leaving now (m ∷ later) all)
+          subst ImagesHave (sym same) (All-head ImagesHave now [] all)
+      last past now (m ∷ later) goes_on all = last (past ++ now ∷ []) m later (goes_on ∙ sym (append_assoc (past ++ now ∷ []) (m ∷ []) later)) (All-tail ImagesHave now (m ∷ later) all)
 
   pub leaves_here : (history : History) → EveryImage history.now P → Leaves history history P
-  leaves_here history here = leaves_by history history [] (sym (append-nil (moments history))) here (All-nil Leaving)
+  leaves_here history here = leaves_by history history [] (sym (append-nil (moments history))) here (All-nil ImagesHave)
 
   pub leaves_then : (old mid new : History) → Leaves old mid P → Leaves mid new P → Leaves old new P
   leaves_then old mid new first second =
       leaves_by old new (first.later ++ second.later)
       (second.goes_on ∙ ap (λ (list : List Moment). list ++ second.later) first.goes_on ∙ append_assoc (moments old) first.later second.later)
       (leaves_at_entry old mid first)
-      (All-append Leaving first.later second.later (All-tail Leaving old.now first.later (all_since old mid first)) (All-tail Leaving mid.now second.later (all_since mid new second)))
+      (All-append ImagesHave first.later second.later (All-tail ImagesHave old.now first.later (all_since old mid first)) (All-tail ImagesHave mid.now second.later (all_since mid new second)))
 
   -- one moment more
   leaves_more : (old new : History) → new.past ≡ moments old → EveryImage old.now P → EveryImage new.now P → Leaves old new P
   leaves_more old new past here after =
       leaves_by old new (new.now ∷ []) (ap (λ (list : List Moment). list ++ new.now ∷ []) past) here
-      (All-cons Leaving new.now [] after (All-nil Leaving))
+      (All-cons ImagesHave new.now [] after (All-nil ImagesHave))
 
   leaves_same : (old new : History) → new ≡ old → EveryImage old.now P → Leaves old new P
   leaves_same old new same here = subst (λ (h : History). Leaves old h P) (sym same) (leaves_here old here)
 
-  pub leaves_synced : (old new : History) → new ≡ synced old → EveryImage old.now P → Leaves old new P
+  pub leaves_synced : (old new : History) → new ≡ after_sync old → EveryImage old.now P → Leaves old new P
   leaves_synced old new same here =
       subst (λ (h : History). Leaves old h P) (sym same)
-      (leaves_more old (synced old) refl here (λ content image. here content (image_synced old content image)))
+      (leaves_more old (after_sync old) refl here (λ content image. here content (image_synced old content image)))
 
-  pub leaves_written : (old new : History) (at : ℕ) (landed : List ℕ) → new ≡ written at landed old → EveryImage old.now P → EveryImage (written at landed old).now P → Leaves old new P
+  pub leaves_written : (old new : History) (at : ℕ) (landed : List ℕ) → new ≡ after_write at landed old → EveryImage old.now P → EveryImage (after_write at landed old).now P → Leaves old new P
   leaves_written old new at landed same here after =
-      subst (λ (h : History). Leaves old h P) (sym same) (leaves_more old (written at landed old) refl here after)
+      subst (λ (h : History). Leaves old h P) (sym same) (leaves_more old (after_write at landed old) refl here after)
 
   -- A stretch so far: what holds at its start and at its end.
   pub at_entry : (old new : Disk) → Stretch old new P → IsHonest old → EveryImage old.history.now P
@@ -126,13 +126,13 @@ module _ (P : List ℕ → Type 0) where
       here : IsHonest mid → EveryImage mid.history.now P
       here honest = at_exit old mid so_far (honest_before old mid so_far.keeps honest)
 
-      by_result : (r : Result T E) → (IsHonest mid → OnOk r (new.history ≡ synced mid.history)) → (IsHonest mid → OnErr r (new.history ≡ mid.history)) → IsHonest mid → Leaves mid.history new.history P
+      by_result : (r : Result T E) → (IsHonest mid → OnOk r (new.history ≡ after_sync mid.history)) → (IsHonest mid → OnErr r (new.history ≡ mid.history)) → IsHonest mid → Leaves mid.history new.history P
       by_result (Ok _) done unchanged honest = leaves_synced mid.history new.history (done honest) (here honest)
       by_result (Err _) done unchanged honest = leaves_same mid.history new.history (unchanged honest) (here honest)
 
   -- A write: whatever lands in its range, each image has P.
   pub stretch_write : {T E : Type 0} (old mid new : Disk) (sector : ℕ) (bytes : List ℕ) (result : Result T E) → Stretch old mid P → WriteCall sector bytes result mid new
-      → (IsHonest mid → (landed : List ℕ) → length landed ≡ length bytes → EveryImage (written (512 * sector) landed mid.history).now P) → Stretch old new P
+      → (IsHonest mid → (landed : List ℕ) → length landed ≡ length bytes → EveryImage (after_write (512 * sector) landed mid.history).now P) → Stretch old new P
   stretch_write old mid new sector bytes result so_far call after =
       stretch_then old mid new so_far
       (record {
@@ -141,6 +141,29 @@ module _ (P : List ℕ → Type 0) where
             leaves_written mid.history new.history (512 * sector) lands.landed lands.history
             (at_exit old mid so_far (honest_before old mid so_far.keeps honest)) (after honest lands.landed lands.size);
       })
+
+-- A stretch in which what a stop leaves comes, by a relation, from an image of the start.
+module _ (R : List ℕ → List ℕ → Type 0) (start : Disk) where
+  abbrev From : List ℕ → Type 0
+  From = IsFromImage start.history.now R
+
+  pub from_here : ((content : List ℕ) → R content content) → Stretch start start From
+  from_here same = stretch_here From start (λ honest content image. record { before = content; image = image; related = same content })
+
+  -- a write that keeps the relation, whatever lands
+  pub from_write : {T E : Type 0} (mid new : Disk) (sector : ℕ) (bytes : List ℕ) (result : Result T E) → 512 * sector + length bytes ≤ 512 * start.sectors → (IsHonest mid → IsWhole mid) → Stretch start mid From → WriteCall sector bytes result mid new
+      → ((before content torn : List ℕ) → length content ≡ 512 * start.sectors → length torn ≡ length bytes → R before content → R before (overwrite (512 * sector) torn content)) → Stretch start new From
+  from_write mid new sector bytes result inside whole so_far call step =
+      stretch_write From start mid new sector bytes result so_far call
+      (λ honest landed size.
+      let long : length (reads_of mid) ≡ 512 * start.sectors = omega (arith, (whole honest).size, so_far.keeps.sectors) in
+      every_written From From mid.history (512 * sector) landed (omega (arith, long, size)) (whole honest).bytes
+      (at_exit From start mid so_far (honest_before start mid so_far.keeps honest))
+      (λ content torn same_size torn_size old. record {
+        before = old.before;
+        image = old.image;
+        related = step old.before content torn (same_size ∙ long) (torn_size ∙ size) old.related;
+      }))
 
 -- What has P has also what follows from it.
 pub stretch_weaker : (P Q : List ℕ → Type 0) (old new : Disk) → ((content : List ℕ) → P content → Q content) → Stretch old new P → Stretch old new Q

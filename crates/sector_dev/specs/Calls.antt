@@ -1,11 +1,15 @@
 -- What each call of a device does, one record a call. What an honest device does is said under that premise alone.
 use Rattle.std.specs.Prelude.{◌≡◌, ℕ, ◌+◌, ◌-◌, ◌*◌, ◌^◌, min, List, length, Result, Ok, Err, OnOk, OnErr}
-use Rattle.sector_dev.specs.Disk.{Disk, IsHonest, History, reads_of, part, written, synced}
+use Rattle.sector_dev.specs.Disk.{Disk, IsHonest, History, reads_of, part, after_write, after_sync}
 
--- how many calls have failed after one that gave this result; 2^64 - 1 stays
-abbrev pub counted : {T E : Type 0} → Result T E → ℕ → ℕ
-counted (Ok _) faults = faults
-counted (Err _) faults = min (faults + 1) (2 ^ 64 - 1)
+-- a count of what failed, with one more; 2^64 - 1 stays
+abbrev pub one_more : ℕ → ℕ
+one_more count = min (count + 1) (2 ^ 64 - 1)
+
+-- how many calls have failed after one that gave this result
+abbrev pub count_after : {T E : Type 0} → Result T E → ℕ → ℕ
+count_after (Ok _) faults = faults
+count_after (Err _) faults = one_more faults
 
 -- what no call changes
 pub record Keeps (old new : Disk) : Type 0 where
@@ -15,7 +19,7 @@ pub record Keeps (old new : Disk) : Type 0 where
 -- a read at a sector: nothing changes, and what is read is what is there
 pub record ReadCall {T E : Type 0} (sector : ℕ) (into : List ℕ) (result : Result T E) (old new : Disk) : Type 0 where
   pub keeps : Keeps old new
-  pub faults : new.faults ≡ counted result old.faults
+  pub faults : new.faults ≡ count_after result old.faults
   pub history : IsHonest old → new.history ≡ old.history
   pub bytes : IsHonest old → OnOk result (into ≡ part (512 * sector) (length into) (reads_of old))
 
@@ -24,17 +28,17 @@ pub record Lands {T E : Type 0} (sector : ℕ) (bytes : List ℕ) (result : Resu
   pub landed : List ℕ
   pub size : length landed ≡ length bytes
   pub done : OnOk result (landed ≡ bytes)
-  pub history : new ≡ written (512 * sector) landed old
+  pub history : new ≡ after_write (512 * sector) landed old
 
 -- a write at a sector
 pub record WriteCall {T E : Type 0} (sector : ℕ) (bytes : List ℕ) (result : Result T E) (old new : Disk) : Type 0 where
   pub keeps : Keeps old new
-  pub faults : new.faults ≡ counted result old.faults
+  pub faults : new.faults ≡ count_after result old.faults
   pub lands : IsHonest old → Lands sector bytes result old.history new.history
 
 -- a sync: where it succeeds nothing is dirty any more, and where it fails nothing changes
 pub record SyncCall {T E : Type 0} (result : Result T E) (old new : Disk) : Type 0 where
   pub keeps : Keeps old new
-  pub faults : new.faults ≡ counted result old.faults
-  pub done : IsHonest old → OnOk result (new.history ≡ synced old.history)
+  pub faults : new.faults ≡ count_after result old.faults
+  pub done : IsHonest old → OnOk result (new.history ≡ after_sync old.history)
   pub unchanged : IsHonest old → OnErr result (new.history ≡ old.history)

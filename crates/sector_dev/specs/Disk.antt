@@ -48,20 +48,20 @@ pub record IsWhole (disk : Disk) : Type 0 where
 abbrev pub part : ℕ → ℕ → List ℕ → List ℕ
 part at n content = take n (drop at content)
 
--- the content with these bytes at an offset, in place of as many
-abbrev pub overwritten : ℕ → List ℕ → List ℕ → List ℕ
-overwritten at bytes content = take at content ++ bytes ++ drop (at + length bytes) content
+-- the content with these bytes at an offset, instead of as many
+abbrev pub overwrite : ℕ → List ℕ → List ℕ → List ℕ
+overwrite at bytes content = take at content ++ bytes ++ drop (at + length bytes) content
 
 -- the history after a write that left these bytes at an offset
-abbrev pub written : ℕ → List ℕ → History → History
-written at landed history = record {
+abbrev pub after_write : ℕ → List ℕ → History → History
+after_write at landed history = record {
   past = moments history;
   now = record {
-    reads = overwritten at landed history.now.reads;
+    reads = overwrite at landed history.now.reads;
     dirty = record { start = at; len = length landed } ∷ history.now.dirty;
   };
 }
 
 -- the history after a sync that succeeded
-abbrev pub synced : History → History
-synced history = record { past = moments history; now = record { reads = history.now.reads; dirty = [] } }
+abbrev pub after_sync : History → History
+after_sync history = record { past = moments history; now = record { reads = history.now.reads; dirty = [] } }

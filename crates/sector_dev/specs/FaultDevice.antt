@@ -13,13 +13,13 @@ fault_memory device = device.memory
 abbrev pub calls_before_fault : FaultDevice → Option ℕ
 calls_before_fault device = device.before
 
-abbrev failed : Option ℕ → ℕ
-failed (Some _) = 0
-failed None = 1
+abbrev fault_count : Option ℕ → ℕ
+fault_count (Some _) = 0
+fault_count None = 1
 
 -- the memory within, with one fault once it has come
 abbrev pub fault_disk : FaultDevice → Disk
-fault_disk device = record (memory_disk device.memory) { faults = failed device.before }
+fault_disk device = record (memory_disk device.memory) { faults = fault_count device.before }
 
 -- the calls that are left before the fault, after one call more
 abbrev pub one_call_less : Option ℕ → Option ℕ

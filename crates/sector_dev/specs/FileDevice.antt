@@ -1,6 +1,7 @@
 -- What clauses see of a device over a file.
 use Rattle.std.specs.Prelude.{◌≡◌, ℕ, ◌+◌, ◌*◌, ◌/◌, ◌≤◌, List, [], length, take, Result, OnOk}
-use Rattle.sector_dev.specs.Disk.{Disk, overwritten}
+use Rattle.sector_dev.specs.Disk.{Disk, overwrite}
+use Rattle.sector_dev.specs.Calls.{count_after}
 use Rattle.sector_dev.specs.PositionedFile.{FileState, IsHonestFile, DirtiesOnly}
 use Rattle.sector_dev.specs.declared.positioned_file.PositionedFile.{Ghosts}
 use Rattle.sector_dev.specs.declared.file_device.FileDevice.{FileDevice}
@@ -21,7 +22,7 @@ pub record LandsWhole {T E : Type 0} (offset : ℕ) (bytes : List ℕ) (result :
   pub landed : List ℕ
   pub size : length landed ≡ length bytes
   pub done : OnOk result (landed ≡ bytes)
-  pub is : new ≡ overwritten offset landed old
+  pub is : new ≡ overwrite offset landed old
 
 -- a write to a file in as many transfers as it takes
 pub record WritesWhole {T E : Type 0} (offset : ℕ) (bytes : List ℕ) (result : Result T E) (old new : FileState) : Type 0 where
@@ -29,9 +30,18 @@ pub record WritesWhole {T E : Type 0} (offset : ℕ) (bytes : List ℕ) (result 
   pub lands : IsHonestFile old → offset + length bytes ≤ length old.bytes → LandsWhole offset bytes result old.bytes new.bytes
   pub dirty : IsHonestFile old → DirtiesOnly offset (length bytes) old.dirty new.dirty
 
+-- a call that fails just where a call of its file does: the file's count of failures grows by one, and stays where all
+-- is well
+abbrev pub FailsWithFile : {T E : Type 0} → Result T E → FileState → FileState → Type 0
+FailsWithFile result old new = new.failures ≡ count_after result old.failures
+
 -- the file under a device
 abbrev pub file_of : {F : Type 0} {G : Ghosts F} → FileDevice F G → F
 file_of device = device.file
+
+-- what clauses see of that file
+abbrev pub file_state : {F : Type 0} {G : Ghosts F} → FileDevice F G → FileState
+file_state {F} {G} device = G.state device.file
 
 -- the whole sectors of the file, with the moments that the device has had
 abbrev pub file_disk : {F : Type 0} {G : Ghosts F} → FileDevice F G → Disk

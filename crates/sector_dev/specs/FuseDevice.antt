@@ -1,6 +1,6 @@
 -- What clauses see of a device that stops for good after some calls.
 use Rattle.std.specs.Prelude.{◌≡◌, ◌↔◌, ℕ, ◌-◌, ◌*◌, ◌<◌, List, ◌++◌, length, take, replicate, Result, IsOk, if◌then◌else◌, ◌==◌}
-use Rattle.sector_dev.specs.Disk.{Disk, History, part, written}
+use Rattle.sector_dev.specs.Disk.{Disk, History, part, after_write}
 use Rattle.sector_dev.specs.declared.fuse_device.FuseDevice.{FuseDevice}
 use Rattle.sector_dev.specs.declared.fuse_device.Tear.{Tear}
 use Rattle.sector_dev.specs.declared.mem_device.MemDevice.{MemDevice}
@@ -37,4 +37,4 @@ abbrev pub after_stopped_write : FuseDevice → ℕ → List ℕ → History
 after_stopped_write fuse sector bytes =
     let history = (fuse_disk fuse).history in
     let landed = if fuse.faults == 0 then torn_bytes fuse.tear bytes else part (512 * sector) (length bytes) history.now.reads in
-    written (512 * sector) landed history
+    after_write (512 * sector) landed history

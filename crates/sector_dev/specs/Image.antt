@@ -3,7 +3,7 @@
 use Rattle.std.specs.Prelude.{◌≡◌, ℕ, ◌+◌, ◌<◌, ◌≤◌, List, length, drop, slice_index, All}
 use Rattle.sector_dev.specs.Disk.{Span, Moment, History, moments, AreBytes}
 
--- no range has the byte at this place
+-- no range has the byte at this offset
 abbrev pub IsClean : List Span → ℕ → Type 0
 IsClean dirty i = All (λ (span : Span). span.start ≤ i → span.start + span.len ≤ i) dirty
 
@@ -24,3 +24,9 @@ EveryImage moment P = (content : List ℕ) → IsImage moment content → P cont
 -- each image of each moment from the t-th on has P, the first being the 0th
 abbrev pub EveryImageSince : ℕ → History → (List ℕ → Type 0) → Type 0
 EveryImageSince t history P = All (λ (moment : Moment). EveryImage moment P) (drop t (moments history))
+
+-- the content comes, by a relation, from some image of this moment
+pub record IsFromImage (moment : Moment) (R : List ℕ → List ℕ → Type 0) (content : List ℕ) : Type 0 where
+  pub before : List ℕ
+  pub image : IsImage moment before
+  pub related : R before content

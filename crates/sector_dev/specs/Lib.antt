@@ -9,4 +9,5 @@ pub mod HeldDevice
 pub mod PositionedFile
 pub mod FileDevice
 pub mod MemFile
+pub mod SystemFile
 pub mod FileLaws

@@ -5,12 +5,12 @@ use Rattle.sector_dev.specs.declared.mem_file.MemFile.{MemFile}
 
 -- an honest file of these bytes, which are there as soon as they are written
 abbrev pub memory_state : MemFile → FileState
-memory_state file = record { is_honest = true; bytes = file.bytes.items; dirty = [] }
+memory_state file = record { is_honest = true; bytes = file.bytes.items; dirty = []; failures = file.failures }
 
 -- how many bytes one transfer moves at most
-abbrev pub most_moved : MemFile → ℕ
-most_moved file = file.at_most
+abbrev pub transfer_limit : MemFile → ℕ
+transfer_limit file = file.at_most
 
 -- how many bytes one transfer moves at an offset, of so many that are asked for
-abbrev pub moved_at : MemFile → ℕ → ℕ → ℕ
-moved_at file offset asked = min asked (min (length file.bytes.items - offset) file.at_most)
+abbrev pub transfer_length : MemFile → ℕ → ℕ → ℕ
+transfer_length file offset asked = min asked (min (length file.bytes.items - offset) file.at_most)

@@ -1,28 +1,36 @@
 -- What the calls of a file do that is read and written at offsets. What an honest file does is said under that premise.
-use Rattle.std.specs.Prelude.{◌≡◌, ℕ, ◌+◌, ◌≤◌, Bool, IsTrue, List, [], length, take, Result, Ok, Err, IfOk, OnOk, OnErr}
-use Rattle.sector_dev.specs.Disk.{Span, part, overwritten}
+use Rattle.std.specs.Prelude.{◌≡◌, ℕ, ◌+◌, ◌≤◌, Bool, IsTrue, List, [], length, take, Result, Ok, Err, IfOk, OnOk, OnErr, if◌then◌else◌, ◌==◌, ◌&&◌, nat_lt}
+use Rattle.sector_dev.specs.Disk.{Span, part, overwrite}
 use Rattle.sector_dev.specs.Image.{IsClean}
+use Rattle.sector_dev.specs.Calls.{count_after, one_more}
 
--- a file as clauses see it: whether it is honest, the bytes that it holds, and the ranges written since the last sync
--- that succeeded, in which a stop may leave any bytes
+-- a file as clauses see it: whether it is honest, the bytes that it holds, the ranges written since the last sync that
+-- succeeded, in which a stop may leave any bytes, and how many of its transfers and syncs have failed
 pub record FileState : Type 0 where
   pub is_honest : Bool
   pub bytes : List ℕ
   pub dirty : List Span
+  pub failures : ℕ
 
 -- the file keeps what is written to it, and nobody else writes it
 abbrev pub IsHonestFile : FileState → Type 0
 IsHonestFile file = IsTrue file.is_honest
 
--- a call that changes nothing of an honest file
+-- a call that changes nothing of what an honest file holds
 pub record LeavesFile (old new : FileState) : Type 0 where
   pub is_honest : new.is_honest ≡ old.is_honest
   pub bytes : IsHonestFile old → new.bytes ≡ old.bytes
   pub dirty : IsHonestFile old → new.dirty ≡ old.dirty
 
+-- the count of failures after a transfer of so many bytes: one more where it failed, or moved none of them
+abbrev pub failures_after_transfer : {E : Type 0} → ℕ → Result ℕ E → ℕ → ℕ
+failures_after_transfer asked (Ok moved) failures = if nat_lt 0 asked && moved == 0 then one_more failures else failures
+failures_after_transfer asked (Err _) failures = one_more failures
+
 -- a sync, after which a stop leaves an honest file as it is
 pub record SyncsFile {T E : Type 0} (result : Result T E) (old new : FileState) : Type 0 where
   pub is_honest : new.is_honest ≡ old.is_honest
+  pub failures : new.failures ≡ count_after result old.failures
   pub bytes : IsHonestFile old → new.bytes ≡ old.bytes
   pub done : IsHonestFile old → OnOk result (new.dirty ≡ [])
   pub unchanged : IsHonestFile old → OnErr result (new.dirty ≡ old.dirty)
@@ -38,17 +46,25 @@ CoversDirty dirty file = (i : ℕ) → IsClean dirty i → IsClean file.dirty i
 -- one transfer out of the file: as many bytes as it answers, at most those asked for
 pub record TransfersOut {E : Type 0} (offset : ℕ) (into : List ℕ) (result : Result ℕ E) (old new : FileState) : Type 0 where
   pub same : LeavesFile old new
+  pub failures : new.failures ≡ failures_after_transfer (length into) result old.failures
   pub most : IfOk result (λ n. n ≤ length into)
   pub bytes : IsHonestFile old → IfOk result (λ n. take n into ≡ part offset n old.bytes)
 
+-- some bytes landed at an offset, as many as were given
+pub record LandsAny (offset : ℕ) (bytes old new : List ℕ) : Type 0 where
+  pub landed : List ℕ
+  pub size : length landed ≡ length bytes
+  pub is : new ≡ overwrite offset landed old
+
 -- the bytes of an honest file after a transfer into it: as many as it answers land, and any bytes where it fails
-abbrev pub Landed : {E : Type 0} → ℕ → List ℕ → Result ℕ E → List ℕ → List ℕ → Type 0
-Landed offset bytes (Ok n) old new = new ≡ overwritten offset (take n bytes) old
-Landed offset bytes (Err _) old new = (landed : List ℕ) × (length landed ≡ length bytes) × (new ≡ overwritten offset landed old)
+abbrev pub LandsTransfer : {E : Type 0} → ℕ → List ℕ → Result ℕ E → List ℕ → List ℕ → Type 0
+LandsTransfer offset bytes (Ok n) old new = new ≡ overwrite offset (take n bytes) old
+LandsTransfer offset bytes (Err _) old new = LandsAny offset bytes old new
 
 -- one transfer into the file, of at most the bytes given
 pub record TransfersIn {E : Type 0} (offset : ℕ) (bytes : List ℕ) (result : Result ℕ E) (old new : FileState) : Type 0 where
   pub is_honest : new.is_honest ≡ old.is_honest
+  pub failures : new.failures ≡ failures_after_transfer (length bytes) result old.failures
   pub most : IfOk result (λ n. n ≤ length bytes)
-  pub lands : IsHonestFile old → offset + length bytes ≤ length old.bytes → Landed offset bytes result old.bytes new.bytes
+  pub lands : IsHonestFile old → offset + length bytes ≤ length old.bytes → LandsTransfer offset bytes result old.bytes new.bytes
   pub dirty : IsHonestFile old → DirtiesOnly offset (length bytes) old.dirty new.dirty

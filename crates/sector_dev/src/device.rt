@@ -10,7 +10,7 @@ use std::fmt;
 pub const SECTOR: usize = 512;
 
 /// Why a call of a device failed.
-#[derive(Clone, Copy, Debug, PartialEq, Eq)]
+#[derive(Clone, Copy, Debug)]
 pub enum DevError {
     /// The device failed in that call, and has counted it.
     Fault = 1,

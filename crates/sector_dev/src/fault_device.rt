@@ -56,7 +56,7 @@ impl FaultDevice {
 impl Device for FaultDevice {
     ghost use Rattle.std.specs.Prelude.{◌≡◌, ◌+◌, ◌-◌, ◌*◌, ◌%◌, ◌<◌, ◌≤◌, length, OnErr};
     ghost use Rattle.std.proofs.Common.{arith};
-    ghost use Rattle.sector_dev.specs.Disk.{part, written, reads_of};
+    ghost use Rattle.sector_dev.specs.Disk.{part, after_write, reads_of};
     ghost use Rattle.sector_dev.specs.Calls.{ReadCall, WriteCall, SyncCall};
     ghost use Rattle.sector_dev.specs.FaultDevice.{fault_disk, CountsDown};
 
@@ -85,7 +85,7 @@ impl Device for FaultDevice {
         requires inside { 512 * at + length bytes.now ≤ 512 * (fault_disk self.old).sectors }
         ensures write { WriteCall at bytes.now result (fault_disk self.old) (fault_disk self.new) }
         ensures counts { CountsDown result self.old self.new }
-        ensures unchanged { OnErr result ((fault_disk self.new).history ≡ written (512 * at)
+        ensures unchanged { OnErr result ((fault_disk self.new).history ≡ after_write (512 * at)
             (part (512 * at) (length bytes.now) (reads_of (fault_disk self.old))) (fault_disk self.old).history) }
     {
         if self.count().is_ok() {

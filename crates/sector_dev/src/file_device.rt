@@ -1,5 +1,5 @@
 //! A device over a file.
-ghost use Rattle.std.specs.Prelude.{◌≡◌, ◌+◌, ◌*◌, ◌%◌, ◌<◌, ◌≤◌, ◌^◌, ◌-◌, min, length, IfOk};
+ghost use Rattle.std.specs.Prelude.{◌≡◌, ◌+◌, ◌*◌, ◌%◌, ◌<◌, ◌≤◌, ◌^◌, ◌-◌, length, IfOk};
 ghost use Rattle.sector_dev.specs.PositionedFile.{IsHonestFile, CoversDirty};
 
 use crate::trail::{HoldsBytes, Trail};
@@ -7,8 +7,8 @@ use crate::transfers::{read_whole, write_whole};
 use crate::{DevError, Device, PositionedFile, SECTOR};
 use std::io;
 
-/// The whole sectors of a file, as long as it was when the device was made. It is as honest as the file is. A transfer
-/// that fails, or moves nothing, is a fault.
+/// The whole sectors of a file, as long as it was when the device was made. It is as honest as the file is. It answers
+/// Fault just where the file's count of failures grows: where a transfer failed or moved nothing, or a sync failed.
 #[derive(Drop)]
 pub struct FileDevice<F: PositionedFile> {
     file: F,
@@ -28,7 +28,8 @@ impl<F: PositionedFile> HoldsBytes for FileDevice<F> {
 }
 
 impl<F: PositionedFile> FileDevice<F> {
-    ghost use Rattle.sector_dev.specs.FileDevice.{IsMadeOver, file_disk, file_of};
+    ghost use Rattle.sector_dev.specs.FileDevice.{IsMadeOver, file_disk, file_of, file_state};
+    ghost use Rattle.sector_dev.specs.Calls.{one_more};
 
     /// The file's whole sectors; what is behind them is left alone. It fails where the file's length can't be had.
     pub fn new(mut file: F) -> io::Result<FileDevice<F>>
@@ -55,7 +56,8 @@ impl<F: PositionedFile> FileDevice<F> {
 
     // Counts a call that failed.
     fn count(&mut self) -> DevError
-        ensures disk { file_disk self.new ≡ record (file_disk self.old) { faults = min (self.old.faults + 1) (2 ^ 64 - 1) } }
+        ensures disk { file_disk self.new ≡ record (file_disk self.old) { faults = one_more self.old.faults } }
+        ensures file { file_state self.new ≡ file_state self.old }
     {
         self.faults = self.faults.saturating_add(1);
         DevError::Fault
@@ -64,7 +66,8 @@ impl<F: PositionedFile> FileDevice<F> {
 
 impl<F: PositionedFile> Device for FileDevice<F> {
     ghost use Rattle.std.proofs.Common.{arith};
-    ghost use Rattle.sector_dev.specs.FileDevice.{file_disk};
+    ghost use Rattle.sector_dev.specs.Calls.{ReadCall, WriteCall, SyncCall};
+    ghost use Rattle.sector_dev.specs.FileDevice.{file_disk, file_state, FailsWithFile};
     ghost use Rattle.sector_dev.specs.FileLaws.{whole_front};
 
     ghost disk = { file_disk };
@@ -79,14 +82,24 @@ impl<F: PositionedFile> Device for FileDevice<F> {
         self.sectors
     }
 
-    fn read(&mut self, at: u64, into: &mut [u8]) -> Result<(), DevError> {
+    fn read(&mut self, at: u64, into: &mut [u8]) -> Result<(), DevError>
+        requires whole { length into.old % 512 ≡ 0 }
+        requires inside { 512 * at + length into.old ≤ 512 * (file_disk self.old).sectors }
+        ensures read { ReadCall at into.new result (file_disk self.old) (file_disk self.new) }
+        ensures failures { FailsWithFile result (file_state self.old) (file_state self.new) }
+    {
         match read_whole(&mut self.file, SECTOR as u64 * at, into) {
             Ok(()) => Ok(()),
             Err(_) => Err(self.count()),
         }
     }
 
-    fn write(&mut self, at: u64, bytes: &[u8]) -> Result<(), DevError> {
+    fn write(&mut self, at: u64, bytes: &[u8]) -> Result<(), DevError>
+        requires whole { length bytes.now % 512 ≡ 0 }
+        requires inside { 512 * at + length bytes.now ≤ 512 * (file_disk self.old).sectors }
+        ensures write { WriteCall at bytes.now result (file_disk self.old) (file_disk self.new) }
+        ensures failures { FailsWithFile result (file_state self.old) (file_state self.new) }
+    {
         let offset = SECTOR as u64 * at;
         let trail = self.trail.wrote(&*self, offset, bytes.len());
         self.trail = trail;
@@ -96,7 +109,10 @@ impl<F: PositionedFile> Device for FileDevice<F> {
         }
     }
 
-    fn sync(&mut self) -> Result<(), DevError> {
+    fn sync(&mut self) -> Result<(), DevError>
+        ensures sync { SyncCall result (file_disk self.old) (file_disk self.new) }
+        ensures failures { FailsWithFile result (file_state self.old) (file_state self.new) }
+    {
         match self.file.sync_data() {
             Ok(()) => {
                 let trail = self.trail.synced(&*self);

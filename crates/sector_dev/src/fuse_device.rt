@@ -1,11 +1,11 @@
 //! A device that stops for good after some calls, as at a loss of power.
 ghost use Rattle.std.specs.Prelude.{◌≡◌, ◌+◌, ◌-◌, ◌*◌, ◌%◌, ◌<◌, ◌≤◌, length, OnErr, IsOk};
-ghost use Rattle.sector_dev.specs.Calls.{counted, ReadCall, WriteCall, SyncCall};
+ghost use Rattle.sector_dev.specs.Calls.{count_after, ReadCall, WriteCall, SyncCall};
 
 use crate::{DevError, Device, MemDevice};
 
 /// What becomes of the write at which a fuse stops: its first `keep` bytes land, and its others become `fill`.
-#[derive(Clone, Copy, Debug, PartialEq, Eq)]
+#[derive(Clone, Copy)]
 pub struct Tear {
     pub keep: usize,
     pub fill: u8,
@@ -51,7 +51,7 @@ impl FuseDevice {
     fn burn(&mut self) -> Result<(), DevError>
         ensures burns { BurnsOne result self.old self.new }
         ensures memory { fuse_memory self.new ≡ fuse_memory self.old }
-        ensures faults { self.new.faults ≡ counted result self.old.faults }
+        ensures faults { self.new.faults ≡ count_after result self.old.faults }
     {
         if self.left == 0 {
             self.faults = self.faults.saturating_add(1);

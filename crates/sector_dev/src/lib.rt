@@ -13,6 +13,7 @@ mod held_device;
 mod mem_device;
 mod mem_file;
 mod positioned_file;
+mod system_file;
 mod trail;
 mod transfers;
 
@@ -24,6 +25,4 @@ pub use held_device::{Gate, HeldDevice};
 pub use mem_device::MemDevice;
 pub use mem_file::MemFile;
 pub use positioned_file::PositionedFile;
-
-#[cfg(test)]
-mod tests;
+pub use system_file::SystemFile;

@@ -20,7 +20,7 @@ pub struct MemDevice {
 }
 
 impl MemDevice {
-    ghost use Rattle.sector_dev.specs.Disk.{part, written, reads_of};
+    ghost use Rattle.sector_dev.specs.Disk.{part, after_write, reads_of};
     ghost use Rattle.sector_dev.specs.MemDevice.{memory_disk, zeroed_disk};
     ghost use Rattle.sector_dev.specs.FuseDevice.{torn_bytes};
 
@@ -41,7 +41,7 @@ impl MemDevice {
     pub(crate) fn tear(&mut self, at: u64, bytes: &[u8], tear: Tear)
         requires { 512 * at + length bytes.now ≤ 512 * (memory_disk self.old).sectors }
         ensures { memory_disk self.new ≡ record (memory_disk self.old) {
-          history = written (512 * at) (torn_bytes tear bytes.now) (memory_disk self.old).history;
+          history = after_write (512 * at) (torn_bytes tear bytes.now) (memory_disk self.old).history;
         } }
     {
         let start = SECTOR * at as usize;
@@ -58,7 +58,7 @@ impl MemDevice {
     pub(crate) fn touch(&mut self, at: u64, len: usize)
         requires { 512 * at + len ≤ 512 * (memory_disk self.old).sectors }
         ensures { memory_disk self.new ≡ record (memory_disk self.old) {
-          history = written (512 * at) (part (512 * at) len (reads_of (memory_disk self.old))) (memory_disk self.old).history;
+          history = after_write (512 * at) (part (512 * at) len (reads_of (memory_disk self.old))) (memory_disk self.old).history;
         } }
     {
         self.trail = self.trail.wrote(&self.bytes, SECTOR as u64 * at, len);

@@ -17,6 +17,65 @@ impl HoldsBytes for Vec<u8> {
     ghost bytes = { λ v. v.items };
 }
 
+/// What a trail is made from.
+trait TrailSource {
+    ghost use Rattle.std.specs.Prelude.{List};
+    ghost use Rattle.sector_dev.specs.Disk.{Span, Moment};
+
+    ghost past: { Self → List Moment };
+
+    ghost dirty: { Self → List Span };
+}
+
+// Nothing has been, and nothing is dirty.
+struct FreshStart;
+
+impl TrailSource for FreshStart {
+    ghost past = { λ _. [] };
+
+    ghost dirty = { λ _. [] };
+}
+
+// Nothing has been, and what is dirty in a file is dirty.
+#[derive(Drop)]
+struct FileStart<'a, F> {
+    file: &'a F,
+}
+
+impl<'a, F: PositionedFile> TrailSource for FileStart<'a, F> {
+    ghost past = { λ _. [] };
+
+    ghost dirty = { λ start. (F.state start.file.now).dirty };
+}
+
+// A write of a range of what held these bytes.
+#[derive(Drop)]
+struct WriteStep<'a, B> {
+    trail: &'a Trail,
+    before: &'a B,
+    start: u64,
+    len: usize,
+}
+
+impl<'a, B: HoldsBytes> TrailSource for WriteStep<'a, B> {
+    ghost past = { λ step. step.trail.now.past ++ record { reads = B.bytes step.before.now; dirty = step.trail.now.dirty } ∷ [] };
+
+    ghost dirty = { λ step. record { start = step.start; len = step.len } ∷ step.trail.now.dirty };
+}
+
+// A sync of what holds these bytes.
+#[derive(Drop)]
+struct SyncStep<'a, B> {
+    trail: &'a Trail,
+    held: &'a B,
+}
+
+impl<'a, B: HoldsBytes> TrailSource for SyncStep<'a, B> {
+    ghost past = { λ step. step.trail.now.past ++ record { reads = B.bytes step.held.now; dirty = step.trail.now.dirty } ∷ [] };
+
+    ghost dirty = { λ _. [] };
+}
+
 /// The moments before now, and what is dirty now.
 #[derive(Drop)]
 pub(crate) struct Trail {
@@ -34,33 +93,45 @@ unsafe impl Send for Trail {}
 const _: () = prove!(size_of::<Trail>() == 0);
 
 impl Trail {
+    // The one function that is proved by hand: a trail is what its source says.
+    fn of<T: TrailSource>(_source: &T) -> Trail
+        ensures { (result.past ≡ T.past _source.now) × (result.dirty ≡ T.dirty _source.now) }
+    {
+        Trail {}
+    }
+
     /// Nothing has been, and nothing is dirty.
     pub(crate) fn new() -> Trail
         ensures { (result.past ≡ []) × (result.dirty ≡ []) }
     {
-        Trail {}
+        Trail::of(&FreshStart)
     }
 
     /// Nothing has been, and what is dirty in a file is dirty.
-    pub(crate) fn over<F: PositionedFile>(_file: &F) -> Trail
-        ensures { (result.past ≡ []) × (result.dirty ≡ (F.state _file.now).dirty) }
+    pub(crate) fn over<F: PositionedFile>(file: &F) -> Trail
+        ensures { (result.past ≡ []) × (result.dirty ≡ (F.state file.now).dirty) }
     {
-        Trail {}
+        Trail::of(&FileStart { file })
     }
 
     /// After a write of a range of what held these bytes.
-    pub(crate) fn wrote<B: HoldsBytes>(&self, _before: &B, _start: u64, _len: usize) -> Trail
-        ensures { (result.past ≡ self.now.past ++ record { reads = B.bytes _before.now; dirty = self.now.dirty } ∷ [])
-            × (result.dirty ≡ record { start = _start; len = _len } ∷ self.now.dirty) }
+    pub(crate) fn wrote<B: HoldsBytes>(&self, before: &B, start: u64, len: usize) -> Trail
+        ensures { (result.past ≡ self.now.past ++ record { reads = B.bytes before.now; dirty = self.now.dirty } ∷ [])
+            × (result.dirty ≡ record { start = start; len = len } ∷ self.now.dirty) }
     {
-        Trail {}
+        Trail::of(&WriteStep {
+            trail: self,
+            before,
+            start,
+            len,
+        })
     }
 
     /// After a sync of what holds these bytes.
-    pub(crate) fn synced<B: HoldsBytes>(&self, _held: &B) -> Trail
-        ensures { (result.past ≡ self.now.past ++ record { reads = B.bytes _held.now; dirty = self.now.dirty } ∷ [])
+    pub(crate) fn synced<B: HoldsBytes>(&self, held: &B) -> Trail
+        ensures { (result.past ≡ self.now.past ++ record { reads = B.bytes held.now; dirty = self.now.dirty } ∷ [])
             × (result.dirty ≡ []) }
     {
-        Trail {}
+        Trail::of(&SyncStep { trail: self, held })
     }
 }

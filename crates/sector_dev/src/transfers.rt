@@ -2,12 +2,12 @@
 ghost use Rattle.std.specs.Prelude.{◌≡◌, ◌+◌, ◌<◌, ◌^◌, length, OnOk};
 ghost use Rattle.sector_dev.specs.Disk.{part};
 ghost use Rattle.sector_dev.specs.PositionedFile.{IsHonestFile, LeavesFile};
-ghost use Rattle.sector_dev.specs.FileDevice.{WritesWhole};
+ghost use Rattle.sector_dev.specs.FileDevice.{WritesWhole, FailsWithFile};
 
 use crate::PositionedFile;
 
 /// A transfer failed, or moved nothing.
-#[derive(Clone, Copy, Debug)]
+#[derive(Drop)]
 pub(crate) struct Incomplete;
 
 /// Fills `into` with the bytes at an offset, in as many transfers as it takes.
@@ -18,6 +18,7 @@ pub(crate) fn read_whole<F: PositionedFile>(
 ) -> Result<(), Incomplete>
     requires { offset + length into.old < 2 ^ 64 }
     ensures same { LeavesFile (F.state file.old) (F.state file.new) }
+    ensures failures { FailsWithFile result (F.state file.old) (F.state file.new) }
     ensures bytes { OnOk result (IsHonestFile (F.state file.old) → into.new ≡ part offset (length into.old) (F.state file.old).bytes) }
 {
     let mut done = 0;
@@ -38,7 +39,8 @@ pub(crate) fn write_whole<F: PositionedFile>(
     bytes: &[u8],
 ) -> Result<(), Incomplete>
     requires { offset + length bytes.now < 2 ^ 64 }
-    ensures { WritesWhole offset bytes.now result (F.state file.old) (F.state file.new) }
+    ensures failures { FailsWithFile result (F.state file.old) (F.state file.new) }
+    ensures writes { WritesWhole offset bytes.now result (F.state file.old) (F.state file.new) }
 {
     let mut done = 0;
     while done < bytes.len() {

@@ -1,3 +1,4 @@
+-- A sector more, and a write of one that failed.
 use Rattle.std.proofs.Common.{arith}
 use Rattle.device_calls.proofs.Fills.{filling_none, filling_moment, filling_outside, filling_more}
 use Rattle.device_calls.proofs.filled.fill.Goals as goal

@@ -1,3 +1,4 @@
+-- The first bytes are read, and no transfer has failed.
 use Rattle.std.proofs.Common.{◌≡◌, ◌-◌, ◌≤◌, length, take}
 use Rattle.sector_dev.specs.Disk.{part}
 use Rattle.sector_dev.specs.PositionedFile.{IsHonestFile, LeavesFile}
@@ -7,6 +8,7 @@ abbrev pub invariant-loop-done : goal.invariant-loop-done
 invariant-loop-done g l = record {
   bound : l.done ≤ length l.into;
   same : LeavesFile (g.F.PositionedFile.state l.fn.file) (g.F.PositionedFile.state l.file);
+  failures : (g.F.PositionedFile.state l.file).failures ≡ (g.F.PositionedFile.state l.fn.file).failures;
   read : IsHonestFile (g.F.PositionedFile.state l.fn.file) → take l.done l.into ≡ part l.offset l.done (g.F.PositionedFile.state l.fn.file).bytes;
 }
 

@@ -1,3 +1,4 @@
+-- What a write of the file does to the device, and that what the device calls clean is clean in the file.
 use Rattle.std.proofs.Common.{◌*◌, Bool, IsTrue, refl, sym, subst, arith, Err}
 use Rattle.sector_dev.specs.Disk.{Disk}
 use Rattle.sector_dev.specs.Calls.{WriteCall}
@@ -9,7 +10,7 @@ use Rattle.sector_dev.proofs.file_device.FileDeviceDevice.write.Goals as goal
 pub invariant_of-self : goal.invariant_of-self
 invariant_of-self g c =
     let self = c.args.self.now in
-    let wrote = c.write_whole.ensures in
+    let wrote = c.write_whole.ensures.writes in
     let old = g.F.PositionedFile.state self.file in
     let new = g.F.PositionedFile.state c.write_whole.new.file in
     let was_honest : IsHonestFile new → IsHonestFile old = λ honest. subst (λ (b : Bool). IsTrue b) wrote.is_honest honest in
@@ -24,31 +25,27 @@ invariant_of-self g c =
           (wrote.lands honest_then (omega (arith, self.covered honest_then, c.requires.inside)));
     }
 
-pub returns-in-Ok : goal.returns-in-Ok
-returns-in-Ok g c =
+pub returns-in-Ok-clause-write : goal.returns-in-Ok-clause-write
+returns-in-Ok-clause-write g c =
     let self = c.args.self.now in
-    let wrote = c.in-Ok.ensures in
+    let wrote = c.in-Ok.ensures.writes in
     record {
-      write = record {
-        keeps = record { is_honest = wrote.is_honest; sectors = refl };
-        faults = refl;
-        lands = λ honest.
-            file_lands self.sectors c.args.at c.args.bytes.now (g.F.PositionedFile.state self.file) (g.F.PositionedFile.state c.write_whole.new.file) _ _ _ _ _ _ c.requires.inside (self.covered honest)
-            (wrote.lands honest (omega (arith, self.covered honest, c.requires.inside))) (λ landed done. done) c.wrote-trail.ensures;
-      };
+      keeps = record { is_honest = wrote.is_honest; sectors = refl };
+      faults = refl;
+      lands = λ honest.
+          file_lands self.sectors c.args.at c.args.bytes.now (g.F.PositionedFile.state self.file) (g.F.PositionedFile.state c.write_whole.new.file) _ _ _ _ _ _ c.requires.inside (self.covered honest)
+          (wrote.lands honest (omega (arith, self.covered honest, c.requires.inside))) (λ landed done. done) c.wrote-trail.ensures;
     }
 
 -- a write that ended early is counted
-pub returns-in-Err : goal.returns-in-Err
-returns-in-Err g c =
+pub returns-in-Err-clause-write : goal.returns-in-Err-clause-write
+returns-in-Err-clause-write g c =
     let self = c.args.self.now in
-    let wrote = c.in-Err.ensures in
-    record {
-      write = subst {A = Disk} (λ (disk : Disk). WriteCall {T = Unit {0}} c.args.at c.args.bytes.now (Err c.count.result) (file_disk self) disk) (sym c.count.ensures.disk) (record {
-        keeps = record { is_honest = wrote.is_honest; sectors = refl };
-        faults = refl;
-        lands = λ honest.
-            file_lands self.sectors c.args.at c.args.bytes.now (g.F.PositionedFile.state self.file) (g.F.PositionedFile.state c.write_whole.new.file) _ _ _ _ _ _ c.requires.inside (self.covered honest)
-            (wrote.lands honest (omega (arith, self.covered honest, c.requires.inside))) (λ landed none. tt) c.wrote-trail.ensures;
-      });
-    }
+    let wrote = c.in-Err.ensures.writes in
+    subst {A = Disk} (λ (disk : Disk). WriteCall {T = Unit {0}} c.args.at c.args.bytes.now (Err c.count.result) (file_disk self) disk) (sym c.count.ensures.disk) (record {
+      keeps = record { is_honest = wrote.is_honest; sectors = refl };
+      faults = refl;
+      lands = λ honest.
+          file_lands self.sectors c.args.at c.args.bytes.now (g.F.PositionedFile.state self.file) (g.F.PositionedFile.state c.write_whole.new.file) _ _ _ _ _ _ c.requires.inside (self.covered honest)
+          (wrote.lands honest (omega (arith, self.covered honest, c.requires.inside))) (λ landed none. tt) c.wrote-trail.ensures;
+    })

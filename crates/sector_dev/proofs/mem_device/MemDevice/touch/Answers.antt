@@ -1,13 +1,14 @@
+-- Nothing lands: what is there, written again, is the same content.
 use Rattle.std.proofs.Common.{◌≡◌, ◌∷◌, ◌∙◌, ap, true, ◌+◌, ◌*◌, ◌≤◌, ℕ, length, arith, sym}
-use Rattle.sector_dev.specs.Disk.{Span, part, overwritten}
-use Rattle.sector_dev.proofs.Contents.{length-part, overwritten_same}
+use Rattle.sector_dev.specs.Disk.{Span, part, overwrite}
+use Rattle.sector_dev.proofs.Contents.{length-part, overwrite_same}
 use Rattle.sector_dev.proofs.mem_device.MemDevice.touch.Goals as goal
 
 pub returns : goal.returns
 returns c =
     let bytes = c.args.self.now.bytes.items in
     let inside : 512 * c.args.at + c.args.len ≤ length bytes = omega (arith, c.args.self.now.size) in
-    let same : overwritten (512 * c.args.at) (part (512 * c.args.at) c.args.len bytes) bytes ≡ bytes = overwritten_same (512 * c.args.at) c.args.len bytes inside in
+    let same : overwrite (512 * c.args.at) (part (512 * c.args.at) c.args.len bytes) bytes ≡ bytes = overwrite_same (512 * c.args.at) c.args.len bytes inside in
     let size : length (part (512 * c.args.at) c.args.len bytes) ≡ c.args.len = length-part (512 * c.args.at) c.args.len bytes inside in
     let told = c.wrote-self.ensures in
     let span : ℕ → Span = λ n. record { start = 512 * c.args.at; len = n } in

@@ -1,4 +1,4 @@
--- `over` makes a value of no bytes, with what its clause names.
+-- `of` makes a value of no bytes, with what its clause names.
 use mathlib.Core.Path.{refl}
 use mathlib.Core.List.{List, [], ◌∷◌}
 use seplogic.Ra.Ura.{Ura}
@@ -32,12 +32,12 @@ use denote.Triple.Entry as Entry
 use denote.Triple.Spec.{Meets, triple_of}
 use denote.Triple.Table.{entered}
 use denote.Triple.Walked.{says, Stays, stay_dropped, walk_of, Walks, ends_at, walked, Goes-dropped, walk_Meets}
-use Rattle.sector_dev.specs.declared.positioned_file.PositionedFile.{Ghosts}
+use Rattle.sector_dev.specs.declared.trail.TrailSource.{Ghosts}
 use Rattle.sector_dev.specs.contracts.trail.Trail as trail
-use Rattle.sector_dev.specs.contracts.trail.Trail.over.Key.{name as key}
-use Rattle.sector_dev.specs.contracts.trail.Trail.over as f
-use Rattle.sector_dev.proofs.trail.Trail.over.Statement as stated
-use Rattle.sector_dev.proofs.trail.Trail.over.Code as code
+use Rattle.sector_dev.specs.contracts.trail.Trail.of.Key.{name as key}
+use Rattle.sector_dev.specs.contracts.trail.Trail.of as f
+use Rattle.sector_dev.proofs.trail.Trail.of.Statement as stated
+use Rattle.sector_dev.proofs.trail.Trail.of.Code as code
 
 module _ (F : RattleType) (held : Ghosts F.Denot) (dict : Dict) where
   abbrev args : Args
@@ -59,19 +59,19 @@ module _ (F : RattleType) (held : Ghosts F.Denot) (dict : Dict) where
     clauses = f.clauses F held dict 𝓛 mem run
 
     module _ (C : Calls 𝓤 𝓛.H) (Λ : Loops 𝓤 𝓛.H) (κs : Lfts 2) (qs : Shares 2) (a : Entry.Args ended.signature κs) where
-      abbrev file : Val
-      file = vptr a.0.ref_ptr.0 a.0.ref_ptr.1
+      abbrev source : Val
+      source = vptr a.0.ref_ptr.0 a.0.ref_ptr.1
 
       abbrev words : List Val × Unit {0}
-      words = (file ∷ [], tt)
+      words = (source ∷ [], tt)
 
       walk : (bounds : _) → ent 𝓤 (on_entry 𝓛 ended.signature κs qs a words)
-          (WpFn 𝓤 H C Λ function (file ∷ []) ((walk_of 𝓛 ended stayed clauses).post ((κs, qs, bounds, a, words), tt)))
+          (WpFn 𝓤 H C Λ function (source ∷ []) ((walk_of 𝓛 ended stayed clauses).post ((κs, qs, bounds, a, words), tt)))
       walk bounds =
-          let made : trail.the_row.Denot = record { past = []; dirty = (held.state a.0.now).dirty } in
+          let made : trail.the_row.Denot = record { past = held.past a.0.now; dirty = held.dirty a.0.now } in
           qed 𝓛 (raw (alive 𝓛 ended.signature κs qs) ∷ ‵ (owns (types_at ended.signature.params κs) a words) ∷ []) ∵
           move ! (1 ∷ []) $ drop ! $
-          enter ! C Λ function (file ∷ []) _ $
+          enter ! C Λ function (source ∷ []) _ $
           alloc_all ! (λ l. pass_all ! refl ((tt, tt), tt) $
           sets ! (agg ! (no_more !)) refl (tt, tt) $
           returns ! (look_at ! 0 refl) $ free_all ! refl $
@@ -90,9 +90,9 @@ module _ (F : RattleType) (held : Ghosts F.Denot) (dict : Dict) where
         walk_Meets 𝓛 ended stayed (Goes-dropped 𝓛 2 (RefOf (0 ∷ []) tt (plain (λ _. param 0 F)) (λ _. tt)) yes (λ κs x f. refl), tt)
         clauses (WpFn 𝓤 H 𝓣.C 𝓣.Λ function) (WpFn-mono 𝓤 H 𝓛.laws 𝓣 function) (walks 𝓣.C 𝓣.Λ)
 
-pub over_spec : {M : Type 1} → stated.statement M
+pub of_spec : {M : Type 1} → stated.statement M
 unfolding tables_of
-over_spec 𝓤 𝓛 𝓜 𝓡 wired F laws held dict met =
+of_spec 𝓤 𝓛 𝓜 𝓡 wired F laws held dict met =
     let 𝓣 : Tables 𝓤 𝓛.H = tables_of 𝓤 𝓛.H 𝓜 (tables 𝓤 𝓛.H 𝓜 𝓡 𝓡.env) in
     entered 𝓤 𝓛.H (triple_of 𝓛 (ended F held dict).signature (f.spec F held dict 𝓛 𝓜.mem 𝓡.returns)) 𝓣.C 𝓣.Λ (key (args F held dict)) (function F held dict)
     (code.unfolded 𝓤 𝓛.H 𝓜 𝓡 wired (F, tt) dict) (meets F held dict 𝓛 𝓜.mem 𝓡.returns 𝓣)

@@ -1,0 +1,18 @@
+//! Tests of `sector_dev` and `device_calls`, a module for each subject. They see what no clause says: that calls succeed,
+//! the contents after a stop at every call against a table made by hand, real files, and what comes first.
+#![tactic(auto)]
+
+#[cfg(test)]
+mod callers;
+#[cfg(test)]
+mod calls;
+#[cfg(test)]
+mod faults;
+#[cfg(test)]
+mod files;
+#[cfg(test)]
+mod fuses;
+#[cfg(test)]
+mod gates;
+#[cfg(test)]
+mod system_files;

@@ -1,0 +1,6 @@
+-- A read that succeeds, found by the search itself.
+use Rattle.std.proofs.Common.{rules}
+use Rattle.sector_dev.proofs.file_device.FileDeviceDevice.read.Goals as goal
+
+pub returns-in-Ok-clause-failures : goal.returns-in-Ok-clause-failures
+returns-in-Ok-clause-failures g c = search rules
