@@ -1,4 +1,5 @@
-pub mod Laws
+pub mod Whole
+pub mod Bytes
 pub mod Readings
 pub mod RoundTrip
 pub mod Sizes

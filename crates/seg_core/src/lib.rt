@@ -9,9 +9,9 @@ mod body;
 mod earlier;
 mod entry;
 mod error;
-mod guarantees;
 mod hop;
 mod info;
+mod laws;
 mod lengths;
 mod limits;
 mod path;
@@ -29,7 +29,7 @@ mod writing;
 
 pub use entry::Entry;
 pub use error::SegError;
-pub use guarantees::{
+pub use laws::{
     path_tests_are_exact, read_segments_are_whole, whole_segments_are_well_formed,
     written_responses_are_read, written_segments_are_read,
 };

@@ -1,7 +1,7 @@
-use Rattle.std.proofs.Common.{rules}
+use Rattle.std.proofs.Common.{rules, arith}
 use Rattle.seg_core.specs.EntryView.{entry_views}
 use Rattle.seg_core.specs.Segment.{segment_decoding}
-use Rattle.seg_core.proofs.Laws.{decoding-IsSegment}
+use Rattle.seg_core.proofs.Whole.{decoding-IsSegment}
 use Rattle.seg_core.proofs.segment.read_segment.Goals as goal
 
 pub invariant_of-result : goal.invariant_of-result
@@ -14,4 +14,5 @@ invariant_of-result c =
       info = c.in_ok-from_slice.field-0.items;
       entries = entry_views c.in_ok-entries.entries.items;
     })
+    (λ i. omega (arith, c.type_inv.message i))
     (search rules)

@@ -5,6 +5,7 @@ use Rattle.std.specs.List.{AllByRecursion}
 use Rattle.std.proofs.lemmas.Bool.{leb-true}
 use Rattle.std.proofs.lemmas.List.Concat.{flat_map-cons}
 use Rattle.std.proofs.lemmas.List.Sums.{sum_by-cons}
+use Rattle.pw_wire.specs.Decoding.{IsBytes}
 use Rattle.pw_wire.specs.Field.{bytes_field_encoding}
 use Rattle.pw_wire.specs.Fields.{fields}
 use Rattle.seg_core.specs.declared.error.SegError.TheVariants.{Chain, Loop, Entries, TooLarge}
@@ -18,6 +19,9 @@ use Rattle.seg_core.specs.Entry.{header_and_body_decoding, as_entry_decoding}
 use Rattle.seg_core.specs.WellFormed.{is_entry_count, is_chain, has_no_loop}
 use Rattle.seg_core.specs.Segment.{info_decoding, segment_decoding}
 use Rattle.seg_core.specs.Encoding.{bytes_encoding, as_entry_encoding, entries_encoding, segment_encoding, IsEntry, IsSegment}
+use Rattle.seg_core.proofs.Bytes.{checked-fit, texts-bytes, text-bytes, text_or_empty-bytes}
+use Rattle.seg_core.proofs.Paths.{count-HasEntryCount, chain-IsChain, no_loop-HasNoLoop}
+use Rattle.seg_core.proofs.Ranges.{header_and_body-fits}
 use Rattle.seg_core.proofs.Readings.{step_ok, ok_is, after_checked, after_check, after_required}
 use Rattle.seg_core.proofs.WireSizes.{encoded_len, fields-length}
 use Rattle.seg_core.proofs.Sizes.{bytes_field-mono, bytes_field-within, last-length, or_empty-length, parts-length, entry-length, signed-within}
@@ -39,21 +43,32 @@ entry_of body signed signature unsigned = record {
 
 -- an entry that was read from a message
 record WasRead (message : List ℕ) (e : EntryView) : Type 0 where
-  says : IsEntry e
+  is_entry : IsEntry e
   short : length (as_entry_encoding e) ≤ length message
 
-entry_read : (message : List ℕ) (e : EntryView) → length message ≤ 16384 → as_entry_decoding message ≡ Ok e → WasRead message e
+entry_read : (message : List ℕ) (e : EntryView) → IsBytes message → length message ≤ 16384 → as_entry_decoding message ≡ Ok e → WasRead message e
 unfolding as_entry_decoding
-entry_read message e le reading =
+entry_read message e are le reading =
     let fs = fields message in
+    let fits = checked-fit as_entry_shape message _ e are reading in
     let in_fields = after_checked as_entry_shape message _ e reading in
     let in_signed = after_required 1 fs _ e in_fields in
     let signed = in_signed.0 in
     let parts = fields signed in
+    let parts_fit = checked-fit signed_message_shape signed _ e (text-bytes 1 fs fits signed in_signed.1) in_signed.2 in
     let in_parts = after_checked signed_message_shape signed _ e in_signed.2 in
     let in_body = step_ok (header_and_body_decoding (text_or_empty 1 parts)) _ e in_parts in
     subst (WasRead message) (ok_is (entry_of in_body.0 (text_or_empty 1 parts) (text_or_empty 2 parts) (text 2 fs)) e in_body.2) (record {
-      says = in_body.1;
+      is_entry =
+          let widths = header_and_body-fits (text_or_empty 1 parts) in_body.0 (text_or_empty-bytes 1 parts parts_fit) in_body.1 in
+          record {
+            says = in_body.1;
+            ia = widths.ia;
+            next = widths.next;
+            signed = text_or_empty-bytes 1 parts parts_fit;
+            signature = text_or_empty-bytes 2 parts parts_fit;
+            unsigned = text-bytes 2 fs fits;
+          };
       short = entry-length message signed (bytes_encoding 1 (text_or_empty 1 parts) ++ bytes_encoding 2 (text_or_empty 2 parts)) le in_signed.1
           (parts-length signed (signed-within message signed le in_signed.1));
     })
@@ -61,13 +76,13 @@ entry_read message e le reading =
 -- ---- all entries
 
 record WereRead (messages : List (List ℕ)) (es : List EntryView) : Type 0 where
-  say : AllByRecursion IsEntry es
+  are_entries : AllByRecursion IsEntry es
   as_many : length es ≡ length messages
   short : length (entries_encoding es) ≤ encoded_len 2 messages
 
 one_more : (message : List ℕ) (messages : List (List ℕ)) (e : EntryView) (es : List EntryView) → WasRead message e → WereRead messages es → WereRead (message ∷ messages) (e ∷ es)
 one_more message messages e es first others = record {
-  say = (first.says, others.say);
+  are_entries = (first.is_entry, others.are_entries);
   as_many = ap suc others.as_many;
   short =
       let was_short = others.short in
@@ -75,14 +90,14 @@ one_more message messages e es first others = record {
       (omega (arith, bytes_field-mono 2 (as_entry_encoding e) message first.short));
 }
 
-entries_read : (messages : List (List ℕ)) (es : List EntryView) → encoded_len 2 messages ≤ 16384 → each as_entry_decoding messages ≡ Ok es → WereRead messages es
-entries_read [] es le reading = subst (WereRead []) (ok_is [] es reading) (record { say = tt; as_many = refl; short = omega arith })
-entries_read (message ∷ messages) es le reading =
+entries_read : (messages : List (List ℕ)) (es : List EntryView) → AllByRecursion IsBytes messages → encoded_len 2 messages ≤ 16384 → each as_entry_decoding messages ≡ Ok es → WereRead messages es
+entries_read [] es are le reading = subst (WereRead []) (ok_is [] es reading) (record { are_entries = tt; as_many = refl; short = omega arith })
+entries_read (message ∷ messages) es are le reading =
     let first = step_ok (as_entry_decoding message) (λ e. each as_entry_decoding messages >>= λ others. Ok (e ∷ others)) es reading in
     let others = step_ok (each as_entry_decoding messages) (λ others. Ok (first.0 ∷ others)) es first.2 in
     let parts : encoded_len 2 (message ∷ messages) ≡ length (bytes_field_encoding 2 message) + encoded_len 2 messages = sum_by-cons (λ t. length (bytes_field_encoding 2 t)) message messages in
-    let was = entry_read message first.0 (omega (arith, bytes_field-within 2 message)) first.1 in
-    let were = entries_read messages others.0 (omega arith) others.1 in
+    let was = entry_read message first.0 are.0 (omega (arith, bytes_field-within 2 message)) first.1 in
+    let were = entries_read messages others.0 are.1 (omega arith) others.1 in
     subst (WereRead (message ∷ messages)) (ok_is (first.0 ∷ others.0) es others.2) (one_more message messages first.0 others.0 was were)
 
 -- ---- a segment
@@ -97,11 +112,13 @@ segment-length message s le info entries =
     rw (info, length-append (bytes_encoding 1 (text_or_empty 1 fs)) (entries_encoding s.entries))
     (omega (arith, fields-length message le, or_empty-length 1 (text 1 fs), last-length 1 (texts 1 fs)))
 
-pub decoding-IsSegment : (message : List ℕ) (s : SegmentView) → segment_decoding message ≡ Ok s → IsSegment s
+-- what the reading of a segment tells of it
+pub decoding-IsSegment : (message : List ℕ) (s : SegmentView) → IsBytes message → segment_decoding message ≡ Ok s → IsSegment s
 unfolding segment_decoding
-decoding-IsSegment message s reading =
+decoding-IsSegment message s are reading =
     let fs = fields message in
     let sized = after_check (nat_le (length message) 16384) TooLarge _ s reading in
+    let fits = checked-fit path_segment_shape message _ s are sized.1 in
     let in_fields = after_checked path_segment_shape message _ s sized.1 in
     let counted = after_check (is_entry_count (length (texts 2 fs))) Entries _ s in_fields in
     let info = step_ok (info_decoding (text_or_empty 1 fs)) _ s counted.1 in
@@ -109,12 +126,13 @@ decoding-IsSegment message s reading =
     let chain = after_check (is_chain entries.0) Chain _ s entries.2 in
     let loop = after_check (has_no_loop entries.0) Loop _ s chain.1 in
     let le : length message ≤ 16384 = leb-true (length message) 16384 sized.0 in
-    let were = entries_read (texts 2 fs) entries.0 (omega (arith, fields-length message le)) entries.1 in
+    let were = entries_read (texts 2 fs) entries.0 (texts-bytes 2 fs fits) (omega (arith, fields-length message le)) entries.1 in
     subst IsSegment (ok_is (segment_of info.0 (text_or_empty 1 fs) entries.0) s loop.1) (record {
       info_says = info.1;
-      entries_say = were.say;
-      counted = rw were.as_many counted.0;
-      chain = chain.0;
-      no_loop = loop.0;
+      info_bytes = text_or_empty-bytes 1 fs fits;
+      entries = were.are_entries;
+      counted = count-HasEntryCount entries.0 (rw were.as_many counted.0);
+      chain = chain-IsChain entries.0 chain.0;
+      no_loop = no_loop-HasNoLoop entries.0 loop.0;
       short = segment-length message (segment_of info.0 (text_or_empty 1 fs) entries.0) le refl were.short;
     })

@@ -2,22 +2,24 @@
 //! it is proved with the crate.
 
 ghost use Rattle.std.specs.Prelude.{◌≡◌, ◌↔◌, ◌≤◌, ℕ, List, length, Ok, IsTrue};
+ghost use Rattle.pw_wire.specs.Decoding.{IsBytes};
 ghost use Rattle.seg_core.specs.SegmentView.{EntryView, SegmentView};
-ghost use Rattle.seg_core.specs.WellFormed.{is_chain, has_no_loop, IsChain, HasNoLoop, IsWellFormed};
+ghost use Rattle.seg_core.specs.WellFormed.{is_entry_count, is_chain, has_no_loop, HasEntryCount, IsChain, HasNoLoop, IsWellFormed};
 ghost use Rattle.seg_core.specs.Segment.{segment_decoding};
 ghost use Rattle.seg_core.specs.Registration.{registration_decoding};
 ghost use Rattle.seg_core.specs.Encoding.{segment_encoding, IsSegment, response_encoding, by_type};
 ghost use Rattle.seg_core.specs.declared.seg_type.SegType.{SegType};
 ghost use Rattle.std.specs.List.{AllByRecursion};
 
-/// Each segment that is read is whole.
+/// Each segment that is read of bytes is whole.
 pub fn read_segments_are_whole()
-    ensures { (message : List ℕ) (s : SegmentView) → segment_decoding message ≡ Ok s → IsSegment s }
+    ensures { (message : List ℕ) (s : SegmentView) → IsBytes message → segment_decoding message ≡ Ok s → IsSegment s }
 {}
 
-/// The encoding of a whole segment is read as that segment.
+/// The encoding of a whole segment is bytes, and is read as that segment.
 pub fn written_segments_are_read()
-    ensures { (s : SegmentView) → IsSegment s → segment_decoding (segment_encoding s) ≡ Ok s }
+    ensures bytes { (s : SegmentView) → IsSegment s → IsBytes (segment_encoding s) }
+    ensures read { (s : SegmentView) → IsSegment s → segment_decoding (segment_encoding s) ≡ Ok s }
 {}
 
 /// A whole segment is well-formed: 1 to 64 entries that are one path without a loop, and numbers in their ranges.
@@ -25,8 +27,9 @@ pub fn whole_segments_are_well_formed()
     ensures { (s : SegmentView) → IsSegment s → IsWellFormed s }
 {}
 
-/// The two tests of a path tell what they mean, both ways.
+/// The tests of a path tell what they mean, both ways.
 pub fn path_tests_are_exact()
+    ensures counted { (entries : List EntryView) → (IsTrue (is_entry_count (length entries))) ↔ HasEntryCount entries }
     ensures chain { (entries : List EntryView) → (IsTrue (is_chain entries)) ↔ IsChain entries }
     ensures no_loop { (entries : List EntryView) → (IsTrue (has_no_loop entries)) ↔ HasNoLoop entries }
 {}
