@@ -89,5 +89,5 @@ pub(crate) fn segment_len(segment: &Segment) -> usize
     ensures most { result ≤ 16384 }
 {
     let entries = segment.entries();
-    bytes_len(segment.info()) + entries_len(entries)
+    bytes_len(segment.segment_info()) + entries_len(entries)
 }

@@ -79,7 +79,7 @@ fn put_entries(out: &mut Vec<u8>, entries: &[Entry]) -> Result<(), AllocError>
 pub(crate) fn put_segment(out: &mut Vec<u8>, segment: &Segment) -> Result<(), AllocError>
     ensures { OnOk result (out.new.items ≡ out.old.items ++ segment_encoding segment.now) }
 {
-    put_bytes(out, 1, segment.info())?;
+    put_bytes(out, 1, segment.segment_info())?;
     put_entries(out, segment.entries())
 }
 

@@ -7,4 +7,4 @@ pub bytes_len-requires : goal.bytes_len-requires
 bytes_len-requires c =
     let s = c.args.segment.now in
     let short : length (segment_encoding s) ≤ 16384 = c.entries-entries.ensures.whole.short in
-    rw c.info.ensures (omega (arith, segment-length s, bytes-within 1 s.info))
+    rw c.segment_info.ensures (omega (arith, segment-length s, bytes-within 1 s.info))

@@ -15,6 +15,6 @@ put_entries-requires c =
 pub returns : goal.returns
 returns c =
     on_ok_weaker c.put_entries.result
-    (segment-put c.args.segment.now c.info.result.now (entry_views c.entries.result.now) c.args.out.now.items c.put_bytes.new.out.items c.put_entries.new.out.items
-    c.info.ensures c.entries.ensures.same c.in_ok-put_bytes.ensures)
+    (segment-put c.args.segment.now c.segment_info.result.now (entry_views c.entries.result.now) c.args.out.now.items c.put_bytes.new.out.items c.put_entries.new.out.items
+    c.segment_info.ensures c.entries.ensures.same c.in_ok-put_bytes.ensures)
     c.put_entries.ensures
