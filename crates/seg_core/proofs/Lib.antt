@@ -14,4 +14,5 @@ pub mod Rows
 pub mod EncodedLengths
 pub mod Written
 pub mod Responses
+pub mod ResponseLengths
 pub mod ResponseTrip

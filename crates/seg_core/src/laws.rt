@@ -1,7 +1,7 @@
 //! Laws of the definitions that the crate's contracts speak in. Each stands on a function that does nothing, so that
 //! it is proved with the crate.
 
-ghost use Rattle.std.specs.Prelude.{◌≡◌, ◌↔◌, ◌≤◌, ℕ, List, length, Ok, IsTrue};
+ghost use Rattle.std.specs.Prelude.{◌≡◌, ◌↔◌, ◌≤◌, ◌+◌, ◌*◌, ℕ, List, length, Ok, IsTrue};
 ghost use Rattle.pw_wire.specs.Decoding.{IsBytes};
 ghost use Rattle.seg_core.specs.SegmentView.{EntryView, SegmentView};
 ghost use Rattle.seg_core.specs.WellFormed.{is_entry_count, is_chain, has_no_loop, HasEntryCount, IsChain, HasNoLoop, IsWellFormed};
@@ -38,4 +38,13 @@ pub fn path_tests_are_exact()
 pub fn written_responses_are_read()
     ensures { (rows : List (SegType × SegmentView)) → AllByRecursion (λ row. IsSegment row.1) rows → length rows ≤ 16
         → length (response_encoding rows) ≤ 131072 → registration_decoding (response_encoding rows) ≡ Ok (by_type rows) }
+{}
+
+/// Up to 127 whole segments of one type have a response of at most 16,388 bytes each and 10 more, which for 64 is
+/// 1,048,842; segments of any types one of at most 30 more.
+pub fn responses_are_short()
+    ensures one_type { (kind : SegType) (rows : List (SegType × SegmentView)) → AllByRecursion (λ row. row.0 ≡ kind) rows
+        → AllByRecursion (λ row. IsSegment row.1) rows → length rows ≤ 127 → length (response_encoding rows) ≤ 16388 * length rows + 10 }
+    ensures any { (rows : List (SegType × SegmentView)) → AllByRecursion (λ row. IsSegment row.1) rows → length rows ≤ 127
+        → length (response_encoding rows) ≤ 16388 * length rows + 30 }
 {}

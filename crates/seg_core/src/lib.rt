@@ -30,12 +30,13 @@ mod writing;
 pub use entry::Entry;
 pub use error::SegError;
 pub use laws::{
-    path_tests_are_exact, read_segments_are_whole, whole_segments_are_well_formed,
-    written_responses_are_read, written_segments_are_read,
+    path_tests_are_exact, read_segments_are_whole, responses_are_short,
+    whole_segments_are_well_formed, written_responses_are_read, written_segments_are_read,
 };
+pub use lengths::encoded_len;
 pub use registration::read_registration;
 pub use request::read_request;
 pub use response::{write_response, write_response_of};
 pub use seg_type::SegType;
 pub use segment::{Segment, read_segment};
-pub use writing::write_segment;
+pub use writing::{put_segment, write_segment};

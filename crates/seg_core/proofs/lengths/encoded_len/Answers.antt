@@ -1,7 +1,7 @@
 use Rattle.std.proofs.Common.{◌≤◌, length, arith}
 use Rattle.seg_core.specs.Encoding.{segment_encoding}
 use Rattle.seg_core.proofs.EncodedFields.{bytes-within, segment-length}
-use Rattle.seg_core.proofs.lengths.segment_len.Goals as goal
+use Rattle.seg_core.proofs.lengths.encoded_len.Goals as goal
 
 pub bytes_len-requires : goal.bytes_len-requires
 bytes_len-requires c =
