@@ -12,6 +12,7 @@ pub mod Misfits
 pub mod Types
 pub mod Rows
 pub mod EncodedLengths
+pub mod Fronts
 pub mod Written
 pub mod Responses
 pub mod ResponseLengths

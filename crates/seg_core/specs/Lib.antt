@@ -10,4 +10,5 @@ pub mod Segment
 pub mod Request
 pub mod Registration
 pub mod Encoding
+pub mod Front
 pub mod Earlier

@@ -6,6 +6,7 @@
 #![tactic(auto)]
 
 mod body;
+mod comparing;
 mod earlier;
 mod entry;
 mod error;
@@ -27,6 +28,7 @@ mod tests;
 mod texts;
 mod writing;
 
+pub use comparing::is_encoding_of;
 pub use entry::Entry;
 pub use error::SegError;
 pub use laws::{
