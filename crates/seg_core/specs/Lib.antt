@@ -11,4 +11,6 @@ pub mod Request
 pub mod Registration
 pub mod Encoding
 pub mod Front
+pub mod Equality
+pub mod EqualityLaws
 pub mod Earlier

@@ -9,6 +9,7 @@ mod body;
 mod comparing;
 mod earlier;
 mod entry;
+mod equality;
 mod error;
 mod hop;
 mod info;
