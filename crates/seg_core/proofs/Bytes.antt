@@ -75,12 +75,16 @@ none_mapped f None e = refl
 none_mapped f (Some x) e = absurd cc
 
 -- the fields of bytes that passed the checks
+pub checked-are : {B : Type 0} (shape : List FieldKind) (bytes : List ℕ) (f : List FieldView → Result B SegError) (y : B)
+    → IsBytes bytes → (checked shape bytes >>= f) ≡ Ok y → AreFields bytes (fields bytes)
+unfolding checked
+checked-are shape bytes f y are e =
+    let none = none_mapped error.Wire (fault bytes) (faultless (option_map error.Wire (fault bytes)) (misfit_after shape [] (fields bytes)) (fields bytes) f y e) in
+    (whole bytes (fields bytes) are).1 (none, refl)
+
 pub checked-fit : {B : Type 0} (shape : List FieldKind) (bytes : List ℕ) (f : List FieldView → Result B SegError) (y : B)
     → IsBytes bytes → (checked shape bytes >>= f) ≡ Ok y → AllFit (fields bytes)
-unfolding checked
-checked-fit shape bytes f y are e =
-    let none = none_mapped error.Wire (fault bytes) (faultless (option_map error.Wire (fault bytes)) (misfit_after shape [] (fields bytes)) (fields bytes) f y e) in
-    fields_fit (fields bytes) bytes are ((whole bytes (fields bytes) are).1 (none, refl))
+checked-fit shape bytes f y are e = fields_fit (fields bytes) bytes are (checked-are shape bytes f y are e)
 
 -- ---- what stands under a number
 

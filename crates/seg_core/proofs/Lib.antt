@@ -15,5 +15,7 @@ pub mod EncodedLengths
 pub mod Fronts
 pub mod Written
 pub mod Responses
+pub mod MessageSizes
+pub mod Registered
 pub mod ResponseLengths
 pub mod ResponseTrip

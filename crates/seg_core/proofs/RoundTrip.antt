@@ -1,5 +1,5 @@
 -- The encoding of a whole segment is bytes, and is read as that segment.
-use Rattle.std.proofs.Common.{◌≡◌, ℕ, ◌+◌, ◌≤◌, ◌<◌, ◌^◌, Bool, true, List, [], ◌∷◌, ◌++◌, length, map, Result, Ok, Option, Some, None, refl, ap, ◌∙◌, arith, length-append}
+use Rattle.std.proofs.Common.{◌≡◌, ℕ, ◌+◌, ◌≤◌, ◌<◌, ◌^◌, Bool, true, List, [], ◌∷◌, ◌++◌, length, map, Result, Ok, Option, Some, None, refl, sym, ap, ◌∙◌, arith, length-append}
 use Rattle.std.specs.Prelude.{nat_le}
 use Rattle.std.specs.List.{AllByRecursion}
 use Rattle.std.specs.Option.{ForSome}
@@ -20,6 +20,7 @@ use Rattle.seg_core.specs.Segment.{info_decoding, segment_decoding}
 use Rattle.seg_core.specs.Encoding.{bytes_encoding, optional_encoding, signed_encoding, as_entry_encoding, entries_encoding, segment_encoding, body_of, IsEntry, IsSegment}
 use Rattle.seg_core.proofs.Bytes.{bytes-nil, bytes-append, field-bytes}
 use Rattle.seg_core.proofs.Paths.{count-from, chain-from, no_loop-from}
+use Rattle.seg_core.proofs.Readings.{ok_is}
 use Rattle.seg_core.proofs.Sizes.{bytes_field-within}
 use Rattle.seg_core.proofs.EncodedFields.{bytes_fields, optional_fields, entry_fields, signed-fields, entry-fields, entries-length, segment-length, segment-fields, checked-is, signed-fit, entry-fit, segment-fit, signed-there, signature-there, unsigned-there, signed_message-there, info-there, entries-there}
 
@@ -65,6 +66,10 @@ decoding-encoding s is =
     (goes_on _ _ tt (Ok s) (holds (is_chain s.entries) Chain (chain-from s.entries is.chain))
     (goes_on _ _ tt (Ok s) (holds (has_no_loop s.entries) Loop (no_loop-from s.entries is.no_loop))
     (rw (info-there s.info s.entries) refl)))))))
+
+-- two whole segments of one encoding are one
+pub encoding-injective : (s t : SegmentView) → IsSegment s → IsSegment t → segment_encoding s ≡ segment_encoding t → s ≡ t
+encoding-injective s t one other same = ok_is s t (sym (decoding-encoding s one) ∙ ap segment_decoding same ∙ decoding-encoding t other)
 
 -- ---- an encoding is bytes
 

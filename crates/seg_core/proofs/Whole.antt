@@ -105,17 +105,21 @@ entries_read (message ∷ messages) es are le reading =
 abbrev segment_of : Info → List ℕ → List EntryView → SegmentView
 segment_of info bytes entries = record { timestamp = info.timestamp; segment_id = info.segment_id; info = bytes; entries = entries }
 
-segment-length : (message : List ℕ) (s : SegmentView) → length message ≤ 16384 → s.info ≡ text_or_empty 1 (fields message) → length (entries_encoding s.entries) ≤ encoded_len 2 (texts 2 (fields message)) → length (segment_encoding s) ≤ 16384
+segment_short : (message : List ℕ) (s : SegmentView) → length message ≤ 16384 → s.info ≡ text_or_empty 1 (fields message) → length (entries_encoding s.entries) ≤ encoded_len 2 (texts 2 (fields message)) → length (segment_encoding s) ≤ length message
 unfolding segment_encoding
-segment-length message s le info entries =
+segment_short message s le info entries =
     let fs = fields message in
     rw (info, length-append (bytes_encoding 1 (text_or_empty 1 fs)) (entries_encoding s.entries))
     (omega (arith, fields-length message le, or_empty-length 1 (text 1 fs), last-length 1 (texts 1 fs)))
 
 -- what the reading of a segment tells of it
-pub decoding-IsSegment : (message : List ℕ) (s : SegmentView) → IsBytes message → segment_decoding message ≡ Ok s → IsSegment s
+record IsRead (message : List ℕ) (s : SegmentView) : Type 0 where
+  whole : IsSegment s
+  short : length (segment_encoding s) ≤ length message
+
+segment_read : (message : List ℕ) (s : SegmentView) → IsBytes message → segment_decoding message ≡ Ok s → IsRead message s
 unfolding segment_decoding
-decoding-IsSegment message s are reading =
+segment_read message s are reading =
     let fs = fields message in
     let sized = after_check (nat_le (length message) 16384) TooLarge _ s reading in
     let fits = checked-fit path_segment_shape message _ s are sized.1 in
@@ -127,12 +131,24 @@ decoding-IsSegment message s are reading =
     let loop = after_check (has_no_loop entries.0) Loop _ s chain.1 in
     let le : length message ≤ 16384 = leb-true (length message) 16384 sized.0 in
     let were = entries_read (texts 2 fs) entries.0 (texts-bytes 2 fs fits) (omega (arith, fields-length message le)) entries.1 in
-    subst IsSegment (ok_is (segment_of info.0 (text_or_empty 1 fs) entries.0) s loop.1) (record {
-      info_says = info.1;
-      info_bytes = text_or_empty-bytes 1 fs fits;
-      entries = were.are_entries;
-      counted = count-HasEntryCount entries.0 (rw were.as_many counted.0);
-      chain = chain-IsChain entries.0 chain.0;
-      no_loop = no_loop-HasNoLoop entries.0 loop.0;
-      short = segment-length message (segment_of info.0 (text_or_empty 1 fs) entries.0) le refl were.short;
+    let made = segment_of info.0 (text_or_empty 1 fs) entries.0 in
+    let short : length (segment_encoding made) ≤ length message = segment_short message made le refl were.short in
+    subst (IsRead message) (ok_is made s loop.1) (record {
+      whole = record {
+        info_says = info.1;
+        info_bytes = text_or_empty-bytes 1 fs fits;
+        entries = were.are_entries;
+        counted = count-HasEntryCount entries.0 (rw were.as_many counted.0);
+        chain = chain-IsChain entries.0 chain.0;
+        no_loop = no_loop-HasNoLoop entries.0 loop.0;
+        short = omega arith;
+      };
+      short = short;
     })
+
+pub decoding-IsSegment : (message : List ℕ) (s : SegmentView) → IsBytes message → segment_decoding message ≡ Ok s → IsSegment s
+decoding-IsSegment message s are reading = (segment_read message s are reading).whole
+
+-- no encoding of it is longer than the message
+pub decoding-length : (message : List ℕ) (s : SegmentView) → IsBytes message → segment_decoding message ≡ Ok s → length (segment_encoding s) ≤ length message
+decoding-length message s are reading = (segment_read message s are reading).short

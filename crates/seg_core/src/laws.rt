@@ -9,11 +9,33 @@ ghost use Rattle.seg_core.specs.Segment.{segment_decoding};
 ghost use Rattle.seg_core.specs.Registration.{registration_decoding};
 ghost use Rattle.seg_core.specs.Encoding.{segment_encoding, IsSegment, response_encoding, by_type};
 ghost use Rattle.seg_core.specs.declared.seg_type.SegType.{SegType};
-ghost use Rattle.std.specs.List.{AllByRecursion};
+ghost use Rattle.std.specs.List.{AllByRecursion, sum_by};
 
 /// Each segment that is read of bytes is whole.
 pub fn read_segments_are_whole()
     ensures { (message : List ℕ) (s : SegmentView) → IsBytes message → segment_decoding message ≡ Ok s → IsSegment s }
+{}
+
+/// The encoding of a segment that is read of bytes is no longer than these.
+pub fn encodings_are_shortest()
+    ensures { (message : List ℕ) (s : SegmentView) → IsBytes message → segment_decoding message ≡ Ok s
+        → length (segment_encoding s) ≤ length message }
+{}
+
+/// Whole segments with one encoding are one segment.
+pub fn encodings_are_injective()
+    ensures { (s t : SegmentView) → IsSegment s → IsSegment t → segment_encoding s ≡ segment_encoding t → s ≡ t }
+{}
+
+/// A registration that is read of bytes has at most 16 segments, each of them whole, whose encodings have together at most
+/// 131,072 bytes.
+pub fn read_registrations_are_whole()
+    ensures few { (message : List ℕ) (rows : List (SegType × SegmentView)) → IsBytes message
+        → registration_decoding message ≡ Ok rows → length rows ≤ 16 }
+    ensures whole { (message : List ℕ) (rows : List (SegType × SegmentView)) → IsBytes message
+        → registration_decoding message ≡ Ok rows → AllByRecursion (λ row. IsSegment row.1) rows }
+    ensures short { (message : List ℕ) (rows : List (SegType × SegmentView)) → IsBytes message
+        → registration_decoding message ≡ Ok rows → sum_by (λ row. length (segment_encoding row.1)) rows ≤ 131072 }
 {}
 
 /// The encoding of a whole segment is bytes, and is read as that segment.

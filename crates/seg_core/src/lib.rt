@@ -33,7 +33,8 @@ pub use comparing::is_encoding_of;
 pub use entry::Entry;
 pub use error::SegError;
 pub use laws::{
-    path_tests_are_exact, read_segments_are_whole, responses_are_short,
+    encodings_are_injective, encodings_are_shortest, path_tests_are_exact,
+    read_registrations_are_whole, read_segments_are_whole, responses_are_short,
     whole_segments_are_well_formed, written_responses_are_read, written_segments_are_read,
 };
 pub use lengths::encoded_len;
