@@ -127,7 +127,7 @@ pub fn write_response(alloc: Global, segments: &[(SegType, Segment)]) -> Result<
     ensures nothing { length segments.now ≡ 0 → IsOk result }
 {
     if segments.is_empty() {
-        return Ok(Vec::new(alloc));
+        return write_response_of(alloc, &[]);
     }
     let mut referred = Vec::with_capacity(alloc, segments.len())?;
     for (kind, segment) in segments {
