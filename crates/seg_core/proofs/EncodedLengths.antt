@@ -25,17 +25,21 @@ within_more (suc left) n lt = elim (cases_lt n 128) [
       ∙ sym (encoding-goes_on left n large)
 ]
 
+-- a byte for the low seven bits, and the others
+pub varint-step : (n : ℕ) → 128 ≤ n → n < 2 ^ 64 → varint_encoding n ≡ (n % 128 + 128) ∷ varint_encoding (n / 128)
+unfolding varint_encoding
+varint-step n large lt = encoding-goes_on 8 n large ∙ ap (λ bytes. (n % 128 + 128) ∷ bytes) (sym (within_more 8 (n / 128) (omega arith)))
+
+pub varint-last : (n : ℕ) → n < 128 → varint_encoding n ≡ n ∷ []
+unfolding varint_encoding
+varint-last n small = encoding-last 9 n small
+
 -- seven bits less take one byte less
 pub varint-length-step : (n : ℕ) → 128 ≤ n → n < 2 ^ 64 → length (varint_encoding n) ≡ length (varint_encoding (n / 128)) + 1
-unfolding varint_encoding
-varint-length-step n large lt =
-    let first : length (encoding_within 9 n) ≡ suc (length (encoding_within 8 (n / 128))) = ap length (encoding-goes_on 8 n large) in
-    let same : length (encoding_within 9 (n / 128)) ≡ length (encoding_within 8 (n / 128)) = ap length (within_more 8 (n / 128) (omega arith)) in
-    omega arith
+varint-length-step n large lt = omega (arith, ap length (varint-step n large lt))
 
 pub varint-length-last : (n : ℕ) → n < 128 → length (varint_encoding n) ≡ 1
-unfolding varint_encoding
-varint-length-last n small = ap length (encoding-last 9 n small)
+varint-length-last n small = ap length (varint-last n small)
 
 pub varint-length-most : (n : ℕ) → n < 2 ^ 64 → length (varint_encoding n) ≤ 10
 varint-length-most n lt = (varint_encoding_is n lt).short

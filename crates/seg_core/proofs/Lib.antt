@@ -1,4 +1,5 @@
-pub mod Laws
+pub mod Whole
+pub mod Bytes
 pub mod Readings
 pub mod RoundTrip
 pub mod Sizes
@@ -11,6 +12,10 @@ pub mod Misfits
 pub mod Types
 pub mod Rows
 pub mod EncodedLengths
+pub mod Fronts
 pub mod Written
 pub mod Responses
+pub mod MessageSizes
+pub mod Registered
+pub mod ResponseLengths
 pub mod ResponseTrip

@@ -1,10 +1,12 @@
 -- The tests of a path tell what they mean, both ways.
-use Rattle.std.proofs.Common.{◌≡◌, ◌≢◌, ℕ, Bool, true, false, List, [], ◌∷◌, ◌++◌, refl, sym, ap, subst, inl, inr}
-use Rattle.std.specs.Prelude.{◌==◌, ◌&&◌, not, IsTrue, ◌↔◌}
-use Rattle.std.specs.List.{list_any}
-use Rattle.std.proofs.lemmas.Bool.{cases_Bool, eqb-true, eq-eqb}
+use Rattle.std.proofs.Common.{◌≡◌, ◌≢◌, ℕ, suc, Bool, true, false, List, [], ◌∷◌, ◌++◌, length, map, refl, sym, ap, subst, inl, inr, arith}
+use Rattle.std.specs.Prelude.{◌==◌, ◌&&◌, not, nat_le, IsTrue, ◌↔◌}
+use Rattle.std.specs.List.{list_any, AllByRecursion}
+use Rattle.std.proofs.lemmas.Bool.{cases_Bool, eqb-true, eq-eqb, leb-true, le-leb}
+use Rattle.std.proofs.lemmas.List.Elements.{All-from_recursion, recursion_from_All}
+use Rattle.std.proofs.lemmas.List.Kept.{AllPairs-cons}
 use Rattle.seg_core.specs.SegmentView.{EntryView}
-use Rattle.seg_core.specs.WellFormed.{LeadsTo, EndsAt, IsChain, HasNoLoop, is_linked, is_chain, has_no_loop}
+use Rattle.seg_core.specs.WellFormed.{LeadsTo, EndsAt, IsChain, HasEntryCount, HasNoLoop, is_entry_count, is_linked, is_chain, has_no_loop}
 
 -- ---- tests
 
@@ -25,6 +27,16 @@ from_other m n ne = elim (cases_Bool (m == n)) [
   | inr differs ↦ rw differs refl
 ]
 
+-- ---- how many
+
+pub count-HasEntryCount : (es : List EntryView) → is_entry_count (length es) ≡ true → HasEntryCount es
+count-HasEntryCount es h =
+    let each = both (nat_le 1 (length es)) (nat_le (length es) 64) h in
+    (leb-true 1 (length es) each.0, leb-true (length es) 64 each.1)
+
+pub count-from : (es : List EntryView) → HasEntryCount es → is_entry_count (length es) ≡ true
+count-from es h = from_both (nat_le 1 (length es)) (nat_le (length es) 64) (le-leb 1 (length es) h.0) (le-leb (length es) 64 h.1)
+
 -- ---- a chain
 
 -- what the test says of two neighbours
@@ -32,12 +44,12 @@ leads : (e f : EntryView) → (e.next == f.ia && (not (e.egress == 0) && not (f.
 leads e f h =
     let next = both (e.next == f.ia) (not (e.egress == 0) && not (f.ingress == 0)) h in
     let crossing = both (not (e.egress == 0)) (not (f.ingress == 0)) next.1 in
-    (eqb-true e.next f.ia next.0, other e.egress 0 crossing.0, other f.ingress 0 crossing.1)
+    record { next = eqb-true e.next f.ia next.0; egress = other e.egress 0 crossing.0; ingress = other f.ingress 0 crossing.1 }
 
 from_leads : (e f : EntryView) → LeadsTo e f → (e.next == f.ia && (not (e.egress == 0) && not (f.ingress == 0))) ≡ true
 from_leads e f h =
-    from_both (e.next == f.ia) (not (e.egress == 0) && not (f.ingress == 0)) (eq-eqb e.next f.ia h.0)
-    (from_both (not (e.egress == 0)) (not (f.ingress == 0)) (from_other e.egress 0 h.1) (from_other f.ingress 0 h.2))
+    from_both (e.next == f.ia) (not (e.egress == 0) && not (f.ingress == 0)) (eq-eqb e.next f.ia h.next)
+    (from_both (not (e.egress == 0)) (not (f.ingress == 0)) (from_other e.egress 0 h.egress) (from_other f.ingress 0 h.ingress))
 
 ends : (e : EntryView) → (e.next == 0 && e.egress == 0) ≡ true → EndsAt e
 ends e h = let each = both (e.next == 0) (e.egress == 0) h in (eqb-true e.next 0 each.0, eqb-true e.egress 0 each.1)
@@ -102,44 +114,44 @@ not_true : (b : Bool) → not b ≡ true → b ≡ false
 not_true true h = absurd cc
 not_true false h = refl
 
--- a list has an element that passes the test
-any_there : {A : Type 0} (p : A → Bool) (between after : List A) (x : A) → p x ≡ true → list_any p (between ++ x ∷ after) ≡ true
-any_there p [] after x passes = rw passes refl
-any_there p (y ∷ between) after x passes = elim (cases_Bool (p y)) [
-  | inl also ↦ rw also refl
-  | inr differs ↦ rw (differs, any_there p between after x passes) refl
+-- the ISD-ASes of entries
+abbrev ias : List EntryView → List ℕ
+ias es = map (λ e. e.ia) es
+
+-- an AS that stands in no entry is none of theirs
+none_is : (n : ℕ) (es : List EntryView) → list_any (λ f. f.ia == n) es ≡ false → AllByRecursion (λ m. n ≢ m) (ias es)
+none_is n [] h = tt
+none_is n (e ∷ es) h = elim (cases_Bool (e.ia == n)) [
+  | inl same ↦ absurd (let found : list_any (λ f. f.ia == n) (e ∷ es) ≡ true = rw same refl in cc)
+  | inr differs ↦ (λ same. let again = eq-eqb e.ia n (sym same) in cc, none_is n es (rw differs at h))
 ]
 
--- and where it stands
-any_split : {A : Type 0} (p : A → Bool) (xs : List A) → list_any p xs ≡ true → (between after : List A) × (x : A) × (xs ≡ between ++ x ∷ after) × (p x ≡ true)
-any_split p [] h = absurd cc
-any_split p (y ∷ xs) h = elim (cases_Bool (p y)) [
-  | inl is ↦ ([], xs, y, refl, is)
-  | inr differs ↦ let rest = any_split p xs (rw differs at h) in (y ∷ rest.0, rest.1, rest.2, ap (λ zs. y ∷ zs) rest.3, rest.4)
+any_is : (n : ℕ) (es : List EntryView) → AllByRecursion (λ m. n ≢ m) (ias es) → list_any (λ f. f.ia == n) es ≡ false
+any_is n [] none = refl
+any_is n (e ∷ es) none = elim (cases_Bool (e.ia == n)) [
+  | inl same ↦ absurd (none.0 (sym (eqb-true e.ia n same)))
+  | inr differs ↦ rw differs (any_is n es none.1)
 ]
-
-loopless : (before between after : List EntryView) (e f : EntryView) → has_no_loop (before ++ e ∷ (between ++ f ∷ after)) ≡ true → e.ia ≢ f.ia
-loopless [] between after e f h same =
-    let none = not_true (list_any (λ g. g.ia == e.ia) (between ++ f ∷ after)) (both (not (list_any (λ g. g.ia == e.ia) (between ++ f ∷ after))) (has_no_loop (between ++ f ∷ after)) h).0 in
-    let found = any_there (λ g. g.ia == e.ia) between after f (eq-eqb f.ia e.ia (sym same)) in
-    cc
-loopless (b ∷ before) between after e f h same =
-    loopless before between after e f (both (not (list_any (λ g. g.ia == b.ia) (before ++ e ∷ (between ++ f ∷ after)))) (has_no_loop (before ++ e ∷ (between ++ f ∷ after))) h).1 same
 
 pub no_loop-HasNoLoop : (es : List EntryView) → has_no_loop es ≡ true → HasNoLoop es
-no_loop-HasNoLoop es h before between after e f is = loopless before between after e f (subst (λ es. has_no_loop es ≡ true) is h)
+no_loop-HasNoLoop [] h = λ i j d lt within. absurd (omega arith)
+no_loop-HasNoLoop (e ∷ es) h =
+    let parts = both (not (list_any (λ f. f.ia == e.ia) es)) (has_no_loop es) h in
+    let none = All-from_recursion (λ m. e.ia ≢ m) (ias es) (none_is e.ia es (not_true (list_any (λ f. f.ia == e.ia) es) parts.0)) in
+    AllPairs-cons (λ m n. m ≢ n) e.ia (ias es) none (no_loop-HasNoLoop es parts.1)
 
 pub no_loop-from : (es : List EntryView) → HasNoLoop es → has_no_loop es ≡ true
 no_loop-from [] none = refl
 no_loop-from (e ∷ es) none =
-    from_both (not (list_any (λ g. g.ia == e.ia) es)) (has_no_loop es)
-    (elim (cases_Bool (list_any (λ g. g.ia == e.ia) es)) [
-      | inl found ↦ let at = any_split (λ g. g.ia == e.ia) es found in absurd (none [] at.0 at.1 e at.2 (ap (λ xs. e ∷ xs) at.3) (sym (eqb-true at.2.ia e.ia at.4)))
-      | inr differs ↦ rw differs refl
-    ])
-    (no_loop-from es (λ before between after x y at. none (e ∷ before) between after x y (ap (λ xs. e ∷ xs) at)))
+    let first = recursion_from_All (λ m. e.ia ≢ m) (ias es) (λ k d lt. none 0 (suc k) d (omega arith) (omega arith)) in
+    from_both (not (list_any (λ f. f.ia == e.ia) es)) (has_no_loop es)
+    (rw (any_is e.ia es first) refl)
+    (no_loop-from es (λ i j d lt within. none (suc i) (suc j) d (omega arith) (omega arith)))
 
 -- ---- both ways
+
+pub count-iff : (es : List EntryView) → (IsTrue (is_entry_count (length es))) ↔ HasEntryCount es
+count-iff es = (count-HasEntryCount es, count-from es)
 
 pub chain-iff : (es : List EntryView) → (IsTrue (is_chain es)) ↔ IsChain es
 chain-iff es = (chain-IsChain es, chain-from es)

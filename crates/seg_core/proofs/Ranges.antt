@@ -1,8 +1,7 @@
 -- A whole segment is well-formed.
-use Rattle.std.proofs.Common.{◌≡◌, ◌≢◌, ℕ, ◌-◌, ◌/◌, ◌%◌, ◌^◌, ◌<◌, true, List, [], ◌∷◌, length, Ok, subst, arith}
-use Rattle.std.specs.Prelude.{◌==◌, not, nat_le, All}
+use Rattle.std.proofs.Common.{◌≡◌, ◌≢◌, ℕ, ◌-◌, ◌/◌, ◌%◌, ◌^◌, ◌<◌, List, [], ◌∷◌, length, Ok, subst, arith}
+use Rattle.std.specs.Prelude.{◌==◌, not, All}
 use Rattle.std.specs.List.{AllByRecursion}
-use Rattle.std.proofs.lemmas.Bool.{leb-true}
 use Rattle.std.proofs.lemmas.List.Elements.{All-nil, All-cons}
 use Rattle.seg_core.specs.declared.error.SegError.TheVariants.{Range}
 use Rattle.seg_core.specs.declared.body.Body.{Body}
@@ -11,14 +10,16 @@ use Rattle.seg_core.specs.declared.info.Info.{Info}
 use Rattle.seg_core.specs.Shapes.{hop_field_shape, hop_entry_shape, body_shape, header_and_body_shape, segment_information_shape}
 use Rattle.seg_core.specs.Steps.{each}
 use Rattle.seg_core.specs.Message.{number, text_or_empty, texts}
+use Rattle.pw_wire.specs.Decoding.{IsBytes}
 use Rattle.pw_wire.specs.Fields.{fields}
 use Rattle.seg_core.specs.SegmentView.{EntryView, SegmentView}
 use Rattle.seg_core.specs.Entry.{names_an_as, hop_field_decoding, hop_entry_decoding, peer_entry_decoding, body_decoding, header_and_body_decoding}
 use Rattle.seg_core.specs.Segment.{info_decoding}
 use Rattle.seg_core.specs.Encoding.{body_of, IsEntry, IsSegment}
-use Rattle.seg_core.specs.WellFormed.{HasEntryCount, IsEntryInRange, IsWellFormed, is_entry_count}
+use Rattle.seg_core.specs.WellFormed.{IsEntryInRange, IsWellFormed}
+use Rattle.seg_core.proofs.Bytes.{checked-fit, number-fits, text_or_empty-bytes}
 use Rattle.seg_core.proofs.Readings.{step_ok, ok_is, after_checked, after_check, after_required, after_at_most}
-use Rattle.seg_core.proofs.Paths.{both, other, chain-IsChain, no_loop-HasNoLoop}
+use Rattle.seg_core.proofs.Paths.{both, other}
 
 -- ---- what readings give is in range
 
@@ -68,11 +69,37 @@ body_in_range message body reading =
     subst IsBodyInRange (ok_is (record { ia = ia; next = number 2 fs; hop = hop.0 }) body peers.2)
     (record { isd = other (ia / 2 ^ 48) 0 parts.0; asn = other (ia % 2 ^ 48) 0 parts.1; hop = hop_entry_in_range hop_entry.0 hop.0 hop.1 })
 
+-- the ISD-ASes that bytes say have 64 bits
+pub record HasWidths (body : Body) : Type 0 where
+  pub ia : body.ia < 2 ^ 64
+  pub next : body.next < 2 ^ 64
+
+body_fits : (message : List ℕ) (body : Body) → IsBytes message → body_decoding message ≡ Ok body → HasWidths body
+unfolding body_decoding
+body_fits message body are reading =
+    let fs = fields message in
+    let fits = checked-fit body_shape message _ body are reading in
+    let in_fields = after_checked body_shape message _ body reading in
+    let hop_entry = after_required 3 fs _ body in_fields in
+    let named = after_check (names_an_as (number 1 fs)) Range _ body hop_entry.2 in
+    let mtu = after_at_most (2 ^ 32 - 1) (number 5 fs) _ body named.1 in
+    let hop = step_ok (hop_entry_decoding hop_entry.0) _ body mtu.1 in
+    let peers = step_ok (each peer_entry_decoding (texts 4 fs)) _ body hop.2 in
+    subst HasWidths (ok_is (record { ia = number 1 fs; next = number 2 fs; hop = hop.0 }) body peers.2)
+    (record { ia = number-fits 1 fs fits; next = number-fits 2 fs fits })
+
+pub header_and_body-fits : (message : List ℕ) (body : Body) → IsBytes message → header_and_body_decoding message ≡ Ok body → HasWidths body
+unfolding header_and_body_decoding
+header_and_body-fits message body are reading =
+    let fs = fields message in
+    let fits = checked-fit header_and_body_shape message _ body are reading in
+    body_fits (text_or_empty 2 fs) body (text_or_empty-bytes 2 fs fits) (after_checked header_and_body_shape message _ body reading)
+
 entry_in_range : (e : EntryView) → IsEntry e → IsEntryInRange e
 unfolding header_and_body_decoding
-entry_in_range e says =
-    let body = body_in_range (text_or_empty 2 (fields e.signed)) (body_of e) (after_checked header_and_body_shape e.signed _ (body_of e) says) in
-    record { isd = body.isd; asn = body.asn; ingress = body.hop.ingress; egress = body.hop.egress; exp_time = body.hop.exp_time }
+entry_in_range e is =
+    let body = body_in_range (text_or_empty 2 (fields e.signed)) (body_of e) (after_checked header_and_body_shape e.signed _ (body_of e) is.says) in
+    record { ia = is.ia; isd = body.isd; asn = body.asn; next = is.next; ingress = body.hop.ingress; egress = body.hop.egress; exp_time = body.hop.exp_time }
 
 entries_in_range : (es : List EntryView) → AllByRecursion IsEntry es → All IsEntryInRange es
 entries_in_range [] say = All-nil IsEntryInRange
@@ -94,18 +121,13 @@ info_in_range message info reading =
 
 -- ---- a segment
 
-counted : (es : List EntryView) → is_entry_count (length es) ≡ true → HasEntryCount es
-counted es h =
-    let each = both (nat_le 1 (length es)) (nat_le (length es) 64) h in
-    (leb-true 1 (length es) each.0, leb-true (length es) 64 each.1)
-
 -- A whole segment is well-formed.
 pub IsSegment-IsWellFormed : (s : SegmentView) → IsSegment s → IsWellFormed s
 IsSegment-IsWellFormed s is =
     let info = info_in_range s.info (record { timestamp = s.timestamp; segment_id = s.segment_id }) is.info_says in
     record {
-      counted = counted s.entries is.counted;
-      chain = chain-IsChain s.entries is.chain;
-      no_loop = no_loop-HasNoLoop s.entries is.no_loop;
-      in_range = record { timestamp = info.timestamp; segment_id = info.segment_id; entries = entries_in_range s.entries is.entries_say };
+      counted = is.counted;
+      chain = is.chain;
+      no_loop = is.no_loop;
+      in_range = record { timestamp = info.timestamp; segment_id = info.segment_id; entries = entries_in_range s.entries is.entries };
     }

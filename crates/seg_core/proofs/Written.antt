@@ -1,5 +1,6 @@
 -- What is appended piece by piece is the encoding of the whole.
-use Rattle.std.proofs.Common.{◌≡◌, ℕ, ◌+◌, ◌*◌, ◌<◌, List, ◌∷◌, ◌++◌, length, drop, get_or, sym, ap, ◌∙◌, append_assoc, drop-cons, add-one}
+use Rattle.std.proofs.Common.{◌≡◌, ℕ, ◌+◌, ◌*◌, ◌<◌, ◌≤◌, List, ◌∷◌, ◌++◌, length, take, drop, get_or, arith, sym, ap, ◌∙◌, append_assoc, drop-cons, add-one}
+use Rattle.std.proofs.lemmas.List.{length-take, take-take}
 use Rattle.std.proofs.lemmas.List.Concat.{flat_map-cons}
 use Rattle.pw_wire.specs.Varint.{varint_encoding}
 use Rattle.pw_wire.specs.Field.{bytes_field_encoding}
@@ -57,3 +58,15 @@ segment-put s info es out between done same_info same_entries one two =
     both-put (bytes_encoding 1 s.info) (entries_encoding s.entries) out between done
     (one ∙ ap (λ xs. out ++ bytes_encoding 1 xs) same_info)
     (two ∙ ap (λ xs. between ++ entries_encoding xs) same_entries)
+
+-- ---- what stood there is kept
+
+-- where the one before it is kept, and so on
+pub kept-then : (out between done : List ℕ) → take (length out) between ≡ out → take (length between) done ≡ between → take (length out) done ≡ out
+kept-then out between done first second =
+    let le : length out ≤ length between = omega (arith, ap length first, length-take (length out) between) in
+    let short : take (length out) (take (length between) done) ≡ take (length out) done = take-take (length out) (length between) done le in
+    sym short ∙ ap (λ xs. take (length out) xs) second ∙ first
+
+pub kept-twice : (out one two done : List ℕ) → take (length out) one ≡ out → take (length one) two ≡ one → take (length two) done ≡ two → take (length out) done ≡ out
+kept-twice out one two done a b c = kept-then out one done a (kept-then one two done b c)

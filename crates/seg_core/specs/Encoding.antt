@@ -1,8 +1,10 @@
 -- The one encoding of a segment and of a response: fields by number, numbers in the shortest varints, zero numbers
 -- and empty bytes left out. What is kept of an entry is written as it came.
-use Rattle.std.specs.Prelude.{◌≡◌, ℕ, ◌+◌, ◌*◌, ◌≤◌, List, [], ◌∷◌, ◌++◌, length, map, filter, ◌==◌, IsTrue, Ok, Option, Some, None}
+use Rattle.std.specs.Prelude.{◌≡◌, ℕ, ◌+◌, ◌*◌, ◌<◌, ◌≤◌, ◌^◌, List, [], ◌∷◌, ◌++◌, length, map, filter, ◌==◌, Ok, Option, Some, None}
 use Rattle.std.specs.List.{flat_map, AllByRecursion}
+use Rattle.std.specs.Option.{ForSome}
 use Rattle.std.specs.Borrow.{Bor}
+use Rattle.pw_wire.specs.Decoding.{IsBytes}
 use Rattle.pw_wire.specs.Varint.{varint_encoding}
 use Rattle.pw_wire.specs.Field.{varint_field_encoding, bytes_field_encoding}
 use Rattle.seg_core.specs.declared.body.Body.{Body}
@@ -12,7 +14,7 @@ use Rattle.seg_core.specs.SegmentView.{EntryView, SegmentView}
 use Rattle.seg_core.specs.Entry.{header_and_body_decoding}
 use Rattle.seg_core.specs.Segment.{info_decoding}
 use Rattle.seg_core.specs.Registration.{type_number, rows_of}
-use Rattle.seg_core.specs.WellFormed.{is_entry_count, is_chain, has_no_loop}
+use Rattle.seg_core.specs.WellFormed.{HasEntryCount, IsChain, HasNoLoop}
 
 -- what stands before the bytes of a field: its tag, and how many bytes it has
 unfoldable pub head_encoding : ℕ → ℕ → List ℕ
@@ -46,18 +48,25 @@ segment_encoding s = bytes_encoding 1 s.info ++ entries_encoding s.entries
 abbrev pub body_of : EntryView → Body
 body_of e = record { ia = e.ia; next = e.next; hop = record { ingress = e.ingress; egress = e.egress; exp_time = e.exp_time } }
 
--- an entry whose numbers are those of its signed body
-abbrev pub IsEntry : EntryView → Type 0
-IsEntry e = header_and_body_decoding e.signed ≡ Ok (body_of e)
+-- What every entry is: its numbers are those of its signed body, its two ISD-ASes have 64 bits, and the pieces that
+-- are kept as they came are bytes.
+pub record IsEntry (e : EntryView) : Type 0 where
+  pub says : header_and_body_decoding e.signed ≡ Ok (body_of e)
+  pub ia : e.ia < 2 ^ 64
+  pub next : e.next < 2 ^ 64
+  pub signed : IsBytes e.signed
+  pub signature : IsBytes e.signature
+  pub unsigned : ForSome e.unsigned IsBytes
 
--- What every segment is: its numbers are those of its bytes, its entries are 1 to 64 and one path, and its encoding
--- has at most 16,384 bytes.
+-- What every segment is: its information is bytes that say its numbers, its entries are 1 to 64 and one path without a
+-- loop, and its encoding has at most 16,384 bytes.
 pub record IsSegment (s : SegmentView) : Type 0 where
   pub info_says : info_decoding s.info ≡ Ok (record { timestamp = s.timestamp; segment_id = s.segment_id })
-  pub entries_say : AllByRecursion IsEntry s.entries
-  pub counted : IsTrue (is_entry_count (length s.entries))
-  pub chain : IsTrue (is_chain s.entries)
-  pub no_loop : IsTrue (has_no_loop s.entries)
+  pub info_bytes : IsBytes s.info
+  pub entries : AllByRecursion IsEntry s.entries
+  pub counted : HasEntryCount s.entries
+  pub chain : IsChain s.entries
+  pub no_loop : HasNoLoop s.entries
   pub short : length (segment_encoding s) ≤ 16384
 
 -- ---- a response

@@ -10,4 +10,7 @@ pub mod Segment
 pub mod Request
 pub mod Registration
 pub mod Encoding
+pub mod Front
+pub mod Equality
+pub mod EqualityLaws
 pub mod Earlier

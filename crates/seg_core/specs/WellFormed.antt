@@ -1,5 +1,5 @@
 -- When the entries of a segment are one path: each leads to the next, and no AS stands twice.
-use Rattle.std.specs.Prelude.{◌≡◌, ◌≢◌, ℕ, ◌<◌, ◌≤◌, ◌^◌, ◌/◌, ◌%◌, List, [], ◌∷◌, ◌++◌, length, All, Bool, true, ◌==◌, ◌&&◌, not, nat_le}
+use Rattle.std.specs.Prelude.{◌≡◌, ◌≢◌, ℕ, ◌<◌, ◌≤◌, ◌^◌, ◌/◌, ◌%◌, List, [], ◌∷◌, ◌++◌, length, map, All, AllPairs, Bool, true, ◌==◌, ◌&&◌, not, nat_le}
 use Rattle.std.specs.List.{list_any}
 use Rattle.seg_core.specs.SegmentView.{EntryView, SegmentView}
 
@@ -7,8 +7,10 @@ use Rattle.seg_core.specs.SegmentView.{EntryView, SegmentView}
 
 -- From an entry the path goes on to the one after it: that is its next AS, and the crossing has an interface, which
 -- is not 0, on both sides.
-abbrev pub LeadsTo : EntryView → EntryView → Type 0
-LeadsTo e f = (e.next ≡ f.ia) × (e.egress ≢ 0) × (f.ingress ≢ 0)
+pub record LeadsTo (e f : EntryView) : Type 0 where
+  pub next : e.next ≡ f.ia
+  pub egress : e.egress ≢ 0
+  pub ingress : f.ingress ≢ 0
 
 -- From an entry the path goes nowhere: no next AS, and no egress.
 abbrev pub EndsAt : EntryView → Type 0
@@ -20,9 +22,13 @@ pub record IsChain (entries : List EntryView) : Type 0 where
   pub joined : (before after : List EntryView) (e f : EntryView) → entries ≡ before ++ e ∷ f ∷ after → LeadsTo e f
   pub last : (before : List EntryView) (e : EntryView) → entries ≡ before ++ e ∷ [] → EndsAt e
 
+-- no number of the list stands in it twice
+abbrev pub HasNoRepeats : List ℕ → Type 0
+HasNoRepeats ns = AllPairs (λ m n. m ≢ n) ns
+
 -- no AS stands twice
 abbrev pub HasNoLoop : List EntryView → Type 0
-HasNoLoop entries = (before between after : List EntryView) (e f : EntryView) → entries ≡ before ++ e ∷ (between ++ f ∷ after) → e.ia ≢ f.ia
+HasNoLoop entries = HasNoRepeats (map (λ e. e.ia) entries)
 
 -- 1 to 64
 abbrev pub HasEntryCount : List EntryView → Type 0
@@ -30,8 +36,10 @@ HasEntryCount entries = (1 ≤ length entries) × (length entries ≤ 64)
 
 -- an entry of an ISD and an AS that aren't 0, with numbers of their widths
 pub record IsEntryInRange (e : EntryView) : Type 0 where
+  pub ia : e.ia < 2 ^ 64
   pub isd : e.ia / 2 ^ 48 ≢ 0
   pub asn : e.ia % 2 ^ 48 ≢ 0
+  pub next : e.next < 2 ^ 64
   pub ingress : e.ingress < 2 ^ 16
   pub egress : e.egress < 2 ^ 16
   pub exp_time : e.exp_time < 2 ^ 8

@@ -34,24 +34,6 @@ pub struct Entry {
     pub unsigned: Option<Vec<u8>>,
 }
 
-impl Entry {
-    /// An equal entry.
-    pub(crate) fn try_clone(&self, alloc: Global) -> Result<Entry, AllocError>
-        ensures { IfOk result (λ copy. entry_view copy ≡ entry_view self.now) }
-    {
-        Ok(Entry {
-            ia: self.ia,
-            next: self.next,
-            ingress: self.ingress,
-            egress: self.egress,
-            exp_time: self.exp_time,
-            signed: Vec::from_slice(alloc, &self.signed)?,
-            signature: Vec::from_slice(alloc, &self.signature)?,
-            unsigned: copied(alloc, self.unsigned.as_deref())?,
-        })
-    }
-}
-
 /// A copy of bytes that may be missing.
 fn copied(alloc: Global, text: Option<&[u8]>) -> Result<Option<Vec<u8>>, AllocError>
     ensures { IfOk result (λ copy. option_map (λ v. v.items) copy ≡ option_map (λ s. s.now) text.entry) }

@@ -4,7 +4,7 @@ ghost use Rattle.std.specs.Prelude.{◌≡◌, ℕ, ◌+◌, ◌<◌, ◌≤◌,
 ghost use Rattle.pw_wire.specs.Varint.{varint_encoding};
 ghost use Rattle.pw_wire.specs.Field.{bytes_field_encoding};
 ghost use Rattle.seg_core.specs.EntryView.{entry_view, entry_views};
-ghost use Rattle.seg_core.specs.Encoding.{bytes_encoding, optional_encoding, signed_encoding, as_entry_encoding, entries_encoding, segment_encoding};
+ghost use Rattle.seg_core.specs.Encoding.{bytes_encoding, optional_encoding, signed_encoding, as_entry_encoding, entries_encoding, segment_encoding, IsSegment};
 
 use crate::entry::Entry;
 use crate::segment::Segment;
@@ -82,12 +82,13 @@ fn entries_len(entries: &[Entry]) -> usize
     len
 }
 
-/// The bytes of a segment.
+/// How many bytes a `PathSegment` takes in its one encoding, at most 16,384.
 #[tactic(auto, unfolding(crate::specs::Encoding::segment_encoding))]
-pub(crate) fn segment_len(segment: &Segment) -> usize
+pub fn encoded_len(segment: &Segment) -> usize
     ensures exact { result ≡ length (segment_encoding segment.now) }
     ensures most { result ≤ 16384 }
+    ensures whole { IsSegment segment.now }
 {
     let entries = segment.entries();
-    bytes_len(segment.info()) + entries_len(entries)
+    bytes_len(segment.segment_info()) + entries_len(entries)
 }

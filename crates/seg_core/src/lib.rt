@@ -6,12 +6,14 @@
 #![tactic(auto)]
 
 mod body;
+mod comparing;
 mod earlier;
 mod entry;
+mod equality;
 mod error;
-mod guarantees;
 mod hop;
 mod info;
+mod laws;
 mod lengths;
 mod limits;
 mod path;
@@ -25,15 +27,18 @@ mod slots;
 mod texts;
 mod writing;
 
+pub use comparing::is_encoding_of;
 pub use entry::Entry;
 pub use error::SegError;
-pub use guarantees::{
-    path_tests_are_exact, read_segments_are_whole, whole_segments_are_well_formed,
-    written_responses_are_read, written_segments_are_read,
+pub use laws::{
+    encodings_are_injective, encodings_are_shortest, path_tests_are_exact,
+    read_registrations_are_whole, read_segments_are_whole, responses_are_short,
+    whole_segments_are_well_formed, written_responses_are_read, written_segments_are_read,
 };
+pub use lengths::encoded_len;
 pub use registration::read_registration;
 pub use request::read_request;
 pub use response::{write_response, write_response_of};
 pub use seg_type::SegType;
 pub use segment::{Segment, read_segment};
-pub use writing::write_segment;
+pub use writing::{put_segment, write_segment};

@@ -36,7 +36,7 @@ pub(crate) fn is_chain(entries: &[Entry]) -> bool
 }
 
 /// Whether two ISD-AS numbers are the same.
-fn is_same(one: IsdAs, other: IsdAs) -> bool
+pub(crate) fn is_same(one: IsdAs, other: IsdAs) -> bool
     ensures { result ≡ (number_of one == number_of other) }
 {
     one == other

@@ -1,10 +1,10 @@
 //! Responses: maps from types to segments.
 
-ghost use Rattle.std.specs.Prelude.{◌≡◌, ℕ, ◌+◌, ◌++◌, List, length, IfOk, OnOk};
+ghost use Rattle.std.specs.Prelude.{◌≡◌, ℕ, ◌+◌, ◌++◌, List, length, IfOk, IsOk, OnOk};
 ghost use Rattle.pw_wire.specs.Field.{bytes_field_encoding};
 ghost use Rattle.seg_core.specs.Encoding.{segments_encoding, of_type, map_entry_encoding, response_encoding, referred};
 
-use crate::lengths::{head_len, segment_len};
+use crate::lengths::{encoded_len, head_len};
 use crate::seg_type::SegType;
 use crate::segment::Segment;
 use crate::writing::{SLACK, put_head, put_segment};
@@ -28,7 +28,7 @@ fn segments_len(segments: &[(SegType, &Segment)], kind: SegType) -> Result<usize
     let mut len = 0;
     for (of, segment) in segments {
         if *of == kind {
-            let bytes = segment_len(segment);
+            let bytes = encoded_len(segment);
             len = sum(len, head_len(bytes) + bytes)?;
         }
     }
@@ -45,8 +45,8 @@ fn put_segments(
 {
     for (of, segment) in segments {
         if *of == kind {
-            put_head(out, 1, segment_len(segment))?;
-            put_segment(out, segment)?;
+            put_head(out, 1, encoded_len(segment))?;
+            put_segment(segment, out)?;
         }
     }
     Ok(())
@@ -106,8 +106,12 @@ pub fn write_response_of(
     alloc: Global,
     segments: &[(SegType, &Segment)],
 ) -> Result<Vec<u8>, AllocError>
-    ensures { IfOk result (λ v. v.items ≡ response_encoding (referred segments.now)) }
+    ensures exact { IfOk result (λ v. v.items ≡ response_encoding (referred segments.now)) }
+    ensures nothing { length segments.now ≡ 0 → IsOk result }
 {
+    if segments.is_empty() {
+        return Ok(Vec::new(alloc));
+    }
     let mut out = Vec::with_capacity(alloc, sum(response_len(segments)?, SLACK)?)?;
     put_type(&mut out, segments, SegType::Up)?;
     put_type(&mut out, segments, SegType::Down)?;
@@ -115,10 +119,16 @@ pub fn write_response_of(
     Ok(out)
 }
 
-/// The bytes of a `SegmentsResponse`: for each type that has segments, these, in their order.
+/// The bytes of a `SegmentsResponse`: for each type that has segments, these, in their order. No segments take no
+/// memory.
+#[tactic(auto, unfolding(crate::specs::Encoding::response_encoding))]
 pub fn write_response(alloc: Global, segments: &[(SegType, Segment)]) -> Result<Vec<u8>, AllocError>
-    ensures { IfOk result (λ v. v.items ≡ response_encoding segments.now) }
+    ensures exact { IfOk result (λ v. v.items ≡ response_encoding segments.now) }
+    ensures nothing { length segments.now ≡ 0 → IsOk result }
 {
+    if segments.is_empty() {
+        return write_response_of(alloc, &[]);
+    }
     let mut referred = Vec::with_capacity(alloc, segments.len())?;
     for (kind, segment) in segments {
         referred.push((*kind, segment))?;

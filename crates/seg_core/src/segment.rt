@@ -20,31 +20,39 @@ use crate::slots::slots_of;
 use crate::texts::Texts;
 use std::alloc::{AllocError, Global};
 use std::marker::Model;
+use std::sync::Arc;
 
 /// The most bytes of a segment.
 const MOST_BYTES: usize = 16_384;
 /// The most entries of a segment.
 const MOST_ENTRIES: usize = 64;
 
-/// A path segment: 1 to 64 entries that are one path without a loop, and pieces of the message that it came in.
+/// What a segment has, which its copies share.
 #[derive(Debug, Drop)]
-pub struct Segment {
+struct Parts {
     timestamp: u32,
     segment_id: u16,
     info: Vec<u8>,
     entries: Vec<Entry>,
 }
 
+/// A path segment: 1 to 64 entries that are one path without a loop, and pieces of the message that it came in.
+#[derive(Debug, Drop)]
+pub struct Segment {
+    shared: Arc<Parts>,
+}
+
 impl Model for Segment {
+    ghost use Rattle.std.specs.Arc.{arc_value};
     ghost use Rattle.seg_core.specs.SegmentView.{SegmentView};
-    ghost use Rattle.seg_core.specs.EntryView.{entry_views};
+    ghost use Rattle.seg_core.specs.EntryView.{segment_view};
     ghost use Rattle.seg_core.specs.Encoding.{IsSegment};
 
     ghost Value = { SegmentView };
 
-    ghost view = { λ s. record { timestamp = s.timestamp; segment_id = s.segment_id; info = s.info.items; entries = entry_views s.entries.items } };
+    ghost view = { λ s. segment_view (arc_value s.shared) };
 
-    ghost invariant = { λ s. IsSegment (record { timestamp = s.timestamp; segment_id = s.segment_id; info = s.info.items; entries = entry_views s.entries.items }) };
+    ghost invariant = { λ s. IsSegment (segment_view (arc_value s.shared)) };
 }
 
 impl Segment {
@@ -52,14 +60,21 @@ impl Segment {
     pub fn timestamp(&self) -> u32
         ensures { result ≡ self.now.timestamp }
     {
-        self.timestamp
+        self.shared.timestamp
     }
 
     /// The id that the AS has picked which made the segment.
     pub fn segment_id(&self) -> u16
         ensures { result ≡ self.now.segment_id }
     {
-        self.segment_id
+        self.shared.segment_id
+    }
+
+    /// The segment's information as it came.
+    pub fn segment_info(&self) -> &[u8]
+        ensures { result.now ≡ self.now.info }
+    {
+        &self.shared.info
     }
 
     /// The entries, in the direction in which the segment was built.
@@ -67,30 +82,16 @@ impl Segment {
         ensures same { entry_views result.now ≡ self.now.entries }
         ensures whole { IsSegment self.now }
     {
-        &self.entries
+        &self.shared.entries
     }
 
-    /// The segment's information as it came.
-    pub(crate) fn info(&self) -> &[u8]
-        ensures { result.now ≡ self.now.info }
+    /// An equal segment, which shares what this one has: it takes no memory. It is refused where 2^63 share it.
+    pub fn try_clone(&self) -> Result<Segment, AllocError>
+        ensures same { IfOk result (λ copy. copy ≡ self.now) }
+        ensures whole { IsSegment self.now }
     {
-        &self.info
-    }
-
-    /// An equal segment.
-    pub fn try_clone(&self, alloc: Global) -> Result<Segment, AllocError>
-        ensures { IfOk result (λ copy. copy ≡ self.now) }
-    {
-        let mut entries = Vec::with_capacity(alloc, self.entries.len())?;
-        for entry in &self.entries {
-            entries.push(entry.try_clone(alloc)?)?;
-        }
-        Ok(Segment {
-            timestamp: self.timestamp,
-            segment_id: self.segment_id,
-            info: Vec::from_slice(alloc, &self.info)?,
-            entries,
-        })
+        let shared = Arc::try_clone(&self.shared)?;
+        Ok(Segment { shared })
     }
 }
 
@@ -131,10 +132,12 @@ pub fn read_segment(alloc: Global, message: &[u8]) -> Result<Segment, SegError>
     let entries = read_entries(alloc, slots.texts(2))?;
     check(is_chain(&entries), SegError::Chain)?;
     check(has_no_loop(&entries), SegError::Loop)?;
-    Ok(Segment {
+    let parts = Parts {
         timestamp: info.timestamp,
         segment_id: info.segment_id,
         info: Vec::from_slice(alloc, slots.text_or_empty(1))?,
         entries,
-    })
+    };
+    let shared = Arc::new(alloc, parts)?;
+    Ok(Segment { shared })
 }

@@ -1,11 +1,11 @@
 //! Writing segments, in their one encoding.
 
-ghost use Rattle.std.specs.Prelude.{◌≡◌, ◌<◌, ◌≤◌, ◌++◌, length, IfOk, OnOk};
+ghost use Rattle.std.specs.Prelude.{◌≡◌, ◌<◌, ◌≤◌, ◌++◌, length, take, IfOk, OnOk, OnErr};
 ghost use Rattle.seg_core.specs.EntryView.{entry_view, entry_views};
-ghost use Rattle.seg_core.specs.Encoding.{head_encoding, bytes_encoding, optional_encoding, signed_encoding, as_entry_encoding, entries_encoding, segment_encoding};
+ghost use Rattle.seg_core.specs.Encoding.{head_encoding, bytes_encoding, optional_encoding, signed_encoding, as_entry_encoding, entries_encoding, segment_encoding, IsSegment};
 
 use crate::entry::Entry;
-use crate::lengths::{entry_len, head_len, segment_len, signed_len};
+use crate::lengths::{encoded_len, entry_len, signed_len};
 use crate::segment::Segment;
 use pw_wire::{put_bytes_field, put_varint};
 use std::alloc::{AllocError, Global};
@@ -17,7 +17,8 @@ pub(crate) const SLACK: usize = 20;
 #[tactic(auto, unfolding(crate::specs::Encoding::head_encoding))]
 pub(crate) fn put_head(out: &mut Vec<u8>, number: u32, len: usize) -> Result<(), AllocError>
     requires { number < 15 }
-    ensures { OnOk result (out.new.items ≡ out.old.items ++ head_encoding number len) }
+    ensures ok { OnOk result (out.new.items ≡ out.old.items ++ head_encoding number len) }
+    ensures kept { take (length out.old.items) out.new.items ≡ out.old.items }
 {
     put_varint(out, u64::from(number) * 8 + 2)?;
     put_varint(out, len as u64)
@@ -27,7 +28,8 @@ pub(crate) fn put_head(out: &mut Vec<u8>, number: u32, len: usize) -> Result<(),
 fn put_bytes(out: &mut Vec<u8>, number: u32, bytes: &[u8]) -> Result<(), AllocError>
     requires positive { 1 ≤ number }
     requires below { number < 15 }
-    ensures { OnOk result (out.new.items ≡ out.old.items ++ bytes_encoding number bytes.now) }
+    ensures ok { OnOk result (out.new.items ≡ out.old.items ++ bytes_encoding number bytes.now) }
+    ensures kept { take (length out.old.items) out.new.items ≡ out.old.items }
 {
     if bytes.is_empty() {
         return Ok(());
@@ -37,7 +39,8 @@ fn put_bytes(out: &mut Vec<u8>, number: u32, bytes: &[u8]) -> Result<(), AllocEr
 
 /// Appends an entry's signed message.
 fn put_signed(out: &mut Vec<u8>, entry: &Entry) -> Result<(), AllocError>
-    ensures { OnOk result (out.new.items ≡ out.old.items ++ signed_encoding (entry_view entry.now)) }
+    ensures ok { OnOk result (out.new.items ≡ out.old.items ++ signed_encoding (entry_view entry.now)) }
+    ensures kept { take (length out.old.items) out.new.items ≡ out.old.items }
 {
     put_bytes(out, 1, &entry.signed)?;
     put_bytes(out, 2, &entry.signature)
@@ -45,7 +48,8 @@ fn put_signed(out: &mut Vec<u8>, entry: &Entry) -> Result<(), AllocError>
 
 /// Appends what an entry has that is not signed, where it is there.
 fn put_unsigned(out: &mut Vec<u8>, entry: &Entry) -> Result<(), AllocError>
-    ensures { OnOk result (out.new.items ≡ out.old.items ++ optional_encoding 2 (entry_view entry.now).unsigned) }
+    ensures ok { OnOk result (out.new.items ≡ out.old.items ++ optional_encoding 2 (entry_view entry.now).unsigned) }
+    ensures kept { take (length out.old.items) out.new.items ≡ out.old.items }
 {
     match &entry.unsigned {
         None => Ok(()),
@@ -56,7 +60,8 @@ fn put_unsigned(out: &mut Vec<u8>, entry: &Entry) -> Result<(), AllocError>
 /// Appends an entry.
 fn put_entry(out: &mut Vec<u8>, entry: &Entry) -> Result<(), AllocError>
     requires { length (as_entry_encoding (entry_view entry.now)) ≤ 16384 }
-    ensures { OnOk result (out.new.items ≡ out.old.items ++ as_entry_encoding (entry_view entry.now)) }
+    ensures ok { OnOk result (out.new.items ≡ out.old.items ++ as_entry_encoding (entry_view entry.now)) }
+    ensures kept { take (length out.old.items) out.new.items ≡ out.old.items }
 {
     put_head(out, 1, signed_len(entry))?;
     put_signed(out, entry)?;
@@ -66,7 +71,8 @@ fn put_entry(out: &mut Vec<u8>, entry: &Entry) -> Result<(), AllocError>
 /// Appends a segment's entries, each behind its tag and its length.
 fn put_entries(out: &mut Vec<u8>, entries: &[Entry]) -> Result<(), AllocError>
     requires { length (entries_encoding (entry_views entries.now)) ≤ 16384 }
-    ensures { OnOk result (out.new.items ≡ out.old.items ++ entries_encoding (entry_views entries.now)) }
+    ensures ok { OnOk result (out.new.items ≡ out.old.items ++ entries_encoding (entry_views entries.now)) }
+    ensures kept { take (length out.old.items) out.new.items ≡ out.old.items }
 {
     for entry in entries {
         put_head(out, 2, entry_len(entry))?;
@@ -75,19 +81,37 @@ fn put_entries(out: &mut Vec<u8>, entries: &[Entry]) -> Result<(), AllocError>
     Ok(())
 }
 
-/// Appends a segment.
-pub(crate) fn put_segment(out: &mut Vec<u8>, segment: &Segment) -> Result<(), AllocError>
-    ensures { OnOk result (out.new.items ≡ out.old.items ++ segment_encoding segment.now) }
+/// Appends a segment, or a part of it where memory is refused.
+fn put_parts(segment: &Segment, out: &mut Vec<u8>) -> Result<(), AllocError>
+    ensures ok { OnOk result (out.new.items ≡ out.old.items ++ segment_encoding segment.now) }
+    ensures kept { take (length out.old.items) out.new.items ≡ out.old.items }
 {
-    put_bytes(out, 1, segment.info())?;
+    put_bytes(out, 1, segment.segment_info())?;
     put_entries(out, segment.entries())
+}
+
+/// Appends the bytes of a `PathSegment`, in its one encoding. Where memory is refused, the vector has the items that it
+/// had.
+pub fn put_segment(segment: &Segment, out: &mut Vec<u8>) -> Result<(), AllocError>
+    ensures ok { OnOk result (out.new.items ≡ out.old.items ++ segment_encoding segment.now) }
+    ensures err { OnErr result (out.new.items ≡ out.old.items) }
+    ensures whole { IsSegment segment.now }
+{
+    let before = out.len();
+    out.reserve(encoded_len(segment) + SLACK)?;
+    let put = put_parts(segment, out);
+    if put.is_err() {
+        out.truncate(before);
+    }
+    put
 }
 
 /// The bytes of a `PathSegment`, in its one encoding, which `read_segment` reads as that segment again.
 pub fn write_segment(alloc: Global, segment: &Segment) -> Result<Vec<u8>, AllocError>
-    ensures { IfOk result (λ v. v.items ≡ segment_encoding segment.now) }
+    ensures exact { IfOk result (λ v. v.items ≡ segment_encoding segment.now) }
+    ensures whole { IsSegment segment.now }
 {
-    let mut out = Vec::with_capacity(alloc, segment_len(segment) + SLACK)?;
-    put_segment(&mut out, segment)?;
+    let mut out = Vec::new(alloc);
+    put_segment(segment, &mut out)?;
     Ok(out)
 }

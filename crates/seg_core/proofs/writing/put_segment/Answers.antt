@@ -1,20 +1,5 @@
-use Rattle.std.proofs.Common.{◌≤◌, length, arith}
-use Rattle.std.proofs.lemmas.Result.{on_ok_weaker}
-use Rattle.seg_core.specs.EntryView.{entry_views}
-use Rattle.seg_core.specs.Encoding.{segment_encoding}
-use Rattle.seg_core.proofs.EncodedFields.{segment-length}
-use Rattle.seg_core.proofs.Written.{segment-put}
+use Rattle.std.proofs.Common.{rules}
 use Rattle.seg_core.proofs.writing.put_segment.Goals as goal
 
-pub put_entries-requires : goal.put_entries-requires
-put_entries-requires c =
-    let s = c.args.segment.now in
-    let short : length (segment_encoding s) ≤ 16384 = c.entries.ensures.whole.short in
-    rw c.entries.ensures.same (omega (arith, segment-length s))
-
-pub returns : goal.returns
-returns c =
-    on_ok_weaker c.put_entries.result
-    (segment-put c.args.segment.now c.info.result.now (entry_views c.entries.result.now) c.args.out.now.items c.put_bytes.new.out.items c.put_entries.new.out.items
-    c.info.ensures c.entries.ensures.same c.in_ok-put_bytes.ensures)
-    c.put_entries.ensures
+pub returns-then-is_err-clause-err : goal.returns-then-is_err-clause-err
+returns-then-is_err-clause-err c = search rules

@@ -11,5 +11,5 @@ pub returns-clause-bounded : goal.returns-clause-bounded
 returns-clause-bounded c =
     let same = c.in_ok-found.ensures.same in
     let whole = subst (λ (rows : List RowView). AllByRecursion (λ row. IsSegment row.1) rows) same c.in_ok-found.ensures.whole in
-    let written = c.in_ok-write_response_of.ensures ∙ ap response_encoding (ap referred c.deref.ensures.value ∙ same) in
+    let written = c.in_ok-write_response_of.ensures.exact ∙ ap response_encoding (ap referred c.deref.ensures.value ∙ same) in
     rw written (short_answer c.self.inside.rows (query_view c.in_ok-query.query) whole)

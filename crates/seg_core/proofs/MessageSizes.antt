@@ -1,0 +1,53 @@
+-- A message of bytes, of any length, is no shorter than the shortest encodings of what stands under its field numbers 1
+-- and 2. It serves the law `read_registrations_are_whole`.
+use Rattle.std.proofs.Common.{◌≡◌, ℕ, ◌+◌, ◌<◌, ◌≤◌, List, [], ◌∷◌, ◌++◌, length, drop, ap, ◌∙◌, inl, inr, arith, length-append}
+use Rattle.std.specs.Prelude.{◌==◌, if◌then◌else◌}
+use Rattle.std.proofs.lemmas.Bool.{cases_Bool, eqb-true}
+use Rattle.std.proofs.lemmas.List.{length-drop}
+use Rattle.std.proofs.lemmas.List.Sums.{sum_by-append, sum_by-cons}
+use Rattle.pw_wire.specs.Varint.{EncodesNumber}
+use Rattle.pw_wire.specs.Field.{FieldValue, Varint, Fixed64, Bytes, Fixed32, FieldView, IsValue, bytes_field_encoding}
+use Rattle.pw_wire.specs.Fields.{AreFields}
+use Rattle.pw_wire.proofs.Varints.{varint_encoding_shortest}
+use Rattle.seg_core.specs.Message.{bytes_in, texts}
+use Rattle.seg_core.proofs.EncodedLengths.{field-length}
+use Rattle.seg_core.proofs.WireSizes.{encoded_len}
+
+-- a varint has a byte
+some_byte : (bytes : List ℕ) (n : ℕ) → EncodesNumber bytes n → 1 ≤ length bytes
+some_byte [] n encodes = absurd encodes
+some_byte (b ∷ bytes) n encodes = omega arith
+
+-- the shortest encoding of a field has at most a byte more than the value
+value_adds : (k : ℕ) (content : List ℕ) (value : FieldValue) → k < 15 → IsValue content value → encoded_len k (bytes_in value) ≤ 1 + length content
+value_adds k content (Varint n) lt is = omega arith
+value_adds k content (Fixed64 n) lt is = omega arith
+value_adds k content (Fixed32 n) lt is = omega arith
+value_adds k content (Bytes text) lt is =
+    let one : encoded_len k (text ∷ []) ≡ length (bytes_field_encoding k text) + encoded_len k [] = sum_by-cons (λ text. length (bytes_field_encoding k text)) text [] in
+    omega (arith, one, field-length k text lt, ap length is.parts, length-append is.front text, varint_encoding_shortest (length text) is.front is.varint)
+
+-- a field adds under one of the two numbers, or none
+field_adds : (f : FieldView) (content : List ℕ) → IsValue content f.value
+    → encoded_len 1 (if f.number == 1 then bytes_in f.value else []) + encoded_len 2 (if f.number == 2 then bytes_in f.value else []) ≤ 1 + length content
+field_adds f content is = elim (cases_Bool (f.number == 1)) [
+  | inl one ↦ elim (cases_Bool (f.number == 2)) [
+    | inl two ↦ let a : f.number ≡ 1 = eqb-true f.number 1 one in let b : f.number ≡ 2 = eqb-true f.number 2 two in absurd (omega arith)
+    | inr not ↦ rw (one, not) (omega (arith, value_adds 1 content f.value (omega arith) is))
+  ]
+  | inr not ↦ elim (cases_Bool (f.number == 2)) [
+    | inl two ↦ rw (not, two) (omega (arith, value_adds 2 content f.value (omega arith) is))
+    | inr none ↦ rw (not, none) (omega arith)
+  ]
+]
+
+pub message-size : (fs : List FieldView) (bytes : List ℕ) → AreFields bytes fs → encoded_len 1 (texts 1 fs) + encoded_len 2 (texts 2 fs) ≤ length bytes
+message-size [] bytes are = omega arith
+message-size (f ∷ fs) bytes are =
+    let is = are.1 in
+    let parts : length bytes ≡ length is.tag + length (is.content ++ is.rest) = ap length is.parts ∙ length-append is.tag (is.content ++ is.rest) in
+    let tag = some_byte is.tag _ is.tag_is.encoded in
+    let others = message-size fs (drop are.0 bytes) are.2 in
+    rw (sum_by-append (λ text. length (bytes_field_encoding 1 text)) (if f.number == 1 then bytes_in f.value else []) (texts 1 fs))
+    (rw (sum_by-append (λ text. length (bytes_field_encoding 2 text)) (if f.number == 2 then bytes_in f.value else []) (texts 2 fs))
+    (omega (arith, parts, is.len_is, tag, others, length-append is.content is.rest, length-drop are.0 bytes, field_adds f is.content is.content_is)))

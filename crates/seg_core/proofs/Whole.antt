@@ -1,0 +1,154 @@
+-- Each segment that is read is whole.
+use Rattle.std.proofs.Common.{◌≡◌, ℕ, ◌+◌, ◌≤◌, suc, List, [], ◌∷◌, ◌++◌, length, Ok, Option, refl, ap, subst, arith, length-append}
+use Rattle.std.specs.Prelude.{nat_le}
+use Rattle.std.specs.List.{AllByRecursion}
+use Rattle.std.proofs.lemmas.Bool.{leb-true}
+use Rattle.std.proofs.lemmas.List.Concat.{flat_map-cons}
+use Rattle.std.proofs.lemmas.List.Sums.{sum_by-cons}
+use Rattle.pw_wire.specs.Decoding.{IsBytes}
+use Rattle.pw_wire.specs.Field.{bytes_field_encoding}
+use Rattle.pw_wire.specs.Fields.{fields}
+use Rattle.seg_core.specs.declared.error.SegError.TheVariants.{Chain, Loop, Entries, TooLarge}
+use Rattle.seg_core.specs.declared.body.Body.{Body}
+use Rattle.seg_core.specs.declared.info.Info.{Info}
+use Rattle.seg_core.specs.Shapes.{path_segment_shape, as_entry_shape, signed_message_shape}
+use Rattle.seg_core.specs.Steps.{◌>>=◌, each}
+use Rattle.seg_core.specs.Message.{text, texts, text_or_empty}
+use Rattle.seg_core.specs.SegmentView.{EntryView, SegmentView}
+use Rattle.seg_core.specs.Entry.{header_and_body_decoding, as_entry_decoding}
+use Rattle.seg_core.specs.WellFormed.{is_entry_count, is_chain, has_no_loop}
+use Rattle.seg_core.specs.Segment.{info_decoding, segment_decoding}
+use Rattle.seg_core.specs.Encoding.{bytes_encoding, as_entry_encoding, entries_encoding, segment_encoding, IsEntry, IsSegment}
+use Rattle.seg_core.proofs.Bytes.{checked-fit, texts-bytes, text-bytes, text_or_empty-bytes}
+use Rattle.seg_core.proofs.Paths.{count-HasEntryCount, chain-IsChain, no_loop-HasNoLoop}
+use Rattle.seg_core.proofs.Ranges.{header_and_body-fits}
+use Rattle.seg_core.proofs.Readings.{step_ok, ok_is, after_checked, after_check, after_required}
+use Rattle.seg_core.proofs.WireSizes.{encoded_len, fields-length}
+use Rattle.seg_core.proofs.Sizes.{bytes_field-mono, bytes_field-within, last-length, or_empty-length, parts-length, entry-length, signed-within}
+
+-- ---- one entry
+
+-- an entry of its parts
+abbrev entry_of : Body → List ℕ → List ℕ → Option (List ℕ) → EntryView
+entry_of body signed signature unsigned = record {
+  ia = body.ia;
+  next = body.next;
+  ingress = body.hop.ingress;
+  egress = body.hop.egress;
+  exp_time = body.hop.exp_time;
+  signed = signed;
+  signature = signature;
+  unsigned = unsigned;
+}
+
+-- an entry that was read from a message
+record WasRead (message : List ℕ) (e : EntryView) : Type 0 where
+  is_entry : IsEntry e
+  short : length (as_entry_encoding e) ≤ length message
+
+entry_read : (message : List ℕ) (e : EntryView) → IsBytes message → length message ≤ 16384 → as_entry_decoding message ≡ Ok e → WasRead message e
+unfolding as_entry_decoding
+entry_read message e are le reading =
+    let fs = fields message in
+    let fits = checked-fit as_entry_shape message _ e are reading in
+    let in_fields = after_checked as_entry_shape message _ e reading in
+    let in_signed = after_required 1 fs _ e in_fields in
+    let signed = in_signed.0 in
+    let parts = fields signed in
+    let parts_fit = checked-fit signed_message_shape signed _ e (text-bytes 1 fs fits signed in_signed.1) in_signed.2 in
+    let in_parts = after_checked signed_message_shape signed _ e in_signed.2 in
+    let in_body = step_ok (header_and_body_decoding (text_or_empty 1 parts)) _ e in_parts in
+    subst (WasRead message) (ok_is (entry_of in_body.0 (text_or_empty 1 parts) (text_or_empty 2 parts) (text 2 fs)) e in_body.2) (record {
+      is_entry =
+          let widths = header_and_body-fits (text_or_empty 1 parts) in_body.0 (text_or_empty-bytes 1 parts parts_fit) in_body.1 in
+          record {
+            says = in_body.1;
+            ia = widths.ia;
+            next = widths.next;
+            signed = text_or_empty-bytes 1 parts parts_fit;
+            signature = text_or_empty-bytes 2 parts parts_fit;
+            unsigned = text-bytes 2 fs fits;
+          };
+      short = entry-length message signed (bytes_encoding 1 (text_or_empty 1 parts) ++ bytes_encoding 2 (text_or_empty 2 parts)) le in_signed.1
+          (parts-length signed (signed-within message signed le in_signed.1));
+    })
+
+-- ---- all entries
+
+record WereRead (messages : List (List ℕ)) (es : List EntryView) : Type 0 where
+  are_entries : AllByRecursion IsEntry es
+  as_many : length es ≡ length messages
+  short : length (entries_encoding es) ≤ encoded_len 2 messages
+
+one_more : (message : List ℕ) (messages : List (List ℕ)) (e : EntryView) (es : List EntryView) → WasRead message e → WereRead messages es → WereRead (message ∷ messages) (e ∷ es)
+one_more message messages e es first others = record {
+  are_entries = (first.is_entry, others.are_entries);
+  as_many = ap suc others.as_many;
+  short =
+      let was_short = others.short in
+      rw (flat_map-cons (λ e. bytes_field_encoding 2 (as_entry_encoding e)) e es, sum_by-cons (λ t. length (bytes_field_encoding 2 t)) message messages, length-append (bytes_field_encoding 2 (as_entry_encoding e)) (entries_encoding es))
+      (omega (arith, bytes_field-mono 2 (as_entry_encoding e) message first.short));
+}
+
+entries_read : (messages : List (List ℕ)) (es : List EntryView) → AllByRecursion IsBytes messages → encoded_len 2 messages ≤ 16384 → each as_entry_decoding messages ≡ Ok es → WereRead messages es
+entries_read [] es are le reading = subst (WereRead []) (ok_is [] es reading) (record { are_entries = tt; as_many = refl; short = omega arith })
+entries_read (message ∷ messages) es are le reading =
+    let first = step_ok (as_entry_decoding message) (λ e. each as_entry_decoding messages >>= λ others. Ok (e ∷ others)) es reading in
+    let others = step_ok (each as_entry_decoding messages) (λ others. Ok (first.0 ∷ others)) es first.2 in
+    let parts : encoded_len 2 (message ∷ messages) ≡ length (bytes_field_encoding 2 message) + encoded_len 2 messages = sum_by-cons (λ t. length (bytes_field_encoding 2 t)) message messages in
+    let was = entry_read message first.0 are.0 (omega (arith, bytes_field-within 2 message)) first.1 in
+    let were = entries_read messages others.0 are.1 (omega arith) others.1 in
+    subst (WereRead (message ∷ messages)) (ok_is (first.0 ∷ others.0) es others.2) (one_more message messages first.0 others.0 was were)
+
+-- ---- a segment
+
+abbrev segment_of : Info → List ℕ → List EntryView → SegmentView
+segment_of info bytes entries = record { timestamp = info.timestamp; segment_id = info.segment_id; info = bytes; entries = entries }
+
+segment_short : (message : List ℕ) (s : SegmentView) → length message ≤ 16384 → s.info ≡ text_or_empty 1 (fields message) → length (entries_encoding s.entries) ≤ encoded_len 2 (texts 2 (fields message)) → length (segment_encoding s) ≤ length message
+unfolding segment_encoding
+segment_short message s le info entries =
+    let fs = fields message in
+    rw (info, length-append (bytes_encoding 1 (text_or_empty 1 fs)) (entries_encoding s.entries))
+    (omega (arith, fields-length message le, or_empty-length 1 (text 1 fs), last-length 1 (texts 1 fs)))
+
+-- what the reading of a segment tells of it
+record IsRead (message : List ℕ) (s : SegmentView) : Type 0 where
+  whole : IsSegment s
+  short : length (segment_encoding s) ≤ length message
+
+segment_read : (message : List ℕ) (s : SegmentView) → IsBytes message → segment_decoding message ≡ Ok s → IsRead message s
+unfolding segment_decoding
+segment_read message s are reading =
+    let fs = fields message in
+    let sized = after_check (nat_le (length message) 16384) TooLarge _ s reading in
+    let fits = checked-fit path_segment_shape message _ s are sized.1 in
+    let in_fields = after_checked path_segment_shape message _ s sized.1 in
+    let counted = after_check (is_entry_count (length (texts 2 fs))) Entries _ s in_fields in
+    let info = step_ok (info_decoding (text_or_empty 1 fs)) _ s counted.1 in
+    let entries = step_ok (each as_entry_decoding (texts 2 fs)) _ s info.2 in
+    let chain = after_check (is_chain entries.0) Chain _ s entries.2 in
+    let loop = after_check (has_no_loop entries.0) Loop _ s chain.1 in
+    let le : length message ≤ 16384 = leb-true (length message) 16384 sized.0 in
+    let were = entries_read (texts 2 fs) entries.0 (texts-bytes 2 fs fits) (omega (arith, fields-length message le)) entries.1 in
+    let made = segment_of info.0 (text_or_empty 1 fs) entries.0 in
+    let short : length (segment_encoding made) ≤ length message = segment_short message made le refl were.short in
+    subst (IsRead message) (ok_is made s loop.1) (record {
+      whole = record {
+        info_says = info.1;
+        info_bytes = text_or_empty-bytes 1 fs fits;
+        entries = were.are_entries;
+        counted = count-HasEntryCount entries.0 (rw were.as_many counted.0);
+        chain = chain-IsChain entries.0 chain.0;
+        no_loop = no_loop-HasNoLoop entries.0 loop.0;
+        short = omega arith;
+      };
+      short = short;
+    })
+
+pub decoding-IsSegment : (message : List ℕ) (s : SegmentView) → IsBytes message → segment_decoding message ≡ Ok s → IsSegment s
+decoding-IsSegment message s are reading = (segment_read message s are reading).whole
+
+-- no encoding of it is longer than the message
+pub decoding-length : (message : List ℕ) (s : SegmentView) → IsBytes message → segment_decoding message ≡ Ok s → length (segment_encoding s) ≤ length message
+decoding-length message s are reading = (segment_read message s are reading).short

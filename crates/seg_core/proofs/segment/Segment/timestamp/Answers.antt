@@ -1,0 +1,5 @@
+use Rattle.std.proofs.Common.{rules}
+use Rattle.seg_core.proofs.segment.Segment.timestamp.Goals as goal
+
+pub returns : goal.returns
+returns c = search rules
