@@ -3,15 +3,22 @@ use crate::calls::{CALLS, assert_sectors, call};
 use sector_dev::{Device, FileDevice, SECTOR, SystemFile};
 use std::fs;
 use std::fs::OpenOptions;
+use std::rt::Files;
 use std::test::Fail;
+
+// Makes a folder with one file of so many sevens.
+fn make_file<R: Files + Alloc>(rt: &R, folder: &str, path: &str, len: usize) -> Result<(), Fail> {
+    let _ = fs::remove_dir_all(rt, folder);
+    fs::create_dir(rt, folder)?;
+    fs::write(rt, path, vec![in rt.alloc(); 7; len]?.as_slice())?;
+    Ok(())
+}
 
 #[test]
 fn a_file_keeps_what_was_written(rt: HostRuntime) -> Result<(), Fail> {
     let folder = "device_tests_kept";
     let path = "device_tests_kept/device";
-    let _ = fs::remove_dir_all(&rt, folder);
-    fs::create_dir(&rt, folder)?;
-    fs::write(&rt, path, vec![in rt.alloc(); 7; 2100]?.as_slice())?;
+    make_file(&rt, folder, path, 2100)?;
     let file = OpenOptions::new().read(true).write(true).open(&rt, path)?;
     let mut device = FileDevice::new(SystemFile::new(file))?;
     for number in 0..CALLS {
@@ -36,9 +43,7 @@ fn a_file_keeps_what_was_written(rt: HostRuntime) -> Result<(), Fail> {
 fn a_file_cut_short_is_a_fault(rt: HostRuntime) -> Result<(), Fail> {
     let folder = "device_tests_cut";
     let path = "device_tests_cut/device";
-    let _ = fs::remove_dir_all(&rt, folder);
-    fs::create_dir(&rt, folder)?;
-    fs::write(&rt, path, vec![in rt.alloc(); 7; 2048]?.as_slice())?;
+    make_file(&rt, folder, path, 2048)?;
     let file = OpenOptions::new().read(true).write(true).open(&rt, path)?;
     let mut device = FileDevice::new(SystemFile::new(file))?;
     assert_sectors(&rt, &mut device, [(7, 7); 4]);
@@ -61,9 +66,7 @@ fn a_file_cut_short_is_a_fault(rt: HostRuntime) -> Result<(), Fail> {
 fn a_write_that_the_system_refuses_is_a_fault(rt: HostRuntime) -> Result<(), Fail> {
     let folder = "device_tests_refused";
     let path = "device_tests_refused/device";
-    let _ = fs::remove_dir_all(&rt, folder);
-    fs::create_dir(&rt, folder)?;
-    fs::write(&rt, path, vec![in rt.alloc(); 7; 2048]?.as_slice())?;
+    make_file(&rt, folder, path, 2048)?;
     let file = OpenOptions::new().read(true).open(&rt, path)?;
     let mut device = FileDevice::new(SystemFile::new(file))?;
     for (number, faults) in [1, 1, 1, 2, 3, 3].into_iter().enumerate() {
