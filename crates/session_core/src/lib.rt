@@ -7,7 +7,20 @@
 
 mod error;
 mod frames;
+mod inbox;
 mod message;
+mod reply;
+mod serve;
+mod service;
+mod session;
+mod source;
 
 pub use error::FrameError;
+pub use frames::MOST_LENGTH;
+pub use inbox::Inbox;
 pub use message::Message;
+pub use reply::Reply;
+pub use serve::MOST_PIECE;
+pub use service::{Ack, Code, MOST_SEGMENTS, Outcome, Service};
+pub use session::Session;
+pub use source::Source;
