@@ -1,2 +1,5 @@
 pub mod FrameLemmas
 pub mod Streams
+pub mod Faults
+pub mod OneDecoding
+pub mod SomeDecoding

@@ -3,7 +3,7 @@ use Rattle.std.proofs.Common.{◌≡◌, ℕ, ◌+◌, ◌≤◌, List, [], ◌�
 use Rattle.std.proofs.lemmas.List.{append-nil, length-append}
 use Rattle.std.proofs.lemmas.List.Concat.{flat_map-append}
 use Rattle.std.specs.List.{flat_map, AllByRecursion}
-use Rattle.session_core.specs.Frames.{MessageView, body_of, message_frame, FitsFrame, Ending, EndsAs, AreWholeFrames, AreFrames}
+use Rattle.session_core.specs.Frames.{MessageView, body_of, message_frame, FitsFrame, Ending, AreWholeFrames, AreFrames}
 use Rattle.session_core.specs.Front.{BeginsWithFrame}
 
 pub sized-append : (ms ns : List MessageView) → AllByRecursion FitsFrame ms → AllByRecursion FitsFrame ns → AllByRecursion FitsFrame (ms ++ ns)

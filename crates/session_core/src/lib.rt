@@ -7,6 +7,7 @@
 
 mod error;
 mod frames;
+pub mod laws;
 mod message;
 
 pub use error::FrameError;
