@@ -6,9 +6,11 @@
 #![tactic(auto)]
 
 mod error;
+mod framer;
 mod frames;
 pub mod laws;
 mod message;
 
 pub use error::FrameError;
+pub use framer::{Fed, Framer};
 pub use message::Message;
