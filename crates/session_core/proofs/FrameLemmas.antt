@@ -1,7 +1,6 @@
 -- A whole frame at the front of bytes, and what its encoding gives back: for `next_frame` and the laws.
-use Rattle.std.proofs.Common.{◌≡◌, ℕ, zero, suc, ◌+◌, ◌*◌, ◌-◌, ◌<◌, ◌≤◌, ◌⊎◌, inl, inr, List, [], ◌∷◌, ◌++◌, length, take, drop, get_or, slice_index, slice_range, refl, sym, ap, ◌∙◌, arith, lit<, append_assoc, take-append-drop}
+use Rattle.std.proofs.Common.{◌≡◌, ℕ, zero, suc, ◌+◌, ◌*◌, ◌-◌, ◌<◌, ◌≤◌, List, [], ◌∷◌, ◌++◌, length, take, drop, get_or, slice_range, refl, sym, ap, ◌∙◌, arith, lit<, append_assoc, take-append-drop}
 use Rattle.std.proofs.lemmas.List.{get_or-take, length-take-le, length-drop, drop-drop, drop_more}
-use Rattle.std.proofs.lemmas.Bool.{cases_lt, cases_eq}
 use Rattle.std.proofs.lemmas.Nat.{be_bytes_4}
 use Rattle.std.specs.Int.{w32, to_be_bytes}
 use Rattle.session_core.specs.Frames.{MessageView, kind_of, body_of, frame_encoding, length_at, IsFrameLength}

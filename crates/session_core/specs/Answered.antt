@@ -39,31 +39,50 @@ IsNext answers old bytes new rest (Ok (Some reply)) = IsFirstAnswered answers ol
 IsNext answers old bytes new rest (Ok None) = IsPartial bytes × IsUnanswered old bytes new rest
 IsNext answers old bytes new rest (Err e) = IsFaultAt bytes e × IsUnanswered old bytes new rest
 
--- Why no more was answered: less than a frame is left, or a faulty one, or a write failed, or memory ran out.
-abbrev pub StopsFor : ℕ → List Exchange → List ℕ → Result ℕ FrameError → Type 0
-StopsFor count exchanges rest (Ok sum) = IsPartial rest × (sum ≡ min (count + length exchanges) (2 ^ 64 - 1))
-StopsFor count exchanges rest (Err error.Length) = HasBadLength rest
-StopsFor count exchanges rest (Err error.Kind) = HasBadKind rest
-StopsFor count exchanges rest (Err error.NoMemory) = Unit {0}
-StopsFor count exchanges rest (Err error.Write) = Unit {0}
-StopsFor count exchanges rest (Err error.Read) = ⊥
-StopsFor count exchanges rest (Err error.Turns) = ⊥
+-- Less than a frame is left over.
+pub record GoesOn (count : ℕ) (exchanges : List Exchange) (rest left : List ℕ) (sum : ℕ) : Type 0 where
+  pub partial : IsPartial rest
+  pub left_is : left ≡ rest
+  pub counted : sum ≡ min (count + length exchanges) (2 ^ 64 - 1)
 
--- Messages at the front of the bytes were answered and the rest is left; this was written of the replies.
-pub record AreFrontsAnswered {S : Type 0} (answers : S → MessageView → ReplyView → S → Type 0) (old : S) (bytes : List ℕ) (new : S) (rest : List ℕ)
+-- Why no more was answered: less than a frame is left, or a faulty one, or a write failed, or memory ran out.
+abbrev pub StopsFor : ℕ → List Exchange → List ℕ → List ℕ → Result ℕ FrameError → Type 0
+StopsFor count exchanges rest left (Ok sum) = GoesOn count exchanges rest left sum
+StopsFor count exchanges rest left (Err error.Length) = HasBadLength rest
+StopsFor count exchanges rest left (Err error.Kind) = HasBadKind rest
+StopsFor count exchanges rest left (Err error.NoMemory) = Unit {0}
+StopsFor count exchanges rest left (Err error.Write) = Unit {0}
+StopsFor count exchanges rest left (Err error.Read) = ⊥
+StopsFor count exchanges rest left (Err error.Turns) = ⊥
+
+-- Messages at the front of the bytes were answered, and this was written of their replies; the rest follows them, and is
+-- left where all went well.
+pub record AreFrontsAnswered {S : Type 0} (answers : S → MessageView → ReplyView → S → Type 0) (old : S) (bytes : List ℕ) (new : S) (left : List ℕ)
     (output output_left : Option (List ℕ)) (count : ℕ) (result : Result ℕ FrameError) : Type 0 where
   pub exchanges : List Exchange
+  pub rest : List ℕ
   pub written : List ℕ
   pub framed : AreWholeFrames bytes (messages_of exchanges) rest
   pub answered : AreAnswered answers old exchanges new
   pub sized : AllByRecursion HasReplySize (replies_of exchanges)
   pub appended : Appends output output_left written
   pub told : Tells result written exchanges
-  pub stops : StopsFor count exchanges rest result
+  pub stops : StopsFor count exchanges rest left result
 
--- A front of the bytes was written, and a write failed; or nothing was, for want of memory.
+-- A front of the bytes was written.
+pub record IsWrittenInPart (output output_left : Option (List ℕ)) (bytes : List ℕ) : Type 0 where
+  pub front : List ℕ
+  pub begins : Begins front bytes
+  pub appended : Appends output output_left front
+
+-- A write failed after a front of the bytes.
+pub record FailsWithin (output output_left : Option (List ℕ)) (bytes : List ℕ) (e : FrameError) : Type 0 where
+  pub part : IsWrittenInPart output output_left bytes
+  pub fault : e ≡ error.Write
+
+-- A write failed after a front of the bytes; or nothing was written, for want of memory.
 abbrev pub FailsToWrite : Option (List ℕ) → Option (List ℕ) → List ℕ → FrameError → Type 0
-FailsToWrite output output_left bytes error.Write = (front : List ℕ) × (Begins front bytes × Appends output output_left front)
+FailsToWrite output output_left bytes error.Write = IsWrittenInPart output output_left bytes
 FailsToWrite output output_left bytes error.NoMemory = Appends output output_left []
 FailsToWrite output output_left bytes error.Length = ⊥
 FailsToWrite output output_left bytes error.Kind = ⊥

@@ -6,3 +6,4 @@ pub mod Service
 pub mod Source
 pub mod Session
 pub mod Answered
+pub mod Framer

@@ -1,7 +1,7 @@
 -- Reads of a source, one after the other.
 use Rattle.std.specs.Prelude.{◌≡◌, ℕ, ◌≤◌, List, length}
 use Rattle.std.specs.List.{FoldsTo, AllByRecursion}
-use Rattle.session_core.specs.declared.serve.TheConstants.{MOST_PIECE}
+use Rattle.session_core.specs.declared.source.TheConstants.{MOST_PIECE}
 
 -- The source was read at most so often. Each read gave one of these pieces, which are no longer than one may be; a read
 -- that failed, and one at the end, gave none of its bytes.

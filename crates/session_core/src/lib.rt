@@ -6,21 +6,24 @@
 #![tactic(auto)]
 
 mod error;
+mod framer;
 mod frames;
 mod inbox;
+pub mod laws;
 mod message;
 mod reply;
-mod serve;
 mod service;
+mod serving;
 mod session;
 mod source;
+mod writing;
 
 pub use error::FrameError;
+pub use framer::{Fed, Framer};
 pub use frames::MOST_LENGTH;
 pub use inbox::Inbox;
 pub use message::Message;
 pub use reply::Reply;
-pub use serve::MOST_PIECE;
 pub use service::{Ack, Code, MOST_SEGMENTS, Outcome, Service};
-pub use session::Session;
-pub use source::Source;
+pub use serving::serve;
+pub use source::{MOST_PIECE, Source};

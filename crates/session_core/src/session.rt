@@ -1,6 +1,5 @@
-//! The core of a session, which neither reads nor writes.
+//! The core of a session, which neither reads nor writes: bytes go into an inbox, and replies come out of it.
 
-ghost use Rattle.std.specs.Prelude.{◌≡◌, IfOk, IfSome};
 ghost use Rattle.session_core.specs.Answered.{IsNext};
 ghost use Rattle.session_core.specs.Front.{message_at};
 ghost use Rattle.session_core.specs.Reply.{HasReplySize};
@@ -13,25 +12,21 @@ use crate::reply::Reply;
 use crate::service::Service;
 use std::alloc::Global;
 
-/// A service, and the bytes that it has not answered yet. It is fed by `inbox.take_in`, and gives a reply at a time.
-#[derive(Drop)]
-pub struct Session<'s, S> {
-    pub service: &'s mut S,
-    pub inbox: Inbox,
-}
-
-impl<S: Service> Session<'_, S> {
-    /// Answers the message whose frame stands whole at the front. `None` is less than a frame, an error a faulty frame:
-    /// then nothing changes.
-    pub fn next_reply(&mut self, alloc: Global) -> Result<Option<Reply>, FrameError>
-        ensures same { self.new.service.ghost_name ≡ self.old.service.ghost_name }
-        ensures next { IsNext S.answers self.old.service.now self.old.inbox self.new.service.now self.new.inbox result }
+impl Inbox {
+    /// Lets a service answer the message whose frame stands whole at the front. `None` is less than a frame, an error a
+    /// faulty frame: then nothing changes.
+    pub fn next_reply<S: Service>(
+        &mut self,
+        alloc: Global,
+        service: &mut S,
+    ) -> Result<Option<Reply>, FrameError>
+        ensures { IsNext S.answers service.old self.old service.new self.new result }
     {
-        let Some((message, len)) = self.inbox.front()? else {
+        let Some((message, len)) = self.front()? else {
             return Ok(None);
         };
-        let reply = answer(alloc, self.service, message);
-        self.inbox.advance(len);
+        let reply = answer(alloc, service, message);
+        self.advance(len);
         Ok(Some(reply))
     }
 }

@@ -7,6 +7,9 @@ use crate::error::FrameError;
 use std::io;
 use std::io::Read;
 
+/// How many bytes one read asks for at most.
+pub const MOST_PIECE: usize = 65_536;
+
 /// A reader whose contract counts its reads: `piece` makes one, and nothing else is known to make one.
 ///
 /// Every `Read` is a `Source`. A caller that is generic over `Source` can read by `piece` alone, since what any other
