@@ -3,3 +3,4 @@ pub mod Streams
 pub mod Faults
 pub mod OneDecoding
 pub mod SomeDecoding
+pub mod FramerLemmas
