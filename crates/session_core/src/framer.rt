@@ -24,7 +24,7 @@ pub struct Framer {
 }
 
 /// What a piece of a stream completes.
-#[derive(Debug, Drop)]
+#[derive(Drop)]
 pub struct Fed {
     /// The messages whose frames the piece ends, in order.
     pub messages: Vec<Message>,

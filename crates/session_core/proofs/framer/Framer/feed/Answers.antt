@@ -3,6 +3,9 @@ use Rattle.session_core.specs.Framer.{message_views, IsFaultOf}
 use Rattle.session_core.proofs.FramerLemmas.{rest_is, not_faulty, feeds, fault-ending, stays_faulty}
 use Rattle.session_core.proofs.framer.Framer.feed.Goals as goal
 
+pub invariant_of-self-in-Ok : goal.invariant_of-self-in-Ok
+invariant_of-self-in-Ok c = rw (c.drop_front.ensures, ← c.as_slice.ensures.value) c.in-Ok.ensures.fault
+
 pub returns-in-Some : goal.returns-in-Some
 returns-in-Some c =
     let kept = c.self.inside.kept.items in
