@@ -1,13 +1,13 @@
--- A stream that comes in pieces: one frame more of a piece, and a piece more of a stream. For `Framer`.
-use Rattle.std.proofs.Common.{◌≡◌, ℕ, ◌+◌, ◌≤◌, List, [], ◌∷◌, ◌++◌, length, drop, Option, Some, None, Vec, refl, sym, ap, subst, ◌∙◌, arith}
+-- A stream that comes in pieces: one frame more of a piece, and a piece more of a stream. For `Framer` and the laws.
+use Rattle.std.proofs.Common.{◌≡◌, ℕ, ◌+◌, ◌≤◌, List, [], ◌∷◌, ◌++◌, length, drop, Option, Some, None, Vec, refl, sym, ap, subst, ◌∙◌, arith, append_assoc}
 use Rattle.std.proofs.lemmas.List.{append-nil, length-drop, drop-drop, map-append}
 use Rattle.session_core.specs.declared.error.FrameError.{FrameError}
 use Rattle.session_core.specs.declared.error.FrameError.TheVariants as error
 use Rattle.session_core.specs.declared.message.Message.{Message}
-use Rattle.session_core.specs.Frames.{MessageView, Ending, Rest, EndsAs, AreWholeFrames}
+use Rattle.session_core.specs.Frames.{MessageView, Ending, Rest, EndsAs, AreWholeFrames, AreFrames}
 use Rattle.session_core.specs.Front.{BeginsWithFrame}
 use Rattle.session_core.specs.Framer.{message_view, message_views, fault_of, IsFaulty, Continues, IsFaultOf, ending_of}
-use Rattle.session_core.proofs.Streams.{AreWholeFrames-append, AreWholeFrames-more, AreWholeFrames-next, BeginsWithFrame-within}
+use Rattle.session_core.proofs.Streams.{AreWholeFrames-none, AreWholeFrames-append, AreWholeFrames-more, AreWholeFrames-next, BeginsWithFrame-within}
 use Rattle.session_core.proofs.Faults.{AreFrames-bad_length, AreFrames-bad_kind}
 
 -- ---- one frame more
@@ -93,3 +93,21 @@ stays_faulty kept piece messages found fault old view h is none =
     let k : IsFaultOf kept (Some fault) = subst (IsFaultOf kept) is h in
     let same : Continues old piece [] old = subst (λ (e : Ending). Continues e piece [] e) now (continues-faulty kept piece fault k) in
     (subst (λ (ms : List MessageView). Continues old piece ms old) (sym none) same, fault-ending kept (Some fault) k ∙ ap fault_of now)
+
+-- ---- pieces one after the other
+
+pub continues-append : (old mid new : Ending) (front back : List ℕ) (ms ns : List MessageView) → Continues old front ms mid → Continues mid back ns new → Continues old (front ++ back) (ms ++ ns) new
+continues-append old mid new front back ms ns p q stream before framed =
+    let after : AreFrames ((stream ++ front) ++ back) ((before ++ ms) ++ ns) new = q (stream ++ front) (before ++ ms) (p stream before framed) in
+    subst (λ (t : List ℕ). AreFrames t (before ++ (ms ++ ns)) new) (append_assoc stream front back)
+    (subst (λ (xs : List MessageView). AreFrames ((stream ++ front) ++ back) xs new) (append_assoc before ms ns) after)
+
+starts : AreFrames [] [] (Rest [])
+starts = record {
+  rest = [];
+  whole = AreWholeFrames-none [];
+  ends = (refl, record { length_is_right = λ h. absurd (omega arith); kind_is_right = λ h. absurd (omega arith); incomplete = λ h. absurd (omega arith) });
+}
+
+pub continues-whole : (stream : List ℕ) (messages : List MessageView) (ending : Ending) → Continues (Rest []) stream messages ending → AreFrames stream messages ending
+continues-whole stream messages ending p = p [] [] starts
