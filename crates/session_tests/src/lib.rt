@@ -5,4 +5,6 @@
 #[cfg(test)]
 mod framers;
 #[cfg(test)]
+mod laws;
+#[cfg(test)]
 mod worked;
