@@ -7,3 +7,4 @@ mod ResponseLengths
 mod WriteLemmas
 mod Exchanges
 mod SessionLemmas
+pub mod FramerLemmas

@@ -1,5 +1,5 @@
 -- A stream of frames that comes in pieces.
-use Rattle.std.specs.Prelude.{◌≡◌, ℕ, List, ◌++◌, map, Option, Some, None, Vec}
+use Rattle.std.specs.Prelude.{ℕ, List, ◌++◌, map, Option, Some, None, Vec}
 use Rattle.session_core.specs.declared.error.FrameError.{FrameError}
 use Rattle.session_core.specs.declared.error.FrameError.TheVariants as error
 use Rattle.session_core.specs.declared.message.Message.{Message}

@@ -13,8 +13,9 @@ use std::marker::Model;
 
 /// A stream of frames that comes in pieces.
 ///
-/// It gives each message as soon as its frame is whole, and the same messages however the stream is cut. It keeps less
-/// than a frame. At a fault of a frame it stops: it gives that fault again for each piece that follows, and no message.
+/// It gives each message as soon as its frame is whole, and the same messages however the stream is cut. Beside them
+/// memory holds one piece and less than a frame. At a fault of a frame it stops: it gives that fault again for each piece
+/// that follows, and no message.
 #[derive(Drop)]
 pub struct Framer {
     /// What came behind the last whole frame.
@@ -24,7 +25,7 @@ pub struct Framer {
 }
 
 /// What a piece of a stream completes.
-#[derive(Debug, Drop)]
+#[derive(Drop)]
 pub struct Fed {
     /// The messages whose frames the piece ends, in order.
     pub messages: Vec<Message>,
