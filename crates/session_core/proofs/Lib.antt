@@ -8,3 +8,4 @@ mod WriteLemmas
 mod Exchanges
 mod SessionLemmas
 pub mod FramerLemmas
+mod Pieces

@@ -11,29 +11,31 @@ use Rattle.session_core.specs.declared.error.FrameError.TheVariants as error
 use Rattle.session_core.specs.declared.source.TheConstants.{MOST_PIECE}
 use Rattle.session_core.specs.Frames.{MessageView, IsPartial, Rest, AreWholeFrames, AreFrames}
 use Rattle.session_core.specs.Reply.{ReplyView, HasReplySize}
-use Rattle.session_core.specs.Service.{Exchange, messages_of, replies_of, reply_frames, AreAnswered}
+use Rattle.session_core.specs.Service.{Exchange, messages_of, replies_of, all_told, reply_frames, AreAnswered}
+use Rattle.session_core.specs.declared.reply.Form.{Form}
+use Rattle.session_core.specs.declared.reply.Form.TheVariants.{Frames}
 use Rattle.session_core.specs.Source.{AreReads}
 use Rattle.session_core.specs.Session.{Begins, TellsAllBefore, Tells, IsPrompt, EndsFor, IsServed}
 use Rattle.session_core.specs.Answered.{AreFrontsAnswered}
 use Rattle.session_core.proofs.Streams.{AreWholeFrames-none, AreWholeFrames-append, AreWholeFrames-more}
-use Rattle.session_core.proofs.Exchanges.{HasAnswered, answered_none, sized-append, folds-append, messages-append, replies-append, frames-append}
+use Rattle.session_core.proofs.Exchanges.{HasAnswered, answered_none, sized-append, folds-append, messages-append, replies-append, told-append}
 
 -- ---- one piece
 
 -- however it ended, a front of the replies was written
-pub begins_of : (r : Result ℕ FrameError) (written : List ℕ) (es : List Exchange) → Tells r written es → Begins written (reply_frames es)
-begins_of (Ok n) written es t = ([], sym t ∙ sym (append-nil written))
-begins_of (Err error.Length) written es t = ([], sym t ∙ sym (append-nil written))
-begins_of (Err error.Kind) written es t = ([], sym t ∙ sym (append-nil written))
-begins_of (Err error.Read) written es t = ([], sym t ∙ sym (append-nil written))
-begins_of (Err error.Turns) written es t = ([], sym t ∙ sym (append-nil written))
-begins_of (Err error.Write) written es t = t
-begins_of (Err error.NoMemory) written es t =
-    (reply_frames t.last, ap reply_frames t.parts ∙ frames-append t.before t.last ∙ ap (λ (w : List ℕ). w ++ reply_frames t.last) (sym t.written_is))
+pub begins_of : (form : Form) (r : Result ℕ FrameError) (written : List ℕ) (es : List Exchange) → Tells form r written es → Begins written (all_told form es)
+begins_of form (Ok n) written es t = ([], sym t ∙ sym (append-nil written))
+begins_of form (Err error.Length) written es t = ([], sym t ∙ sym (append-nil written))
+begins_of form (Err error.Kind) written es t = ([], sym t ∙ sym (append-nil written))
+begins_of form (Err error.Read) written es t = ([], sym t ∙ sym (append-nil written))
+begins_of form (Err error.Turns) written es t = ([], sym t ∙ sym (append-nil written))
+begins_of form (Err error.Write) written es t = t
+begins_of form (Err error.NoMemory) written es t =
+    (all_told form t.last, ap (all_told form) t.parts ∙ told-append form t.before t.last ∙ ap (λ (w : List ℕ). w ++ all_told form t.last) (sym t.written_is))
 
-module _ {S : Type 0} (answers : S → MessageView → ReplyView → S → Type 0) where
+module _ {S : Type 0} (form : Form) (answers : S → MessageView → ReplyView → S → Type 0) where
   -- no memory for the piece
-  pub stops_at_once : (s : S) (bytes left : List ℕ) (o : Option (List ℕ)) (n : ℕ) → AreFrontsAnswered answers s bytes s left o o n (Err error.NoMemory)
+  pub stops_at_once : (s : S) (bytes left : List ℕ) (o : Option (List ℕ)) (n : ℕ) → AreFrontsAnswered form answers s bytes s left o o n (Err error.NoMemory)
   stops_at_once s bytes left o n = record {
     exchanges = [];
     rest = bytes;
@@ -47,8 +49,8 @@ module _ {S : Type 0} (answers : S → MessageView → ReplyView → S → Type 
   }
 
   -- a flush behind it
-  pub flushed : (a b : S) (bytes left : List ℕ) (o p q : Option (List ℕ)) (n : ℕ) (r : Result ℕ FrameError) → AreFrontsAnswered answers a bytes b left o p n r → Keeps p q
-      → AreFrontsAnswered answers a bytes b left o q n r
+  pub flushed : (a b : S) (bytes left : List ℕ) (o p q : Option (List ℕ)) (n : ℕ) (r : Result ℕ FrameError) → AreFrontsAnswered form answers a bytes b left o p n r → Keeps p q
+      → AreFrontsAnswered form answers a bytes b left o q n r
   flushed a b bytes left o p q n r x k = record {
     exchanges = x.exchanges;
     rest = x.rest;
@@ -62,8 +64,8 @@ module _ {S : Type 0} (answers : S → MessageView → ReplyView → S → Type 
   }
 
   -- a flush that failed
-  pub not_flushed : (a b : S) (bytes left : List ℕ) (o p q : Option (List ℕ)) (n : ℕ) (r : Result ℕ FrameError) → AreFrontsAnswered answers a bytes b left o p n r → Keeps p q
-      → AreFrontsAnswered answers a bytes b left o q n (Err error.Write)
+  pub not_flushed : (a b : S) (bytes left : List ℕ) (o p q : Option (List ℕ)) (n : ℕ) (r : Result ℕ FrameError) → AreFrontsAnswered form answers a bytes b left o p n r → Keeps p q
+      → AreFrontsAnswered form answers a bytes b left o q n (Err error.Write)
   not_flushed a b bytes left o p q n r x k = record {
     exchanges = x.exchanges;
     rest = x.rest;
@@ -72,7 +74,7 @@ module _ {S : Type 0} (answers : S → MessageView → ReplyView → S → Type 
     answered = x.answered;
     sized = x.sized;
     appended = Appends-kept o p q x.written x.appended k;
-    told = begins_of r x.written x.exchanges x.told;
+    told = begins_of form r x.written x.exchanges x.told;
     stops = tt;
   }
 
@@ -92,7 +94,7 @@ pub record SoFar {S R : Type 0} (answers : S → MessageView → ReplyView → S
   pub made : FoldsTo gives source pieces source_left
   pub turns_are : length pieces ≡ turn
   pub short : AllByRecursion (λ piece. length piece ≤ MOST_PIECE) pieces
-  pub done : HasAnswered answers service (concat pieces) service_left inbox output output_left 0 count
+  pub done : HasAnswered Frames answers service (concat pieces) service_left inbox output output_left 0 count
   pub partial : IsPartial inbox
 
 module _ {S R : Type 0} (answers : S → MessageView → ReplyView → S → Type 0) (gives : R → List ℕ → R → Type 0) where
@@ -102,7 +104,7 @@ module _ {S R : Type 0} (answers : S → MessageView → ReplyView → S → Typ
     made = refl;
     turns_are = refl;
     short = tt;
-    done = answered_none answers s [] o 0 (omega arith);
+    done = answered_none Frames answers s [] o 0 (omega arith);
     partial = nothing_is_partial;
   })
 
@@ -249,7 +251,7 @@ module _ {S R : Type 0} (answers : S → MessageView → ReplyView → S → Typ
 
     -- ---- one piece more
 
-    module _ (c : S) (t : R) (piece left : List ℕ) (q : Option (List ℕ)) (result : Result ℕ FrameError) (x : AreFrontsAnswered answers b (inbox ++ piece) c left p q count result) where
+    module _ (c : S) (t : R) (piece left : List ℕ) (q : Option (List ℕ)) (result : Result ℕ FrameError) (x : AreFrontsAnswered Frames answers b (inbox ++ piece) c left p q count result) where
       both_framed : AreWholeFrames (concat (h.pieces ++ piece ∷ [])) (messages_of (h.done.exchanges ++ x.exchanges)) x.rest
       both_framed = subst (λ (bytes : List ℕ). AreWholeFrames bytes (messages_of (h.done.exchanges ++ x.exchanges)) x.rest) (sym (all_joined piece))
           (subst (λ (ms : List MessageView). AreWholeFrames (concat h.pieces ++ piece) ms x.rest) (sym (messages-append h.done.exchanges x.exchanges))
@@ -263,10 +265,10 @@ module _ {S R : Type 0} (answers : S → MessageView → ReplyView → S → Typ
       both_sized = subst (AllByRecursion HasReplySize) (sym (replies-append h.done.exchanges x.exchanges)) (sized-append (replies_of h.done.exchanges) (replies_of x.exchanges) h.done.sized x.sized)
 
       both_frames : reply_frames (h.done.exchanges ++ x.exchanges) ≡ reply_frames h.done.exchanges ++ reply_frames x.exchanges
-      both_frames = frames-append h.done.exchanges x.exchanges
+      both_frames = told-append Frames h.done.exchanges x.exchanges
 
     pub so_far_more : (c : S) (t : R) (piece left : List ℕ) (q : Option (List ℕ)) (sum k : ℕ) → gives s piece t → length piece ≤ MOST_PIECE → k ≡ turn + 1
-        → AreFrontsAnswered answers b (inbox ++ piece) c left p q count (Ok sum) → SoFar answers gives a c r t left o q sum k
+        → AreFrontsAnswered Frames answers b (inbox ++ piece) c left p q count (Ok sum) → SoFar answers gives a c r t left o q sum k
     so_far_more c t piece left q sum k one short next x = record {
       pieces = h.pieces ++ piece ∷ [];
       made = FoldsTo-push gives r h.pieces s piece t h.made one;
@@ -285,25 +287,25 @@ module _ {S R : Type 0} (answers : S → MessageView → ReplyView → S → Typ
     }
 
     -- told of both, what was told of the last ones
-    both_told : (result : Result ℕ FrameError) (written : List ℕ) (es fs : List Exchange) → Tells result written fs → Tells result (reply_frames es ++ written) (es ++ fs)
-    both_told (Ok n) written es fs told = ap (λ (w : List ℕ). reply_frames es ++ w) told ∙ sym (frames-append es fs)
-    both_told (Err error.Length) written es fs told = ap (λ (w : List ℕ). reply_frames es ++ w) told ∙ sym (frames-append es fs)
-    both_told (Err error.Kind) written es fs told = ap (λ (w : List ℕ). reply_frames es ++ w) told ∙ sym (frames-append es fs)
-    both_told (Err error.Read) written es fs told = ap (λ (w : List ℕ). reply_frames es ++ w) told ∙ sym (frames-append es fs)
-    both_told (Err error.Turns) written es fs told = ap (λ (w : List ℕ). reply_frames es ++ w) told ∙ sym (frames-append es fs)
+    both_told : (result : Result ℕ FrameError) (written : List ℕ) (es fs : List Exchange) → Tells Frames result written fs → Tells Frames result (reply_frames es ++ written) (es ++ fs)
+    both_told (Ok n) written es fs told = ap (λ (w : List ℕ). reply_frames es ++ w) told ∙ sym (told-append Frames es fs)
+    both_told (Err error.Length) written es fs told = ap (λ (w : List ℕ). reply_frames es ++ w) told ∙ sym (told-append Frames es fs)
+    both_told (Err error.Kind) written es fs told = ap (λ (w : List ℕ). reply_frames es ++ w) told ∙ sym (told-append Frames es fs)
+    both_told (Err error.Read) written es fs told = ap (λ (w : List ℕ). reply_frames es ++ w) told ∙ sym (told-append Frames es fs)
+    both_told (Err error.Turns) written es fs told = ap (λ (w : List ℕ). reply_frames es ++ w) told ∙ sym (told-append Frames es fs)
     both_told (Err error.Write) written es fs told =
-        (told.0, frames-append es fs ∙ ap (λ (w : List ℕ). reply_frames es ++ w) told.1 ∙ sym (append_assoc (reply_frames es) written told.0))
+        (told.0, told-append Frames es fs ∙ ap (λ (w : List ℕ). reply_frames es ++ w) told.1 ∙ sym (append_assoc (reply_frames es) written told.0))
     both_told (Err error.NoMemory) written es fs told = record {
       before = es ++ told.before;
       last = told.last;
       parts = ap (λ (gs : List Exchange). es ++ gs) told.parts ∙ sym (append_assoc es told.before told.last);
       one = told.one;
-      written_is = ap (λ (w : List ℕ). reply_frames es ++ w) told.written_is ∙ sym (frames-append es told.before);
+      written_is = ap (λ (w : List ℕ). reply_frames es ++ w) told.written_is ∙ sym (told-append Frames es told.before);
     }
 
     -- the session ends within a piece, for this reason
     ends_within : (turns : ℕ) (c : S) (t : R) (i : Option (List ℕ)) (piece left : List ℕ) (q : Option (List ℕ)) (result : Result ℕ FrameError) → turn < turns → gives s piece t → length piece ≤ MOST_PIECE
-        → (x : AreFrontsAnswered answers b (inbox ++ piece) c left p q count result)
+        → (x : AreFrontsAnswered Frames answers b (inbox ++ piece) c left p q count result)
         → EndsFor i turns (h.pieces ++ piece ∷ []) (h.done.exchanges ++ x.exchanges) x.rest result → IsServed answers gives turns a c r t i o q result
     ends_within turns c t i piece left q result lt one short x ended = record {
       pieces = h.pieces ++ piece ∷ [];
@@ -321,7 +323,7 @@ module _ {S R : Type 0} (answers : S → MessageView → ReplyView → S → Typ
     }
 
     pub ends_at_piece : (turns : ℕ) (c : S) (t : R) (i : Option (List ℕ)) (piece left : List ℕ) (q : Option (List ℕ)) (e : FrameError) → turn < turns → gives s piece t → length piece ≤ MOST_PIECE
-        → AreFrontsAnswered answers b (inbox ++ piece) c left p q count (Err e) → IsServed answers gives turns a c r t i o q (Err e)
+        → AreFrontsAnswered Frames answers b (inbox ++ piece) c left p q count (Err e) → IsServed answers gives turns a c r t i o q (Err e)
     ends_at_piece turns c t i piece left q error.Length lt one short x = ends_within turns c t i piece left q (Err error.Length) lt one short x x.stops
     ends_at_piece turns c t i piece left q error.Kind lt one short x = ends_within turns c t i piece left q (Err error.Kind) lt one short x x.stops
     ends_at_piece turns c t i piece left q error.NoMemory lt one short x = ends_within turns c t i piece left q (Err error.NoMemory) lt one short x tt

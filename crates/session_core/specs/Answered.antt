@@ -8,7 +8,8 @@ use Rattle.session_core.specs.declared.reply.Reply.{Reply}
 use Rattle.session_core.specs.Frames.{MessageView, message_frame, FitsFrame, IsPartial, HasBadLength, HasBadKind, AreWholeFrames}
 use Rattle.session_core.specs.Reply.{ReplyView, HasReplySize}
 use Rattle.session_core.specs.ReplyViews.{reply_view}
-use Rattle.session_core.specs.Service.{Exchange, messages_of, replies_of, reply_frames, AreAnswered}
+use Rattle.session_core.specs.Service.{Exchange, messages_of, replies_of, AreAnswered}
+use Rattle.session_core.specs.declared.reply.Form.{Form}
 use Rattle.session_core.specs.Session.{Begins, Tells}
 
 -- The message at the front was answered, and its frame taken off.
@@ -57,7 +58,7 @@ StopsFor count exchanges rest left (Err error.Turns) = ⊥
 
 -- Messages at the front of the bytes were answered, and this was written of their replies; the rest follows them, and is
 -- left where all went well.
-pub record AreFrontsAnswered {S : Type 0} (answers : S → MessageView → ReplyView → S → Type 0) (old : S) (bytes : List ℕ) (new : S) (left : List ℕ)
+pub record AreFrontsAnswered {S : Type 0} (form : Form) (answers : S → MessageView → ReplyView → S → Type 0) (old : S) (bytes : List ℕ) (new : S) (left : List ℕ)
     (output output_left : Option (List ℕ)) (count : ℕ) (result : Result ℕ FrameError) : Type 0 where
   pub exchanges : List Exchange
   pub rest : List ℕ
@@ -66,7 +67,7 @@ pub record AreFrontsAnswered {S : Type 0} (answers : S → MessageView → Reply
   pub answered : AreAnswered answers old exchanges new
   pub sized : AllByRecursion HasReplySize (replies_of exchanges)
   pub appended : Appends output output_left written
-  pub told : Tells result written exchanges
+  pub told : Tells form result written exchanges
   pub stops : StopsFor count exchanges rest left result
 
 -- A front of the bytes was written.

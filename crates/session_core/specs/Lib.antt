@@ -7,3 +7,4 @@ pub mod Source
 pub mod Session
 pub mod Answered
 pub mod Framer
+pub mod Lines

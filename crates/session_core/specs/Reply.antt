@@ -6,6 +6,9 @@ use Rattle.seg_core.specs.SegmentView.{SegmentView}
 use Rattle.seg_core.specs.Registration.{rows_of}
 use Rattle.seg_core.specs.Encoding.{response_encoding}
 use Rattle.session_core.specs.declared.service.Ack.{Ack}
+use Rattle.hex.specs.Hex.{encode_lower}
+use Rattle.session_core.specs.declared.reply.Form.{Form}
+use Rattle.session_core.specs.declared.reply.Form.TheVariants.{Frames, Lines}
 use Rattle.session_core.specs.Frames.{frame_encoding}
 
 -- a registration's acknowledgement, a lookup's segments of one type, or the code of a refusal
@@ -30,6 +33,11 @@ reply_content (Refused code) = 0xff ∷ code ∷ []
 
 unfoldable pub reply_frame : ReplyView → List ℕ
 reply_frame reply = frame_encoding (reply_content reply)
+
+-- how a reply is told: by its frame, or by a line of the frame's digits in lower case
+abbrev pub told_as : Form → ReplyView → List ℕ
+told_as Frames reply = reply_frame reply
+told_as Lines reply = encode_lower (reply_frame reply) ++ 0x0a ∷ []
 
 -- a reply fits its frame
 abbrev pub HasReplySize : ReplyView → Type 0

@@ -6,7 +6,9 @@ use Rattle.seg_core.specs.SegmentView.{SegmentView}
 use Rattle.session_core.specs.declared.service.Ack.{Ack}
 use Rattle.session_core.specs.declared.service.Code.{Code}
 use Rattle.session_core.specs.Frames.{MessageView}
-use Rattle.session_core.specs.Reply.{ReplyView, Registered, Found, Refused, reply_frame}
+use Rattle.session_core.specs.Reply.{ReplyView, Registered, Found, Refused, told_as}
+use Rattle.session_core.specs.declared.reply.Form.{Form}
+use Rattle.session_core.specs.declared.reply.Form.TheVariants.{Frames}
 
 abbrev pub reply_to_register : Result Ack Code → ReplyView
 reply_to_register (Ok ack) = Registered ack
@@ -27,9 +29,13 @@ messages_of exchanges = map (λ e. e.message) exchanges
 abbrev pub replies_of : List Exchange → List ReplyView
 replies_of exchanges = map (λ e. e.reply) exchanges
 
--- the frames of the replies, one after the other
+-- the replies, told one after the other
+abbrev pub all_told : Form → List Exchange → List ℕ
+all_told form exchanges = flat_map (λ e. told_as form e.reply) exchanges
+
+-- their frames
 abbrev pub reply_frames : List Exchange → List ℕ
-reply_frames exchanges = flat_map (λ e. reply_frame e.reply) exchanges
+reply_frames exchanges = all_told Frames exchanges
 
 -- The service answered these messages so, one after the other, and each state was the next one's beginning.
 abbrev pub AreAnswered : {S : Type 0} → (S → MessageView → ReplyView → S → Type 0) → S → List Exchange → S → Type 0

@@ -6,7 +6,9 @@ use Rattle.session_core.specs.declared.error.FrameError.{FrameError}
 use Rattle.session_core.specs.declared.error.FrameError.TheVariants as error
 use Rattle.session_core.specs.Frames.{MessageView, IsPartial, HasBadLength, HasBadKind, Rest, AreWholeFrames, AreFrames}
 use Rattle.session_core.specs.Reply.{ReplyView, HasReplySize}
-use Rattle.session_core.specs.Service.{Exchange, messages_of, replies_of, reply_frames, AreAnswered}
+use Rattle.session_core.specs.Service.{Exchange, messages_of, replies_of, all_told, reply_frames, AreAnswered}
+use Rattle.session_core.specs.declared.reply.Form.{Form}
+use Rattle.session_core.specs.declared.reply.Form.TheVariants.{Frames}
 use Rattle.session_core.specs.Source.{AreReads}
 
 -- ---- what was written
@@ -16,23 +18,23 @@ abbrev pub Begins : List ℕ → List ℕ → Type 0
 Begins front bytes = (rest : List ℕ) × (bytes ≡ front ++ rest)
 
 -- The replies to all messages but the last one, or to all.
-pub record TellsAllBefore (written : List ℕ) (exchanges : List Exchange) : Type 0 where
+pub record TellsAllBefore (form : Form) (written : List ℕ) (exchanges : List Exchange) : Type 0 where
   pub before : List Exchange
   pub last : List Exchange
   pub parts : exchanges ≡ before ++ last
   pub one : length last ≤ 1
-  pub written_is : written ≡ reply_frames before
+  pub written_is : written ≡ all_told form before
 
 -- What was written of the replies to the messages that were answered: all of them, but after a failed write, when a
 -- front of their bytes was, and for want of memory, when the last one may be missing.
-abbrev pub Tells : Result ℕ FrameError → List ℕ → List Exchange → Type 0
-Tells (Ok count) written exchanges = written ≡ reply_frames exchanges
-Tells (Err error.NoMemory) written exchanges = TellsAllBefore written exchanges
-Tells (Err error.Length) written exchanges = written ≡ reply_frames exchanges
-Tells (Err error.Kind) written exchanges = written ≡ reply_frames exchanges
-Tells (Err error.Read) written exchanges = written ≡ reply_frames exchanges
-Tells (Err error.Write) written exchanges = Begins written (reply_frames exchanges)
-Tells (Err error.Turns) written exchanges = written ≡ reply_frames exchanges
+abbrev pub Tells : Form → Result ℕ FrameError → List ℕ → List Exchange → Type 0
+Tells form (Ok count) written exchanges = written ≡ all_told form exchanges
+Tells form (Err error.NoMemory) written exchanges = TellsAllBefore form written exchanges
+Tells form (Err error.Length) written exchanges = written ≡ all_told form exchanges
+Tells form (Err error.Kind) written exchanges = written ≡ all_told form exchanges
+Tells form (Err error.Read) written exchanges = written ≡ all_told form exchanges
+Tells form (Err error.Write) written exchanges = Begins written (all_told form exchanges)
+Tells form (Err error.Turns) written exchanges = written ≡ all_told form exchanges
 
 -- All that was read but for its last piece was answered as far as its frames stand whole, no fault stands in it, and
 -- those replies were written.
@@ -82,6 +84,6 @@ pub record IsServed {S R : Type 0} (answers : S → MessageView → ReplyView �
   pub answered : AreAnswered answers service exchanges service_left
   pub sized : AllByRecursion HasReplySize (replies_of exchanges)
   pub appended : Appends output output_left written
-  pub told : Tells result written exchanges
+  pub told : Tells Frames result written exchanges
   pub prompt : IsPrompt pieces exchanges written
   pub ended : EndsFor input_left turns pieces exchanges rest result

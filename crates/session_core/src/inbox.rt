@@ -37,6 +37,13 @@ impl Inbox {
         }
     }
 
+    /// These bytes.
+    pub fn holding(bytes: Vec<u8>) -> Inbox
+        ensures { result ≡ bytes.items }
+    {
+        Inbox { bytes, used: 0 }
+    }
+
     /// Whether nothing is left over.
     pub fn is_empty(&self) -> bool
         ensures { (IsTrue result) ↔ (self.now ≡ []) }

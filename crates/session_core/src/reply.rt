@@ -4,7 +4,7 @@ ghost use Rattle.std.specs.Prelude.{◌≡◌, ◌≤◌, ◌<◌, ◌++◌, ◌
 ghost use Rattle.seg_core.specs.Registration.{rows_of};
 ghost use Rattle.seg_core.specs.Encoding.{response_encoding};
 ghost use Rattle.session_core.specs.Frames.{frame_encoding};
-ghost use Rattle.session_core.specs.Reply.{reply_frame, Registered, Refused};
+ghost use Rattle.session_core.specs.Reply.{reply_frame, HasReplySize, Registered, Found, Refused};
 ghost use Rattle.session_core.specs.ReplyViews.{reply_view};
 
 use crate::service::{Ack, Code};
@@ -20,6 +20,15 @@ const REFUSED: u8 = 0xff;
 
 /// The bytes of an acknowledgement's frame: its length, the kind, the place and four counts.
 pub(crate) const ACK_FRAME: usize = 29;
+
+/// How replies are told.
+#[derive(Clone, Copy)]
+pub enum Form {
+    /// By their frames.
+    Frames,
+    /// By lines, each the hexadecimal digits of a frame, in lower case.
+    Lines,
+}
 
 /// The reply to one message.
 #[derive(Debug, Drop)]
@@ -85,4 +94,29 @@ pub(crate) fn response_of(
         rows.push((kind, segment))?;
     }
     write_response_of(alloc, &rows)
+}
+
+/// The frame of a reply.
+#[tactic(auto, unfolding(crate::specs::Reply::reply_frame))]
+pub(crate) fn whole_frame(alloc: Global, reply: &Reply) -> Result<Vec<u8>, AllocError>
+    requires { HasReplySize (reply_view reply.now) }
+    ensures { IfOk result (λ frame. frame.items ≡ reply_frame (reply_view reply.now)) }
+{
+    match reply {
+        Reply::Registered(ack) => Vec::from_slice(alloc, &ack_frame(*ack)),
+        Reply::Found(kind, segments) => found_frame(alloc, *kind, segments),
+        Reply::Refused(code) => Vec::from_slice(alloc, &refusal_frame(*code)),
+    }
+}
+
+/// The frame of a response.
+#[tactic(auto, unfolding(crate::specs::Reply::reply_frame))]
+fn found_frame(alloc: Global, kind: SegType, segments: &[Segment]) -> Result<Vec<u8>, AllocError>
+    requires { HasReplySize (Found kind segments.now) }
+    ensures { IfOk result (λ frame. frame.items ≡ reply_frame (Found kind segments.now)) }
+{
+    let response = response_of(alloc, kind, segments)?;
+    let mut frame = Vec::from_slice(alloc, &found_head(response.len()))?;
+    frame.extend_from_slice(response.as_slice())?;
+    Ok(frame)
 }

@@ -6,6 +6,7 @@ ghost use Rattle.session_core.specs.Session.{IsServed};
 
 use crate::error::FrameError;
 use crate::inbox::Inbox;
+use crate::reply::Form;
 use crate::service::Service;
 use crate::source::{MOST_PIECE, Source, read_once};
 use crate::writing::write_reply;
@@ -30,7 +31,15 @@ pub fn serve<R: Source, W: Write, S: Service>(
 {
     let mut piece = new_piece(alloc)?;
     let mut inbox = Inbox::new(alloc);
-    serve_inbox(alloc, reader, writer, service, &mut inbox, piece.as_mut_slice(), turns)
+    serve_inbox(
+        alloc,
+        reader,
+        writer,
+        service,
+        &mut inbox,
+        piece.as_mut_slice(),
+        turns,
+    )
 }
 
 /// Answers the messages that a reader gives, by way of an inbox with nothing in it, and with room for one read.
@@ -60,7 +69,7 @@ fn serve_inbox<R: Source, W: Write, S: Service>(
 }
 
 /// Room for one read.
-fn new_piece(alloc: Global) -> Result<Vec<u8>, FrameError>
+pub(crate) fn new_piece(alloc: Global) -> Result<Vec<u8>, FrameError>
     ensures ok { IfOk result (λ piece. length piece.items ≡ MOST_PIECE) }
     ensures err { IfErr result (λ e. e ≡ FrameError.NoMemory) }
 {
@@ -68,7 +77,7 @@ fn new_piece(alloc: Global) -> Result<Vec<u8>, FrameError>
 }
 
 /// What a session answers at the end of the input: nothing may be left over.
-fn end(inbox: &Inbox, count: u64) -> Result<u64, FrameError>
+pub(crate) fn end(inbox: &Inbox, count: u64) -> Result<u64, FrameError>
     ensures ok { IfOk result (λ n. n ≡ count) }
     ensures whole { IfOk result (λ _. inbox.now ≡ []) }
     ensures err { IfErr result (λ e. e ≡ FrameError.Read) }
@@ -80,7 +89,7 @@ fn end(inbox: &Inbox, count: u64) -> Result<u64, FrameError>
     }
 }
 
-/// Answers the messages that stand whole once a piece of input has come, and flushes what was written.
+/// Answers the messages that stand whole once a piece of input has come.
 fn serve_piece<W: Write, S: Service>(
     alloc: Global,
     writer: &mut W,
@@ -89,13 +98,28 @@ fn serve_piece<W: Write, S: Service>(
     piece: &[u8],
     count: u64,
 ) -> Result<u64, FrameError>
-    ensures { AreFrontsAnswered S.answers service.old (inbox.old ++ piece.now) service.new inbox.new
+    ensures { AreFrontsAnswered Form.Frames S.answers service.old (inbox.old ++ piece.now) service.new inbox.new
         (W.contents writer.old) (W.contents writer.new) count result }
 {
     if inbox.take_in(piece).is_err() {
         return Err(FrameError::NoMemory);
     }
-    match answer_all(alloc, writer, service, inbox, count) {
+    answer_and_flush(alloc, writer, service, inbox, Form::Frames, count)
+}
+
+/// Answers the messages that stand whole, and flushes what was written, unless a write failed.
+pub(crate) fn answer_and_flush<W: Write, S: Service>(
+    alloc: Global,
+    writer: &mut W,
+    service: &mut S,
+    inbox: &mut Inbox,
+    form: Form,
+    count: u64,
+) -> Result<u64, FrameError>
+    ensures { AreFrontsAnswered form S.answers service.old inbox.old service.new inbox.new
+        (W.contents writer.old) (W.contents writer.new) count result }
+{
+    match answer_all(alloc, writer, service, inbox, form, count) {
         Err(FrameError::Write) => Err(FrameError::Write),
         answered => {
             if writer.flush().is_err() {
@@ -112,14 +136,15 @@ fn answer_all<W: Write, S: Service>(
     writer: &mut W,
     service: &mut S,
     inbox: &mut Inbox,
+    form: Form,
     count: u64,
 ) -> Result<u64, FrameError>
-    ensures { AreFrontsAnswered S.answers service.old inbox.old service.new inbox.new
+    ensures { AreFrontsAnswered form S.answers service.old inbox.old service.new inbox.new
         (W.contents writer.old) (W.contents writer.new) count result }
 {
     let mut sum = count;
     while let Some(reply) = inbox.next_reply(alloc, service)? {
-        write_reply(alloc, writer, &reply)?;
+        write_reply(alloc, writer, &reply, form)?;
         sum = sum.saturating_add(1);
     }
     Ok(sum)

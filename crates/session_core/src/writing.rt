@@ -1,23 +1,59 @@
 //! Replies on their way to a writer.
 
-ghost use Rattle.std.specs.Prelude.{◌≡◌, ◌≤◌, ◌++◌, [], length, take, OnOk, IfOk, IfErr};
+ghost use Rattle.std.specs.Prelude.{◌≡◌, ◌≤◌, ◌++◌, [], length, take, OnOk, IfOk, IfErr, string_bytes};
 ghost use Rattle.std.specs.Io.KnownBytes.{Appends};
-ghost use Rattle.session_core.specs.Reply.{HasReplySize, Found, reply_frame};
+ghost use Rattle.session_core.specs.Reply.{HasReplySize, Found, reply_frame, told_as};
 ghost use Rattle.session_core.specs.ReplyViews.{reply_view};
 ghost use Rattle.session_core.specs.Answered.{FailsToWrite, FailsWithin};
 
 use crate::error::FrameError;
-use crate::reply::{Reply, ack_frame, found_head, refusal_frame, response_of};
+use crate::reply::{Form, Reply, ack_frame, found_head, refusal_frame, response_of, whole_frame};
 use seg_core::{SegType, Segment};
-use std::alloc::Global;
+use std::alloc::{AllocError, Global};
 use std::io::Write;
 
-/// Writes the frame of a reply. Memory is wanted for a response alone, before its first byte.
+/// Writes a reply. Where memory runs out, nothing of it is written.
 pub(crate) fn write_reply<W: Write>(
     alloc: Global,
     writer: &mut W,
     reply: &Reply,
+    form: Form,
 ) -> Result<(), FrameError>
+    requires { HasReplySize (reply_view reply.now) }
+    ensures ok { OnOk result (Appends (W.contents writer.old) (W.contents writer.new) (told_as form (reply_view reply.now))) }
+    ensures err { IfErr result (FailsToWrite (W.contents writer.old) (W.contents writer.new) (told_as form (reply_view reply.now))) }
+{
+    match form {
+        Form::Frames => write_frame(alloc, writer, reply),
+        Form::Lines => write_line(alloc, writer, reply),
+    }
+}
+
+/// Writes the digits of a reply's frame, and the end of the line.
+fn write_line<W: Write>(alloc: Global, writer: &mut W, reply: &Reply) -> Result<(), FrameError>
+    requires { HasReplySize (reply_view reply.now) }
+    ensures ok { OnOk result (Appends (W.contents writer.old) (W.contents writer.new) (told_as Form.Lines (reply_view reply.now))) }
+    ensures err { IfErr result (FailsToWrite (W.contents writer.old) (W.contents writer.new) (told_as Form.Lines (reply_view reply.now))) }
+{
+    let Ok(line) = line_of(alloc, reply) else {
+        return Err(FrameError::NoMemory);
+    };
+    write_all(writer, line.as_bytes())
+}
+
+/// The digits of a reply's frame, and the end of the line.
+fn line_of(alloc: Global, reply: &Reply) -> Result<String, AllocError>
+    requires { HasReplySize (reply_view reply.now) }
+    ensures { IfOk result (λ line. string_bytes line ≡ told_as Form.Lines (reply_view reply.now)) }
+{
+    let frame = whole_frame(alloc, reply)?;
+    let mut line = hex::encode(alloc, frame.as_slice())?;
+    line.push('\n')?;
+    Ok(line)
+}
+
+/// Writes the frame of a reply. Memory is wanted for a response alone, before its first byte.
+fn write_frame<W: Write>(alloc: Global, writer: &mut W, reply: &Reply) -> Result<(), FrameError>
     requires { HasReplySize (reply_view reply.now) }
     ensures ok { OnOk result (Appends (W.contents writer.old) (W.contents writer.new) (reply_frame (reply_view reply.now))) }
     ensures err { IfErr result (FailsToWrite (W.contents writer.old) (W.contents writer.new) (reply_frame (reply_view reply.now))) }
