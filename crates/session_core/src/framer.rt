@@ -98,7 +98,7 @@ fn whole_frames(alloc: Global, bytes: &[u8]) -> Result<(Fed, usize), AllocError>
     let fault = loop {
         match next_frame(bytes.split_at(used).1) {
             Ok(Some((message, len))) => {
-                messages.push(owned(alloc, message)?)?;
+                messages.push(message_copy(alloc, message)?)?;
                 used += len;
             }
             Ok(None) => break None,
@@ -109,7 +109,7 @@ fn whole_frames(alloc: Global, bytes: &[u8]) -> Result<(Fed, usize), AllocError>
 }
 
 /// The message with a body of its own.
-fn owned(alloc: Global, message: Message<&[u8]>) -> Result<Message, AllocError>
+fn message_copy(alloc: Global, message: Message<&[u8]>) -> Result<Message, AllocError>
     ensures { IfOk result (λ m. message_view m ≡ message_at message.entry) }
 {
     Ok(match message {

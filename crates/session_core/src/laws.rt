@@ -23,6 +23,8 @@ pub fn lasting_fault()
 
 /// However a stream is cut, its pieces bring what the whole stream is.
 pub fn any_cut()
-    ensures joined { (old mid new : Ending) (front back : List ℕ) (ms ns : List MessageView) → Continues old front ms mid → Continues mid back ns new → Continues old (front ++ back) (ms ++ ns) new }
-    ensures whole { (stream : List ℕ) (messages : List MessageView) (ending : Ending) → Continues (Rest []) stream messages ending → AreFrames stream messages ending }
+    ensures joined { (old mid new : Ending) (front back : List ℕ) (ms ns : List MessageView)
+        → Continues old front ms mid → Continues mid back ns new → Continues old (front ++ back) (ms ++ ns) new }
+    ensures whole { (stream : List ℕ) (messages : List MessageView) (ending : Ending)
+        → Continues (Rest []) stream messages ending → AreFrames stream messages ending }
 {}

@@ -155,7 +155,7 @@ fn refused_memory_keeps_the_stream(rt: HostRuntime) -> Result<(), Fail> {
     let bytes = stream();
     let mut framer = Framer::new(rt.alloc());
     let mut place = 0u8;
-    for piece in [bytes.as_slice(), &LOOKUP[..3]] {
+    for piece in bytes.chunks(50) {
         let fed = match framer.feed(piece) {
             Ok(fed) => fed,
             Err(_) => framer.feed(piece)?,
