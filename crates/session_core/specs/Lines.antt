@@ -1,0 +1,41 @@
+-- A session over bytes in memory, whose replies are told in lines of hexadecimal digits.
+use Rattle.std.specs.Prelude.{◌≡◌, ℕ, ◌-◌, ◌^◌, min, List, [], length, Option, Result, Ok, Err}
+use Rattle.std.specs.List.{AllByRecursion}
+use Rattle.std.specs.Io.KnownBytes.{Appends}
+use Rattle.session_core.specs.declared.error.FrameError.{FrameError}
+use Rattle.session_core.specs.declared.error.FrameError.TheVariants as error
+use Rattle.session_core.specs.declared.reply.Form.TheVariants.{Lines}
+use Rattle.session_core.specs.Frames.{MessageView, IsPartial, HasBadLength, HasBadKind, AreWholeFrames}
+use Rattle.session_core.specs.Reply.{ReplyView, HasReplySize}
+use Rattle.session_core.specs.Service.{Exchange, messages_of, replies_of, AreAnswered}
+use Rattle.session_core.specs.Session.{Tells}
+
+-- nothing is left over, and the count of replies stays at 2^64 - 1
+pub record IsWholeCount (exchanges : List Exchange) (rest : List ℕ) (count : ℕ) : Type 0 where
+  pub whole : rest ≡ []
+  pub counted : count ≡ min (length exchanges) (2 ^ 64 - 1)
+
+-- Why it ends: with the bytes, at a fault of the frame that follows, within a frame, or at a failed write and for want of
+-- memory anywhere.
+abbrev pub EndsInLines : List Exchange → List ℕ → Result ℕ FrameError → Type 0
+EndsInLines exchanges rest (Ok count) = IsWholeCount exchanges rest count
+EndsInLines exchanges rest (Err error.NoMemory) = Unit {0}
+EndsInLines exchanges rest (Err error.Length) = HasBadLength rest
+EndsInLines exchanges rest (Err error.Kind) = HasBadKind rest
+EndsInLines exchanges rest (Err error.Read) = IsPartial rest
+EndsInLines exchanges rest (Err error.Write) = Unit {0}
+EndsInLines exchanges rest (Err error.Turns) = ⊥
+
+-- The bytes are the frames of the messages that were answered, and a rest; the service answered them in order; what was
+-- written are the lines of those replies.
+pub record IsServedInLines {S : Type 0} (answers : S → MessageView → ReplyView → S → Type 0) (bytes : List ℕ) (service service_left : S)
+    (output output_left : Option (List ℕ)) (result : Result ℕ FrameError) : Type 0 where
+  pub exchanges : List Exchange
+  pub rest : List ℕ
+  pub written : List ℕ
+  pub framed : AreWholeFrames bytes (messages_of exchanges) rest
+  pub answered : AreAnswered answers service exchanges service_left
+  pub sized : AllByRecursion HasReplySize (replies_of exchanges)
+  pub appended : Appends output output_left written
+  pub told : Tells Lines result written exchanges
+  pub ended : EndsInLines exchanges rest result

@@ -1,0 +1,30 @@
+-- Reads of a source, one after the other.
+use Rattle.std.specs.Prelude.{◌≡◌, ℕ, ◌≤◌, List, length, Option, Result, Ok, Err, Vec}
+use Rattle.std.specs.List.{FoldsTo, AllByRecursion, concat}
+use Rattle.std.specs.Io.KnownBytes.{IsAtEnd}
+use Rattle.session_core.specs.declared.error.FrameError.{FrameError}
+use Rattle.session_core.specs.declared.error.FrameError.TheVariants as error
+use Rattle.session_core.specs.declared.source.TheConstants.{MOST_PIECE}
+
+-- The source was read at most so often. Each read gave one of these pieces, which are no longer than one may be; a read
+-- that failed, and one at the end, gave none of its bytes.
+pub record AreReads {R : Type 0} (gives : R → List ℕ → R → Type 0) (turns : ℕ) (old : R) (pieces : List (List ℕ)) (new : R) : Type 0 where
+  pub made : FoldsTo gives old pieces new
+  pub few : length pieces ≤ turns
+  pub short : AllByRecursion (λ piece. length piece ≤ MOST_PIECE) pieces
+
+-- All was read up to the end that the source shows; or a read failed, memory ran out, or all reads are made.
+abbrev pub EndsReading : {A : Type 0} → ℕ → Option (List ℕ) → List (List ℕ) → Result (Vec ℕ A) FrameError → Type 0
+EndsReading turns input_left pieces (Ok bytes) = IsAtEnd input_left × (bytes.items ≡ concat pieces)
+EndsReading turns input_left pieces (Err error.NoMemory) = Unit {0}
+EndsReading turns input_left pieces (Err error.Length) = ⊥
+EndsReading turns input_left pieces (Err error.Kind) = ⊥
+EndsReading turns input_left pieces (Err error.Read) = Unit {0}
+EndsReading turns input_left pieces (Err error.Write) = ⊥
+EndsReading turns input_left pieces (Err error.Turns) = length pieces ≡ turns
+
+-- A source was read to its end, or as far as reading went, in at most so many reads.
+pub record IsAllRead {R A : Type 0} (gives : R → List ℕ → R → Type 0) (turns : ℕ) (source source_left : R) (input_left : Option (List ℕ)) (result : Result (Vec ℕ A) FrameError) : Type 0 where
+  pub pieces : List (List ℕ)
+  pub read : AreReads gives turns source pieces source_left
+  pub ended : EndsReading turns input_left pieces result

@@ -1,0 +1,26 @@
+//! Sessions over bytes in memory, whose replies are lines.
+
+ghost use Rattle.session_core.specs.Lines.{IsServedInLines};
+
+use crate::error::FrameError;
+use crate::inbox::Inbox;
+use crate::reply::Form;
+use crate::service::Service;
+use crate::serving::{answer_and_flush, end};
+use std::alloc::Global;
+use std::io::Write;
+
+/// Answers the messages whose frames are these bytes, and writes each reply as a line: the digits of its frame in lower
+/// case. Tells how many replies were written, a count that stays at 2^64 - 1. Bytes that end within a frame are Read.
+pub fn serve_in_lines<W: Write, S: Service>(
+    alloc: Global,
+    bytes: Vec<u8>,
+    writer: &mut W,
+    service: &mut S,
+) -> Result<u64, FrameError>
+    ensures { IsServedInLines S.answers bytes.items service.old service.new (W.contents writer.old) (W.contents writer.new) result }
+{
+    let mut inbox = Inbox::holding(bytes);
+    let count = answer_and_flush(alloc, writer, service, &mut inbox, Form::Lines, 0)?;
+    end(&inbox, count)
+}
