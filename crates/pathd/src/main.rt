@@ -1,34 +1,13 @@
 //! `pathd`, a path segment server for the core ASes of a SCION network.
 //!
-//! The command `once` answers one session of frames. What it writes is a stated function of what it reads
-//! (`session::once`); the words of the command line and the texts of faults are shown by tests.
+//! Words are read by `path_words`, and what they ask for is done by `path_commands`; here are the program's input,
+//! output and status alone.
 #![tactic(auto)]
-
-mod codes;
-mod command_line;
-mod database_laws;
-mod fault;
-mod frames;
-mod hex_input;
-mod hex_lines;
-mod hex_session;
-mod input;
-mod laws;
-mod lookup;
-mod reading;
-mod reply;
-mod row;
-mod rows;
-mod service;
-mod session;
-mod writing;
 
 use clap::error::ErrorKind;
 use clap::{ArgMatches, Error};
-use command_line::{CORES, HEX, ONCE, command, cores_of};
-use fault::Fault;
-use hex_session::once_in_hex;
-use session::once;
+use path_commands::{Fault, cores_of, once, once_in_hex};
+use path_words::{CORES, HEX, ONCE, command};
 use std::env;
 use std::io::{BufWriter, Read, Write};
 use std::process::ExitCode;
@@ -102,6 +81,3 @@ fn refuse(rt: &(impl Print + Eprint), error: &Error) -> Result<ExitCode, Fault> 
         ExitCode::from(2)
     })
 }
-
-#[cfg(test)]
-mod tests;

@@ -1,6 +1,0 @@
-use Rattle.std.proofs.Common.{take, map}
-use Rattle.pathd.specs.Cores.{AreCores}
-use Rattle.pathd.proofs.command_line.cores_of.Given as goal
-
-abbrev pub invariant-loop-text : goal.invariant-loop-text
-invariant-loop-text l = AreCores (map (λ text. text.now) (take l.text-index l.text-items)) l.cores.items

@@ -1,5 +1,0 @@
-use Rattle.pathd.proofs.OneReading.{whole_session_of}
-use Rattle.pathd.proofs.laws.whole_session.Goals as goal
-
-pub returns : goal.returns
-returns c = whole_session_of

@@ -1,0 +1,69 @@
+//! Sessions in hexadecimal digits.
+
+use crate::streams::{Narrow, Pieces, WhenFull, in_pieces};
+use crate::worked::*;
+use path_commands::{Fault, once_in_hex};
+use session_core::FrameError;
+use std::test::Fail;
+
+#[test]
+fn hexadecimal_sessions(rt: HostRuntime) -> Result<(), Fail> {
+    let alloc = rt.alloc();
+    let replies = text_of(alloc, &[INSERTED, "\n", FOUND, "\n"])?;
+    let cores = cores(alloc)?;
+    let mut spaced = String::new(alloc);
+    for byte in text_of(alloc, &[REGISTER, LOOKUP])?.chars() {
+        spaced.push(byte.to_ascii_uppercase())?;
+        spaced.push_str(" \r\n")?;
+    }
+    for (text, outcome, output) in [
+        (spaced.as_str(), Ok(2), replies.as_str()),
+        ("", Ok(0), ""),
+        (" \r\n", Ok(0), ""),
+        (
+            "0000000201 00 00000000",
+            Err(Fault::Frame(FrameError::Length)),
+            "00000002ff13\n",
+        ),
+        ("00000002010", Err(Fault::Hex), ""),
+        ("0000000201 0g", Err(Fault::Hex), ""),
+        ("000000020100\t", Err(Fault::Hex), ""),
+        ("0000000201", Err(Fault::Frame(FrameError::Read)), ""),
+    ] {
+        let mut lines = Vec::new(alloc);
+        let result = once_in_hex(alloc, &mut text.as_bytes(), &mut lines, &cores, 1_000);
+        assert_eq!(rt; result, outcome, "{text}");
+        assert_eq!(rt; lines.as_slice(), output.as_bytes(), "{text}");
+    }
+    Ok(())
+}
+
+#[test]
+fn hexadecimal_streams(rt: HostRuntime) -> Result<(), Fail> {
+    let alloc = rt.alloc();
+    let text = text_of(alloc, &[REGISTER])?;
+    let mut lines = Vec::new(alloc);
+    let mut reader = Pieces {
+        bytes: text.as_bytes(),
+        size: 10,
+        reads: 0,
+        failing: 2,
+    };
+    let failed = once_in_hex(alloc, &mut reader, &mut lines, &[], 1_000);
+    assert_eq!(rt; failed, Err(Fault::Frame(FrameError::Read)));
+
+    let mut reader = in_pieces(text.as_bytes(), 10);
+    let short = once_in_hex(alloc, &mut reader, &mut lines, &[], 3);
+    assert_eq!(rt; short, Err(Fault::Frame(FrameError::Turns)));
+    assert_eq!(rt; lines.len(), 0);
+
+    let mut writer = Narrow {
+        taken: Vec::new(alloc),
+        room: 7,
+        when_full: WhenFull::TakesNone,
+    };
+    let full = once_in_hex(alloc, &mut text.as_bytes(), &mut writer, &[], 1_000);
+    assert_eq!(rt; full, Err(Fault::Frame(FrameError::Write)));
+    assert_eq!(rt; writer.taken.as_slice(), b"0000001".as_slice());
+    Ok(())
+}

@@ -1,0 +1,16 @@
+//! Tests of the program's commands: what no contract says of them. Values come from outside; readers and writers fail,
+//! and give and take in pieces.
+#![tactic(auto)]
+
+#[cfg(test)]
+mod digits;
+#[cfg(test)]
+mod replies;
+#[cfg(test)]
+mod sessions;
+#[cfg(test)]
+mod streams;
+#[cfg(test)]
+mod words;
+#[cfg(test)]
+mod worked;
