@@ -1,5 +1,5 @@
 -- Each segment that is read is whole.
-use Rattle.std.proofs.Common.{◌≡◌, ℕ, ◌+◌, ◌≤◌, suc, List, [], ◌∷◌, ◌++◌, length, Ok, Option, refl, ap, subst, arith, length-append}
+use Rattle.std.proofs.Common.{◌≡◌, ℕ, ◌+◌, ◌≤◌, suc, true, List, [], ◌∷◌, ◌++◌, length, Ok, Option, refl, ap, subst, arith, length-append}
 use Rattle.std.specs.Prelude.{nat_le}
 use Rattle.std.specs.List.{AllByRecursion}
 use Rattle.std.proofs.lemmas.Bool.{leb-true}
@@ -9,14 +9,13 @@ use Rattle.pw_wire.specs.Field.{bytes_field_encoding}
 use Rattle.pw_wire.specs.Fields.{fields}
 use Rattle.seg_core.specs.declared.error.SegError.TheVariants.{Chain, Loop, Entries, TooLarge}
 use Rattle.seg_core.specs.declared.body.Body.{Body}
-use Rattle.seg_core.specs.declared.info.Info.{Info}
 use Rattle.seg_core.specs.Shapes.{path_segment_shape, as_entry_shape, signed_message_shape}
 use Rattle.seg_core.specs.Steps.{◌>>=◌, each}
 use Rattle.seg_core.specs.Message.{text, texts, text_or_empty}
 use Rattle.seg_core.specs.SegmentView.{EntryView, SegmentView}
 use Rattle.seg_core.specs.Entry.{header_and_body_decoding, as_entry_decoding}
 use Rattle.seg_core.specs.WellFormed.{is_entry_count, is_chain, has_no_loop}
-use Rattle.seg_core.specs.Segment.{info_decoding, segment_decoding}
+use Rattle.seg_core.specs.Segment.{SegmentOutline, info_decoding, segment_outline, segment_decoding}
 use Rattle.seg_core.specs.Encoding.{bytes_encoding, as_entry_encoding, entries_encoding, segment_encoding, IsEntry, IsSegment}
 use Rattle.seg_core.proofs.Readings.{step_ok, ok_is, after_checked, after_check, after_required}
 use Rattle.seg_core.proofs.WireSizes.{encoded_len, fields-length}
@@ -87,8 +86,8 @@ entries_read (message ∷ messages) es le reading =
 
 -- ---- a segment
 
-abbrev segment_of : Info → List ℕ → List EntryView → SegmentView
-segment_of info bytes entries = record { timestamp = info.timestamp; segment_id = info.segment_id; info = bytes; entries = entries }
+abbrev segment_of : SegmentOutline → List EntryView → SegmentView
+segment_of outline entries = record { timestamp = outline.timestamp; segment_id = outline.segment_id; info = outline.info; entries = entries }
 
 segment-length : (message : List ℕ) (s : SegmentView) → length message ≤ 16384 → s.info ≡ text_or_empty 1 (fields message) → length (entries_encoding s.entries) ≤ encoded_len 2 (texts 2 (fields message)) → length (segment_encoding s) ≤ 16384
 unfolding segment_encoding
@@ -97,24 +96,44 @@ segment-length message s le info entries =
     rw (info, length-append (bytes_encoding 1 (text_or_empty 1 fs)) (entries_encoding s.entries))
     (omega (arith, fields-length message le, or_empty-length 1 (text 1 fs), last-length 1 (texts 1 fs)))
 
+-- what the outline of a segment went through
+record IsOutlined (message : List ℕ) (outline : SegmentOutline) : Type 0 where
+  le : length message ≤ 16384
+  info_is : outline.info ≡ text_or_empty 1 (fields message)
+  entries_are : outline.entries ≡ texts 2 (fields message)
+  info_says : info_decoding outline.info ≡ Ok (record { timestamp = outline.timestamp; segment_id = outline.segment_id })
+  counted : is_entry_count (length outline.entries) ≡ true
+
+outline_read : (message : List ℕ) (outline : SegmentOutline) → segment_outline message ≡ Ok outline → IsOutlined message outline
+unfolding segment_outline
+outline_read message outline reading =
+    let fs = fields message in
+    let sized = after_check (nat_le (length message) 16384) TooLarge _ outline reading in
+    let in_fields = after_checked path_segment_shape message _ outline sized.1 in
+    let counted = after_check (is_entry_count (length (texts 2 fs))) Entries _ outline in_fields in
+    let info = step_ok (info_decoding (text_or_empty 1 fs)) _ outline counted.1 in
+    subst (IsOutlined message) (ok_is (record { timestamp = info.0.timestamp; segment_id = info.0.segment_id; info = text_or_empty 1 fs; entries = texts 2 fs }) outline info.2) (record {
+      le = leb-true (length message) 16384 sized.0;
+      info_is = refl;
+      entries_are = refl;
+      info_says = info.1;
+      counted = counted.0;
+    })
+
 pub decoding-IsSegment : (message : List ℕ) (s : SegmentView) → segment_decoding message ≡ Ok s → IsSegment s
 unfolding segment_decoding
 decoding-IsSegment message s reading =
-    let fs = fields message in
-    let sized = after_check (nat_le (length message) 16384) TooLarge _ s reading in
-    let in_fields = after_checked path_segment_shape message _ s sized.1 in
-    let counted = after_check (is_entry_count (length (texts 2 fs))) Entries _ s in_fields in
-    let info = step_ok (info_decoding (text_or_empty 1 fs)) _ s counted.1 in
-    let entries = step_ok (each as_entry_decoding (texts 2 fs)) _ s info.2 in
+    let outline = step_ok (segment_outline message) _ s reading in
+    let outlined = outline_read message outline.0 outline.1 in
+    let entries = step_ok (each as_entry_decoding outline.0.entries) _ s outline.2 in
     let chain = after_check (is_chain entries.0) Chain _ s entries.2 in
     let loop = after_check (has_no_loop entries.0) Loop _ s chain.1 in
-    let le : length message ≤ 16384 = leb-true (length message) 16384 sized.0 in
-    let were = entries_read (texts 2 fs) entries.0 (omega (arith, fields-length message le)) entries.1 in
-    subst IsSegment (ok_is (segment_of info.0 (text_or_empty 1 fs) entries.0) s loop.1) (record {
-      info_says = info.1;
+    let were = entries_read outline.0.entries entries.0 (rw outlined.entries_are (omega (arith, fields-length message outlined.le))) entries.1 in
+    subst IsSegment (ok_is (segment_of outline.0 entries.0) s loop.1) (record {
+      info_says = outlined.info_says;
       entries_say = were.say;
-      counted = rw were.as_many counted.0;
+      counted = rw were.as_many outlined.counted;
       chain = chain.0;
       no_loop = loop.0;
-      short = segment-length message (segment_of info.0 (text_or_empty 1 fs) entries.0) le refl were.short;
+      short = segment-length message (segment_of outline.0 entries.0) outlined.le outlined.info_is (subst (λ ts. length (entries_encoding entries.0) ≤ encoded_len 2 ts) outlined.entries_are were.short);
     })

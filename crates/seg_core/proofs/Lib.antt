@@ -14,3 +14,4 @@ pub mod EncodedLengths
 pub mod Written
 pub mod Responses
 pub mod ResponseTrip
+pub mod Refusals

@@ -14,7 +14,7 @@ use Rattle.seg_core.specs.declared.seg_type.SegType.TheVariants.{Up, Down, Core}
 use Rattle.seg_core.specs.Shapes.{map_shape, map_entry_shape, segments_shape}
 use Rattle.seg_core.specs.Message.{misfit_after, texts}
 use Rattle.seg_core.specs.SegmentView.{SegmentView}
-use Rattle.seg_core.specs.Registration.{type_number, rows_of, new_type, segments_decoding, map_entry_decoding, map_decoding, registration_decoding}
+use Rattle.seg_core.specs.Registration.{type_number, rows_of, new_type, segments_decoding, map_entry_decoding, map_decoding, registration_outline, registration_decoding}
 use Rattle.seg_core.specs.Encoding.{IsSegment, segment_encoding, segments_encoding, of_type, map_entry_encoding, response_encoding, by_type}
 use Rattle.seg_core.proofs.Sizes.{bytes_field-within}
 use Rattle.seg_core.proofs.EncodedFields.{HasFields, nothing, field_before, checked-is}
@@ -211,12 +211,13 @@ contents_read rows whole few small =
 
 pub decoding-response : (rows : List (SegType × SegmentView)) → AllByRecursion (λ row. IsSegment row.1) rows → length rows ≤ 16 → length (response_encoding rows) ≤ 131072
     → registration_decoding (response_encoding rows) ≡ Ok (by_type rows)
-unfolding registration_decoding
+unfolding registration_decoding registration_outline
 decoding-response rows whole few small =
     let ts = contents rows in
     let same = response_encoded rows in
     let fits : length (messages_encoding ts) < 2 ^ 64 = rw (← same) (omega arith) in
     let has : HasFields (response_encoding rows) (messages_fields ts) = rw same (messages_have ts fits) in
-    goes_on _ _ tt (Ok (by_type rows)) (holds (nat_le (length (response_encoding rows)) 131072) TooLarge (le-leb (length (response_encoding rows)) 131072 small))
-    (goes_on _ _ (messages_fields ts) (Ok (by_type rows)) (checked-is map_shape (response_encoding rows) (messages_fields ts) has (map_fit [] ts))
-    (ap (map_decoding [] 0) (messages_there ts) ∙ contents_read rows whole few small))
+    goes_on _ _ ts (Ok (by_type rows))
+    (goes_on _ _ tt (Ok ts) (holds (nat_le (length (response_encoding rows)) 131072) TooLarge (le-leb (length (response_encoding rows)) 131072 small))
+    (goes_on _ _ (messages_fields ts) (Ok ts) (checked-is map_shape (response_encoding rows) (messages_fields ts) has (map_fit [] ts)) (ap Ok (messages_there ts))))
+    (contents_read rows whole few small)

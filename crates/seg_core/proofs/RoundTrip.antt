@@ -13,7 +13,7 @@ use Rattle.seg_core.specs.Message.{required, there, texts}
 use Rattle.seg_core.specs.SegmentView.{EntryView, SegmentView}
 use Rattle.seg_core.specs.Entry.{header_and_body_decoding, as_entry_decoding}
 use Rattle.seg_core.specs.WellFormed.{is_entry_count, is_chain, has_no_loop}
-use Rattle.seg_core.specs.Segment.{info_decoding, segment_decoding}
+use Rattle.seg_core.specs.Segment.{SegmentOutline, info_decoding, segment_outline, segment_decoding}
 use Rattle.seg_core.specs.Encoding.{optional_encoding, signed_encoding, as_entry_encoding, entries_encoding, segment_encoding, body_of, IsEntry, IsSegment}
 use Rattle.seg_core.proofs.Sizes.{bytes_field-within}
 use Rattle.seg_core.proofs.EncodedFields.{bytes_fields, optional_fields, entry_fields, signed-fields, entry-fields, entries-length, segment-length, segment-fields, checked-is, signed-fit, entry-fit, segment-fit, signed-there, signature-there, unsigned-there, signed_message-there, info-there, entries-there}
@@ -45,18 +45,28 @@ entries_again (e ∷ es) say fits =
     goes_on _ _ e (Ok (e ∷ es)) (entry_again e say.0 (omega (arith, bytes_field-within 2 (as_entry_encoding e))))
     (goes_on _ _ es (Ok (e ∷ es)) (entries_again es say.1 (omega arith)) refl)
 
-pub decoding-encoding : (s : SegmentView) → IsSegment s → segment_decoding (segment_encoding s) ≡ Ok s
-unfolding segment_decoding
-decoding-encoding s is =
+-- the outline of a segment that is encoded
+outline_of : SegmentView → SegmentOutline
+outline_of s = record { timestamp = s.timestamp; segment_id = s.segment_id; info = s.info; entries = map as_entry_encoding s.entries }
+
+outline_again : (s : SegmentView) → IsSegment s → segment_outline (segment_encoding s) ≡ Ok (outline_of s)
+unfolding segment_outline outline_of
+outline_again s is =
     let fs = bytes_fields 1 s.info ++ entry_fields s.entries in
     let short = is.short in
-    let parts = segment-length s in
     let as_many : length (texts 2 fs) ≡ length s.entries = ap length (entries-there s.info s.entries) ∙ length-map s.entries as_entry_encoding in
-    goes_on _ _ tt (Ok s) (holds (nat_le (length (segment_encoding s)) 16384) TooLarge (le-leb (length (segment_encoding s)) 16384 short))
-    (goes_on _ _ fs (Ok s) (checked-is path_segment_shape (segment_encoding s) fs (segment-fields s (omega arith)) (segment-fit s.info s.entries))
-    (goes_on _ _ tt (Ok s) (holds (is_entry_count (length (texts 2 fs))) Entries (rw as_many is.counted))
-    (goes_on _ _ (record { timestamp = s.timestamp; segment_id = s.segment_id }) (Ok s) (ap info_decoding (info-there s.info s.entries) ∙ is.info_says)
-    (goes_on _ _ s.entries (Ok s) (ap (each as_entry_decoding) (entries-there s.info s.entries) ∙ entries_again s.entries is.entries_say (omega arith))
+    goes_on _ _ tt (Ok (outline_of s)) (holds (nat_le (length (segment_encoding s)) 16384) TooLarge (le-leb (length (segment_encoding s)) 16384 short))
+    (goes_on _ _ fs (Ok (outline_of s)) (checked-is path_segment_shape (segment_encoding s) fs (segment-fields s (omega arith)) (segment-fit s.info s.entries))
+    (goes_on _ _ tt (Ok (outline_of s)) (holds (is_entry_count (length (texts 2 fs))) Entries (rw as_many is.counted))
+    (goes_on _ _ (record { timestamp = s.timestamp; segment_id = s.segment_id }) (Ok (outline_of s)) (ap info_decoding (info-there s.info s.entries) ∙ is.info_says)
+    (rw (info-there s.info s.entries, entries-there s.info s.entries) refl))))
+
+pub decoding-encoding : (s : SegmentView) → IsSegment s → segment_decoding (segment_encoding s) ≡ Ok s
+unfolding segment_decoding outline_of
+decoding-encoding s is =
+    let short = is.short in
+    let parts = segment-length s in
+    goes_on _ _ (outline_of s) (Ok s) (outline_again s is)
+    (goes_on _ _ s.entries (Ok s) (entries_again s.entries is.entries_say (omega arith))
     (goes_on _ _ tt (Ok s) (holds (is_chain s.entries) Chain is.chain)
-    (goes_on _ _ tt (Ok s) (holds (has_no_loop s.entries) Loop is.no_loop)
-    (rw (info-there s.info s.entries) refl)))))))
+    (goes_on _ _ tt (Ok s) (holds (has_no_loop s.entries) Loop is.no_loop) refl)))

@@ -7,6 +7,7 @@ pub mod EntryView
 pub mod Entry
 pub mod WellFormed
 pub mod Segment
+pub mod Outline
 pub mod Request
 pub mod Registration
 pub mod Encoding

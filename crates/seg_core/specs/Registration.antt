@@ -62,9 +62,15 @@ map_decoding earlier count (message ∷ messages) = do
   others ← map_decoding (type_number first.0 ∷ earlier) (count + length first.1) messages
   Ok (rows_of first.0 first.1 ++ others)
 
+-- The messages of the map's entries. It takes no memory to judge its size, and the wire and the kinds of its message.
+unfoldable pub registration_outline : List ℕ → Result (List (List ℕ)) SegError
+registration_outline message = do
+  _ ← check (nat_le (length message) 131072) TooLarge
+  fs ← checked map_shape message
+  Ok (texts 1 fs)
+
 -- the segments with their types, in the order of the message
 unfoldable pub registration_decoding : List ℕ → Result (List (SegType × SegmentView)) SegError
 registration_decoding message = do
-  _ ← check (nat_le (length message) 131072) TooLarge
-  fs ← checked map_shape message
-  map_decoding [] 0 (texts 1 fs)
+  messages ← registration_outline message
+  map_decoding [] 0 messages

@@ -14,6 +14,7 @@ mod hop;
 mod info;
 mod lengths;
 mod limits;
+mod outline;
 mod path;
 mod registration;
 mod request;

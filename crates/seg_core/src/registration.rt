@@ -1,13 +1,14 @@
 //! Registrations: maps from types to segments.
 
-ghost use Rattle.std.specs.Prelude.{◌≡◌, ℕ, List, [], ◌++◌, length};
+ghost use Rattle.std.specs.Prelude.{◌≡◌, ◌≢◌, ℕ, List, [], ◌++◌, length, IfErr, IsOk};
 ghost use Rattle.pw_wire.specs.Fields.{fields};
-ghost use Rattle.seg_core.specs.Steps.{Gives, seen_as};
+ghost use Rattle.seg_core.specs.Steps.{Gives, Reads, seen_as};
 ghost use Rattle.seg_core.specs.Message.{texts};
 ghost use Rattle.seg_core.specs.SegmentView.{SegmentView};
+ghost use Rattle.seg_core.specs.declared.error.SegError.TheVariants.{NoMemory};
 ghost use Rattle.seg_core.specs.declared.seg_type.SegType.{SegType};
 ghost use Rattle.seg_core.specs.Earlier.{AreIn};
-ghost use Rattle.seg_core.specs.Registration.{map_decoding, map_entry_decoding, segments_decoding, registration_decoding, rows_of};
+ghost use Rattle.seg_core.specs.Registration.{map_decoding, map_entry_decoding, segments_decoding, registration_outline, registration_decoding, rows_of};
 
 use crate::earlier::Earlier;
 use crate::error::SegError;
@@ -75,13 +76,25 @@ fn read_map(alloc: Global, messages: Texts<'_>) -> Result<Vec<(SegType, Segment)
     Ok(found)
 }
 
-/// Reads a `SegmentsRegistrationRequest`, all of its bytes: its segments and their types, in the order of the message.
-/// It is refused as too large first of all, and at its 17th segment before that is read.
-#[tactic(auto, unfolding(crate::specs::Registration::registration_decoding))]
-pub fn read_registration(alloc: Global, message: &[u8]) -> Result<Vec<(SegType, Segment)>, SegError>
-    ensures { Gives (λ v. v.items) result (registration_decoding message.now) }
+/// The messages of the entries of a map.
+#[tactic(auto, unfolding(crate::specs::Registration::registration_outline))]
+fn read_outline(message: &[u8]) -> Result<Texts<'_>, SegError>
+    ensures outline { Reads (λ entries. texts entries.number (fields entries.rest.now)) result (registration_outline message.now) }
+    ensures memory { IfErr result (λ e. e ≢ NoMemory) }
 {
     check(message.len() <= MOST_BYTES, SegError::TooLarge)?;
     let slots = slots_of(&SEGMENT_MAP, message)?;
-    read_map(alloc, slots.texts(1))
+    Ok(slots.texts(1))
+}
+
+/// Reads a `SegmentsRegistrationRequest`, all of its bytes: its segments and their types, in the order of the message.
+/// It is refused as too large first of all, and at its 17th segment before that is read. Its outline is judged before
+/// any memory is taken.
+#[tactic(auto, unfolding(crate::specs::Registration::registration_decoding))]
+pub fn read_registration(alloc: Global, message: &[u8]) -> Result<Vec<(SegType, Segment)>, SegError>
+    ensures decoding { Gives (λ v. v.items) result (registration_decoding message.now) }
+    ensures memory { IfErr result (λ e. e ≡ NoMemory → IsOk (registration_outline message.now)) }
+{
+    let entries = read_outline(message)?;
+    read_map(alloc, entries)
 }

@@ -1,7 +1,7 @@
 use Rattle.std.proofs.Common.{◌≡◌, ◌+◌, ◌≤◌, length}
 use Rattle.pw_wire.specs.Fields.{fields}
 use Rattle.seg_core.specs.Message.{texts}
-use Rattle.seg_core.proofs.segment.is_entry_count.Given as goal
+use Rattle.seg_core.proofs.outline.is_entry_count.Given as goal
 
 -- What was counted and what is left are all of them.
 abbrev pub invariant-loop-message : goal.invariant-loop-message

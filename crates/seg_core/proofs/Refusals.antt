@@ -1,0 +1,146 @@
+-- Which refusals the parts of a reading have: none is for want of memory, and up to its entries, and in them, none is
+-- for the path that they form. It serves the readers of segments and registrations, and the laws on decodings.
+use Rattle.std.proofs.Common.{◌≡◌, ◌≢◌, ℕ, Bool, true, false, List, [], ◌∷◌, ◌++◌, Result, Ok, Err, Option, Some, None, refl, sym, ap, ◌∙◌}
+use Rattle.std.specs.Prelude.{nat_le, if◌then◌else◌, not, ◌&&◌, is_some}
+use Rattle.std.proofs.lemmas.Bool.{false≢true}
+use Rattle.std.specs.Option.{option_map, option_or}
+use Rattle.pw_wire.specs.declared.error.WireError.{WireError}
+use Rattle.pw_wire.specs.Field.{FieldView}
+use Rattle.pw_wire.specs.Fields.{fields, fault}
+use Rattle.seg_core.specs.declared.error.SegError.{SegError}
+use Rattle.seg_core.specs.declared.error.SegError.TheVariants.{NoMemory, Wire, KindOfField, RepeatedMessage, MissingField, Range, Chain, Loop, Entries, BadType, TooLarge}
+use Rattle.seg_core.specs.declared.shape.FieldKind.{FieldKind}
+use Rattle.seg_core.specs.Steps.{◌>>=◌, check, at_most, each}
+use Rattle.seg_core.specs.Message.{checked, refused_by, kind_at, suits, is_single, misfit_at, misfit_after, there, text}
+use Rattle.seg_core.specs.Segment.{info_decoding, segment_outline}
+use Rattle.seg_core.specs.Registration.{registration_outline}
+use Rattle.seg_core.specs.Entry.{hop_field_decoding, hop_entry_decoding, peer_entry_decoding, body_decoding, header_and_body_decoding, as_entry_decoding}
+
+-- neither for want of memory nor for a path
+abbrev pub is_plain : SegError → Bool
+is_plain NoMemory = false
+is_plain (Wire e) = true
+is_plain KindOfField = true
+is_plain RepeatedMessage = true
+is_plain MissingField = true
+is_plain Range = true
+is_plain Chain = false
+is_plain Loop = false
+is_plain Entries = true
+is_plain BadType = true
+is_plain TooLarge = true
+
+-- a reading whose refusals all pass a test
+pub record FailsWithin {A : Type 0} (p : SegError → Bool) (r : Result A SegError) : Type 0 where
+  pub passes : (e : SegError) → r ≡ Err e → p e ≡ true
+
+-- ---- steps
+
+pub given : {A : Type 0} (p : SegError → Bool) (x : A) → FailsWithin p (Ok x)
+given p x = record { passes = λ e is. absurd cc }
+
+pub step : {A B : Type 0} (p : SegError → Bool) (r : Result A SegError) (f : A → Result B SegError) → FailsWithin p r → ((x : A) → FailsWithin p (f x)) → FailsWithin p (r >>= f)
+step p (Ok x) f first next = next x
+step p (Err d) f first next = record { passes = λ e is. first.passes e (cc) }
+
+pub tested : {A : Type 0} (p : SegError → Bool) (b : Bool) (x : A) (reason : SegError) → p reason ≡ true → FailsWithin p (if b then Ok x else Err reason)
+tested p true x reason fine = given p x
+tested p false x reason fine = record { passes = λ e is. ap p (let same : e ≡ reason = cc in same) ∙ fine }
+
+pub each_within : {A B : Type 0} (p : SegError → Bool) (read : A → Result B SegError) (xs : List A) → ((x : A) → FailsWithin p (read x)) → FailsWithin p (each read xs)
+each_within p read [] within = given p []
+each_within p read (x ∷ xs) within = step p _ _ (within x) (λ first. step p _ _ (each_within p read xs within) (λ others. given p (first ∷ others)))
+
+plain_check : (b : Bool) (reason : SegError) → is_plain reason ≡ true → FailsWithin is_plain (check b reason)
+plain_check b reason fine = tested is_plain b tt reason fine
+
+plain_at_most : (limit n : ℕ) → FailsWithin is_plain (at_most limit n)
+plain_at_most limit n = tested is_plain (nat_le n limit) n Range refl
+
+-- ---- the fields of a message
+
+-- the refusals that an option may have
+abbrev OnlyPlain : Option SegError → Type 0
+OnlyPlain o = (e : SegError) → o ≡ Some e → is_plain e ≡ true
+
+only_plain_wire : (o : Option WireError) → OnlyPlain (option_map Wire o)
+only_plain_wire None e is = absurd cc
+only_plain_wire (Some w) e is = let same : Wire w ≡ e = cc in ap is_plain (sym same)
+
+only_plain_tests : (suited repeated : Bool) → OnlyPlain (if not suited then Some KindOfField else if repeated then Some RepeatedMessage else None)
+only_plain_tests false repeated e is = let same : KindOfField ≡ e = cc in ap is_plain (sym same)
+only_plain_tests true true e is = let same : RepeatedMessage ≡ e = cc in ap is_plain (sym same)
+only_plain_tests true false e is = absurd cc
+
+only_plain_or : (a b : Option SegError) → OnlyPlain a → OnlyPlain b → OnlyPlain (option_or a b)
+only_plain_or None b first second = second
+only_plain_or (Some d) b first second = first
+
+only_plain_misfit : (shape : List FieldKind) (before fs : List FieldView) → OnlyPlain (misfit_after shape before fs)
+only_plain_misfit shape before [] = λ e is. absurd cc
+only_plain_misfit shape before (f ∷ fs) =
+    only_plain_or (misfit_at shape before f) (misfit_after shape (before ++ f ∷ []) fs)
+    (only_plain_tests (suits (kind_at shape f.number) f.value) (is_single (kind_at shape f.number) && is_some (text f.number before)))
+    (only_plain_misfit shape (before ++ f ∷ []) fs)
+
+plain_refused : {A : Type 0} (o : Option SegError) (r : Result A SegError) → OnlyPlain o → FailsWithin is_plain r → FailsWithin is_plain (refused_by o r)
+plain_refused None r only within = within
+plain_refused (Some d) r only within = record { passes = λ e is. only e (let same : d ≡ e = cc in ap (λ x. Some x) same) }
+
+pub plain_checked : (shape : List FieldKind) (bytes : List ℕ) → FailsWithin is_plain (checked shape bytes)
+unfolding checked
+plain_checked shape bytes =
+    plain_refused _ _ (only_plain_wire (fault bytes)) (plain_refused _ _ (only_plain_misfit shape [] (fields bytes)) (given is_plain (fields bytes)))
+
+plain_there : (o : Option (List ℕ)) → FailsWithin is_plain (there o)
+plain_there None = record { passes = λ e is. let same : MissingField ≡ e = cc in ap is_plain (sym same) }
+plain_there (Some t) = given is_plain t
+
+-- ---- the parts of a segment
+
+plain_hop_field : (message : List ℕ) → FailsWithin is_plain (hop_field_decoding message)
+unfolding hop_field_decoding
+plain_hop_field message = search (step, given, plain_checked, plain_at_most, plain_check) depth 16
+
+plain_hop_entry : (message : List ℕ) → FailsWithin is_plain (hop_entry_decoding message)
+unfolding hop_entry_decoding
+plain_hop_entry message = search (step, plain_checked, plain_there, plain_at_most, plain_hop_field) depth 16
+
+plain_peer_entry : (message : List ℕ) → FailsWithin is_plain (peer_entry_decoding message)
+unfolding peer_entry_decoding
+plain_peer_entry message = search (step, plain_checked, plain_there, plain_at_most, plain_hop_field) depth 16
+
+plain_peers : (messages : List (List ℕ)) → FailsWithin is_plain (each peer_entry_decoding messages)
+plain_peers messages = each_within is_plain peer_entry_decoding messages plain_peer_entry
+
+plain_body : (message : List ℕ) → FailsWithin is_plain (body_decoding message)
+unfolding body_decoding
+plain_body message = search (step, given, plain_checked, plain_there, plain_at_most, plain_check, plain_hop_entry, plain_peers) depth 16
+
+plain_header_and_body : (message : List ℕ) → FailsWithin is_plain (header_and_body_decoding message)
+unfolding header_and_body_decoding
+plain_header_and_body message = search (step, plain_checked, plain_body) depth 16
+
+pub plain_as_entry : (message : List ℕ) → FailsWithin is_plain (as_entry_decoding message)
+unfolding as_entry_decoding
+plain_as_entry message = search (step, given, plain_checked, plain_there, plain_header_and_body) depth 16
+
+pub plain_info : (message : List ℕ) → FailsWithin is_plain (info_decoding message)
+unfolding info_decoding
+plain_info message = search (step, given, plain_checked, plain_at_most) depth 16
+
+-- ---- what is judged before memory is taken
+
+pub plain_segment_outline : (message : List ℕ) → FailsWithin is_plain (segment_outline message)
+unfolding segment_outline
+plain_segment_outline message = search (step, given, plain_checked, plain_check, plain_info) depth 16
+
+pub plain_registration_outline : (message : List ℕ) → FailsWithin is_plain (registration_outline message)
+unfolding registration_outline
+plain_registration_outline message = search (step, given, plain_checked, plain_check) depth 16
+
+-- ---- want of memory
+
+-- a plain refusal is not want of memory
+pub never_memory : {A : Type 0} (r : Result A SegError) (e : SegError) → FailsWithin is_plain r → r ≡ Err e → e ≢ NoMemory
+never_memory r e within is memory = false≢true (sym (ap is_plain memory) ∙ within.passes e is)
