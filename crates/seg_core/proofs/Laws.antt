@@ -11,13 +11,13 @@ use Rattle.seg_core.specs.declared.error.SegError.TheVariants.{Chain, Loop, Entr
 use Rattle.seg_core.specs.declared.body.Body.{Body}
 use Rattle.seg_core.specs.Shapes.{path_segment_shape, as_entry_shape, signed_message_shape}
 use Rattle.seg_core.specs.Steps.{◌>>=◌, each}
-use Rattle.seg_core.specs.Message.{text, texts, text_or_empty}
+use Rattle.seg_core.specs.Message.{bytes_field, bytes_fields, bytes_field_or_empty}
 use Rattle.seg_core.specs.SegmentView.{EntryView, SegmentView}
 use Rattle.seg_core.specs.Entry.{header_and_body_decoding, as_entry_decoding}
 use Rattle.seg_core.specs.WellFormed.{is_entry_count, is_chain, has_no_loop}
 use Rattle.seg_core.specs.Segment.{SegmentOutline, info_decoding, segment_outline, segment_decoding}
 use Rattle.seg_core.specs.Encoding.{bytes_encoding, as_entry_encoding, entries_encoding, segment_encoding, IsEntry, IsSegment}
-use Rattle.seg_core.proofs.Readings.{step_ok, ok_is, after_checked, after_check, after_required}
+use Rattle.seg_core.proofs.Readings.{step_ok, ok_is, after_message_fields, after_check, after_required}
 use Rattle.seg_core.proofs.WireSizes.{encoded_len, fields-length}
 use Rattle.seg_core.proofs.Sizes.{bytes_field-mono, bytes_field-within, last-length, or_empty-length, parts-length, entry-length, signed-within}
 
@@ -45,15 +45,15 @@ entry_read : (message : List ℕ) (e : EntryView) → length message ≤ 16384 �
 unfolding as_entry_decoding
 entry_read message e le reading =
     let fs = fields message in
-    let in_fields = after_checked as_entry_shape message _ e reading in
+    let in_fields = after_message_fields as_entry_shape message _ e reading in
     let in_signed = after_required 1 fs _ e in_fields in
     let signed = in_signed.0 in
     let parts = fields signed in
-    let in_parts = after_checked signed_message_shape signed _ e in_signed.2 in
-    let in_body = step_ok (header_and_body_decoding (text_or_empty 1 parts)) _ e in_parts in
-    subst (WasRead message) (ok_is (entry_of in_body.0 (text_or_empty 1 parts) (text_or_empty 2 parts) (text 2 fs)) e in_body.2) (record {
+    let in_parts = after_message_fields signed_message_shape signed _ e in_signed.2 in
+    let in_body = step_ok (header_and_body_decoding (bytes_field_or_empty 1 parts)) _ e in_parts in
+    subst (WasRead message) (ok_is (entry_of in_body.0 (bytes_field_or_empty 1 parts) (bytes_field_or_empty 2 parts) (bytes_field 2 fs)) e in_body.2) (record {
       says = in_body.1;
-      short = entry-length message signed (bytes_encoding 1 (text_or_empty 1 parts) ++ bytes_encoding 2 (text_or_empty 2 parts)) le in_signed.1
+      short = entry-length message signed (bytes_encoding 1 (bytes_field_or_empty 1 parts) ++ bytes_encoding 2 (bytes_field_or_empty 2 parts)) le in_signed.1
           (parts-length signed (signed-within message signed le in_signed.1));
     })
 
@@ -89,18 +89,18 @@ entries_read (message ∷ messages) es le reading =
 abbrev segment_of : SegmentOutline → List EntryView → SegmentView
 segment_of outline entries = record { timestamp = outline.timestamp; segment_id = outline.segment_id; info = outline.info; entries = entries }
 
-segment-length : (message : List ℕ) (s : SegmentView) → length message ≤ 16384 → s.info ≡ text_or_empty 1 (fields message) → length (entries_encoding s.entries) ≤ encoded_len 2 (texts 2 (fields message)) → length (segment_encoding s) ≤ 16384
+segment-length : (message : List ℕ) (s : SegmentView) → length message ≤ 16384 → s.info ≡ bytes_field_or_empty 1 (fields message) → length (entries_encoding s.entries) ≤ encoded_len 2 (bytes_fields 2 (fields message)) → length (segment_encoding s) ≤ 16384
 unfolding segment_encoding
 segment-length message s le info entries =
     let fs = fields message in
-    rw (info, length-append (bytes_encoding 1 (text_or_empty 1 fs)) (entries_encoding s.entries))
-    (omega (arith, fields-length message le, or_empty-length 1 (text 1 fs), last-length 1 (texts 1 fs)))
+    rw (info, length-append (bytes_encoding 1 (bytes_field_or_empty 1 fs)) (entries_encoding s.entries))
+    (omega (arith, fields-length message le, or_empty-length 1 (bytes_field 1 fs), last-length 1 (bytes_fields 1 fs)))
 
 -- what the outline of a segment went through
 record IsOutlined (message : List ℕ) (outline : SegmentOutline) : Type 0 where
   le : length message ≤ 16384
-  info_is : outline.info ≡ text_or_empty 1 (fields message)
-  entries_are : outline.entries ≡ texts 2 (fields message)
+  info_is : outline.info ≡ bytes_field_or_empty 1 (fields message)
+  entries_are : outline.entries ≡ bytes_fields 2 (fields message)
   info_says : info_decoding outline.info ≡ Ok (record { timestamp = outline.timestamp; segment_id = outline.segment_id })
   counted : is_entry_count (length outline.entries) ≡ true
 
@@ -109,10 +109,10 @@ unfolding segment_outline
 outline_read message outline reading =
     let fs = fields message in
     let sized = after_check (nat_le (length message) 16384) TooLarge _ outline reading in
-    let in_fields = after_checked path_segment_shape message _ outline sized.1 in
-    let counted = after_check (is_entry_count (length (texts 2 fs))) Entries _ outline in_fields in
-    let info = step_ok (info_decoding (text_or_empty 1 fs)) _ outline counted.1 in
-    subst (IsOutlined message) (ok_is (record { timestamp = info.0.timestamp; segment_id = info.0.segment_id; info = text_or_empty 1 fs; entries = texts 2 fs }) outline info.2) (record {
+    let in_fields = after_message_fields path_segment_shape message _ outline sized.1 in
+    let counted = after_check (is_entry_count (length (bytes_fields 2 fs))) Entries _ outline in_fields in
+    let info = step_ok (info_decoding (bytes_field_or_empty 1 fs)) _ outline counted.1 in
+    subst (IsOutlined message) (ok_is (record { timestamp = info.0.timestamp; segment_id = info.0.segment_id; info = bytes_field_or_empty 1 fs; entries = bytes_fields 2 fs }) outline info.2) (record {
       le = leb-true (length message) 16384 sized.0;
       info_is = refl;
       entries_are = refl;

@@ -10,14 +10,14 @@ use Rattle.seg_core.specs.declared.hop.Hop.{Hop}
 use Rattle.seg_core.specs.declared.info.Info.{Info}
 use Rattle.seg_core.specs.Shapes.{hop_field_shape, hop_entry_shape, body_shape, header_and_body_shape, segment_information_shape}
 use Rattle.seg_core.specs.Steps.{each}
-use Rattle.seg_core.specs.Message.{number, text_or_empty, texts}
+use Rattle.seg_core.specs.Message.{number_field, bytes_field_or_empty, bytes_fields}
 use Rattle.pw_wire.specs.Fields.{fields}
 use Rattle.seg_core.specs.SegmentView.{EntryView, SegmentView}
 use Rattle.seg_core.specs.Entry.{names_an_as, hop_field_decoding, hop_entry_decoding, peer_entry_decoding, body_decoding, header_and_body_decoding}
 use Rattle.seg_core.specs.Segment.{info_decoding}
 use Rattle.seg_core.specs.Encoding.{body_of, IsEntry, IsSegment}
 use Rattle.seg_core.specs.WellFormed.{HasEntryCount, IsEntryInRange, IsWellFormed, is_entry_count}
-use Rattle.seg_core.proofs.Readings.{step_ok, ok_is, after_checked, after_check, after_required, after_at_most}
+use Rattle.seg_core.proofs.Readings.{step_ok, ok_is, after_message_fields, after_check, after_required, after_at_most}
 use Rattle.seg_core.proofs.Paths.{both, other, chain-IsChain, no_loop-HasNoLoop}
 
 -- ---- what readings give is in range
@@ -31,21 +31,21 @@ hop_field_in_range : (message : List ℕ) (hop : Hop) → hop_field_decoding mes
 unfolding hop_field_decoding
 hop_field_in_range message hop reading =
     let fs = fields message in
-    let in_fields = after_checked hop_field_shape message _ hop reading in
-    let ingress = after_at_most (2 ^ 16 - 1) (number 1 fs) _ hop in_fields in
-    let egress = after_at_most (2 ^ 16 - 1) (number 2 fs) _ hop ingress.1 in
-    let exp_time = after_at_most (2 ^ 8 - 1) (number 3 fs) _ hop egress.1 in
-    let mac = after_check (length (text_or_empty 4 fs) == 6) Range _ hop exp_time.1 in
-    subst IsHopInRange (ok_is (record { ingress = number 1 fs; egress = number 2 fs; exp_time = number 3 fs }) hop mac.1)
+    let in_fields = after_message_fields hop_field_shape message _ hop reading in
+    let ingress = after_at_most (2 ^ 16 - 1) (number_field 1 fs) _ hop in_fields in
+    let egress = after_at_most (2 ^ 16 - 1) (number_field 2 fs) _ hop ingress.1 in
+    let exp_time = after_at_most (2 ^ 8 - 1) (number_field 3 fs) _ hop egress.1 in
+    let mac = after_check (length (bytes_field_or_empty 4 fs) == 6) Range _ hop exp_time.1 in
+    subst IsHopInRange (ok_is (record { ingress = number_field 1 fs; egress = number_field 2 fs; exp_time = number_field 3 fs }) hop mac.1)
     (record { ingress = omega (arith, ingress.0); egress = omega (arith, egress.0); exp_time = omega (arith, exp_time.0) })
 
 hop_entry_in_range : (message : List ℕ) (hop : Hop) → hop_entry_decoding message ≡ Ok hop → IsHopInRange hop
 unfolding hop_entry_decoding
 hop_entry_in_range message hop reading =
     let fs = fields message in
-    let in_fields = after_checked hop_entry_shape message _ hop reading in
+    let in_fields = after_message_fields hop_entry_shape message _ hop reading in
     let hop_field = after_required 1 fs _ hop in_fields in
-    let mtu = after_at_most (2 ^ 32 - 1) (number 2 fs) _ hop hop_field.2 in
+    let mtu = after_at_most (2 ^ 32 - 1) (number_field 2 fs) _ hop hop_field.2 in
     hop_field_in_range hop_field.0 hop mtu.1
 
 record IsBodyInRange (body : Body) : Type 0 where
@@ -57,21 +57,21 @@ body_in_range : (message : List ℕ) (body : Body) → body_decoding message ≡
 unfolding body_decoding
 body_in_range message body reading =
     let fs = fields message in
-    let ia = number 1 fs in
-    let in_fields = after_checked body_shape message _ body reading in
+    let ia = number_field 1 fs in
+    let in_fields = after_message_fields body_shape message _ body reading in
     let hop_entry = after_required 3 fs _ body in_fields in
     let named = after_check (names_an_as ia) Range _ body hop_entry.2 in
     let parts = both (not (ia / 2 ^ 48 == 0)) (not (ia % 2 ^ 48 == 0)) named.0 in
-    let mtu = after_at_most (2 ^ 32 - 1) (number 5 fs) _ body named.1 in
+    let mtu = after_at_most (2 ^ 32 - 1) (number_field 5 fs) _ body named.1 in
     let hop = step_ok (hop_entry_decoding hop_entry.0) _ body mtu.1 in
-    let peers = step_ok (each peer_entry_decoding (texts 4 fs)) _ body hop.2 in
-    subst IsBodyInRange (ok_is (record { ia = ia; next = number 2 fs; hop = hop.0 }) body peers.2)
+    let peers = step_ok (each peer_entry_decoding (bytes_fields 4 fs)) _ body hop.2 in
+    subst IsBodyInRange (ok_is (record { ia = ia; next = number_field 2 fs; hop = hop.0 }) body peers.2)
     (record { isd = other (ia / 2 ^ 48) 0 parts.0; asn = other (ia % 2 ^ 48) 0 parts.1; hop = hop_entry_in_range hop_entry.0 hop.0 hop.1 })
 
 entry_in_range : (e : EntryView) → IsEntry e → IsEntryInRange e
 unfolding header_and_body_decoding
 entry_in_range e says =
-    let body = body_in_range (text_or_empty 2 (fields e.signed)) (body_of e) (after_checked header_and_body_shape e.signed _ (body_of e) says) in
+    let body = body_in_range (bytes_field_or_empty 2 (fields e.signed)) (body_of e) (after_message_fields header_and_body_shape e.signed _ (body_of e) says) in
     record { isd = body.isd; asn = body.asn; ingress = body.hop.ingress; egress = body.hop.egress; exp_time = body.hop.exp_time }
 
 entries_in_range : (es : List EntryView) → AllByRecursion IsEntry es → All IsEntryInRange es
@@ -86,10 +86,10 @@ info_in_range : (message : List ℕ) (info : Info) → info_decoding message ≡
 unfolding info_decoding
 info_in_range message info reading =
     let fs = fields message in
-    let in_fields = after_checked segment_information_shape message _ info reading in
-    let timestamp = after_at_most (2 ^ 32 - 1) (number 1 fs) _ info in_fields in
-    let segment_id = after_at_most (2 ^ 16 - 1) (number 2 fs) _ info timestamp.1 in
-    subst IsInfoInRange (ok_is (record { timestamp = number 1 fs; segment_id = number 2 fs }) info segment_id.1)
+    let in_fields = after_message_fields segment_information_shape message _ info reading in
+    let timestamp = after_at_most (2 ^ 32 - 1) (number_field 1 fs) _ info in_fields in
+    let segment_id = after_at_most (2 ^ 16 - 1) (number_field 2 fs) _ info timestamp.1 in
+    subst IsInfoInRange (ok_is (record { timestamp = number_field 1 fs; segment_id = number_field 2 fs }) info segment_id.1)
     (record { timestamp = omega (arith, timestamp.0); segment_id = omega (arith, segment_id.0) })
 
 -- ---- a segment

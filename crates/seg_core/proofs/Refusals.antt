@@ -1,7 +1,7 @@
 -- Which refusals the parts of a reading have: none is for want of memory, and up to its entries, and in them, none is
 -- for the path that they form. It serves the readers of segments and registrations, and the laws on decodings.
 use Rattle.std.proofs.Common.{◌≡◌, ◌≢◌, ℕ, Bool, true, false, List, [], ◌∷◌, ◌++◌, Result, Ok, Err, Option, Some, None, refl, sym, ap, ◌∙◌}
-use Rattle.std.specs.Prelude.{nat_le, if◌then◌else◌, not, ◌&&◌, is_some}
+use Rattle.std.specs.Prelude.{nat_le, ok_or, if◌then◌else◌, not, ◌&&◌, is_some}
 use Rattle.std.proofs.lemmas.Bool.{false≢true}
 use Rattle.std.specs.Option.{option_map, option_or}
 use Rattle.pw_wire.specs.declared.error.WireError.{WireError}
@@ -10,8 +10,8 @@ use Rattle.pw_wire.specs.Fields.{fields, fault}
 use Rattle.seg_core.specs.declared.error.SegError.{SegError}
 use Rattle.seg_core.specs.declared.error.SegError.TheVariants.{NoMemory, Wire, KindOfField, RepeatedMessage, MissingField, Range, Chain, Loop, Entries, BadType, TooLarge}
 use Rattle.seg_core.specs.declared.shape.FieldKind.{FieldKind}
-use Rattle.seg_core.specs.Steps.{◌>>=◌, check, at_most, each}
-use Rattle.seg_core.specs.Message.{checked, refused_by, kind_at, suits, is_single, misfit_at, misfit_after, there, text}
+use Rattle.seg_core.specs.Steps.{◌>>=◌, check, unless, at_most, each}
+use Rattle.seg_core.specs.Message.{message_fields, kind_at, suits, is_single, misfit_at, misfit_after, required_message, bytes_field}
 use Rattle.seg_core.specs.Segment.{info_decoding, segment_outline}
 use Rattle.seg_core.specs.Registration.{registration_outline}
 use Rattle.seg_core.specs.Entry.{hop_field_decoding, hop_entry_decoding, peer_entry_decoding, body_decoding, header_and_body_decoding, as_entry_decoding}
@@ -80,64 +80,68 @@ only_plain_misfit : (shape : List FieldKind) (before fs : List FieldView) → On
 only_plain_misfit shape before [] = λ e is. absurd cc
 only_plain_misfit shape before (f ∷ fs) =
     only_plain_or (misfit_at shape before f) (misfit_after shape (before ++ f ∷ []) fs)
-    (only_plain_tests (suits (kind_at shape f.number) f.value) (is_single (kind_at shape f.number) && is_some (text f.number before)))
+    (only_plain_tests (suits (kind_at shape f.number) f.value) (is_single (kind_at shape f.number) && is_some (bytes_field f.number before)))
     (only_plain_misfit shape (before ++ f ∷ []) fs)
 
-plain_refused : {A : Type 0} (o : Option SegError) (r : Result A SegError) → OnlyPlain o → FailsWithin is_plain r → FailsWithin is_plain (refused_by o r)
-plain_refused None r only within = within
-plain_refused (Some d) r only within = record { passes = λ e is. only e (let same : d ≡ e = cc in ap (λ x. Some x) same) }
+plain_unless : (o : Option SegError) → OnlyPlain o → FailsWithin is_plain (unless o)
+plain_unless None only = given is_plain tt
+plain_unless (Some d) only = record { passes = λ e is. only e (let same : d ≡ e = cc in ap (λ x. Some x) same) }
 
-pub plain_checked : (shape : List FieldKind) (bytes : List ℕ) → FailsWithin is_plain (checked shape bytes)
-unfolding checked
-plain_checked shape bytes =
-    plain_refused _ _ (only_plain_wire (fault bytes)) (plain_refused _ _ (only_plain_misfit shape [] (fields bytes)) (given is_plain (fields bytes)))
+pub plain_message_fields : (shape : List FieldKind) (bytes : List ℕ) → FailsWithin is_plain (message_fields shape bytes)
+unfolding message_fields
+plain_message_fields shape bytes =
+    step is_plain (unless (option_map Wire (fault bytes))) _ (plain_unless _ (only_plain_wire (fault bytes)))
+    (λ _. step is_plain (unless (misfit_after shape [] (fields bytes))) _ (plain_unless _ (only_plain_misfit shape [] (fields bytes))) (λ _. given is_plain (fields bytes)))
 
-plain_there : (o : Option (List ℕ)) → FailsWithin is_plain (there o)
+plain_there : (o : Option (List ℕ)) → FailsWithin is_plain (ok_or o MissingField)
 plain_there None = record { passes = λ e is. let same : MissingField ≡ e = cc in ap is_plain (sym same) }
 plain_there (Some t) = given is_plain t
+
+plain_required_message : (k : ℕ) (fs : List FieldView) → FailsWithin is_plain (required_message k fs)
+plain_required_message k fs = plain_there (bytes_field k fs)
 
 -- ---- the parts of a segment
 
 plain_hop_field : (message : List ℕ) → FailsWithin is_plain (hop_field_decoding message)
 unfolding hop_field_decoding
-plain_hop_field message = search (step, given, plain_checked, plain_at_most, plain_check) depth 16
+plain_hop_field message = search (step, given, plain_message_fields, plain_at_most, plain_check) depth 16
 
 plain_hop_entry : (message : List ℕ) → FailsWithin is_plain (hop_entry_decoding message)
 unfolding hop_entry_decoding
-plain_hop_entry message = search (step, plain_checked, plain_there, plain_at_most, plain_hop_field) depth 16
+plain_hop_entry message = search (step, plain_message_fields, plain_required_message, plain_at_most, plain_hop_field) depth 16
 
 plain_peer_entry : (message : List ℕ) → FailsWithin is_plain (peer_entry_decoding message)
 unfolding peer_entry_decoding
-plain_peer_entry message = search (step, plain_checked, plain_there, plain_at_most, plain_hop_field) depth 16
+plain_peer_entry message = search (step, plain_message_fields, plain_required_message, plain_at_most, plain_hop_field) depth 16
 
 plain_peers : (messages : List (List ℕ)) → FailsWithin is_plain (each peer_entry_decoding messages)
 plain_peers messages = each_within is_plain peer_entry_decoding messages plain_peer_entry
 
 plain_body : (message : List ℕ) → FailsWithin is_plain (body_decoding message)
 unfolding body_decoding
-plain_body message = search (step, given, plain_checked, plain_there, plain_at_most, plain_check, plain_hop_entry, plain_peers) depth 16
+plain_body message = search (step, given, plain_message_fields, plain_required_message, plain_at_most, plain_check, plain_hop_entry, plain_peers) depth 16
 
 plain_header_and_body : (message : List ℕ) → FailsWithin is_plain (header_and_body_decoding message)
 unfolding header_and_body_decoding
-plain_header_and_body message = search (step, plain_checked, plain_body) depth 16
+plain_header_and_body message = search (step, plain_message_fields, plain_body) depth 16
 
 pub plain_as_entry : (message : List ℕ) → FailsWithin is_plain (as_entry_decoding message)
 unfolding as_entry_decoding
-plain_as_entry message = search (step, given, plain_checked, plain_there, plain_header_and_body) depth 16
+plain_as_entry message = search (step, given, plain_message_fields, plain_required_message, plain_header_and_body) depth 16
 
 pub plain_info : (message : List ℕ) → FailsWithin is_plain (info_decoding message)
 unfolding info_decoding
-plain_info message = search (step, given, plain_checked, plain_at_most) depth 16
+plain_info message = search (step, given, plain_message_fields, plain_at_most) depth 16
 
 -- ---- what is judged before memory is taken
 
 pub plain_segment_outline : (message : List ℕ) → FailsWithin is_plain (segment_outline message)
 unfolding segment_outline
-plain_segment_outline message = search (step, given, plain_checked, plain_check, plain_info) depth 16
+plain_segment_outline message = search (step, given, plain_message_fields, plain_check, plain_info) depth 16
 
 pub plain_registration_outline : (message : List ℕ) → FailsWithin is_plain (registration_outline message)
 unfolding registration_outline
-plain_registration_outline message = search (step, given, plain_checked, plain_check) depth 16
+plain_registration_outline message = search (step, given, plain_message_fields, plain_check) depth 16
 
 -- ---- want of memory
 

@@ -12,12 +12,12 @@ use Rattle.seg_core.specs.declared.error.SegError.TheVariants.{TooLarge}
 use Rattle.seg_core.specs.declared.seg_type.SegType.{SegType}
 use Rattle.seg_core.specs.declared.seg_type.SegType.TheVariants.{Up, Down, Core}
 use Rattle.seg_core.specs.Shapes.{map_shape, map_entry_shape, segments_shape}
-use Rattle.seg_core.specs.Message.{misfit_after, texts}
+use Rattle.seg_core.specs.Message.{misfit_after, bytes_fields}
 use Rattle.seg_core.specs.SegmentView.{SegmentView}
 use Rattle.seg_core.specs.Registration.{type_number, rows_of, new_type, segments_decoding, map_entry_decoding, map_decoding, registration_outline, registration_decoding}
 use Rattle.seg_core.specs.Encoding.{IsSegment, segment_encoding, segments_encoding, of_type, map_entry_encoding, response_encoding, by_type}
 use Rattle.seg_core.proofs.Sizes.{bytes_field-within}
-use Rattle.seg_core.proofs.EncodedFields.{HasFields, nothing, field_before, checked-is}
+use Rattle.seg_core.proofs.EncodedFields.{HasFields, nothing, field_before, message_fields-is}
 use Rattle.seg_core.proofs.Responses.{content_of, content-length}
 use Rattle.seg_core.proofs.RoundTrip.{goes_on, holds, decoding-encoding}
 
@@ -45,7 +45,7 @@ segments_fit : (before : List FieldView) (ts : List (List ℕ)) → misfit_after
 segments_fit before [] = refl
 segments_fit before (t ∷ ts) = segments_fit (before ++ bytes_field 1 t ∷ []) ts
 
-messages_there : (ts : List (List ℕ)) → texts 1 (messages_fields ts) ≡ ts
+messages_there : (ts : List (List ℕ)) → bytes_fields 1 (messages_fields ts) ≡ ts
 messages_there [] = refl
 messages_there (t ∷ ts) = ap (λ us. t ∷ us) (messages_there ts)
 
@@ -96,9 +96,9 @@ entry_again earlier count kind ss fresh whole few fits =
     let ts = map segment_encoding ss in
     let same = encoded_one_by_one ss in
     let value : HasFields (segments_encoding ss) (messages_fields ts) = rw same (messages_have ts (rw (← same) fits)) in
-    goes_on _ _ (content_fields kind ss) (Ok (kind, ss)) (checked-is map_entry_shape (content_of kind ss) (content_fields kind ss) (content_has kind ss fits) refl)
+    goes_on _ _ (content_fields kind ss) (Ok (kind, ss)) (message_fields-is map_entry_shape (content_of kind ss) (content_fields kind ss) (content_has kind ss fits) refl)
     (goes_on _ _ kind (Ok (kind, ss)) (new_again earlier kind fresh)
-    (goes_on _ _ (messages_fields ts) (Ok (kind, ss)) (checked-is segments_shape (segments_encoding ss) (messages_fields ts) value (segments_fit [] ts))
+    (goes_on _ _ (messages_fields ts) (Ok (kind, ss)) (message_fields-is segments_shape (segments_encoding ss) (messages_fields ts) value (segments_fit [] ts))
     (goes_on _ _ ss (Ok (kind, ss)) (ap (segments_decoding count) (messages_there ts) ∙ segments_again count ss whole few) refl)))
 
 -- ---- the map
@@ -219,5 +219,5 @@ decoding-response rows whole few small =
     let has : HasFields (response_encoding rows) (messages_fields ts) = rw same (messages_have ts fits) in
     goes_on _ _ ts (Ok (by_type rows))
     (goes_on _ _ tt (Ok ts) (holds (nat_le (length (response_encoding rows)) 131072) TooLarge (le-leb (length (response_encoding rows)) 131072 small))
-    (goes_on _ _ (messages_fields ts) (Ok ts) (checked-is map_shape (response_encoding rows) (messages_fields ts) has (map_fit [] ts)) (ap Ok (messages_there ts))))
+    (goes_on _ _ (messages_fields ts) (Ok ts) (message_fields-is map_shape (response_encoding rows) (messages_fields ts) has (map_fit [] ts)) (ap Ok (messages_there ts))))
     (contents_read rows whole few small)

@@ -12,7 +12,7 @@ use Rattle.pw_wire.specs.Decoding.{◌>>=◌}
 use Rattle.pw_wire.specs.Varint.{varint_within, varint_at, encoding_within, varint_encoding}
 use Rattle.pw_wire.specs.Field.{FieldValue, Varint, Fixed64, Bytes, Fixed32, FieldView, fixed64_at, fixed32_at, bytes_at, number_at, value_at, field_behind, field_at, bytes_field_encoding}
 use Rattle.pw_wire.specs.Fields.{fields, fields_within, before}
-use Rattle.seg_core.specs.Message.{bytes_in, texts}
+use Rattle.seg_core.specs.Message.{bytes_in, bytes_fields}
 
 -- ---- the length of a varint
 
@@ -251,12 +251,12 @@ field_adds f = elim (cases_Bool (f.number == 1)) [
 
 -- both numbers' encodings
 abbrev both_len : List FieldView → ℕ
-both_len fs = encoded_len 1 (texts 1 fs) + encoded_len 2 (texts 2 fs)
+both_len fs = encoded_len 1 (bytes_fields 1 fs) + encoded_len 2 (bytes_fields 2 fs)
 
 both_len-cons : (f : FieldView) (fs : List FieldView) → both_len (f ∷ fs) ≤ (1 + value_len f.value) + both_len fs
 both_len-cons f fs =
-    rw (sum_by-append (λ text. length (bytes_field_encoding 1 text)) (if f.number == 1 then bytes_in f.value else []) (texts 1 fs))
-    (rw (sum_by-append (λ text. length (bytes_field_encoding 2 text)) (if f.number == 2 then bytes_in f.value else []) (texts 2 fs))
+    rw (sum_by-append (λ text. length (bytes_field_encoding 1 text)) (if f.number == 1 then bytes_in f.value else []) (bytes_fields 1 fs))
+    (rw (sum_by-append (λ text. length (bytes_field_encoding 2 text)) (if f.number == 2 then bytes_in f.value else []) (bytes_fields 2 fs))
     (omega (arith, field_adds f)))
 
 before_len : (bytes : List ℕ) (read : Result (FieldView × ℕ) WireError) (others : ℕ → List FieldView)
@@ -279,6 +279,6 @@ within_len (suc most) (b ∷ bytes) le =
     (λ n. omega (arith, within_len most (drop n (b ∷ bytes)) (omega (arith, length-drop n (b ∷ bytes))), length-drop n (b ∷ bytes)))
 
 -- A message is no shorter than what stands under its field numbers 1 and 2, in its shortest encoding.
-pub fields-length : (message : List ℕ) → length message ≤ 16384 → encoded_len 1 (texts 1 (fields message)) + encoded_len 2 (texts 2 (fields message)) ≤ length message
+pub fields-length : (message : List ℕ) → length message ≤ 16384 → encoded_len 1 (bytes_fields 1 (fields message)) + encoded_len 2 (bytes_fields 2 (fields message)) ≤ length message
 unfolding fields
 fields-length message le = within_len (length message) message le

@@ -1,7 +1,7 @@
 -- What the outline of a segment stands for.
 use Rattle.pw_wire.specs.Fields.{fields}
 use Rattle.seg_core.specs.declared.outline.Outline.{Outline}
-use Rattle.seg_core.specs.Message.{texts}
+use Rattle.seg_core.specs.Message.{bytes_fields}
 use Rattle.seg_core.specs.Segment.{SegmentOutline}
 
 abbrev pub outline_view : Outline → SegmentOutline
@@ -9,5 +9,5 @@ outline_view o = record {
   timestamp = o.info.timestamp;
   segment_id = o.info.segment_id;
   info = o.info_bytes.now;
-  entries = texts o.entries.number (fields o.entries.rest.now);
+  entries = bytes_fields o.entries.field_number (fields o.entries.rest.now);
 }

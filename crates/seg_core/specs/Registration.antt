@@ -7,7 +7,7 @@ use Rattle.seg_core.specs.declared.seg_type.SegType.{SegType}
 use Rattle.seg_core.specs.declared.seg_type.SegType.TheVariants.{Up, Down, Core}
 use Rattle.seg_core.specs.Shapes.{map_shape, map_entry_shape, segments_shape}
 use Rattle.seg_core.specs.Steps.{◌>>=◌, check}
-use Rattle.seg_core.specs.Message.{checked, number, texts, text_or_empty}
+use Rattle.seg_core.specs.Message.{message_fields, number_field, bytes_fields, bytes_field_or_empty}
 use Rattle.seg_core.specs.SegmentView.{SegmentView}
 use Rattle.seg_core.specs.Segment.{segment_decoding}
 
@@ -48,10 +48,10 @@ new_type earlier n = do
 -- One entry of the map, behind entries of these types with so many segments. Without a value it has no segments.
 unfoldable pub map_entry_decoding : List ℕ → ℕ → List ℕ → Result (SegType × List SegmentView) SegError
 map_entry_decoding earlier count message = do
-  fs ← checked map_entry_shape message
-  kind ← new_type earlier (number 1 fs)
-  value ← checked segments_shape (text_or_empty 2 fs)
-  segments ← segments_decoding count (texts 1 value)
+  fs ← message_fields map_entry_shape message
+  kind ← new_type earlier (number_field 1 fs)
+  value ← message_fields segments_shape (bytes_field_or_empty 2 fs)
+  segments ← segments_decoding count (bytes_fields 1 value)
   Ok (kind, segments)
 
 -- the entries of the map, behind others
@@ -66,8 +66,8 @@ map_decoding earlier count (message ∷ messages) = do
 unfoldable pub registration_outline : List ℕ → Result (List (List ℕ)) SegError
 registration_outline message = do
   _ ← check (nat_le (length message) 131072) TooLarge
-  fs ← checked map_shape message
-  Ok (texts 1 fs)
+  fs ← message_fields map_shape message
+  Ok (bytes_fields 1 fs)
 
 -- the segments with their types, in the order of the message
 unfoldable pub registration_decoding : List ℕ → Result (List (SegType × SegmentView)) SegError

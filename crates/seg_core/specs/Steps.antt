@@ -1,5 +1,5 @@
 -- A reading gives a value, or the refusal that is met first.
-use Rattle.std.specs.Prelude.{◌≡◌, ◌≢◌, ℕ, List, [], ◌∷◌, Bool, nat_le, Result, Ok, Err, if◌then◌else◌}
+use Rattle.std.specs.Prelude.{◌≡◌, ◌≢◌, ℕ, List, [], ◌∷◌, Bool, nat_le, Option, Some, None, Result, Ok, Err, if◌then◌else◌}
 use Rattle.seg_core.specs.declared.error.SegError.{SegError}
 use Rattle.seg_core.specs.declared.error.SegError.TheVariants.{NoMemory, Range}
 
@@ -12,6 +12,11 @@ abbrev pub ◌>>=◌ : {A B : Type 0} → Result A SegError → (A → Result B 
 -- goes on where the test holds, and is refused for this reason where it doesn't
 abbrev pub check : Bool → SegError → Result (Unit {0}) SegError
 check holds reason = if holds then Ok tt else Err reason
+
+-- goes on where there is no refusal
+abbrev pub unless : Option SegError → Result (Unit {0}) SegError
+unless None = Ok tt
+unless (Some refusal) = Err refusal
 
 -- a number that is at most the limit
 abbrev pub at_most : ℕ → ℕ → Result ℕ SegError

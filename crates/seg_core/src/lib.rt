@@ -6,6 +6,7 @@
 #![tactic(auto)]
 
 mod body;
+mod bytes_fields;
 mod earlier;
 mod entry;
 mod error;
@@ -25,7 +26,6 @@ mod shape;
 mod slots;
 #[cfg(test)]
 mod tests;
-mod texts;
 mod writing;
 
 pub use entry::Entry;

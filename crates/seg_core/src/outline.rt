@@ -4,17 +4,17 @@ ghost use Rattle.std.specs.Prelude.{◌≡◌, ◌≢◌, length, IfErr};
 ghost use Rattle.pw_wire.specs.Fields.{fields};
 ghost use Rattle.seg_core.specs.declared.error.SegError.TheVariants.{NoMemory};
 ghost use Rattle.seg_core.specs.Steps.{Reads};
-ghost use Rattle.seg_core.specs.Message.{texts};
+ghost use Rattle.seg_core.specs.Message.{bytes_fields};
 ghost use Rattle.seg_core.specs.Outline.{outline_view};
 ghost use Rattle.seg_core.specs.Segment.{segment_outline};
 ghost use Rattle.seg_core.specs.WellFormed.{is_entry_count};
 
+use crate::bytes_fields::BytesFields;
 use crate::error::SegError;
 use crate::info::{Info, read_info};
 use crate::limits::check;
 use crate::shape::PATH_SEGMENT;
 use crate::slots::slots_of;
-use crate::texts::Texts;
 
 /// The most bytes of a segment.
 const MOST_BYTES: usize = 16_384;
@@ -28,12 +28,12 @@ pub(crate) struct Outline<'a> {
     /// The segment's information as it came.
     pub info_bytes: &'a [u8],
     /// The messages of the entries, 1 to 64.
-    pub entries: Texts<'a>,
+    pub entries: BytesFields<'a>,
 }
 
 /// Whether there are 1 to 64 byte strings.
-fn is_entry_count(messages: Texts<'_>) -> bool
-    ensures { result ≡ is_entry_count (length (texts messages.entry.number (fields messages.entry.rest.now))) }
+fn is_entry_count(messages: BytesFields<'_>) -> bool
+    ensures { result ≡ is_entry_count (length (bytes_fields messages.entry.field_number (fields messages.entry.rest.now))) }
 {
     let mut count: usize = 0;
     for _message in messages {
@@ -53,9 +53,9 @@ pub(crate) fn read_outline(message: &[u8]) -> Result<Outline<'_>, SegError>
 {
     check(message.len() <= MOST_BYTES, SegError::TooLarge)?;
     let slots = slots_of(&PATH_SEGMENT, message)?;
-    let entries = slots.texts(2);
+    let entries = slots.bytes_fields(2);
     check(is_entry_count(entries), SegError::Entries)?;
-    let info_bytes = slots.text_or_empty(1);
+    let info_bytes = slots.bytes_field_or_empty(1);
     let info = read_info(info_bytes)?;
     Ok(Outline {
         info,

@@ -14,5 +14,5 @@ pub fn read_request(message: &[u8]) -> Result<(u64, u64), SegError>
     ensures { Reads (λ ends. ends) result (request_decoding message.now) }
 {
     let slots = slots_of(&REQUEST, message)?;
-    Ok((slots.number(1), slots.number(2)))
+    Ok((slots.number_field(1), slots.number_field(2)))
 }

@@ -4,18 +4,18 @@ ghost use Rattle.std.specs.Prelude.{◌≡◌, IfOk, IfErr, IsOk};
 ghost use Rattle.pw_wire.specs.Fields.{fields};
 ghost use Rattle.seg_core.specs.declared.error.SegError.TheVariants.{NoMemory};
 ghost use Rattle.seg_core.specs.Steps.{Gives, each};
-ghost use Rattle.seg_core.specs.Message.{texts};
+ghost use Rattle.seg_core.specs.Message.{bytes_fields};
 ghost use Rattle.seg_core.specs.Entry.{as_entry_decoding};
 ghost use Rattle.seg_core.specs.EntryView.{entry_views};
 ghost use Rattle.seg_core.specs.Segment.{segment_decoding, segment_outline};
 ghost use Rattle.seg_core.specs.Encoding.{IsSegment};
 
+use crate::bytes_fields::BytesFields;
 use crate::entry::{Entry, read_as_entry};
 use crate::error::SegError;
 use crate::limits::check;
 use crate::outline::read_outline;
 use crate::path::{has_no_loop, is_chain};
-use crate::texts::Texts;
 use std::alloc::{AllocError, Global};
 use std::marker::Model;
 
@@ -88,8 +88,8 @@ impl Segment {
 }
 
 /// Reads the entries of a segment, in order.
-fn read_entries(alloc: Global, messages: Texts<'_>) -> Result<Vec<Entry>, SegError>
-    ensures { Gives (λ v. entry_views v.items) result (each as_entry_decoding (texts messages.entry.number (fields messages.entry.rest.now))) }
+fn read_entries(alloc: Global, messages: BytesFields<'_>) -> Result<Vec<Entry>, SegError>
+    ensures { Gives (λ v. entry_views v.items) result (each as_entry_decoding (bytes_fields messages.entry.field_number (fields messages.entry.rest.now))) }
 {
     let mut entries = Vec::new(alloc);
     for message in messages {
