@@ -15,3 +15,4 @@ pub mod Written
 pub mod Responses
 pub mod ResponseTrip
 pub mod Refusals
+pub mod FirstMisfit

@@ -7,6 +7,7 @@
 
 mod body;
 mod bytes_fields;
+mod decoding_laws;
 mod earlier;
 mod entry;
 mod error;
@@ -28,6 +29,7 @@ mod slots;
 mod tests;
 mod writing;
 
+pub use decoding_laws::first_misfit_is_exact;
 pub use entry::Entry;
 pub use error::SegError;
 pub use guarantees::{
