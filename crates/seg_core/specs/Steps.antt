@@ -31,9 +31,9 @@ each read (x ∷ xs) = do
   Ok (first ∷ others)
 
 -- a reading whose value is seen in another way
-abbrev pub seen_as : {A B : Type 0} → (A → B) → Result A SegError → Result B SegError
-seen_as view (Ok x) = Ok (view x)
-seen_as view (Err e) = Err e
+abbrev pub result_map : {A B : Type 0} → (A → B) → Result A SegError → Result B SegError
+result_map view (Ok x) = Ok (view x)
+result_map view (Err e) = Err e
 
 -- A call that takes no memory answers just what the reading gives, seen by `view`.
 abbrev pub Reads : {X Y : Type 0} → (X → Y) → Result X SegError → Result Y SegError → Type 0

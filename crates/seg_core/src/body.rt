@@ -1,7 +1,7 @@
 //! The signed body of an AS entry.
 
 ghost use Rattle.std.specs.Prelude.{◌≡◌};
-ghost use Rattle.seg_core.specs.Steps.{Reads, each, seen_as};
+ghost use Rattle.seg_core.specs.Steps.{Reads, each, result_map};
 ghost use Rattle.seg_core.specs.Message.{bytes_fields};
 ghost use Rattle.pw_wire.specs.Fields.{fields};
 ghost use Rattle.seg_core.specs.Entry.{names_an_as, peer_entry_decoding, body_decoding, header_and_body_decoding};
@@ -31,7 +31,7 @@ fn names_an_as(ia: u64) -> bool
 /// Reads peer entries, of which nothing is kept.
 fn check_peer_entries(peers: BytesFields<'_>) -> Result<(), SegError>
     ensures { Reads (λ u. u) result
-        (seen_as (λ _. tt) (each peer_entry_decoding (bytes_fields peers.entry.field_number (fields peers.entry.rest.now)))) }
+        (result_map (λ _. tt) (each peer_entry_decoding (bytes_fields peers.entry.field_number (fields peers.entry.rest.now)))) }
 {
     for peer in peers {
         read_peer_entry(peer)?;
@@ -42,7 +42,7 @@ fn check_peer_entries(peers: BytesFields<'_>) -> Result<(), SegError>
 /// Reads the peer entries of a body, of which there are seldom any.
 fn check_peers(slots: &Slots<'_>) -> Result<(), SegError>
     ensures { Reads (λ u. u) result
-        (seen_as (λ _. tt) (each peer_entry_decoding (bytes_fields 4 (fields slots.now.message.now)))) }
+        (result_map (λ _. tt) (each peer_entry_decoding (bytes_fields 4 (fields slots.now.message.now)))) }
 {
     if slots.bytes_field(4).is_none() {
         return Ok(());

@@ -1,14 +1,14 @@
 //! Registrations: maps from types to segments.
 
-ghost use Rattle.std.specs.Prelude.{◌≡◌, ◌≢◌, ℕ, List, [], ◌++◌, length, IfErr, IsOk};
+ghost use Rattle.std.specs.Prelude.{◌≡◌, ◌≢◌, List, [], ◌++◌, length, IfErr, IsOk};
 ghost use Rattle.pw_wire.specs.Fields.{fields};
-ghost use Rattle.seg_core.specs.Steps.{Gives, Reads, seen_as};
+ghost use Rattle.seg_core.specs.Steps.{Gives, Reads, result_map};
 ghost use Rattle.seg_core.specs.Message.{bytes_fields};
 ghost use Rattle.seg_core.specs.SegmentView.{SegmentView};
 ghost use Rattle.seg_core.specs.declared.error.SegError.TheVariants.{NoMemory};
 ghost use Rattle.seg_core.specs.declared.seg_type.SegType.{SegType};
 ghost use Rattle.seg_core.specs.Earlier.{AreIn};
-ghost use Rattle.seg_core.specs.Registration.{map_decoding, map_entry_decoding, segments_decoding, registration_outline, registration_decoding, rows_of};
+ghost use Rattle.seg_core.specs.Registration.{MapEntry, entry_rows, map_decoding, map_entry_decoding, segments_decoding, registration_outline, registration_decoding, rows_of};
 
 use crate::bytes_fields::BytesFields;
 use crate::earlier::Earlier;
@@ -34,7 +34,7 @@ fn read_segments(
     found: &mut Vec<(SegType, Segment)>,
 ) -> Result<(), SegError>
     ensures { Gives (λ _. found.new.items) result
-        (seen_as (λ segments. found.old.items ++ rows_of kind segments)
+        (result_map (λ segments. found.old.items ++ rows_of kind segments)
         (segments_decoding (length found.old.items) (bytes_fields messages.entry.field_number (fields messages.entry.rest.now)))) }
 {
     for message in messages {
@@ -52,9 +52,9 @@ fn read_map_entry(
     message: &[u8],
     found: &mut Vec<(SegType, Segment)>,
 ) -> Result<SegType, SegError>
-    ensures { (numbers : List ℕ) → AreIn numbers earlier → Gives {Y = SegType × List (SegType × SegmentView)} (λ kind. (kind, found.new.items)) result
-        (seen_as (λ entry. (entry.0, found.old.items ++ rows_of entry.0 entry.1))
-        (map_entry_decoding numbers (length found.old.items) message.now)) }
+    ensures { (entries : List MapEntry) → AreIn entries earlier → entry_rows entries ≡ found.old.items
+        → Gives {Y = SegType × List (SegType × SegmentView)} (λ kind. (kind, found.new.items)) result
+        (result_map (λ entry. (entry.0, found.old.items ++ rows_of entry.0 entry.1)) (map_entry_decoding entries message.now)) }
 {
     let slots = slots_of(&MAP_ENTRY, message)?;
     let kind = earlier.new_type(slots.number_field(1))?;
@@ -65,7 +65,8 @@ fn read_map_entry(
 
 /// Reads the entries of a map.
 fn read_map(alloc: Global, messages: BytesFields<'_>) -> Result<Vec<(SegType, Segment)>, SegError>
-    ensures { Gives (λ v. v.items) result (map_decoding [] 0 (bytes_fields messages.entry.field_number (fields messages.entry.rest.now))) }
+    ensures { Gives (λ v. v.items) result
+        (result_map entry_rows (map_decoding [] (bytes_fields messages.entry.field_number (fields messages.entry.rest.now)))) }
 {
     let mut earlier = Earlier::none();
     let mut found = Vec::new(alloc);
