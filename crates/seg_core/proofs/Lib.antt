@@ -16,3 +16,4 @@ pub mod Responses
 pub mod ResponseTrip
 pub mod Refusals
 pub mod FirstMisfit
+pub mod PathRefusals

@@ -1,7 +1,7 @@
 -- Which refusals the parts of a reading have: none is for want of memory, and up to its entries, and in them, none is
 -- for the path that they form. It serves the readers of segments and registrations, and the laws on decodings.
-use Rattle.std.proofs.Common.{◌≡◌, ◌≢◌, ℕ, Bool, true, false, List, [], ◌∷◌, ◌++◌, Result, Ok, Err, Option, Some, None, refl, sym, ap, ◌∙◌}
-use Rattle.std.specs.Prelude.{nat_le, ok_or, if◌then◌else◌, not, ◌&&◌, is_some}
+use Rattle.std.proofs.Common.{◌≡◌, ◌≢◌, ℕ, zero, suc, ◌+◌, Bool, true, false, List, [], ◌∷◌, ◌++◌, Result, Ok, Err, Option, Some, None, refl, sym, ap, ◌∙◌}
+use Rattle.std.specs.Prelude.{nat_le, nat_lt, ok_or, if◌then◌else◌, not, ◌&&◌, is_some}
 use Rattle.std.proofs.lemmas.Bool.{false≢true}
 use Rattle.std.specs.Option.{option_map, option_or}
 use Rattle.pw_wire.specs.declared.error.WireError.{WireError}
@@ -10,10 +10,12 @@ use Rattle.pw_wire.specs.Fields.{fields, fault}
 use Rattle.seg_core.specs.declared.error.SegError.{SegError}
 use Rattle.seg_core.specs.declared.error.SegError.TheVariants.{NoMemory, Wire, KindOfField, RepeatedMessage, MissingField, Range, Chain, Loop, Entries, BadType, TooLarge}
 use Rattle.seg_core.specs.declared.shape.FieldKind.{FieldKind}
-use Rattle.seg_core.specs.Steps.{◌>>=◌, check, unless, at_most, each}
+use Rattle.seg_core.specs.Steps.{◌>>=◌, check, unless, at_most, each, result_map}
 use Rattle.seg_core.specs.Message.{message_fields, kind_at, suits, is_single, misfit_at, misfit_after, required_message, bytes_field}
-use Rattle.seg_core.specs.Segment.{info_decoding, segment_outline}
-use Rattle.seg_core.specs.Registration.{registration_outline}
+use Rattle.seg_core.specs.Segment.{info_decoding, segment_outline, segment_decoding}
+use Rattle.seg_core.specs.Registration.{type_of, MapEntry, entry_rows, segments_decoding, new_type, map_entry_decoding, map_decoding, registration_outline, registration_decoding}
+use Rattle.seg_core.specs.Request.{request_decoding}
+use Rattle.seg_core.specs.declared.seg_type.SegType.TheVariants.{Up, Down, Core}
 use Rattle.seg_core.specs.Entry.{hop_field_decoding, hop_entry_decoding, peer_entry_decoding, body_decoding, header_and_body_decoding, as_entry_decoding}
 
 -- neither for want of memory nor for a path
@@ -148,3 +150,98 @@ plain_registration_outline message = search (step, given, plain_message_fields, 
 -- a plain refusal is not want of memory
 pub never_memory : {A : Type 0} (r : Result A SegError) (e : SegError) → FailsWithin is_plain r → r ≡ Err e → e ≢ NoMemory
 never_memory r e within is memory = false≢true (sym (ap is_plain memory) ∙ within.passes e is)
+
+-- ---- whole messages
+
+abbrev pub is_not_memory : SegError → Bool
+is_not_memory NoMemory = false
+is_not_memory (Wire e) = true
+is_not_memory KindOfField = true
+is_not_memory RepeatedMessage = true
+is_not_memory MissingField = true
+is_not_memory Range = true
+is_not_memory Chain = true
+is_not_memory Loop = true
+is_not_memory Entries = true
+is_not_memory BadType = true
+is_not_memory TooLarge = true
+
+plain_not_memory : (e : SegError) → is_plain e ≡ true → is_not_memory e ≡ true
+plain_not_memory NoMemory plain = absurd (false≢true plain)
+plain_not_memory (Wire e) plain = refl
+plain_not_memory KindOfField plain = refl
+plain_not_memory RepeatedMessage plain = refl
+plain_not_memory MissingField plain = refl
+plain_not_memory Range plain = refl
+plain_not_memory Chain plain = refl
+plain_not_memory Loop plain = refl
+plain_not_memory Entries plain = refl
+plain_not_memory BadType plain = refl
+plain_not_memory TooLarge plain = refl
+
+weaker : {A : Type 0} (r : Result A SegError) → FailsWithin is_plain r → FailsWithin is_not_memory r
+weaker r within = record { passes = λ e is. plain_not_memory e (within.passes e is) }
+
+within_check : (b : Bool) (reason : SegError) → is_not_memory reason ≡ true → FailsWithin is_not_memory (check b reason)
+within_check b reason fine = tested is_not_memory b tt reason fine
+
+within_entries : (messages : List (List ℕ)) → FailsWithin is_not_memory (each as_entry_decoding messages)
+within_entries messages = weaker _ (each_within is_plain as_entry_decoding messages plain_as_entry)
+
+within_outline : (message : List ℕ) → FailsWithin is_not_memory (segment_outline message)
+within_outline message = weaker _ (plain_segment_outline message)
+
+pub within_segment : (message : List ℕ) → FailsWithin is_not_memory (segment_decoding message)
+unfolding segment_decoding
+within_segment message = search (step, given, within_outline, within_entries, within_check) depth 16
+
+within_segments : (count : ℕ) (messages : List (List ℕ)) → FailsWithin is_not_memory (segments_decoding count messages)
+unfolding segments_decoding
+within_segments count [] = given is_not_memory []
+within_segments count (m ∷ ms) =
+    let others = within_segments (count + 1) ms in
+    step is_not_memory (check (nat_lt count 16) TooLarge) _ (within_check (nat_lt count 16) TooLarge refl)
+    (λ _. step is_not_memory (segment_decoding m) _ (within_segment m) (λ first. step is_not_memory (segments_decoding (count + 1) ms) _ others (λ others. given is_not_memory (first ∷ others))))
+
+within_type : (n : ℕ) → FailsWithin is_not_memory (type_of n)
+within_type zero = record { passes = λ e is. let same : BadType ≡ e = cc in ap is_not_memory (sym same) }
+within_type (suc zero) = given is_not_memory Up
+within_type (suc (suc zero)) = given is_not_memory Down
+within_type (suc (suc (suc zero))) = given is_not_memory Core
+within_type (suc (suc (suc (suc n)))) = record { passes = λ e is. let same : BadType ≡ e = cc in ap is_not_memory (sym same) }
+
+within_new_type : (entries : List MapEntry) (n : ℕ) → FailsWithin is_not_memory (new_type entries n)
+unfolding new_type
+within_new_type entries n = search (step, given, within_type, within_check) depth 16
+
+within_message_fields : (shape : List FieldKind) (bytes : List ℕ) → FailsWithin is_not_memory (message_fields shape bytes)
+within_message_fields shape bytes = weaker _ (plain_message_fields shape bytes)
+
+within_map_entry : (entries : List MapEntry) (message : List ℕ) → FailsWithin is_not_memory (map_entry_decoding entries message)
+unfolding map_entry_decoding
+within_map_entry entries message = search (step, given, within_message_fields, within_new_type, within_segments) depth 16
+
+within_map : (entries : List MapEntry) (messages : List (List ℕ)) → FailsWithin is_not_memory (map_decoding entries messages)
+unfolding map_decoding
+within_map entries [] = given is_not_memory entries
+within_map entries (m ∷ ms) = step is_not_memory (map_entry_decoding entries m) _ (within_map_entry entries m) (λ entry. within_map (entries ++ entry ∷ []) ms)
+
+within_result_map : {A B : Type 0} (view : A → B) (r : Result A SegError) → FailsWithin is_not_memory r → FailsWithin is_not_memory (result_map view r)
+within_result_map view (Ok x) within = given is_not_memory (view x)
+within_result_map view (Err d) within = record { passes = λ e is. within.passes e (cc) }
+
+within_registration_outline : (message : List ℕ) → FailsWithin is_not_memory (registration_outline message)
+within_registration_outline message = weaker _ (plain_registration_outline message)
+
+pub within_registration : (message : List ℕ) → FailsWithin is_not_memory (registration_decoding message)
+unfolding registration_decoding
+within_registration message =
+    step is_not_memory (registration_outline message) _ (within_registration_outline message)
+    (λ messages. within_result_map entry_rows (map_decoding [] messages) (within_map [] messages))
+
+pub within_request : (message : List ℕ) → FailsWithin is_not_memory (request_decoding message)
+unfolding request_decoding
+within_request message = search (step, given, within_message_fields) depth 16
+
+pub no_memory : {A : Type 0} (r : Result A SegError) → FailsWithin is_not_memory r → r ≢ Err NoMemory
+no_memory r within is = false≢true (within.passes NoMemory is)

@@ -8,6 +8,7 @@ pub mod Entry
 pub mod WellFormed
 pub mod Segment
 pub mod Outline
+pub mod PathRefusals
 pub mod Request
 pub mod Registration
 pub mod Encoding

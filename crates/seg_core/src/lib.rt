@@ -29,7 +29,10 @@ mod slots;
 mod tests;
 mod writing;
 
-pub use decoding_laws::first_misfit_is_exact;
+pub use decoding_laws::{
+    decodings_want_no_memory, first_misfit_is_exact, path_refusals_are_exact,
+    type_numbers_are_exact,
+};
 pub use entry::Entry;
 pub use error::SegError;
 pub use guarantees::{
