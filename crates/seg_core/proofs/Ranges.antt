@@ -1,9 +1,10 @@
 -- A whole segment is well-formed.
-use Rattle.std.proofs.Common.{◌≡◌, ◌≢◌, ℕ, ◌-◌, ◌/◌, ◌%◌, ◌^◌, ◌<◌, true, List, [], ◌∷◌, length, Ok, subst, arith}
-use Rattle.std.specs.Prelude.{◌==◌, not, nat_le, All}
+use Rattle.std.proofs.Common.{◌≡◌, ◌≢◌, ℕ, ◌-◌, ◌/◌, ◌%◌, ◌^◌, ◌<◌, true, List, [], ◌∷◌, length, Ok, refl, subst, arith}
+use Rattle.std.specs.Prelude.{Bool, false, ◌==◌, ◌||◌, not, nat_le, All}
 use Rattle.std.specs.List.{AllByRecursion}
 use Rattle.std.proofs.lemmas.Bool.{leb-true}
 use Rattle.std.proofs.lemmas.List.Elements.{All-nil, All-cons}
+use Rattle.isd_as.specs.IsdAs.{has_zero_part}
 use Rattle.seg_core.specs.declared.error.SegError.TheVariants.{Range}
 use Rattle.seg_core.specs.declared.body.Body.{Body}
 use Rattle.seg_core.specs.declared.hop.Hop.{Hop}
@@ -13,7 +14,7 @@ use Rattle.seg_core.specs.Steps.{each}
 use Rattle.seg_core.specs.Message.{number_field, bytes_field_or_empty, bytes_fields}
 use Rattle.pw_wire.specs.Fields.{fields}
 use Rattle.seg_core.specs.SegmentView.{EntryView, SegmentView}
-use Rattle.seg_core.specs.Entry.{names_an_as, hop_field_decoding, hop_entry_decoding, peer_entry_decoding, body_decoding, header_and_body_decoding}
+use Rattle.seg_core.specs.Entry.{hop_field_decoding, hop_entry_decoding, peer_entry_decoding, body_decoding, header_and_body_decoding}
 use Rattle.seg_core.specs.Segment.{info_decoding}
 use Rattle.seg_core.specs.Encoding.{body_of, IsEntry, IsSegment}
 use Rattle.seg_core.specs.WellFormed.{HasEntryCount, IsEntryInRange, IsWellFormed, is_entry_count}
@@ -48,6 +49,11 @@ hop_entry_in_range message hop reading =
     let mtu = after_at_most (2 ^ 32 - 1) (number_field 2 fs) _ hop hop_field.2 in
     hop_field_in_range hop_field.0 hop mtu.1
 
+-- two tests of which neither holds
+neither : (a b : Bool) → not (a || b) ≡ true → (not a ≡ true) × (not b ≡ true)
+neither true b h = absurd cc
+neither false b h = (refl, h)
+
 record IsBodyInRange (body : Body) : Type 0 where
   isd : body.ia / 2 ^ 48 ≢ 0
   asn : body.ia % 2 ^ 48 ≢ 0
@@ -60,8 +66,8 @@ body_in_range message body reading =
     let ia = number_field 1 fs in
     let in_fields = after_message_fields body_shape message _ body reading in
     let hop_entry = after_required 3 fs _ body in_fields in
-    let named = after_check (names_an_as ia) Range _ body hop_entry.2 in
-    let parts = both (not (ia / 2 ^ 48 == 0)) (not (ia % 2 ^ 48 == 0)) named.0 in
+    let named = after_check (not (has_zero_part ia)) Range _ body hop_entry.2 in
+    let parts = neither (ia / 2 ^ 48 == 0) (ia % 2 ^ 48 == 0) named.0 in
     let mtu = after_at_most (2 ^ 32 - 1) (number_field 5 fs) _ body named.1 in
     let hop = step_ok (hop_entry_decoding hop_entry.0) _ body mtu.1 in
     let peers = step_ok (each peer_entry_decoding (bytes_fields 4 fs)) _ body hop.2 in

@@ -1,5 +1,6 @@
 -- Reading the entry of one AS, from its hop field outwards.
-use Rattle.std.specs.Prelude.{ℕ, List, Bool, ◌==◌, ◌&&◌, not, length, Result, Ok, ◌%◌, ◌/◌, ◌^◌, ◌-◌}
+use Rattle.std.specs.Prelude.{ℕ, List, ◌==◌, not, length, Result, Ok, ◌^◌, ◌-◌}
+use Rattle.isd_as.specs.IsdAs.{has_zero_part}
 use Rattle.seg_core.specs.declared.error.SegError.{SegError}
 use Rattle.seg_core.specs.declared.error.SegError.TheVariants.{Range}
 use Rattle.seg_core.specs.declared.hop.Hop.{Hop}
@@ -33,16 +34,12 @@ peer_entry_decoding message = do
   _ ← at_most (2 ^ 32 - 1) (number_field 3 fs)
   hop_field_decoding hop_field
 
--- neither the ISD, the upper 16 bits, nor the AS is 0
-abbrev pub names_an_as : ℕ → Bool
-names_an_as ia = not (ia / 2 ^ 48 == 0) && not (ia % 2 ^ 48 == 0)
-
 -- what the signed body of an entry says
 unfoldable pub body_decoding : List ℕ → Result Body SegError
 body_decoding message = do
   fs ← message_fields body_shape message
   hop_entry ← required_message 3 fs
-  _ ← check (names_an_as (number_field 1 fs)) Range
+  _ ← check (not (has_zero_part (number_field 1 fs))) Range
   _ ← at_most (2 ^ 32 - 1) (number_field 5 fs)
   hop ← hop_entry_decoding hop_entry
   _ ← each peer_entry_decoding (bytes_fields 4 fs)

@@ -1,10 +1,9 @@
 //! The signed body of an AS entry.
 
-ghost use Rattle.std.specs.Prelude.{◌≡◌};
 ghost use Rattle.seg_core.specs.Steps.{Reads, each, result_map};
 ghost use Rattle.seg_core.specs.Message.{bytes_fields};
 ghost use Rattle.pw_wire.specs.Fields.{fields};
-ghost use Rattle.seg_core.specs.Entry.{names_an_as, peer_entry_decoding, body_decoding, header_and_body_decoding};
+ghost use Rattle.seg_core.specs.Entry.{peer_entry_decoding, body_decoding, header_and_body_decoding};
 
 use crate::bytes_fields::BytesFields;
 use crate::error::SegError;
@@ -12,6 +11,7 @@ use crate::hop::{Hop, read_hop_entry, read_peer_entry};
 use crate::limits::{check, u32_of};
 use crate::shape::{BODY, HEADER_AND_BODY};
 use crate::slots::{Slots, slots_of};
+use isd_as::IsdAs;
 
 /// What the signed body of an AS entry says. The ISD-AS numbers are of 64 bits.
 #[derive(Clone, Copy, Debug, PartialEq, Eq)]
@@ -19,13 +19,6 @@ pub(crate) struct Body {
     pub ia: u64,
     pub next: u64,
     pub hop: Hop,
-}
-
-/// Neither part of the ISD-AS is 0.
-fn names_an_as(ia: u64) -> bool
-    ensures { result ≡ names_an_as ia }
-{
-    ia >> 48 != 0 && ia & ((1 << 48) - 1) != 0
 }
 
 /// Reads peer entries, of which nothing is kept.
@@ -57,7 +50,7 @@ fn read_body(message: &[u8]) -> Result<Body, SegError>
     let slots = slots_of(&BODY, message)?;
     let hop_entry = slots.required_message(3)?;
     let ia = slots.number_field(1);
-    check(names_an_as(ia), SegError::Range)?;
+    check(!IsdAs::from_u64(ia).has_zero_part(), SegError::Range)?;
     let _mtu = u32_of(slots.number_field(5))?;
     let hop = read_hop_entry(hop_entry)?;
     check_peers(&slots)?;

@@ -92,8 +92,10 @@ fn types_are_answered_by_number(rt: HostRuntime) -> Result<(), Fail> {
 #[test]
 fn request_is_read(rt: HostRuntime) -> Result<(), Fail> {
     let ends = read_request(b"\x08\x90\x82\x80\x80\x80\xe0\x7f\x10\x91\x82\x80\x80\x80\xe0\x7f")?;
-    assert_eq!(rt; ends, (0x0001_ff00_0000_0110, 0x0001_ff00_0000_0111));
-    assert_eq!(rt; read_request(b"")?, (0, 0));
+    assert_eq!(rt; ends.0, IsdAs::from_u64(0x0001_ff00_0000_0110));
+    assert_eq!(rt; ends.1, IsdAs::from_u64(0x0001_ff00_0000_0111));
+    let none = IsdAs::from_u64(0);
+    assert_eq!(rt; read_request(b"")?, (none, none));
     Ok(())
 }
 
