@@ -14,7 +14,7 @@ use crate::slots::{Slots, slots_of};
 use isd_as::IsdAs;
 
 /// What the signed body of an AS entry says. The ISD-AS numbers are of 64 bits.
-#[derive(Clone, Copy, Debug, PartialEq, Eq)]
+#[derive(Clone, Copy)]
 pub(crate) struct Body {
     pub ia: u64,
     pub next: u64,

@@ -12,7 +12,7 @@ use crate::slots::slots_of;
 const MAC_LEN: usize = 6;
 
 /// Where a segment enters and leaves an AS, and for how long it may.
-#[derive(Clone, Copy, Debug, PartialEq, Eq)]
+#[derive(Clone, Copy)]
 pub(crate) struct Hop {
     pub ingress: u16,
     pub egress: u16,

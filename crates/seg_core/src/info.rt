@@ -9,7 +9,7 @@ use crate::shape::SEGMENT_INFORMATION;
 use crate::slots::slots_of;
 
 /// A segment's timestamp, in seconds since 1970, and its id, which the beaconing AS picks.
-#[derive(Clone, Copy, Debug, PartialEq, Eq)]
+#[derive(Clone, Copy)]
 pub(crate) struct Info {
     pub timestamp: u32,
     pub segment_id: u16,
