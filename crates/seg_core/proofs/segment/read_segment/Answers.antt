@@ -10,8 +10,8 @@ unfolding segment_decoding
 invariant_of-result c =
     let whole = decoding-IsSegment c.args.message.now
     (record {
-      timestamp = c.in_ok-info.info.timestamp;
-      segment_id = c.in_ok-info.info.segment_id;
+      timestamp = c.in_ok-outline.outline.info.timestamp;
+      segment_id = c.in_ok-outline.outline.info.segment_id;
       info = c.in_ok-from_slice.field-0.items;
       entries = entry_views c.in_ok-entries.entries.items;
     })

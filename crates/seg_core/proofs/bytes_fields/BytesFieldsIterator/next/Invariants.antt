@@ -1,14 +1,14 @@
 use Rattle.std.proofs.Common.{◌≡◌, length, ◌≤◌}
 use Rattle.pw_wire.specs.Fields.{fields}
-use Rattle.seg_core.specs.Message.{texts}
-use Rattle.seg_core.proofs.texts.TextsIterator.next.Given as goal
+use Rattle.seg_core.specs.Message.{bytes_fields}
+use Rattle.seg_core.proofs.bytes_fields.BytesFieldsIterator.next.Given as goal
 
 -- The fields that were passed have none of the byte strings.
 abbrev pub invariant-loop-field : goal.invariant-loop-field
 invariant-loop-field l =
-    (l.self.number ≡ l.initial.self.number)
+    (l.self.field_number ≡ l.initial.self.field_number)
     × (length l.self.rest.now ≤ length l.initial.self.rest.now)
-    × (texts l.self.number (fields l.self.rest.now) ≡ texts l.initial.self.number (fields l.initial.self.rest.now))
+    × (bytes_fields l.self.field_number (fields l.self.rest.now) ≡ bytes_fields l.initial.self.field_number (fields l.initial.self.rest.now))
 
 abbrev pub decreases-loop-field : goal.decreases-loop-field
 decreases-loop-field l = length l.self.rest.now
