@@ -8,7 +8,7 @@ abbrev pub invariant-loop-field : goal.invariant-loop-field
 invariant-loop-field l = record {
   number : l.self.field_number ≡ l.initial.self.field_number;
   shorter : length l.self.rest.now ≤ length l.initial.self.rest.now;
-  same : bytes_fields l.self.field_number (fields l.self.rest.now) ≡ bytes_fields l.initial.self.field_number (fields l.initial.self.rest.now)
+  same : bytes_fields l.self.field_number (fields l.self.rest.now) ≡ bytes_fields l.initial.self.field_number (fields l.initial.self.rest.now);
 }
 
 abbrev pub decreases-loop-field : goal.decreases-loop-field
