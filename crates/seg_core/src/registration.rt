@@ -1,6 +1,7 @@
 //! Registrations: maps from types to segments.
 
-ghost use Rattle.std.specs.Prelude.{◌≡◌, ℕ, List, [], ◌++◌, length};
+ghost use Rattle.std.specs.Prelude.{◌≡◌, ℕ, List, [], ◌++◌, length, IfOk};
+ghost use Rattle.std.specs.List.{AllByRecursion};
 ghost use Rattle.pw_wire.specs.Fields.{fields};
 ghost use Rattle.seg_core.specs.Steps.{Gives, seen_as};
 ghost use Rattle.seg_core.specs.Message.{texts};
@@ -8,6 +9,7 @@ ghost use Rattle.seg_core.specs.SegmentView.{SegmentView};
 ghost use Rattle.seg_core.specs.declared.seg_type.SegType.{SegType};
 ghost use Rattle.seg_core.specs.Earlier.{AreIn};
 ghost use Rattle.seg_core.specs.Registration.{map_decoding, map_entry_decoding, segments_decoding, registration_decoding, rows_of};
+ghost use Rattle.seg_core.specs.Encoding.{IsSegment};
 
 use crate::earlier::Earlier;
 use crate::error::SegError;
@@ -79,7 +81,8 @@ fn read_map(alloc: Global, messages: Texts<'_>) -> Result<Vec<(SegType, Segment)
 /// It is refused as too large first of all, and at its 17th segment before that is read.
 #[tactic(auto, unfolding(crate::specs::Registration::registration_decoding))]
 pub fn read_registration(alloc: Global, message: &[u8]) -> Result<Vec<(SegType, Segment)>, SegError>
-    ensures { Gives (λ v. v.items) result (registration_decoding message.now) }
+    ensures decoding { Gives (λ v. v.items) result (registration_decoding message.now) }
+    ensures whole { IfOk result (λ v. AllByRecursion (λ row. IsSegment row.1) v.items) }
 {
     check(message.len() <= MOST_BYTES, SegError::TooLarge)?;
     let slots = slots_of(&SEGMENT_MAP, message)?;

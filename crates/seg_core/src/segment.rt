@@ -123,7 +123,8 @@ fn is_entry_count(messages: Texts<'_>) -> bool
 /// Reads a `PathSegment`, all of its bytes. It is refused as too large before anything in it is read.
 #[tactic(auto, unfolding(crate::specs::Segment::segment_decoding))]
 pub fn read_segment(alloc: Global, message: &[u8]) -> Result<Segment, SegError>
-    ensures { Gives (λ s. s) result (segment_decoding message.now) }
+    ensures decoding { Gives (λ s. s) result (segment_decoding message.now) }
+    ensures whole { IfOk result IsSegment }
 {
     check(message.len() <= MOST_BYTES, SegError::TooLarge)?;
     let slots = slots_of(&PATH_SEGMENT, message)?;
