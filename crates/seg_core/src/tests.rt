@@ -56,9 +56,10 @@ fn segment_is_read_and_written(rt: HostRuntime) -> Result<(), Fail> {
     );
     assert_eq!(rt; second.signed.as_slice(), &SEGMENT[59..]);
 
-    let copy = segment.try_clone(rt.alloc())?;
+    let copy = segment.try_clone()?;
     let written = write_segment(rt.alloc(), &copy)?;
     assert_eq!(rt; written.as_slice(), SEGMENT.as_slice());
+    assert!(rt; copy == segment && is_encoding_of(&written, &copy) && encoded_len(&copy) == 88);
     Ok(())
 }
 
