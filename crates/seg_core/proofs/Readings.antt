@@ -1,6 +1,6 @@
 -- What a reading that gave a value went through.
 use Rattle.std.proofs.Common.{◌≡◌, ℕ, ◌≤◌, Bool, true, false, List, [], Result, Ok, Err, Option, Some, None, refl, sym, ap, subst}
-use Rattle.std.specs.Prelude.{nat_le, ok_or, if◌then◌else◌}
+use Rattle.std.specs.Prelude.{nat_le, ok_or, if◌then◌else◌, IfOk}
 use Rattle.std.specs.Option.{option_map}
 use Rattle.std.proofs.lemmas.Bool.{leb-true}
 use Rattle.pw_wire.specs.Field.{FieldView}
@@ -8,7 +8,7 @@ use Rattle.pw_wire.specs.Fields.{fields, fault}
 use Rattle.seg_core.specs.declared.error.SegError.{SegError}
 use Rattle.seg_core.specs.declared.error.SegError.TheVariants as error
 use Rattle.seg_core.specs.declared.shape.FieldKind.{FieldKind}
-use Rattle.seg_core.specs.Steps.{◌>>=◌, check, unless, at_most}
+use Rattle.seg_core.specs.Steps.{◌>>=◌, check, unless, at_most, Gives}
 use Rattle.seg_core.specs.Message.{message_fields, misfit_after, required_message, bytes_field}
 
 -- the value of a step that did not fail
@@ -72,3 +72,9 @@ after_at_most limit n f y e =
     let step = step_ok (at_most limit n) f y e in
     let is = at_most_ok limit n step.0 step.1 in
     (is.1, subst (λ m. f m ≡ Ok y) is.0 step.2)
+
+-- what holds of all that a reading gives holds of what a call gives
+pub Gives-IfOk : {X Y : Type 0} (view : X → Y) (P : Y → Type 0) (r : Result X SegError) (reading : Result Y SegError)
+    → ((y : Y) → reading ≡ Ok y → P y) → Gives view r reading → IfOk r (λ x. P (view x))
+Gives-IfOk view P (Ok x) reading holds gives = holds (view x) gives
+Gives-IfOk view P (Err e) reading holds gives = tt

@@ -1,6 +1,7 @@
 //! Registrations: maps from types to segments.
 
-ghost use Rattle.std.specs.Prelude.{◌≡◌, ◌≢◌, List, [], ◌++◌, length, IfErr, IsOk};
+ghost use Rattle.std.specs.Prelude.{◌≡◌, ◌≢◌, List, [], ◌++◌, length, IfOk, IfErr, IsOk};
+ghost use Rattle.std.specs.List.{AllByRecursion};
 ghost use Rattle.pw_wire.specs.Fields.{fields};
 ghost use Rattle.seg_core.specs.Steps.{Gives, Reads, result_map};
 ghost use Rattle.seg_core.specs.Message.{bytes_fields};
@@ -9,6 +10,7 @@ ghost use Rattle.seg_core.specs.declared.error.SegError.TheVariants.{NoMemory};
 ghost use Rattle.seg_core.specs.declared.seg_type.SegType.{SegType};
 ghost use Rattle.seg_core.specs.Earlier.{AreIn};
 ghost use Rattle.seg_core.specs.Registration.{MapEntry, entry_rows, map_decoding, map_entry_decoding, segments_decoding, registration_outline, registration_decoding, rows_of};
+ghost use Rattle.seg_core.specs.Encoding.{IsSegment};
 
 use crate::bytes_fields::BytesFields;
 use crate::earlier::Earlier;
@@ -94,6 +96,7 @@ fn read_outline(message: &[u8]) -> Result<BytesFields<'_>, SegError>
 #[tactic(auto, unfolding(crate::specs::Registration::registration_decoding))]
 pub fn read_registration(alloc: Global, message: &[u8]) -> Result<Vec<(SegType, Segment)>, SegError>
     ensures decoding { Gives (λ v. v.items) result (registration_decoding message.now) }
+    ensures whole { IfOk result (λ v. AllByRecursion (λ row. IsSegment row.1) v.items) }
     ensures memory { IfErr result (λ e. e ≡ NoMemory → IsOk (registration_outline message.now)) }
 {
     let entries = read_outline(message)?;

@@ -103,6 +103,7 @@ fn read_entries(alloc: Global, messages: BytesFields<'_>) -> Result<Vec<Entry>, 
 #[tactic(auto, unfolding(crate::specs::Segment::segment_decoding))]
 pub fn read_segment(alloc: Global, message: &[u8]) -> Result<Segment, SegError>
     ensures decoding { Gives (λ s. s) result (segment_decoding message.now) }
+    ensures whole { IfOk result IsSegment }
     ensures memory { IfErr result (λ e. e ≡ NoMemory → IsOk (segment_outline message.now)) }
 {
     let outline = read_outline(message)?;
