@@ -40,7 +40,8 @@ fn types_are_answered_by_number(rt: HostRuntime) -> Result<(), Fail> {
 
 /// The ends that a request names, as numbers.
 fn ends_of(message: &[u8]) -> Result<(u64, u64), SegError> {
-    read_request(message)
+    let (source, destination) = read_request(message)?;
+    Ok((source.to_u64(), destination.to_u64()))
 }
 
 // A request from 1-ff00:0:110 to 1-ff00:0:111, and an empty one.

@@ -2,13 +2,8 @@
 
 use crate::worked::SEGMENT;
 use isd_as::IsdAs;
-use seg_core::{Entry, SegError, Segment, read_segment, write_segment};
-use std::alloc::{AllocError, Global};
+use seg_core::{Entry, SegError, encoded_len, is_encoding_of, read_segment, write_segment};
 use std::test::Fail;
-
-fn copy_of(alloc: Global, segment: &Segment) -> Result<Segment, AllocError> {
-    segment.try_clone(alloc)
-}
 
 /// An entry's AS and its next one, its interfaces and its expiry.
 fn hop_of(entry: &Entry) -> (IsdAs, IsdAs, (u16, u16, u8)) {
@@ -40,9 +35,10 @@ fn segment_is_read_and_written(rt: HostRuntime) -> Result<(), Fail> {
         assert!(rt; entry.signature.is_empty() && entry.unsigned.is_none());
     }
 
-    let copy = copy_of(rt.alloc(), &segment)?;
+    let copy = segment.try_clone()?;
     let written = write_segment(rt.alloc(), &copy)?;
     assert_eq!(rt; written.as_slice(), SEGMENT.as_slice());
+    assert!(rt; copy == segment && is_encoding_of(&written, &copy) && encoded_len(&copy) == 88);
     Ok(())
 }
 

@@ -1,10 +1,14 @@
 -- An ISD-AS as 64 bits, and what a pattern with wildcards covers.
-use Rattle.std.specs.Prelude.{◌≡◌, ℕ, ◌+◌, ◌*◌, ◌^◌, ◌⊎◌}
+use Rattle.std.specs.Prelude.{◌≡◌, ℕ, ◌+◌, ◌*◌, ◌/◌, ◌%◌, ◌^◌, ◌⊎◌, Bool, ◌==◌, ◌||◌}
 use Rattle.isd_as.specs.declared.number.IsdAs.{IsdAs}
 
 -- the 64 bits: the upper 16 are the ISD, the lower 48 the AS
 abbrev pub number_of : IsdAs → ℕ
 number_of ia = ia.isd * 2 ^ 48 + ia.asn
+
+-- the ISD, the upper 16 bits, or the AS is 0
+abbrev pub has_zero_part : ℕ → Bool
+has_zero_part number = number / 2 ^ 48 == 0 || number % 2 ^ 48 == 0
 
 -- a part of a pattern is 0, the wildcard, or the number itself
 abbrev pub PartCovers : ℕ → ℕ → Type 0

@@ -1,7 +1,16 @@
-ghost use Rattle.std.specs.Prelude.{◌↔◌, IsTrue};
-ghost use Rattle.isd_as.specs.IsdAs.{Covers};
+ghost use Rattle.std.specs.Prelude.{◌≡◌, ◌↔◌, IsTrue};
+ghost use Rattle.isd_as.specs.IsdAs.{Covers, has_zero_part, number_of};
 
 use crate::number::IsdAs;
+
+impl IsdAs {
+    /// Whether the ISD or the AS is 0, the wildcard.
+    pub fn has_zero_part(self) -> bool
+        ensures { result ≡ has_zero_part (number_of self) }
+    {
+        self.isd == 0 || self.asn == 0
+    }
+}
 
 /// Whether the pattern covers the ISD-AS. A part of the pattern that is 0 covers every number.
 pub fn covers(pattern: IsdAs, ia: IsdAs) -> bool

@@ -13,8 +13,8 @@ use Rattle.pw_wire.proofs.Varints.{varint_encoding_is}
 use Rattle.seg_core.specs.declared.error.SegError.{SegError}
 use Rattle.seg_core.specs.declared.error.SegError.TheVariants as error
 use Rattle.seg_core.specs.declared.shape.FieldKind.{FieldKind}
-use Rattle.seg_core.specs.Steps.{◌>>=◌}
-use Rattle.seg_core.specs.Message.{checked, refused_by, misfit_after, varint_in, bytes_in, numbers, texts, last_of, number, text, text_or_empty}
+use Rattle.seg_core.specs.Steps.{◌>>=◌, unless}
+use Rattle.seg_core.specs.Message.{message_fields, misfit_after, varint_in, bytes_in, number_fields, number_field, bytes_fields, bytes_field, bytes_field_or_empty, last_of}
 
 -- ---- lists of bytes
 
@@ -48,8 +48,8 @@ ValueFits (Fixed64 n) = Unit {0}
 ValueFits (Bytes bytes) = IsBytes bytes
 ValueFits (Fixed32 n) = Unit {0}
 
-abbrev pub AllFit : List FieldView → Type 0
-AllFit fs = AllByRecursion (λ f. ValueFits f.value) fs
+abbrev pub AllValuesFit : List FieldView → Type 0
+AllValuesFit fs = AllByRecursion (λ f. ValueFits f.value) fs
 
 value_fits : (content : List ℕ) (value : FieldValue) → IsBytes content → IsValue content value → ValueFits value
 value_fits content (Varint n) are is = is.fits
@@ -57,16 +57,16 @@ value_fits content (Fixed64 n) are is = tt
 value_fits content (Bytes bytes) are is = bytes-right is.front bytes (subst IsBytes is.parts are)
 value_fits content (Fixed32 n) are is = tt
 
-fields_fit : (fs : List FieldView) (bytes : List ℕ) → IsBytes bytes → AreFields bytes fs → AllFit fs
-fields_fit [] bytes are more = tt
-fields_fit (f ∷ fs) bytes are more =
-    let is = more.1 in
+fields_fit : (fs : List FieldView) (bytes : List ℕ) → IsBytes bytes → AreFields bytes fs → AllValuesFit fs
+fields_fit [] bytes are begins = tt
+fields_fit (f ∷ fs) bytes are begins =
+    let is = begins.field in
     let behind : IsBytes (is.content ++ is.rest) = bytes-right is.tag (is.content ++ is.rest) (subst IsBytes is.parts are) in
-    (value_fits is.content f.value (bytes-left is.content is.rest behind) is.content_is, fields_fit fs (drop more.0 bytes) (bytes-drop more.0 bytes are) more.2)
+    (value_fits is.content f.value (bytes-left is.content is.rest behind) is.content_is, fields_fit fs (drop begins.len bytes) (bytes-drop begins.len bytes are) begins.others)
 
 -- a message that has passed its checks has no fault
 faultless : {B : Type 0} (found misfit : Option SegError) (gs : List FieldView) (f : List FieldView → Result B SegError) (y : B)
-    → (refused_by found (refused_by misfit (Ok gs)) >>= f) ≡ Ok y → found ≡ None
+    → ((unless found >>= λ _. unless misfit >>= λ _. Ok gs) >>= f) ≡ Ok y → found ≡ None
 faultless None misfit gs f y e = refl
 faultless (Some d) misfit gs f y e = absurd cc
 
@@ -75,24 +75,24 @@ none_mapped f None e = refl
 none_mapped f (Some x) e = absurd cc
 
 -- the fields of bytes that passed the checks
-pub checked-are : {B : Type 0} (shape : List FieldKind) (bytes : List ℕ) (f : List FieldView → Result B SegError) (y : B)
-    → IsBytes bytes → (checked shape bytes >>= f) ≡ Ok y → AreFields bytes (fields bytes)
-unfolding checked
-checked-are shape bytes f y are e =
+pub message_fields-are : {B : Type 0} (shape : List FieldKind) (bytes : List ℕ) (f : List FieldView → Result B SegError) (y : B)
+    → IsBytes bytes → (message_fields shape bytes >>= f) ≡ Ok y → AreFields bytes (fields bytes)
+unfolding message_fields
+message_fields-are shape bytes f y are e =
     let none = none_mapped error.Wire (fault bytes) (faultless (option_map error.Wire (fault bytes)) (misfit_after shape [] (fields bytes)) (fields bytes) f y e) in
     (whole bytes (fields bytes) are).1 (none, refl)
 
-pub checked-fit : {B : Type 0} (shape : List FieldKind) (bytes : List ℕ) (f : List FieldView → Result B SegError) (y : B)
-    → IsBytes bytes → (checked shape bytes >>= f) ≡ Ok y → AllFit (fields bytes)
-checked-fit shape bytes f y are e = fields_fit (fields bytes) bytes are (checked-are shape bytes f y are e)
+pub message_fields-fit : {B : Type 0} (shape : List FieldKind) (bytes : List ℕ) (f : List FieldView → Result B SegError) (y : B)
+    → IsBytes bytes → (message_fields shape bytes >>= f) ≡ Ok y → AllValuesFit (fields bytes)
+message_fields-fit shape bytes f y are e = fields_fit (fields bytes) bytes are (message_fields-are shape bytes f y are e)
 
 -- ---- what stands under a number
 
 abbrev AllNumbers : List ℕ → Type 0
 AllNumbers ns = AllByRecursion (λ n. n < 2 ^ 64) ns
 
-abbrev AllTexts : List (List ℕ) → Type 0
-AllTexts ts = AllByRecursion IsBytes ts
+abbrev AllBytes : List (List ℕ) → Type 0
+AllBytes ts = AllByRecursion IsBytes ts
 
 one_number : (same : Bool) (value : FieldValue) (ns : List ℕ) → ValueFits value → AllNumbers ns → AllNumbers ((if same then varint_in value else []) ++ ns)
 one_number false value ns fits all = all
@@ -101,21 +101,21 @@ one_number true (Fixed64 n) ns fits all = all
 one_number true (Bytes t) ns fits all = all
 one_number true (Fixed32 n) ns fits all = all
 
-numbers-fit : (k : ℕ) (fs : List FieldView) → AllFit fs → AllNumbers (numbers k fs)
-numbers-fit k [] fits = tt
-numbers-fit k (f ∷ fs) fits = one_number (f.number == k) f.value (numbers k fs) fits.0 (numbers-fit k fs fits.1)
+number_fields-fit : (k : ℕ) (fs : List FieldView) → AllValuesFit fs → AllNumbers (number_fields k fs)
+number_fields-fit k [] fits = tt
+number_fields-fit k (f ∷ fs) fits = one_number (f.number == k) f.value (number_fields k fs) fits.0 (number_fields-fit k fs fits.1)
 
-one_text : (same : Bool) (value : FieldValue) (ts : List (List ℕ)) → ValueFits value → AllTexts ts → AllTexts ((if same then bytes_in value else []) ++ ts)
-one_text false value ts fits all = all
-one_text true (Varint n) ts fits all = all
-one_text true (Fixed64 n) ts fits all = all
-one_text true (Bytes t) ts fits all = (fits, all)
-one_text true (Fixed32 n) ts fits all = all
+one_bytes : (same : Bool) (value : FieldValue) (ts : List (List ℕ)) → ValueFits value → AllBytes ts → AllBytes ((if same then bytes_in value else []) ++ ts)
+one_bytes false value ts fits all = all
+one_bytes true (Varint n) ts fits all = all
+one_bytes true (Fixed64 n) ts fits all = all
+one_bytes true (Bytes t) ts fits all = (fits, all)
+one_bytes true (Fixed32 n) ts fits all = all
 
 -- all byte strings under a number are bytes
-pub texts-bytes : (k : ℕ) (fs : List FieldView) → AllFit fs → AllTexts (texts k fs)
-texts-bytes k [] fits = tt
-texts-bytes k (f ∷ fs) fits = one_text (f.number == k) f.value (texts k fs) fits.0 (texts-bytes k fs fits.1)
+pub bytes_fields-IsBytes : (k : ℕ) (fs : List FieldView) → AllValuesFit fs → AllBytes (bytes_fields k fs)
+bytes_fields-IsBytes k [] fits = tt
+bytes_fields-IsBytes k (f ∷ fs) fits = one_bytes (f.number == k) f.value (bytes_fields k fs) fits.0 (bytes_fields-IsBytes k fs fits.1)
 
 last_or : {A : Type 0} (P : A → Type 0) (o : Option A) (x : A) → ForSome o P → P x → ForSome (option_or o (Some x)) P
 last_or P None x later first y is = let same : x ≡ y = cc in subst P same first
@@ -133,14 +133,14 @@ or_empty : (o : Option (List ℕ)) → ForSome o IsBytes → IsBytes (unwrap_or 
 or_empty None are = bytes-nil
 or_empty (Some t) are = are t refl
 
-pub number-fits : (k : ℕ) (fs : List FieldView) → AllFit fs → number k fs < 2 ^ 64
-number-fits k fs fits = or_zero (last_of (numbers k fs)) (last-all (λ n. n < 2 ^ 64) (numbers k fs) (numbers-fit k fs fits))
+pub number_field-fits : (k : ℕ) (fs : List FieldView) → AllValuesFit fs → number_field k fs < 2 ^ 64
+number_field-fits k fs fits = or_zero (last_of (number_fields k fs)) (last-all (λ n. n < 2 ^ 64) (number_fields k fs) (number_fields-fit k fs fits))
 
-pub text-bytes : (k : ℕ) (fs : List FieldView) → AllFit fs → ForSome (text k fs) IsBytes
-text-bytes k fs fits = last-all IsBytes (texts k fs) (texts-bytes k fs fits)
+pub bytes_field-IsBytes : (k : ℕ) (fs : List FieldView) → AllValuesFit fs → ForSome (bytes_field k fs) IsBytes
+bytes_field-IsBytes k fs fits = last-all IsBytes (bytes_fields k fs) (bytes_fields-IsBytes k fs fits)
 
-pub text_or_empty-bytes : (k : ℕ) (fs : List FieldView) → AllFit fs → IsBytes (text_or_empty k fs)
-text_or_empty-bytes k fs fits = or_empty (text k fs) (text-bytes k fs fits)
+pub bytes_field_or_empty-IsBytes : (k : ℕ) (fs : List FieldView) → AllValuesFit fs → IsBytes (bytes_field_or_empty k fs)
+bytes_field_or_empty-IsBytes k fs fits = or_empty (bytes_field k fs) (bytes_field-IsBytes k fs fits)
 
 -- ---- encodings are bytes
 
@@ -148,8 +148,8 @@ number_bytes : (bytes : List ℕ) (n : ℕ) → EncodesNumber bytes n → IsByte
 number_bytes [] n encodes i = absurd encodes
 number_bytes (b ∷ []) n encodes zero = let lt = encodes.0 in omega arith
 number_bytes (b ∷ []) n encodes (suc i) = omega arith
-number_bytes (b ∷ c ∷ bytes) n encodes zero = encodes.1
-number_bytes (b ∷ c ∷ bytes) n encodes (suc i) = number_bytes (c ∷ bytes) encodes.2 encodes.4 i
+number_bytes (b ∷ c ∷ bytes) n encodes zero = let is = encodes.byte_is in let lt = encodes.seven_bits in omega arith
+number_bytes (b ∷ c ∷ bytes) n encodes (suc i) = number_bytes (c ∷ bytes) encodes.high encodes.above i
 
 varint-bytes : (n : ℕ) → n < 2 ^ 64 → IsBytes (varint_encoding n)
 varint-bytes n lt = number_bytes (varint_encoding n) n (varint_encoding_is n lt).encoded

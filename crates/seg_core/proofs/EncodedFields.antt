@@ -5,7 +5,7 @@ use Rattle.pw_wire.specs.Field.{FieldView, bytes_field, bytes_field_encoding}
 use Rattle.pw_wire.specs.Fields.{fields, fault}
 use Rattle.seg_core.specs.declared.shape.FieldKind.{FieldKind}
 use Rattle.seg_core.specs.Shapes.{path_segment_shape, as_entry_shape, signed_message_shape}
-use Rattle.seg_core.specs.Message.{checked, misfit_after, text, texts, text_or_empty}
+use Rattle.seg_core.specs.Message.{message_fields, misfit_after, bytes_field as last_bytes, bytes_fields, bytes_field_or_empty}
 use Rattle.seg_core.specs.SegmentView.{EntryView, SegmentView}
 use Rattle.seg_core.specs.Encoding.{bytes_encoding, optional_encoding, signed_encoding, as_entry_encoding, entries_encoding, segment_encoding}
 use Rattle.pw_wire.proofs.Exports.{fields-nil, fault-nil, fields-bytes_field, fault-bytes_field}
@@ -14,9 +14,9 @@ use Rattle.seg_core.proofs.Sizes.{bytes_field-within}
 -- ---- the fields of pieces
 
 -- bytes, left out where they are empty
-abbrev pub bytes_fields : ℕ → List ℕ → List FieldView
-bytes_fields k [] = []
-bytes_fields k (b ∷ bytes) = bytes_field k (b ∷ bytes) ∷ []
+abbrev pub fields_of_bytes : ℕ → List ℕ → List FieldView
+fields_of_bytes k [] = []
+fields_of_bytes k (b ∷ bytes) = bytes_field k (b ∷ bytes) ∷ []
 
 -- a message that may be missing
 abbrev pub optional_fields : ℕ → Option (List ℕ) → List FieldView
@@ -42,7 +42,7 @@ field_before k t rest fs positive below fits has = record {
   faultless = fault-bytes_field k t rest positive below fits ∙ has.faultless;
 }
 
-bytes_before : (k : ℕ) (t rest : List ℕ) (fs : List FieldView) → 1 ≤ k → k < 2 ^ 29 → length t < 2 ^ 64 → HasFields rest fs → HasFields (bytes_encoding k t ++ rest) (bytes_fields k t ++ fs)
+bytes_before : (k : ℕ) (t rest : List ℕ) (fs : List FieldView) → 1 ≤ k → k < 2 ^ 29 → length t < 2 ^ 64 → HasFields rest fs → HasFields (bytes_encoding k t ++ rest) (fields_of_bytes k t ++ fs)
 bytes_before k [] rest fs positive below fits has = has
 bytes_before k (b ∷ t) rest fs positive below fits has = field_before k (b ∷ t) rest fs positive below fits has
 
@@ -51,7 +51,7 @@ append_nil : {A : Type 0} (xs : List A) → xs ++ [] ≡ xs
 append_nil [] = refl
 append_nil (x ∷ xs) = ap (λ ys. x ∷ ys) (append_nil xs)
 
-bytes_alone : (k : ℕ) (t : List ℕ) → 1 ≤ k → k < 2 ^ 29 → length t < 2 ^ 64 → HasFields (bytes_encoding k t) (bytes_fields k t)
+bytes_alone : (k : ℕ) (t : List ℕ) → 1 ≤ k → k < 2 ^ 29 → length t < 2 ^ 64 → HasFields (bytes_encoding k t) (fields_of_bytes k t)
 bytes_alone k [] positive below fits = nothing
 bytes_alone k (b ∷ t) positive below fits = subst (λ m. HasFields m (bytes_field k (b ∷ t) ∷ [])) (append_nil (bytes_field_encoding k (b ∷ t))) (field_before k (b ∷ t) [] [] positive below fits nothing)
 
@@ -66,10 +66,10 @@ bytes-within k [] = omega arith
 bytes-within k (b ∷ t) = bytes_field-within k (b ∷ t)
 
 -- a signed message
-pub signed-fields : (e : EntryView) → length (signed_encoding e) < 2 ^ 64 → HasFields (signed_encoding e) (bytes_fields 1 e.signed ++ bytes_fields 2 e.signature)
+pub signed-fields : (e : EntryView) → length (signed_encoding e) < 2 ^ 64 → HasFields (signed_encoding e) (fields_of_bytes 1 e.signed ++ fields_of_bytes 2 e.signature)
 signed-fields e fits =
     let parts : length (signed_encoding e) ≡ length (bytes_encoding 1 e.signed) + length (bytes_encoding 2 e.signature) = length-append (bytes_encoding 1 e.signed) (bytes_encoding 2 e.signature) in
-    bytes_before 1 e.signed (bytes_encoding 2 e.signature) (bytes_fields 2 e.signature) (omega arith) (omega arith) (omega (arith, bytes-within 1 e.signed))
+    bytes_before 1 e.signed (bytes_encoding 2 e.signature) (fields_of_bytes 2 e.signature) (omega arith) (omega arith) (omega (arith, bytes-within 1 e.signed))
     (bytes_alone 2 e.signature (omega arith) (omega arith) (omega (arith, bytes-within 2 e.signature)))
 
 -- the entry of one AS
@@ -98,7 +98,7 @@ pub segment-length : (s : SegmentView) → length (segment_encoding s) ≡ lengt
 unfolding segment_encoding
 segment-length s = length-append (bytes_encoding 1 s.info) (entries_encoding s.entries)
 
-pub segment-fields : (s : SegmentView) → length (segment_encoding s) < 2 ^ 64 → HasFields (segment_encoding s) (bytes_fields 1 s.info ++ entry_fields s.entries)
+pub segment-fields : (s : SegmentView) → length (segment_encoding s) < 2 ^ 64 → HasFields (segment_encoding s) (fields_of_bytes 1 s.info ++ entry_fields s.entries)
 unfolding segment_encoding
 segment-fields s fits =
     let parts = segment-length s in
@@ -107,11 +107,11 @@ segment-fields s fits =
 
 -- ---- their checks
 
-pub checked-is : (shape : List FieldKind) (message : List ℕ) (fs : List FieldView) → HasFields message fs → misfit_after shape [] fs ≡ None → checked shape message ≡ Ok fs
-unfolding checked
-checked-is shape message fs has fit = rw (has.faultless, has.fields_are, fit) refl
+pub message_fields-is : (shape : List FieldKind) (message : List ℕ) (fs : List FieldView) → HasFields message fs → misfit_after shape [] fs ≡ None → message_fields shape message ≡ Ok fs
+unfolding message_fields
+message_fields-is shape message fs has fit = rw (has.faultless, has.fields_are, fit) refl
 
-pub signed-fit : (s t : List ℕ) → misfit_after signed_message_shape [] (bytes_fields 1 s ++ bytes_fields 2 t) ≡ None
+pub signed-fit : (s t : List ℕ) → misfit_after signed_message_shape [] (fields_of_bytes 1 s ++ fields_of_bytes 2 t) ≡ None
 signed-fit [] [] = refl
 signed-fit [] (c ∷ t) = refl
 signed-fit (b ∷ s) [] = refl
@@ -125,44 +125,44 @@ entries-fit : (before : List FieldView) (es : List EntryView) → misfit_after p
 entries-fit before [] = refl
 entries-fit before (e ∷ es) = entries-fit (before ++ bytes_field 2 (as_entry_encoding e) ∷ []) es
 
-pub segment-fit : (t : List ℕ) (es : List EntryView) → misfit_after path_segment_shape [] (bytes_fields 1 t ++ entry_fields es) ≡ None
+pub segment-fit : (t : List ℕ) (es : List EntryView) → misfit_after path_segment_shape [] (fields_of_bytes 1 t ++ entry_fields es) ≡ None
 segment-fit [] es = entries-fit [] es
 segment-fit (b ∷ t) es = entries-fit (bytes_field 1 (b ∷ t) ∷ []) es
 
 -- ---- what stands under their numbers
 
-pub signed-there : (s t : List ℕ) → text_or_empty 1 (bytes_fields 1 s ++ bytes_fields 2 t) ≡ s
+pub signed-there : (s t : List ℕ) → bytes_field_or_empty 1 (fields_of_bytes 1 s ++ fields_of_bytes 2 t) ≡ s
 signed-there [] [] = refl
 signed-there [] (c ∷ t) = refl
 signed-there (b ∷ s) [] = refl
 signed-there (b ∷ s) (c ∷ t) = refl
 
-pub signature-there : (s t : List ℕ) → text_or_empty 2 (bytes_fields 1 s ++ bytes_fields 2 t) ≡ t
+pub signature-there : (s t : List ℕ) → bytes_field_or_empty 2 (fields_of_bytes 1 s ++ fields_of_bytes 2 t) ≡ t
 signature-there [] [] = refl
 signature-there [] (c ∷ t) = refl
 signature-there (b ∷ s) [] = refl
 signature-there (b ∷ s) (c ∷ t) = refl
 
-pub unsigned-there : (s : List ℕ) (o : Option (List ℕ)) → text 2 (bytes_field 1 s ∷ optional_fields 2 o) ≡ o
+pub unsigned-there : (s : List ℕ) (o : Option (List ℕ)) → last_bytes 2 (bytes_field 1 s ∷ optional_fields 2 o) ≡ o
 unsigned-there s None = refl
 unsigned-there s (Some t) = refl
 
-pub signed_message-there : (s : List ℕ) (o : Option (List ℕ)) → text 1 (bytes_field 1 s ∷ optional_fields 2 o) ≡ Some s
+pub signed_message-there : (s : List ℕ) (o : Option (List ℕ)) → last_bytes 1 (bytes_field 1 s ∷ optional_fields 2 o) ≡ Some s
 signed_message-there s None = refl
 signed_message-there s (Some t) = refl
 
-no_info : (es : List EntryView) → texts 1 (entry_fields es) ≡ []
+no_info : (es : List EntryView) → bytes_fields 1 (entry_fields es) ≡ []
 no_info [] = refl
 no_info (e ∷ es) = no_info es
 
-entries_there : (es : List EntryView) → texts 2 (entry_fields es) ≡ map as_entry_encoding es
+entries_there : (es : List EntryView) → bytes_fields 2 (entry_fields es) ≡ map as_entry_encoding es
 entries_there [] = refl
 entries_there (e ∷ es) = ap (λ ts. as_entry_encoding e ∷ ts) (entries_there es)
 
-pub info-there : (t : List ℕ) (es : List EntryView) → text_or_empty 1 (bytes_fields 1 t ++ entry_fields es) ≡ t
+pub info-there : (t : List ℕ) (es : List EntryView) → bytes_field_or_empty 1 (fields_of_bytes 1 t ++ entry_fields es) ≡ t
 info-there [] es = rw (no_info es) refl
 info-there (b ∷ t) es = rw (no_info es) refl
 
-pub entries-there : (t : List ℕ) (es : List EntryView) → texts 2 (bytes_fields 1 t ++ entry_fields es) ≡ map as_entry_encoding es
+pub entries-there : (t : List ℕ) (es : List EntryView) → bytes_fields 2 (fields_of_bytes 1 t ++ entry_fields es) ≡ map as_entry_encoding es
 entries-there [] es = entries_there es
 entries-there (b ∷ t) es = entries_there es

@@ -19,3 +19,6 @@ pub mod MessageSizes
 pub mod Registered
 pub mod ResponseLengths
 pub mod ResponseTrip
+pub mod Refusals
+pub mod FirstMisfit
+pub mod PathRefusals

@@ -9,7 +9,7 @@ use Rattle.pw_wire.specs.Varint.{EncodesNumber}
 use Rattle.pw_wire.specs.Field.{FieldValue, Varint, Fixed64, Bytes, Fixed32, FieldView, IsValue, bytes_field_encoding}
 use Rattle.pw_wire.specs.Fields.{AreFields}
 use Rattle.pw_wire.proofs.Varints.{varint_encoding_shortest}
-use Rattle.seg_core.specs.Message.{bytes_in, texts}
+use Rattle.seg_core.specs.Message.{bytes_in, bytes_fields}
 use Rattle.seg_core.proofs.EncodedLengths.{field-length}
 use Rattle.seg_core.proofs.WireSizes.{encoded_len}
 
@@ -23,9 +23,9 @@ value_adds : (k : ℕ) (content : List ℕ) (value : FieldValue) → k < 15 → 
 value_adds k content (Varint n) lt is = omega arith
 value_adds k content (Fixed64 n) lt is = omega arith
 value_adds k content (Fixed32 n) lt is = omega arith
-value_adds k content (Bytes text) lt is =
-    let one : encoded_len k (text ∷ []) ≡ length (bytes_field_encoding k text) + encoded_len k [] = sum_by-cons (λ text. length (bytes_field_encoding k text)) text [] in
-    omega (arith, one, field-length k text lt, ap length is.parts, length-append is.front text, varint_encoding_shortest (length text) is.front is.varint)
+value_adds k content (Bytes bytes) lt is =
+    let one : encoded_len k (bytes ∷ []) ≡ length (bytes_field_encoding k bytes) + encoded_len k [] = sum_by-cons (λ bytes. length (bytes_field_encoding k bytes)) bytes [] in
+    omega (arith, one, field-length k bytes lt, ap length is.parts, length-append is.front bytes, varint_encoding_shortest (length bytes) is.front is.varint)
 
 -- a field adds under one of the two numbers, or none
 field_adds : (f : FieldView) (content : List ℕ) → IsValue content f.value
@@ -41,13 +41,13 @@ field_adds f content is = elim (cases_Bool (f.number == 1)) [
   ]
 ]
 
-pub message-size : (fs : List FieldView) (bytes : List ℕ) → AreFields bytes fs → encoded_len 1 (texts 1 fs) + encoded_len 2 (texts 2 fs) ≤ length bytes
+pub message-size : (fs : List FieldView) (bytes : List ℕ) → AreFields bytes fs → encoded_len 1 (bytes_fields 1 fs) + encoded_len 2 (bytes_fields 2 fs) ≤ length bytes
 message-size [] bytes are = omega arith
 message-size (f ∷ fs) bytes are =
-    let is = are.1 in
+    let is = are.field in
     let parts : length bytes ≡ length is.tag + length (is.content ++ is.rest) = ap length is.parts ∙ length-append is.tag (is.content ++ is.rest) in
     let tag = some_byte is.tag _ is.tag_is.encoded in
-    let others = message-size fs (drop are.0 bytes) are.2 in
-    rw (sum_by-append (λ text. length (bytes_field_encoding 1 text)) (if f.number == 1 then bytes_in f.value else []) (texts 1 fs))
-    (rw (sum_by-append (λ text. length (bytes_field_encoding 2 text)) (if f.number == 2 then bytes_in f.value else []) (texts 2 fs))
-    (omega (arith, parts, is.len_is, tag, others, length-append is.content is.rest, length-drop are.0 bytes, field_adds f is.content is.content_is)))
+    let others = message-size fs (drop are.len bytes) are.others in
+    rw (sum_by-append (λ bytes. length (bytes_field_encoding 1 bytes)) (if f.number == 1 then bytes_in f.value else []) (bytes_fields 1 fs))
+    (rw (sum_by-append (λ bytes. length (bytes_field_encoding 2 bytes)) (if f.number == 2 then bytes_in f.value else []) (bytes_fields 2 fs))
+    (omega (arith, parts, is.len_is, tag, others, length-append is.content is.rest, length-drop are.len bytes, field_adds f is.content is.content_is)))

@@ -9,7 +9,7 @@ use Rattle.seg_core.specs.declared.error.SegError.{SegError}
 use Rattle.seg_core.specs.declared.error.SegError.TheVariants as error
 use Rattle.seg_core.specs.declared.shape.FieldKind.{FieldKind}
 use Rattle.seg_core.specs.declared.shape.FieldKind.TheVariants as kind
-use Rattle.seg_core.specs.Message.{kind_at, suits, is_single, text, misfit_at, misfit_after}
+use Rattle.seg_core.specs.Message.{kind_at, suits, is_single, bytes_field, misfit_at, misfit_after}
 use Rattle.seg_core.specs.Slots.{AreNoted}
 
 -- A number that a shape knows as a single message is one of its numbers.
@@ -22,10 +22,10 @@ single-known shape n short single = ⊎_elim
 pub misfit-unsuited : (shape : List FieldKind) (before : List FieldView) (f : FieldView) → suits (kind_at shape f.number) f.value ≡ false → Some error.KindOfField ≡ misfit_at shape before f
 misfit-unsuited shape before f unsuited = rw unsuited refl
 
-pub misfit-repeated : (shape : List FieldKind) (before : List FieldView) (f : FieldView) → suits (kind_at shape f.number) f.value ≡ true → is_single (kind_at shape f.number) ≡ true → is_some (text f.number before) ≡ true → Some error.RepeatedMessage ≡ misfit_at shape before f
+pub misfit-repeated : (shape : List FieldKind) (before : List FieldView) (f : FieldView) → suits (kind_at shape f.number) f.value ≡ true → is_single (kind_at shape f.number) ≡ true → is_some (bytes_field f.number before) ≡ true → Some error.RepeatedMessage ≡ misfit_at shape before f
 misfit-repeated shape before f suited single there = rw (suited, single, there) refl
 
-pub misfit-first : (shape : List FieldKind) (before : List FieldView) (f : FieldView) → suits (kind_at shape f.number) f.value ≡ true → is_single (kind_at shape f.number) ≡ true → is_some (text f.number before) ≡ false → None ≡ misfit_at shape before f
+pub misfit-first : (shape : List FieldKind) (before : List FieldView) (f : FieldView) → suits (kind_at shape f.number) f.value ≡ true → is_single (kind_at shape f.number) ≡ true → is_some (bytes_field f.number before) ≡ false → None ≡ misfit_at shape before f
 misfit-first shape before f suited single there = rw (suited, single, there) refl
 
 pub misfit-many : (shape : List FieldKind) (before : List FieldView) (f : FieldView) → suits (kind_at shape f.number) f.value ≡ true → is_single (kind_at shape f.number) ≡ false → None ≡ misfit_at shape before f

@@ -1,25 +1,26 @@
 -- A whole segment is well-formed.
-use Rattle.std.proofs.Common.{◌≡◌, ◌≢◌, ℕ, ◌-◌, ◌/◌, ◌%◌, ◌^◌, ◌<◌, List, [], ◌∷◌, length, Ok, subst, arith}
-use Rattle.std.specs.Prelude.{◌==◌, not, All}
+use Rattle.std.proofs.Common.{◌≡◌, ◌≢◌, ℕ, ◌-◌, ◌/◌, ◌%◌, ◌^◌, ◌<◌, true, List, [], ◌∷◌, length, Ok, refl, subst, arith}
+use Rattle.std.specs.Prelude.{Bool, false, ◌==◌, ◌||◌, not, All}
 use Rattle.std.specs.List.{AllByRecursion}
 use Rattle.std.proofs.lemmas.List.Elements.{All-nil, All-cons}
+use Rattle.isd_as.specs.IsdAs.{has_zero_part}
 use Rattle.seg_core.specs.declared.error.SegError.TheVariants.{Range}
 use Rattle.seg_core.specs.declared.body.Body.{Body}
 use Rattle.seg_core.specs.declared.hop.Hop.{Hop}
 use Rattle.seg_core.specs.declared.info.Info.{Info}
 use Rattle.seg_core.specs.Shapes.{hop_field_shape, hop_entry_shape, body_shape, header_and_body_shape, segment_information_shape}
 use Rattle.seg_core.specs.Steps.{each}
-use Rattle.seg_core.specs.Message.{number, text_or_empty, texts}
+use Rattle.seg_core.specs.Message.{number_field, bytes_field_or_empty, bytes_fields}
 use Rattle.pw_wire.specs.Decoding.{IsBytes}
 use Rattle.pw_wire.specs.Fields.{fields}
 use Rattle.seg_core.specs.SegmentView.{EntryView, SegmentView}
-use Rattle.seg_core.specs.Entry.{names_an_as, hop_field_decoding, hop_entry_decoding, peer_entry_decoding, body_decoding, header_and_body_decoding}
+use Rattle.seg_core.specs.Entry.{hop_field_decoding, hop_entry_decoding, peer_entry_decoding, body_decoding, header_and_body_decoding}
 use Rattle.seg_core.specs.Segment.{info_decoding}
 use Rattle.seg_core.specs.Encoding.{body_of, IsEntry, IsSegment}
 use Rattle.seg_core.specs.WellFormed.{IsEntryInRange, IsWellFormed}
-use Rattle.seg_core.proofs.Bytes.{checked-fit, number-fits, text_or_empty-bytes}
-use Rattle.seg_core.proofs.Readings.{step_ok, ok_is, after_checked, after_check, after_required, after_at_most}
-use Rattle.seg_core.proofs.Paths.{both, other}
+use Rattle.seg_core.proofs.Bytes.{message_fields-fit, number_field-fits, bytes_field_or_empty-IsBytes}
+use Rattle.seg_core.proofs.Readings.{step_ok, ok_is, after_message_fields, after_check, after_required, after_at_most}
+use Rattle.seg_core.proofs.Paths.{other}
 
 -- ---- what readings give is in range
 
@@ -32,22 +33,27 @@ hop_field_in_range : (message : List ℕ) (hop : Hop) → hop_field_decoding mes
 unfolding hop_field_decoding
 hop_field_in_range message hop reading =
     let fs = fields message in
-    let in_fields = after_checked hop_field_shape message _ hop reading in
-    let ingress = after_at_most (2 ^ 16 - 1) (number 1 fs) _ hop in_fields in
-    let egress = after_at_most (2 ^ 16 - 1) (number 2 fs) _ hop ingress.1 in
-    let exp_time = after_at_most (2 ^ 8 - 1) (number 3 fs) _ hop egress.1 in
-    let mac = after_check (length (text_or_empty 4 fs) == 6) Range _ hop exp_time.1 in
-    subst IsHopInRange (ok_is (record { ingress = number 1 fs; egress = number 2 fs; exp_time = number 3 fs }) hop mac.1)
+    let in_fields = after_message_fields hop_field_shape message _ hop reading in
+    let ingress = after_at_most (2 ^ 16 - 1) (number_field 1 fs) _ hop in_fields in
+    let egress = after_at_most (2 ^ 16 - 1) (number_field 2 fs) _ hop ingress.1 in
+    let exp_time = after_at_most (2 ^ 8 - 1) (number_field 3 fs) _ hop egress.1 in
+    let mac = after_check (length (bytes_field_or_empty 4 fs) == 6) Range _ hop exp_time.1 in
+    subst IsHopInRange (ok_is (record { ingress = number_field 1 fs; egress = number_field 2 fs; exp_time = number_field 3 fs }) hop mac.1)
     (record { ingress = omega (arith, ingress.0); egress = omega (arith, egress.0); exp_time = omega (arith, exp_time.0) })
 
 hop_entry_in_range : (message : List ℕ) (hop : Hop) → hop_entry_decoding message ≡ Ok hop → IsHopInRange hop
 unfolding hop_entry_decoding
 hop_entry_in_range message hop reading =
     let fs = fields message in
-    let in_fields = after_checked hop_entry_shape message _ hop reading in
+    let in_fields = after_message_fields hop_entry_shape message _ hop reading in
     let hop_field = after_required 1 fs _ hop in_fields in
-    let mtu = after_at_most (2 ^ 32 - 1) (number 2 fs) _ hop hop_field.2 in
+    let mtu = after_at_most (2 ^ 32 - 1) (number_field 2 fs) _ hop hop_field.2 in
     hop_field_in_range hop_field.0 hop mtu.1
+
+-- two tests of which neither holds
+neither : (a b : Bool) → not (a || b) ≡ true → (not a ≡ true) × (not b ≡ true)
+neither true b h = absurd cc
+neither false b h = (refl, h)
 
 record IsBodyInRange (body : Body) : Type 0 where
   isd : body.ia / 2 ^ 48 ≢ 0
@@ -58,15 +64,15 @@ body_in_range : (message : List ℕ) (body : Body) → body_decoding message ≡
 unfolding body_decoding
 body_in_range message body reading =
     let fs = fields message in
-    let ia = number 1 fs in
-    let in_fields = after_checked body_shape message _ body reading in
+    let ia = number_field 1 fs in
+    let in_fields = after_message_fields body_shape message _ body reading in
     let hop_entry = after_required 3 fs _ body in_fields in
-    let named = after_check (names_an_as ia) Range _ body hop_entry.2 in
-    let parts = both (not (ia / 2 ^ 48 == 0)) (not (ia % 2 ^ 48 == 0)) named.0 in
-    let mtu = after_at_most (2 ^ 32 - 1) (number 5 fs) _ body named.1 in
+    let named = after_check (not (has_zero_part ia)) Range _ body hop_entry.2 in
+    let parts = neither (ia / 2 ^ 48 == 0) (ia % 2 ^ 48 == 0) named.0 in
+    let mtu = after_at_most (2 ^ 32 - 1) (number_field 5 fs) _ body named.1 in
     let hop = step_ok (hop_entry_decoding hop_entry.0) _ body mtu.1 in
-    let peers = step_ok (each peer_entry_decoding (texts 4 fs)) _ body hop.2 in
-    subst IsBodyInRange (ok_is (record { ia = ia; next = number 2 fs; hop = hop.0 }) body peers.2)
+    let peers = step_ok (each peer_entry_decoding (bytes_fields 4 fs)) _ body hop.2 in
+    subst IsBodyInRange (ok_is (record { ia = ia; next = number_field 2 fs; hop = hop.0 }) body peers.2)
     (record { isd = other (ia / 2 ^ 48) 0 parts.0; asn = other (ia % 2 ^ 48) 0 parts.1; hop = hop_entry_in_range hop_entry.0 hop.0 hop.1 })
 
 -- the ISD-ASes that bytes say have 64 bits
@@ -78,27 +84,27 @@ body_fits : (message : List ℕ) (body : Body) → IsBytes message → body_deco
 unfolding body_decoding
 body_fits message body are reading =
     let fs = fields message in
-    let fits = checked-fit body_shape message _ body are reading in
-    let in_fields = after_checked body_shape message _ body reading in
+    let fits = message_fields-fit body_shape message _ body are reading in
+    let in_fields = after_message_fields body_shape message _ body reading in
     let hop_entry = after_required 3 fs _ body in_fields in
-    let named = after_check (names_an_as (number 1 fs)) Range _ body hop_entry.2 in
-    let mtu = after_at_most (2 ^ 32 - 1) (number 5 fs) _ body named.1 in
+    let named = after_check (not (has_zero_part (number_field 1 fs))) Range _ body hop_entry.2 in
+    let mtu = after_at_most (2 ^ 32 - 1) (number_field 5 fs) _ body named.1 in
     let hop = step_ok (hop_entry_decoding hop_entry.0) _ body mtu.1 in
-    let peers = step_ok (each peer_entry_decoding (texts 4 fs)) _ body hop.2 in
-    subst HasWidths (ok_is (record { ia = number 1 fs; next = number 2 fs; hop = hop.0 }) body peers.2)
-    (record { ia = number-fits 1 fs fits; next = number-fits 2 fs fits })
+    let peers = step_ok (each peer_entry_decoding (bytes_fields 4 fs)) _ body hop.2 in
+    subst HasWidths (ok_is (record { ia = number_field 1 fs; next = number_field 2 fs; hop = hop.0 }) body peers.2)
+    (record { ia = number_field-fits 1 fs fits; next = number_field-fits 2 fs fits })
 
 pub header_and_body-fits : (message : List ℕ) (body : Body) → IsBytes message → header_and_body_decoding message ≡ Ok body → HasWidths body
 unfolding header_and_body_decoding
 header_and_body-fits message body are reading =
     let fs = fields message in
-    let fits = checked-fit header_and_body_shape message _ body are reading in
-    body_fits (text_or_empty 2 fs) body (text_or_empty-bytes 2 fs fits) (after_checked header_and_body_shape message _ body reading)
+    let fits = message_fields-fit header_and_body_shape message _ body are reading in
+    body_fits (bytes_field_or_empty 2 fs) body (bytes_field_or_empty-IsBytes 2 fs fits) (after_message_fields header_and_body_shape message _ body reading)
 
 entry_in_range : (e : EntryView) → IsEntry e → IsEntryInRange e
 unfolding header_and_body_decoding
 entry_in_range e is =
-    let body = body_in_range (text_or_empty 2 (fields e.signed)) (body_of e) (after_checked header_and_body_shape e.signed _ (body_of e) is.says) in
+    let body = body_in_range (bytes_field_or_empty 2 (fields e.signed)) (body_of e) (after_message_fields header_and_body_shape e.signed _ (body_of e) is.says) in
     record { ia = is.ia; isd = body.isd; asn = body.asn; next = is.next; ingress = body.hop.ingress; egress = body.hop.egress; exp_time = body.hop.exp_time }
 
 entries_in_range : (es : List EntryView) → AllByRecursion IsEntry es → All IsEntryInRange es
@@ -113,10 +119,10 @@ info_in_range : (message : List ℕ) (info : Info) → info_decoding message ≡
 unfolding info_decoding
 info_in_range message info reading =
     let fs = fields message in
-    let in_fields = after_checked segment_information_shape message _ info reading in
-    let timestamp = after_at_most (2 ^ 32 - 1) (number 1 fs) _ info in_fields in
-    let segment_id = after_at_most (2 ^ 16 - 1) (number 2 fs) _ info timestamp.1 in
-    subst IsInfoInRange (ok_is (record { timestamp = number 1 fs; segment_id = number 2 fs }) info segment_id.1)
+    let in_fields = after_message_fields segment_information_shape message _ info reading in
+    let timestamp = after_at_most (2 ^ 32 - 1) (number_field 1 fs) _ info in_fields in
+    let segment_id = after_at_most (2 ^ 16 - 1) (number_field 2 fs) _ info timestamp.1 in
+    subst IsInfoInRange (ok_is (record { timestamp = number_field 1 fs; segment_id = number_field 2 fs }) info segment_id.1)
     (record { timestamp = omega (arith, timestamp.0); segment_id = omega (arith, segment_id.0) })
 
 -- ---- a segment

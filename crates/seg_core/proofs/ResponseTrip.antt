@@ -1,9 +1,9 @@
 -- The encoding of a response is read as its segments.
-use Rattle.std.proofs.Common.{◌≡◌, ℕ, ◌+◌, ◌≤◌, ◌<◌, ◌^◌, false, List, [], ◌∷◌, ◌++◌, length, map, Ok, None, refl, sym, ap, subst, ◌∙◌, arith, inl, inr, length-append}
+use Rattle.std.proofs.Common.{◌≡◌, ℕ, ◌+◌, ◌≤◌, ◌<◌, ◌^◌, false, List, [], ◌∷◌, ◌++◌, length, map, Ok, None, refl, sym, ap, subst, ◌∙◌, arith, inl, inr, length-append, append_assoc}
 use Rattle.std.specs.Prelude.{◌==◌, nat_lt, nat_le}
-use Rattle.std.specs.List.{AllByRecursion, flat_map, list_any}
+use Rattle.std.specs.List.{AllByRecursion, flat_map}
 use Rattle.std.proofs.lemmas.Bool.{cases_Bool, le-leb, lt-ltb}
-use Rattle.std.proofs.lemmas.List.{append-nil}
+use Rattle.std.proofs.lemmas.List.{append-nil, length-map}
 use Rattle.std.proofs.lemmas.List.Concat.{flat_map-cons}
 use Rattle.std.proofs.lemmas.List.Folds.{flat_map-map}
 use Rattle.pw_wire.specs.Field.{FieldView, varint_field, bytes_field, bytes_field_encoding}
@@ -12,13 +12,15 @@ use Rattle.seg_core.specs.declared.error.SegError.TheVariants.{TooLarge}
 use Rattle.seg_core.specs.declared.seg_type.SegType.{SegType}
 use Rattle.seg_core.specs.declared.seg_type.SegType.TheVariants.{Up, Down, Core}
 use Rattle.seg_core.specs.Shapes.{map_shape, map_entry_shape, segments_shape}
-use Rattle.seg_core.specs.Message.{misfit_after, texts}
+use Rattle.seg_core.specs.Message.{misfit_after, bytes_fields}
 use Rattle.seg_core.specs.SegmentView.{SegmentView}
-use Rattle.seg_core.specs.Registration.{type_number, rows_of, new_type, segments_decoding, map_entry_decoding, map_decoding, registration_decoding}
+use Rattle.seg_core.specs.Steps.{result_map}
+use Rattle.seg_core.specs.Registration.{type_number, rows_of, MapEntry, entry_rows, has_type, new_type, segments_decoding, map_entry_decoding, map_decoding, registration_outline, registration_decoding}
 use Rattle.seg_core.specs.Encoding.{IsSegment, segment_encoding, segments_encoding, of_type, map_entry_encoding, response_encoding, by_type}
 use Rattle.seg_core.proofs.Sizes.{bytes_field-within}
-use Rattle.seg_core.proofs.EncodedFields.{HasFields, nothing, field_before, checked-is}
+use Rattle.seg_core.proofs.EncodedFields.{HasFields, nothing, field_before, message_fields-is}
 use Rattle.seg_core.proofs.Responses.{content_of, content-length}
+use Rattle.seg_core.proofs.Rows.{entry_rows-push}
 use Rattle.seg_core.proofs.RoundTrip.{goes_on, holds, decoding-encoding}
 
 -- ---- messages that are fields of one number
@@ -45,7 +47,7 @@ segments_fit : (before : List FieldView) (ts : List (List ℕ)) → misfit_after
 segments_fit before [] = refl
 segments_fit before (t ∷ ts) = segments_fit (before ++ bytes_field 1 t ∷ []) ts
 
-messages_there : (ts : List (List ℕ)) → texts 1 (messages_fields ts) ≡ ts
+messages_there : (ts : List (List ℕ)) → bytes_fields 1 (messages_fields ts) ≡ ts
 messages_there [] = refl
 messages_there (t ∷ ts) = ap (λ us. t ∷ us) (messages_there ts)
 
@@ -61,7 +63,7 @@ segments_again count (s ∷ ss) whole few =
 
 -- ---- an entry of the map
 
-new_again : (earlier : List ℕ) (kind : SegType) → list_any (λ t. t == type_number kind) earlier ≡ false → new_type earlier (type_number kind) ≡ Ok kind
+new_again : (earlier : List MapEntry) (kind : SegType) → has_type earlier kind ≡ false → new_type earlier (type_number kind) ≡ Ok kind
 unfolding new_type
 new_again earlier Up fresh = rw fresh refl
 new_again earlier Down fresh = rw fresh refl
@@ -89,17 +91,17 @@ content_has kind ss fits =
 encoded_one_by_one : (ss : List SegmentView) → segments_encoding ss ≡ messages_encoding (map segment_encoding ss)
 encoded_one_by_one ss = sym (flat_map-map (bytes_field_encoding 1) segment_encoding ss)
 
-entry_again : (earlier : List ℕ) (count : ℕ) (kind : SegType) (ss : List SegmentView) → list_any (λ t. t == type_number kind) earlier ≡ false
-    → AllByRecursion IsSegment ss → count + length ss ≤ 16 → length (segments_encoding ss) < 2 ^ 64 → map_entry_decoding earlier count (content_of kind ss) ≡ Ok (kind, ss)
+entry_again : (earlier : List MapEntry) (kind : SegType) (ss : List SegmentView) → has_type earlier kind ≡ false
+    → AllByRecursion IsSegment ss → length (entry_rows earlier) + length ss ≤ 16 → length (segments_encoding ss) < 2 ^ 64 → map_entry_decoding earlier (content_of kind ss) ≡ Ok (kind, ss)
 unfolding map_entry_decoding
-entry_again earlier count kind ss fresh whole few fits =
+entry_again earlier kind ss fresh whole few fits =
     let ts = map segment_encoding ss in
     let same = encoded_one_by_one ss in
     let value : HasFields (segments_encoding ss) (messages_fields ts) = rw same (messages_have ts (rw (← same) fits)) in
-    goes_on _ _ (content_fields kind ss) (Ok (kind, ss)) (checked-is map_entry_shape (content_of kind ss) (content_fields kind ss) (content_has kind ss fits) refl)
+    goes_on _ _ (content_fields kind ss) (Ok (kind, ss)) (message_fields-is map_entry_shape (content_of kind ss) (content_fields kind ss) (content_has kind ss fits) refl)
     (goes_on _ _ kind (Ok (kind, ss)) (new_again earlier kind fresh)
-    (goes_on _ _ (messages_fields ts) (Ok (kind, ss)) (checked-is segments_shape (segments_encoding ss) (messages_fields ts) value (segments_fit [] ts))
-    (goes_on _ _ ss (Ok (kind, ss)) (ap (segments_decoding count) (messages_there ts) ∙ segments_again count ss whole few) refl)))
+    (goes_on _ _ (messages_fields ts) (Ok (kind, ss)) (message_fields-is segments_shape (segments_encoding ss) (messages_fields ts) value (segments_fit [] ts))
+    (goes_on _ _ ss (Ok (kind, ss)) (ap (segments_decoding (length (entry_rows earlier))) (messages_there ts) ∙ segments_again (length (entry_rows earlier)) ss whole few) refl)))
 
 -- ---- the map
 
@@ -108,21 +110,25 @@ abbrev type_texts : SegType → List SegmentView → List (List ℕ)
 type_texts kind [] = []
 type_texts kind (s ∷ ss) = content_of kind (s ∷ ss) ∷ []
 
--- the types that have had an entry behind that of this type
-abbrev later : SegType → List SegmentView → List ℕ → List ℕ
+-- the entries, and that of this type
+abbrev later : SegType → List SegmentView → List MapEntry → List MapEntry
 later kind [] earlier = earlier
-later kind (s ∷ ss) earlier = type_number kind ∷ earlier
+later kind (s ∷ ss) earlier = earlier ++ (kind, s ∷ ss) ∷ []
 
-type_read : (kind : SegType) (ss : List SegmentView) (earlier : List ℕ) (count : ℕ) (rest : List (List ℕ)) (others : List (SegType × SegmentView))
-    → list_any (λ t. t == type_number kind) earlier ≡ false → AllByRecursion IsSegment ss → count + length ss ≤ 16 → length (segments_encoding ss) < 2 ^ 64
-    → map_decoding (later kind ss earlier) (count + length ss) rest ≡ Ok others → map_decoding earlier count (type_texts kind ss ++ rest) ≡ Ok (rows_of kind ss ++ others)
+later_rows : (kind : SegType) (ss : List SegmentView) (earlier : List MapEntry) → entry_rows (later kind ss earlier) ≡ entry_rows earlier ++ rows_of kind ss
+later_rows kind [] earlier = sym (append-nil (entry_rows earlier))
+later_rows kind (s ∷ ss) earlier = entry_rows-push earlier (kind, s ∷ ss)
+
+later_count : (kind : SegType) (ss : List SegmentView) (earlier : List MapEntry) → length (entry_rows (later kind ss earlier)) ≡ length (entry_rows earlier) + length ss
+later_count kind ss earlier =
+    ap length (later_rows kind ss earlier) ∙ length-append (entry_rows earlier) (rows_of kind ss) ∙ ap (λ n. length (entry_rows earlier) + n) (length-map ss (λ s. (kind, s)))
+
+type_read : (kind : SegType) (ss : List SegmentView) (earlier all : List MapEntry) (rest : List (List ℕ))
+    → has_type earlier kind ≡ false → AllByRecursion IsSegment ss → length (entry_rows earlier) + length ss ≤ 16 → length (segments_encoding ss) < 2 ^ 64
+    → map_decoding (later kind ss earlier) rest ≡ Ok all → map_decoding earlier (type_texts kind ss ++ rest) ≡ Ok all
 unfolding map_decoding
-type_read kind [] earlier count rest others fresh whole few fits next =
-    let same : count + 0 ≡ count = omega arith in
-    subst (λ (n : ℕ). map_decoding earlier n rest ≡ Ok others) same next
-type_read kind (s ∷ ss) earlier count rest others fresh whole few fits next =
-    goes_on _ _ (kind, s ∷ ss) (Ok (rows_of kind (s ∷ ss) ++ others)) (entry_again earlier count kind (s ∷ ss) fresh whole few fits)
-    (goes_on _ _ others (Ok (rows_of kind (s ∷ ss) ++ others)) next refl)
+type_read kind [] earlier all rest fresh whole few fits next = next
+type_read kind (s ∷ ss) earlier all rest fresh whole few fits next = goes_on _ _ (kind, s ∷ ss) (Ok all) (entry_again earlier kind (s ∷ ss) fresh whole few fits) next
 
 type_encoded : (kind : SegType) (ss : List SegmentView) (rest : List (List ℕ)) → map_entry_encoding kind ss ++ messages_encoding rest ≡ messages_encoding (type_texts kind ss ++ rest)
 type_encoded kind [] rest = refl
@@ -155,19 +161,19 @@ all_counted [] = refl
 all_counted (row ∷ rows) = omega (arith, one_more row.0 row.1 rows (all_counted rows))
 
 -- no type has had an entry before its own
-fresh_down : (u : List SegmentView) → list_any (λ t. t == type_number Down) (later Up u []) ≡ false
+fresh_down : (u : List SegmentView) → has_type (later Up u []) Down ≡ false
 fresh_down [] = refl
 fresh_down (s ∷ u) = refl
 
-fresh_core : (u d : List SegmentView) → list_any (λ t. t == type_number Core) (later Down d (later Up u [])) ≡ false
+fresh_core : (u d : List SegmentView) → has_type (later Down d (later Up u [])) Core ≡ false
 fresh_core [] [] = refl
 fresh_core (s ∷ u) [] = refl
 fresh_core [] (t ∷ d) = refl
 fresh_core (s ∷ u) (t ∷ d) = refl
 
-none_left : (earlier : List ℕ) (count : ℕ) → map_decoding earlier count [] ≡ Ok []
+none_left : (all : List MapEntry) → map_decoding all [] ≡ Ok all
 unfolding map_decoding
-none_left earlier count = refl
+none_left all = refl
 
 -- ---- the response
 
@@ -190,9 +196,23 @@ response_parts : (rows : List (SegType × SegmentView))
 unfolding response_encoding
 response_parts rows = simp length-append
 
+-- the entries that are read
+all_entries : List (SegType × SegmentView) → List MapEntry
+all_entries rows = later Core (of_type Core rows) (later Down (of_type Down rows) (later Up (of_type Up rows) []))
+
+all_rows : (rows : List (SegType × SegmentView)) → entry_rows (all_entries rows) ≡ by_type rows
+unfolding all_entries
+all_rows rows =
+    let u = of_type Up rows in
+    let d = of_type Down rows in
+    let c = of_type Core rows in
+    later_rows Core c (later Down d (later Up u []))
+    ∙ ap (λ xs. xs ++ rows_of Core c) (later_rows Down d (later Up u []) ∙ ap (λ xs. xs ++ rows_of Down d) (later_rows Up u []))
+    ∙ append_assoc (rows_of Up u) (rows_of Down d) (rows_of Core c)
+
 contents_read : (rows : List (SegType × SegmentView)) → AllByRecursion (λ row. IsSegment row.1) rows → length rows ≤ 16 → length (response_encoding rows) ≤ 131072
-    → map_decoding [] 0 (contents rows) ≡ Ok (by_type rows)
-unfolding contents
+    → map_decoding [] (contents rows) ≡ Ok (all_entries rows)
+unfolding contents all_entries
 contents_read rows whole few small =
     let u = of_type Up rows in
     let d = of_type Down rows in
@@ -202,21 +222,22 @@ contents_read rows whole few small =
     let up = value_within Up u in
     let down = value_within Down d in
     let core = value_within Core c in
-    let last : map_decoding (later Down d (later Up u [])) (0 + length u + length d) (type_texts Core c ++ []) ≡ Ok (rows_of Core c ++ []) =
-    type_read Core c (later Down d (later Up u [])) (0 + length u + length d) [] [] (fresh_core u d) (whole_of Core rows whole) (omega arith) (omega arith)
-    (none_left (later Core c (later Down d (later Up u []))) (0 + length u + length d + length c)) in
-    let middle = type_read Down d (later Up u []) (0 + length u) (type_texts Core c ++ []) (rows_of Core c ++ []) (fresh_down u) (whole_of Down rows whole) (omega arith) (omega arith) last in
-    type_read Up u [] 0 (type_texts Down d ++ (type_texts Core c ++ [])) (rows_of Down d ++ (rows_of Core c ++ [])) refl (whole_of Up rows whole) (omega arith) (omega arith) middle
-    ∙ ap (λ xs. Ok (rows_of Up u ++ (rows_of Down d ++ xs))) (append-nil (rows_of Core c))
+    let first = later_count Up u [] in
+    let second = later_count Down d (later Up u []) in
+    let entries = later Core c (later Down d (later Up u [])) in
+    type_read Up u [] entries (type_texts Down d ++ (type_texts Core c ++ [])) refl (whole_of Up rows whole) (omega arith) (omega arith)
+    (type_read Down d (later Up u []) entries (type_texts Core c ++ []) (fresh_down u) (whole_of Down rows whole) (omega arith) (omega arith)
+    (type_read Core c (later Down d (later Up u [])) entries [] (fresh_core u d) (whole_of Core rows whole) (omega arith) (omega arith) (none_left entries)))
 
 pub decoding-response : (rows : List (SegType × SegmentView)) → AllByRecursion (λ row. IsSegment row.1) rows → length rows ≤ 16 → length (response_encoding rows) ≤ 131072
     → registration_decoding (response_encoding rows) ≡ Ok (by_type rows)
-unfolding registration_decoding
+unfolding registration_decoding registration_outline
 decoding-response rows whole few small =
     let ts = contents rows in
     let same = response_encoded rows in
     let fits : length (messages_encoding ts) < 2 ^ 64 = rw (← same) (omega arith) in
     let has : HasFields (response_encoding rows) (messages_fields ts) = rw same (messages_have ts fits) in
-    goes_on _ _ tt (Ok (by_type rows)) (holds (nat_le (length (response_encoding rows)) 131072) TooLarge (le-leb (length (response_encoding rows)) 131072 small))
-    (goes_on _ _ (messages_fields ts) (Ok (by_type rows)) (checked-is map_shape (response_encoding rows) (messages_fields ts) has (map_fit [] ts))
-    (ap (map_decoding [] 0) (messages_there ts) ∙ contents_read rows whole few small))
+    goes_on _ _ ts (Ok (by_type rows))
+    (goes_on _ _ tt (Ok ts) (holds (nat_le (length (response_encoding rows)) 131072) TooLarge (le-leb (length (response_encoding rows)) 131072 small))
+    (goes_on _ _ (messages_fields ts) (Ok ts) (message_fields-is map_shape (response_encoding rows) (messages_fields ts) has (map_fit [] ts)) (ap Ok (messages_there ts))))
+    (ap (result_map entry_rows) (contents_read rows whole few small) ∙ ap Ok (all_rows rows))

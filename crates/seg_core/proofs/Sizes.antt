@@ -5,7 +5,7 @@ use Rattle.std.specs.Option.{option_or}
 use Rattle.std.proofs.lemmas.List.Sums.{sum_by-cons}
 use Rattle.pw_wire.specs.Field.{bytes_field_encoding}
 use Rattle.pw_wire.specs.Fields.{fields}
-use Rattle.seg_core.specs.Message.{last_of, text, texts, text_or_empty}
+use Rattle.seg_core.specs.Message.{last_of, bytes_field, bytes_fields, bytes_field_or_empty}
 use Rattle.seg_core.specs.Encoding.{bytes_encoding, optional_encoding}
 use Rattle.pw_wire.proofs.Exports.{varint_encoding-mono}
 use Rattle.seg_core.proofs.WireSizes.{encoded_len, fields-length}
@@ -44,24 +44,24 @@ or_empty-length k None = omega arith
 
 -- both left out where they are empty
 pub parts-length : (message : List ℕ) → length message ≤ 16384
-    → length (bytes_encoding 1 (text_or_empty 1 (fields message)) ++ bytes_encoding 2 (text_or_empty 2 (fields message))) ≤ length message
+    → length (bytes_encoding 1 (bytes_field_or_empty 1 (fields message)) ++ bytes_encoding 2 (bytes_field_or_empty 2 (fields message))) ≤ length message
 parts-length message le =
     let fs = fields message in
-    rw (length-append (bytes_encoding 1 (text_or_empty 1 fs)) (bytes_encoding 2 (text_or_empty 2 fs)))
-    (omega (arith, fields-length message le, or_empty-length 1 (text 1 fs), or_empty-length 2 (text 2 fs), last-length 1 (texts 1 fs), last-length 2 (texts 2 fs)))
+    rw (length-append (bytes_encoding 1 (bytes_field_or_empty 1 fs)) (bytes_encoding 2 (bytes_field_or_empty 2 fs)))
+    (omega (arith, fields-length message le, or_empty-length 1 (bytes_field 1 fs), or_empty-length 2 (bytes_field 2 fs), last-length 1 (bytes_fields 1 fs), last-length 2 (bytes_fields 2 fs)))
 
 -- the first one with a part that got no longer, the second as it is
-pub entry-length : (message signed encoded : List ℕ) → length message ≤ 16384 → text 1 (fields message) ≡ Some signed → length encoded ≤ length signed
-    → length (bytes_field_encoding 1 encoded ++ optional_encoding 2 (text 2 (fields message))) ≤ length message
+pub entry-length : (message signed encoded : List ℕ) → length message ≤ 16384 → bytes_field 1 (fields message) ≡ Some signed → length encoded ≤ length signed
+    → length (bytes_field_encoding 1 encoded ++ optional_encoding 2 (bytes_field 2 (fields message))) ≤ length message
 entry-length message signed encoded le is shorter =
     let fs = fields message in
-    let first : length (bytes_field_encoding 1 signed) ≤ encoded_len 1 (texts 1 fs) = rw is at (last-length 1 (texts 1 fs)) in
-    rw (length-append (bytes_field_encoding 1 encoded) (optional_encoding 2 (text 2 fs)))
-    (omega (arith, fields-length message le, bytes_field-mono 1 encoded signed shorter, first, last-length 2 (texts 2 fs)))
+    let first : length (bytes_field_encoding 1 signed) ≤ encoded_len 1 (bytes_fields 1 fs) = rw is at (last-length 1 (bytes_fields 1 fs)) in
+    rw (length-append (bytes_field_encoding 1 encoded) (optional_encoding 2 (bytes_field 2 fs)))
+    (omega (arith, fields-length message le, bytes_field-mono 1 encoded signed shorter, first, last-length 2 (bytes_fields 2 fs)))
 
 -- the message that was there is within its message
-pub signed-within : (message signed : List ℕ) → length message ≤ 16384 → text 1 (fields message) ≡ Some signed → length signed ≤ 16384
+pub signed-within : (message signed : List ℕ) → length message ≤ 16384 → bytes_field 1 (fields message) ≡ Some signed → length signed ≤ 16384
 signed-within message signed le is =
     let fs = fields message in
-    let first : length (bytes_field_encoding 1 signed) ≤ encoded_len 1 (texts 1 fs) = rw is at (last-length 1 (texts 1 fs)) in
+    let first : length (bytes_field_encoding 1 signed) ≤ encoded_len 1 (bytes_fields 1 fs) = rw is at (last-length 1 (bytes_fields 1 fs)) in
     omega (arith, fields-length message le, first, bytes_field-within 1 signed)

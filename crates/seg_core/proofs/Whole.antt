@@ -1,5 +1,5 @@
 -- Each segment that is read is whole.
-use Rattle.std.proofs.Common.{◌≡◌, ℕ, ◌+◌, ◌≤◌, suc, List, [], ◌∷◌, ◌++◌, length, Ok, Option, refl, ap, subst, arith, length-append}
+use Rattle.std.proofs.Common.{◌≡◌, ℕ, ◌+◌, ◌≤◌, suc, true, List, [], ◌∷◌, ◌++◌, length, Ok, Option, refl, ap, subst, arith, length-append}
 use Rattle.std.specs.Prelude.{nat_le}
 use Rattle.std.specs.List.{AllByRecursion}
 use Rattle.std.proofs.lemmas.Bool.{leb-true}
@@ -10,19 +10,18 @@ use Rattle.pw_wire.specs.Field.{bytes_field_encoding}
 use Rattle.pw_wire.specs.Fields.{fields}
 use Rattle.seg_core.specs.declared.error.SegError.TheVariants.{Chain, Loop, Entries, TooLarge}
 use Rattle.seg_core.specs.declared.body.Body.{Body}
-use Rattle.seg_core.specs.declared.info.Info.{Info}
 use Rattle.seg_core.specs.Shapes.{path_segment_shape, as_entry_shape, signed_message_shape}
 use Rattle.seg_core.specs.Steps.{◌>>=◌, each}
-use Rattle.seg_core.specs.Message.{text, texts, text_or_empty}
+use Rattle.seg_core.specs.Message.{bytes_field, bytes_fields, bytes_field_or_empty}
 use Rattle.seg_core.specs.SegmentView.{EntryView, SegmentView}
 use Rattle.seg_core.specs.Entry.{header_and_body_decoding, as_entry_decoding}
 use Rattle.seg_core.specs.WellFormed.{is_entry_count, is_chain, has_no_loop}
-use Rattle.seg_core.specs.Segment.{info_decoding, segment_decoding}
+use Rattle.seg_core.specs.Segment.{SegmentOutline, info_decoding, segment_outline, segment_decoding}
 use Rattle.seg_core.specs.Encoding.{bytes_encoding, as_entry_encoding, entries_encoding, segment_encoding, IsEntry, IsSegment}
-use Rattle.seg_core.proofs.Bytes.{checked-fit, texts-bytes, text-bytes, text_or_empty-bytes}
+use Rattle.seg_core.proofs.Bytes.{message_fields-fit, bytes_fields-IsBytes, bytes_field-IsBytes, bytes_field_or_empty-IsBytes}
 use Rattle.seg_core.proofs.Paths.{count-HasEntryCount, chain-IsChain, no_loop-HasNoLoop}
 use Rattle.seg_core.proofs.Ranges.{header_and_body-fits}
-use Rattle.seg_core.proofs.Readings.{step_ok, ok_is, after_checked, after_check, after_required}
+use Rattle.seg_core.proofs.Readings.{step_ok, ok_is, after_message_fields, after_check, after_required}
 use Rattle.seg_core.proofs.WireSizes.{encoded_len, fields-length}
 use Rattle.seg_core.proofs.Sizes.{bytes_field-mono, bytes_field-within, last-length, or_empty-length, parts-length, entry-length, signed-within}
 
@@ -50,26 +49,26 @@ entry_read : (message : List ℕ) (e : EntryView) → IsBytes message → length
 unfolding as_entry_decoding
 entry_read message e are le reading =
     let fs = fields message in
-    let fits = checked-fit as_entry_shape message _ e are reading in
-    let in_fields = after_checked as_entry_shape message _ e reading in
+    let fits = message_fields-fit as_entry_shape message _ e are reading in
+    let in_fields = after_message_fields as_entry_shape message _ e reading in
     let in_signed = after_required 1 fs _ e in_fields in
     let signed = in_signed.0 in
     let parts = fields signed in
-    let parts_fit = checked-fit signed_message_shape signed _ e (text-bytes 1 fs fits signed in_signed.1) in_signed.2 in
-    let in_parts = after_checked signed_message_shape signed _ e in_signed.2 in
-    let in_body = step_ok (header_and_body_decoding (text_or_empty 1 parts)) _ e in_parts in
-    subst (WasRead message) (ok_is (entry_of in_body.0 (text_or_empty 1 parts) (text_or_empty 2 parts) (text 2 fs)) e in_body.2) (record {
+    let parts_fit = message_fields-fit signed_message_shape signed _ e (bytes_field-IsBytes 1 fs fits signed in_signed.1) in_signed.2 in
+    let in_parts = after_message_fields signed_message_shape signed _ e in_signed.2 in
+    let in_body = step_ok (header_and_body_decoding (bytes_field_or_empty 1 parts)) _ e in_parts in
+    subst (WasRead message) (ok_is (entry_of in_body.0 (bytes_field_or_empty 1 parts) (bytes_field_or_empty 2 parts) (bytes_field 2 fs)) e in_body.2) (record {
       is_entry =
-          let widths = header_and_body-fits (text_or_empty 1 parts) in_body.0 (text_or_empty-bytes 1 parts parts_fit) in_body.1 in
+          let widths = header_and_body-fits (bytes_field_or_empty 1 parts) in_body.0 (bytes_field_or_empty-IsBytes 1 parts parts_fit) in_body.1 in
           record {
             says = in_body.1;
             ia = widths.ia;
             next = widths.next;
-            signed = text_or_empty-bytes 1 parts parts_fit;
-            signature = text_or_empty-bytes 2 parts parts_fit;
-            unsigned = text-bytes 2 fs fits;
+            signed = bytes_field_or_empty-IsBytes 1 parts parts_fit;
+            signature = bytes_field_or_empty-IsBytes 2 parts parts_fit;
+            unsigned = bytes_field-IsBytes 2 fs fits;
           };
-      short = entry-length message signed (bytes_encoding 1 (text_or_empty 1 parts) ++ bytes_encoding 2 (text_or_empty 2 parts)) le in_signed.1
+      short = entry-length message signed (bytes_encoding 1 (bytes_field_or_empty 1 parts) ++ bytes_encoding 2 (bytes_field_or_empty 2 parts)) le in_signed.1
           (parts-length signed (signed-within message signed le in_signed.1));
     })
 
@@ -102,15 +101,44 @@ entries_read (message ∷ messages) es are le reading =
 
 -- ---- a segment
 
-abbrev segment_of : Info → List ℕ → List EntryView → SegmentView
-segment_of info bytes entries = record { timestamp = info.timestamp; segment_id = info.segment_id; info = bytes; entries = entries }
+abbrev segment_of : SegmentOutline → List EntryView → SegmentView
+segment_of outline entries = record { timestamp = outline.timestamp; segment_id = outline.segment_id; info = outline.info; entries = entries }
 
-segment_short : (message : List ℕ) (s : SegmentView) → length message ≤ 16384 → s.info ≡ text_or_empty 1 (fields message) → length (entries_encoding s.entries) ≤ encoded_len 2 (texts 2 (fields message)) → length (segment_encoding s) ≤ length message
+segment_short : (message : List ℕ) (s : SegmentView) → length message ≤ 16384 → s.info ≡ bytes_field_or_empty 1 (fields message) → length (entries_encoding s.entries) ≤ encoded_len 2 (bytes_fields 2 (fields message)) → length (segment_encoding s) ≤ length message
 unfolding segment_encoding
 segment_short message s le info entries =
     let fs = fields message in
-    rw (info, length-append (bytes_encoding 1 (text_or_empty 1 fs)) (entries_encoding s.entries))
-    (omega (arith, fields-length message le, or_empty-length 1 (text 1 fs), last-length 1 (texts 1 fs)))
+    rw (info, length-append (bytes_encoding 1 (bytes_field_or_empty 1 fs)) (entries_encoding s.entries))
+    (omega (arith, fields-length message le, or_empty-length 1 (bytes_field 1 fs), last-length 1 (bytes_fields 1 fs)))
+
+-- what the outline of a segment went through
+record IsOutlined (message : List ℕ) (outline : SegmentOutline) : Type 0 where
+  le : length message ≤ 16384
+  info_is : outline.info ≡ bytes_field_or_empty 1 (fields message)
+  info_bytes : IsBytes outline.info
+  entries_are : outline.entries ≡ bytes_fields 2 (fields message)
+  entries_bytes : AllByRecursion IsBytes outline.entries
+  info_says : info_decoding outline.info ≡ Ok (record { timestamp = outline.timestamp; segment_id = outline.segment_id })
+  counted : is_entry_count (length outline.entries) ≡ true
+
+outline_read : (message : List ℕ) (outline : SegmentOutline) → IsBytes message → segment_outline message ≡ Ok outline → IsOutlined message outline
+unfolding segment_outline
+outline_read message outline are reading =
+    let fs = fields message in
+    let sized = after_check (nat_le (length message) 16384) TooLarge _ outline reading in
+    let fits = message_fields-fit path_segment_shape message _ outline are sized.1 in
+    let in_fields = after_message_fields path_segment_shape message _ outline sized.1 in
+    let counted = after_check (is_entry_count (length (bytes_fields 2 fs))) Entries _ outline in_fields in
+    let info = step_ok (info_decoding (bytes_field_or_empty 1 fs)) _ outline counted.1 in
+    subst (IsOutlined message) (ok_is (record { timestamp = info.0.timestamp; segment_id = info.0.segment_id; info = bytes_field_or_empty 1 fs; entries = bytes_fields 2 fs }) outline info.2) (record {
+      le = leb-true (length message) 16384 sized.0;
+      info_is = refl;
+      info_bytes = bytes_field_or_empty-IsBytes 1 fs fits;
+      entries_are = refl;
+      entries_bytes = bytes_fields-IsBytes 2 fs fits;
+      info_says = info.1;
+      counted = counted.0;
+    })
 
 -- what the reading of a segment tells of it
 record IsRead (message : List ℕ) (s : SegmentView) : Type 0 where
@@ -120,25 +148,22 @@ record IsRead (message : List ℕ) (s : SegmentView) : Type 0 where
 segment_read : (message : List ℕ) (s : SegmentView) → IsBytes message → segment_decoding message ≡ Ok s → IsRead message s
 unfolding segment_decoding
 segment_read message s are reading =
-    let fs = fields message in
-    let sized = after_check (nat_le (length message) 16384) TooLarge _ s reading in
-    let fits = checked-fit path_segment_shape message _ s are sized.1 in
-    let in_fields = after_checked path_segment_shape message _ s sized.1 in
-    let counted = after_check (is_entry_count (length (texts 2 fs))) Entries _ s in_fields in
-    let info = step_ok (info_decoding (text_or_empty 1 fs)) _ s counted.1 in
-    let entries = step_ok (each as_entry_decoding (texts 2 fs)) _ s info.2 in
+    let outline = step_ok (segment_outline message) _ s reading in
+    let outlined = outline_read message outline.0 are outline.1 in
+    let entries = step_ok (each as_entry_decoding outline.0.entries) _ s outline.2 in
     let chain = after_check (is_chain entries.0) Chain _ s entries.2 in
     let loop = after_check (has_no_loop entries.0) Loop _ s chain.1 in
-    let le : length message ≤ 16384 = leb-true (length message) 16384 sized.0 in
-    let were = entries_read (texts 2 fs) entries.0 (texts-bytes 2 fs fits) (omega (arith, fields-length message le)) entries.1 in
-    let made = segment_of info.0 (text_or_empty 1 fs) entries.0 in
-    let short : length (segment_encoding made) ≤ length message = segment_short message made le refl were.short in
+    let le = outlined.le in
+    let were = entries_read outline.0.entries entries.0 outlined.entries_bytes (rw outlined.entries_are (omega (arith, fields-length message le))) entries.1 in
+    let made = segment_of outline.0 entries.0 in
+    let short : length (segment_encoding made) ≤ length message =
+    segment_short message made le outlined.info_is (subst (λ messages. length (entries_encoding entries.0) ≤ encoded_len 2 messages) outlined.entries_are were.short) in
     subst (IsRead message) (ok_is made s loop.1) (record {
       whole = record {
-        info_says = info.1;
-        info_bytes = text_or_empty-bytes 1 fs fits;
+        info_says = outlined.info_says;
+        info_bytes = outlined.info_bytes;
         entries = were.are_entries;
-        counted = count-HasEntryCount entries.0 (rw were.as_many counted.0);
+        counted = count-HasEntryCount entries.0 (rw were.as_many outlined.counted);
         chain = chain-IsChain entries.0 chain.0;
         no_loop = no_loop-HasNoLoop entries.0 loop.0;
         short = omega arith;

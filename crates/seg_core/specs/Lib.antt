@@ -7,6 +7,8 @@ pub mod EntryView
 pub mod Entry
 pub mod WellFormed
 pub mod Segment
+pub mod Outline
+pub mod PathRefusals
 pub mod Request
 pub mod Registration
 pub mod Encoding

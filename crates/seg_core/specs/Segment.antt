@@ -5,7 +5,7 @@ use Rattle.seg_core.specs.declared.error.SegError.TheVariants.{Chain, Loop, Entr
 use Rattle.seg_core.specs.declared.info.Info.{Info}
 use Rattle.seg_core.specs.Shapes.{path_segment_shape, segment_information_shape}
 use Rattle.seg_core.specs.Steps.{◌>>=◌, check, at_most, each}
-use Rattle.seg_core.specs.Message.{checked, number, texts, text_or_empty}
+use Rattle.seg_core.specs.Message.{message_fields, number_field, bytes_fields, bytes_field_or_empty}
 use Rattle.seg_core.specs.SegmentView.{SegmentView}
 use Rattle.seg_core.specs.Entry.{as_entry_decoding}
 use Rattle.seg_core.specs.WellFormed.{is_entry_count, is_chain, has_no_loop}
@@ -13,23 +13,33 @@ use Rattle.seg_core.specs.WellFormed.{is_entry_count, is_chain, has_no_loop}
 -- when the segment was made, and its id
 unfoldable pub info_decoding : List ℕ → Result Info SegError
 info_decoding message = do
-  fs ← checked segment_information_shape message
-  timestamp ← at_most (2 ^ 32 - 1) (number 1 fs)
-  segment_id ← at_most (2 ^ 16 - 1) (number 2 fs)
+  fs ← message_fields segment_information_shape message
+  timestamp ← at_most (2 ^ 32 - 1) (number_field 1 fs)
+  segment_id ← at_most (2 ^ 16 - 1) (number_field 2 fs)
   Ok (record { timestamp = timestamp; segment_id = segment_id })
 
+-- A segment whose entries are not read: they are messages still.
+pub record SegmentOutline : Type 0 where
+  pub timestamp : ℕ
+  pub segment_id : ℕ
+  pub info : List ℕ
+  pub entries : List (List ℕ)
+
+-- A segment up to its entries: its size, the wire and the kinds of its message, how many entries there are, and its
+-- information. It takes no memory to judge that.
+unfoldable pub segment_outline : List ℕ → Result SegmentOutline SegError
+segment_outline message = do
+  _ ← check (nat_le (length message) 16384) TooLarge
+  fs ← message_fields path_segment_shape message
+  _ ← check (is_entry_count (length (bytes_fields 2 fs))) Entries
+  info ← info_decoding (bytes_field_or_empty 1 fs)
+  Ok (record { timestamp = info.timestamp; segment_id = info.segment_id; info = bytes_field_or_empty 1 fs; entries = bytes_fields 2 fs })
+
+-- A segment: its outline, then its entries in order, which are a chain without a loop.
 unfoldable pub segment_decoding : List ℕ → Result SegmentView SegError
 segment_decoding message = do
-  _ ← check (nat_le (length message) 16384) TooLarge
-  fs ← checked path_segment_shape message
-  _ ← check (is_entry_count (length (texts 2 fs))) Entries
-  info ← info_decoding (text_or_empty 1 fs)
-  entries ← each as_entry_decoding (texts 2 fs)
+  outline ← segment_outline message
+  entries ← each as_entry_decoding outline.entries
   _ ← check (is_chain entries) Chain
   _ ← check (has_no_loop entries) Loop
-  Ok (record {
-    timestamp = info.timestamp;
-    segment_id = info.segment_id;
-    info = text_or_empty 1 fs;
-    entries = entries;
-  })
+  Ok (record { timestamp = outline.timestamp; segment_id = outline.segment_id; info = outline.info; entries = entries })

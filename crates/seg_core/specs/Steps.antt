@@ -1,5 +1,5 @@
 -- A reading gives a value, or the refusal that is met first.
-use Rattle.std.specs.Prelude.{◌≡◌, ◌≢◌, ℕ, List, [], ◌∷◌, Bool, nat_le, Result, Ok, Err, if◌then◌else◌}
+use Rattle.std.specs.Prelude.{◌≡◌, ◌≢◌, ℕ, List, [], ◌∷◌, Bool, nat_le, Option, Some, None, Result, Ok, Err, if◌then◌else◌}
 use Rattle.seg_core.specs.declared.error.SegError.{SegError}
 use Rattle.seg_core.specs.declared.error.SegError.TheVariants.{NoMemory, Range}
 
@@ -12,6 +12,11 @@ abbrev pub ◌>>=◌ : {A B : Type 0} → Result A SegError → (A → Result B 
 -- goes on where the test holds, and is refused for this reason where it doesn't
 abbrev pub check : Bool → SegError → Result (Unit {0}) SegError
 check holds reason = if holds then Ok tt else Err reason
+
+-- goes on where there is no refusal
+abbrev pub unless : Option SegError → Result (Unit {0}) SegError
+unless None = Ok tt
+unless (Some refusal) = Err refusal
 
 -- a number that is at most the limit
 abbrev pub at_most : ℕ → ℕ → Result ℕ SegError
@@ -26,9 +31,9 @@ each read (x ∷ xs) = do
   Ok (first ∷ others)
 
 -- a reading whose value is seen in another way
-abbrev pub seen_as : {A B : Type 0} → (A → B) → Result A SegError → Result B SegError
-seen_as view (Ok x) = Ok (view x)
-seen_as view (Err e) = Err e
+abbrev pub result_map : {A B : Type 0} → (A → B) → Result A SegError → Result B SegError
+result_map view (Ok x) = Ok (view x)
+result_map view (Err e) = Err e
 
 -- A call that takes no memory answers just what the reading gives, seen by `view`.
 abbrev pub Reads : {X Y : Type 0} → (X → Y) → Result X SegError → Result Y SegError → Type 0

@@ -1,37 +1,30 @@
 //! The signed body of an AS entry.
 
-ghost use Rattle.std.specs.Prelude.{◌≡◌};
-ghost use Rattle.seg_core.specs.Steps.{Reads, each, seen_as};
-ghost use Rattle.seg_core.specs.Message.{texts};
+ghost use Rattle.seg_core.specs.Steps.{Reads, each, result_map};
+ghost use Rattle.seg_core.specs.Message.{bytes_fields};
 ghost use Rattle.pw_wire.specs.Fields.{fields};
-ghost use Rattle.seg_core.specs.Entry.{names_an_as, peer_entry_decoding, body_decoding, header_and_body_decoding};
+ghost use Rattle.seg_core.specs.Entry.{peer_entry_decoding, body_decoding, header_and_body_decoding};
 
+use crate::bytes_fields::BytesFields;
 use crate::error::SegError;
 use crate::hop::{Hop, read_hop_entry, read_peer_entry};
 use crate::limits::{check, u32_of};
 use crate::shape::{BODY, HEADER_AND_BODY};
 use crate::slots::{Slots, slots_of};
-use crate::texts::Texts;
+use isd_as::IsdAs;
 
 /// What the signed body of an AS entry says. The ISD-AS numbers are of 64 bits.
-#[derive(Clone, Copy, Debug, PartialEq, Eq)]
+#[derive(Clone, Copy)]
 pub(crate) struct Body {
     pub ia: u64,
     pub next: u64,
     pub hop: Hop,
 }
 
-/// Neither part of the ISD-AS is 0.
-fn names_an_as(ia: u64) -> bool
-    ensures { result ≡ names_an_as ia }
-{
-    ia >> 48 != 0 && ia & ((1 << 48) - 1) != 0
-}
-
 /// Reads peer entries, of which nothing is kept.
-fn check_peer_entries(peers: Texts<'_>) -> Result<(), SegError>
+fn check_peer_entries(peers: BytesFields<'_>) -> Result<(), SegError>
     ensures { Reads (λ u. u) result
-        (seen_as (λ _. tt) (each peer_entry_decoding (texts peers.entry.number (fields peers.entry.rest.now)))) }
+        (result_map (λ _. tt) (each peer_entry_decoding (bytes_fields peers.entry.field_number (fields peers.entry.rest.now)))) }
 {
     for peer in peers {
         read_peer_entry(peer)?;
@@ -42,12 +35,12 @@ fn check_peer_entries(peers: Texts<'_>) -> Result<(), SegError>
 /// Reads the peer entries of a body, of which there are seldom any.
 fn check_peers(slots: &Slots<'_>) -> Result<(), SegError>
     ensures { Reads (λ u. u) result
-        (seen_as (λ _. tt) (each peer_entry_decoding (texts 4 (fields slots.now.message.now)))) }
+        (result_map (λ _. tt) (each peer_entry_decoding (bytes_fields 4 (fields slots.now.message.now)))) }
 {
-    if slots.text(4).is_none() {
+    if slots.bytes_field(4).is_none() {
         return Ok(());
     }
-    check_peer_entries(slots.texts(4))
+    check_peer_entries(slots.bytes_fields(4))
 }
 
 #[tactic(auto, unfolding(crate::specs::Entry::body_decoding))]
@@ -55,15 +48,15 @@ fn read_body(message: &[u8]) -> Result<Body, SegError>
     ensures { Reads (λ body. body) result (body_decoding message.now) }
 {
     let slots = slots_of(&BODY, message)?;
-    let hop_entry = slots.required(3)?;
-    let ia = slots.number(1);
-    check(names_an_as(ia), SegError::Range)?;
-    let _mtu = u32_of(slots.number(5))?;
+    let hop_entry = slots.required_message(3)?;
+    let ia = slots.number_field(1);
+    check(!IsdAs::from_u64(ia).has_zero_part(), SegError::Range)?;
+    let _mtu = u32_of(slots.number_field(5))?;
     let hop = read_hop_entry(hop_entry)?;
     check_peers(&slots)?;
     Ok(Body {
         ia,
-        next: slots.number(2),
+        next: slots.number_field(2),
         hop,
     })
 }
@@ -74,5 +67,5 @@ pub(crate) fn read_header_and_body(message: &[u8]) -> Result<Body, SegError>
     ensures { Reads (λ body. body) result (header_and_body_decoding message.now) }
 {
     let slots = slots_of(&HEADER_AND_BODY, message)?;
-    read_body(slots.text_or_empty(2))
+    read_body(slots.bytes_field_or_empty(2))
 }

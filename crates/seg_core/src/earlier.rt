@@ -1,8 +1,8 @@
 //! The types of segments that have had an entry in a map.
 
-ghost use Rattle.std.specs.Prelude.{◌≡◌, ℕ, List, [], ◌∷◌};
-ghost use Rattle.seg_core.specs.Earlier.{is_in, AreIn};
-ghost use Rattle.seg_core.specs.Registration.{type_number, new_type};
+ghost use Rattle.std.specs.Prelude.{◌≡◌, List, []};
+ghost use Rattle.seg_core.specs.Earlier.{is_in, with_type, AreIn};
+ghost use Rattle.seg_core.specs.Registration.{MapEntry, new_type};
 ghost use Rattle.seg_core.specs.Steps.{Reads};
 
 use crate::error::SegError;
@@ -43,7 +43,7 @@ impl Earlier {
     /// The type of a number, which has had no entry.
     #[tactic(auto, unfolding(crate::specs::Registration::new_type))]
     pub(crate) fn new_type(self, number: u64) -> Result<SegType, SegError>
-        ensures { (earlier : List ℕ) → AreIn earlier self → Reads (λ kind. kind) result (new_type earlier number) }
+        ensures { (entries : List MapEntry) → AreIn entries self → Reads (λ kind. kind) result (new_type entries number) }
     {
         let kind = SegType::from_number(number)?;
         check(!self.contains(kind), SegError::RepeatedMessage)?;
@@ -52,7 +52,7 @@ impl Earlier {
 
     /// Takes in a type.
     pub(crate) fn insert(&mut self, kind: SegType)
-        ensures { (earlier : List ℕ) → AreIn earlier self.old → AreIn (type_number kind ∷ earlier) self.new }
+        ensures { self.new ≡ with_type self.old kind }
     {
         match kind {
             SegType::Up => self.up = true,

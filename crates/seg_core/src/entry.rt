@@ -49,9 +49,9 @@ pub(crate) fn read_as_entry(alloc: Global, message: &[u8]) -> Result<Entry, SegE
     ensures { Gives entry_view result (as_entry_decoding message.now) }
 {
     let slots = slots_of(&AS_ENTRY, message)?;
-    let signed_message = slots.required(1)?;
+    let signed_message = slots.required_message(1)?;
     let parts = slots_of(&SIGNED_MESSAGE, signed_message)?;
-    let signed = parts.text_or_empty(1);
+    let signed = parts.bytes_field_or_empty(1);
     let body = read_header_and_body(signed)?;
     Ok(Entry {
         ia: IsdAs::from_u64(body.ia),
@@ -60,7 +60,7 @@ pub(crate) fn read_as_entry(alloc: Global, message: &[u8]) -> Result<Entry, SegE
         egress: body.hop.egress,
         exp_time: body.hop.exp_time,
         signed: Vec::from_slice(alloc, signed)?,
-        signature: Vec::from_slice(alloc, parts.text_or_empty(2))?,
-        unsigned: copied(alloc, slots.text(2))?,
+        signature: Vec::from_slice(alloc, parts.bytes_field_or_empty(2))?,
+        unsigned: copied(alloc, slots.bytes_field(2))?,
     })
 }

@@ -12,7 +12,7 @@ use crate::slots::slots_of;
 const MAC_LEN: usize = 6;
 
 /// Where a segment enters and leaves an AS, and for how long it may.
-#[derive(Clone, Copy, Debug, PartialEq, Eq)]
+#[derive(Clone, Copy)]
 pub(crate) struct Hop {
     pub ingress: u16,
     pub egress: u16,
@@ -24,10 +24,13 @@ fn read_hop_field(message: &[u8]) -> Result<Hop, SegError>
     ensures { Reads (λ hop. hop) result (hop_field_decoding message.now) }
 {
     let slots = slots_of(&HOP_FIELD, message)?;
-    let ingress = u16_of(slots.number(1))?;
-    let egress = u16_of(slots.number(2))?;
-    let exp_time = u8_of(slots.number(3))?;
-    check(slots.text_or_empty(4).len() == MAC_LEN, SegError::Range)?;
+    let ingress = u16_of(slots.number_field(1))?;
+    let egress = u16_of(slots.number_field(2))?;
+    let exp_time = u8_of(slots.number_field(3))?;
+    check(
+        slots.bytes_field_or_empty(4).len() == MAC_LEN,
+        SegError::Range,
+    )?;
     Ok(Hop {
         ingress,
         egress,
@@ -40,8 +43,8 @@ pub(crate) fn read_hop_entry(message: &[u8]) -> Result<Hop, SegError>
     ensures { Reads (λ hop. hop) result (hop_entry_decoding message.now) }
 {
     let slots = slots_of(&HOP_ENTRY, message)?;
-    let hop_field = slots.required(1)?;
-    let _ingress_mtu = u32_of(slots.number(2))?;
+    let hop_field = slots.required_message(1)?;
+    let _ingress_mtu = u32_of(slots.number_field(2))?;
     read_hop_field(hop_field)
 }
 
@@ -50,7 +53,7 @@ pub(crate) fn read_peer_entry(message: &[u8]) -> Result<Hop, SegError>
     ensures { Reads (λ hop. hop) result (peer_entry_decoding message.now) }
 {
     let slots = slots_of(&PEER_ENTRY, message)?;
-    let hop_field = slots.required(4)?;
-    let _peer_mtu = u32_of(slots.number(3))?;
+    let hop_field = slots.required_message(4)?;
+    let _peer_mtu = u32_of(slots.number_field(3))?;
     read_hop_field(hop_field)
 }

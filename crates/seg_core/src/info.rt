@@ -9,7 +9,7 @@ use crate::shape::SEGMENT_INFORMATION;
 use crate::slots::slots_of;
 
 /// A segment's timestamp, in seconds since 1970, and its id, which the beaconing AS picks.
-#[derive(Clone, Copy, Debug, PartialEq, Eq)]
+#[derive(Clone, Copy)]
 pub(crate) struct Info {
     pub timestamp: u32,
     pub segment_id: u16,
@@ -20,8 +20,8 @@ pub(crate) fn read_info(message: &[u8]) -> Result<Info, SegError>
     ensures { Reads (λ info. info) result (info_decoding message.now) }
 {
     let slots = slots_of(&SEGMENT_INFORMATION, message)?;
-    let timestamp = u32_of(slots.number(1))?;
-    let segment_id = u16_of(slots.number(2))?;
+    let timestamp = u32_of(slots.number_field(1))?;
+    let segment_id = u16_of(slots.number_field(2))?;
     Ok(Info {
         timestamp,
         segment_id,

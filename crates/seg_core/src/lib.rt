@@ -6,7 +6,9 @@
 #![tactic(auto)]
 
 mod body;
+mod bytes_fields;
 mod comparing;
+mod decoding_laws;
 mod earlier;
 mod entry;
 mod equality;
@@ -16,6 +18,7 @@ mod info;
 mod laws;
 mod lengths;
 mod limits;
+mod outline;
 mod path;
 mod registration;
 mod request;
@@ -24,10 +27,13 @@ mod seg_type;
 mod segment;
 mod shape;
 mod slots;
-mod texts;
 mod writing;
 
 pub use comparing::is_encoding_of;
+pub use decoding_laws::{
+    decodings_want_no_memory, first_misfit_is_exact, path_refusals_are_exact,
+    type_numbers_are_exact,
+};
 pub use entry::Entry;
 pub use error::SegError;
 pub use laws::{

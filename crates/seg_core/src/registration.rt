@@ -1,14 +1,18 @@
 //! Registrations: maps from types to segments.
 
-ghost use Rattle.std.specs.Prelude.{◌≡◌, ℕ, List, [], ◌++◌, length};
+ghost use Rattle.std.specs.Prelude.{◌≡◌, ◌≢◌, List, [], ◌++◌, length, IfOk, IfErr, IsOk};
+ghost use Rattle.std.specs.List.{AllByRecursion};
 ghost use Rattle.pw_wire.specs.Fields.{fields};
-ghost use Rattle.seg_core.specs.Steps.{Gives, seen_as};
-ghost use Rattle.seg_core.specs.Message.{texts};
+ghost use Rattle.seg_core.specs.Steps.{Gives, Reads, result_map};
+ghost use Rattle.seg_core.specs.Message.{bytes_fields};
 ghost use Rattle.seg_core.specs.SegmentView.{SegmentView};
+ghost use Rattle.seg_core.specs.declared.error.SegError.TheVariants.{NoMemory};
 ghost use Rattle.seg_core.specs.declared.seg_type.SegType.{SegType};
 ghost use Rattle.seg_core.specs.Earlier.{AreIn};
-ghost use Rattle.seg_core.specs.Registration.{map_decoding, map_entry_decoding, segments_decoding, registration_decoding, rows_of};
+ghost use Rattle.seg_core.specs.Registration.{MapEntry, entry_rows, map_decoding, map_entry_decoding, segments_decoding, registration_outline, registration_decoding, rows_of};
+ghost use Rattle.seg_core.specs.Encoding.{IsSegment};
 
+use crate::bytes_fields::BytesFields;
 use crate::earlier::Earlier;
 use crate::error::SegError;
 use crate::limits::check;
@@ -16,7 +20,6 @@ use crate::seg_type::SegType;
 use crate::segment::{Segment, read_segment};
 use crate::shape::{MAP_ENTRY, SEGMENT_MAP, SEGMENTS};
 use crate::slots::slots_of;
-use crate::texts::Texts;
 use std::alloc::Global;
 
 /// The most bytes of a registration.
@@ -29,12 +32,12 @@ const MOST_SEGMENTS: usize = 16;
 fn read_segments(
     alloc: Global,
     kind: SegType,
-    messages: Texts<'_>,
+    messages: BytesFields<'_>,
     found: &mut Vec<(SegType, Segment)>,
 ) -> Result<(), SegError>
     ensures { Gives (λ _. found.new.items) result
-        (seen_as (λ segments. found.old.items ++ rows_of kind segments)
-        (segments_decoding (length found.old.items) (texts messages.entry.number (fields messages.entry.rest.now)))) }
+        (result_map (λ segments. found.old.items ++ rows_of kind segments)
+        (segments_decoding (length found.old.items) (bytes_fields messages.entry.field_number (fields messages.entry.rest.now)))) }
 {
     for message in messages {
         check(found.len() < MOST_SEGMENTS, SegError::TooLarge)?;
@@ -51,20 +54,21 @@ fn read_map_entry(
     message: &[u8],
     found: &mut Vec<(SegType, Segment)>,
 ) -> Result<SegType, SegError>
-    ensures { (numbers : List ℕ) → AreIn numbers earlier → Gives {Y = SegType × List (SegType × SegmentView)} (λ kind. (kind, found.new.items)) result
-        (seen_as (λ entry. (entry.0, found.old.items ++ rows_of entry.0 entry.1))
-        (map_entry_decoding numbers (length found.old.items) message.now)) }
+    ensures { (entries : List MapEntry) → AreIn entries earlier → entry_rows entries ≡ found.old.items
+        → Gives {Y = SegType × List (SegType × SegmentView)} (λ kind. (kind, found.new.items)) result
+        (result_map (λ entry. (entry.0, found.old.items ++ rows_of entry.0 entry.1)) (map_entry_decoding entries message.now)) }
 {
     let slots = slots_of(&MAP_ENTRY, message)?;
-    let kind = earlier.new_type(slots.number(1))?;
-    let value = slots_of(&SEGMENTS, slots.text_or_empty(2))?;
-    read_segments(alloc, kind, value.texts(1), found)?;
+    let kind = earlier.new_type(slots.number_field(1))?;
+    let value = slots_of(&SEGMENTS, slots.bytes_field_or_empty(2))?;
+    read_segments(alloc, kind, value.bytes_fields(1), found)?;
     Ok(kind)
 }
 
 /// Reads the entries of a map.
-fn read_map(alloc: Global, messages: Texts<'_>) -> Result<Vec<(SegType, Segment)>, SegError>
-    ensures { Gives (λ v. v.items) result (map_decoding [] 0 (texts messages.entry.number (fields messages.entry.rest.now))) }
+fn read_map(alloc: Global, messages: BytesFields<'_>) -> Result<Vec<(SegType, Segment)>, SegError>
+    ensures { Gives (λ v. v.items) result
+        (result_map entry_rows (map_decoding [] (bytes_fields messages.entry.field_number (fields messages.entry.rest.now)))) }
 {
     let mut earlier = Earlier::none();
     let mut found = Vec::new(alloc);
@@ -75,13 +79,26 @@ fn read_map(alloc: Global, messages: Texts<'_>) -> Result<Vec<(SegType, Segment)
     Ok(found)
 }
 
-/// Reads a `SegmentsRegistrationRequest`, all of its bytes: its segments and their types, in the order of the message.
-/// It is refused as too large first of all, and at its 17th segment before that is read.
-#[tactic(auto, unfolding(crate::specs::Registration::registration_decoding))]
-pub fn read_registration(alloc: Global, message: &[u8]) -> Result<Vec<(SegType, Segment)>, SegError>
-    ensures { Gives (λ v. v.items) result (registration_decoding message.now) }
+/// The messages of the entries of a map.
+#[tactic(auto, unfolding(crate::specs::Registration::registration_outline))]
+fn read_outline(message: &[u8]) -> Result<BytesFields<'_>, SegError>
+    ensures outline { Reads (λ entries. bytes_fields entries.field_number (fields entries.rest.now)) result (registration_outline message.now) }
+    ensures memory { IfErr result (λ e. e ≢ NoMemory) }
 {
     check(message.len() <= MOST_BYTES, SegError::TooLarge)?;
     let slots = slots_of(&SEGMENT_MAP, message)?;
-    read_map(alloc, slots.texts(1))
+    Ok(slots.bytes_fields(1))
+}
+
+/// Reads a `SegmentsRegistrationRequest`, all of its bytes: its segments and their types, in the order of the message.
+/// It is refused as too large first of all, and at its 17th segment before that is read. Its outline is judged before
+/// any memory is taken.
+#[tactic(auto, unfolding(crate::specs::Registration::registration_decoding))]
+pub fn read_registration(alloc: Global, message: &[u8]) -> Result<Vec<(SegType, Segment)>, SegError>
+    ensures decoding { Gives (λ v. v.items) result (registration_decoding message.now) }
+    ensures whole { IfOk result (λ v. AllByRecursion (λ row. IsSegment row.1) v.items) }
+    ensures memory { IfErr result (λ e. e ≡ NoMemory → IsOk (registration_outline message.now)) }
+{
+    let entries = read_outline(message)?;
+    read_map(alloc, entries)
 }

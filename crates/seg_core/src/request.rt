@@ -1,18 +1,21 @@
 //! Requests for segments.
 
+ghost use Rattle.isd_as.specs.IsdAs.{number_of};
 ghost use Rattle.seg_core.specs.Steps.{Reads};
 ghost use Rattle.seg_core.specs.Request.{request_decoding};
 
 use crate::error::SegError;
 use crate::shape::REQUEST;
 use crate::slots::slots_of;
+use isd_as::IsdAs;
 
-/// The ISD-AS numbers of the source and of the destination that a `SegmentsRequest` names, 0 where it names none.
-/// It takes no memory.
+/// The source and the destination that a `SegmentsRequest` names, 0-0 where it names none. It takes no memory.
 #[tactic(auto, unfolding(crate::specs::Request::request_decoding))]
-pub fn read_request(message: &[u8]) -> Result<(u64, u64), SegError>
-    ensures { Reads (λ ends. ends) result (request_decoding message.now) }
+pub fn read_request(message: &[u8]) -> Result<(IsdAs, IsdAs), SegError>
+    ensures { Reads (λ ends. (number_of ends.0, number_of ends.1)) result (request_decoding message.now) }
 {
     let slots = slots_of(&REQUEST, message)?;
-    Ok((slots.number(1), slots.number(2)))
+    let source = IsdAs::from_u64(slots.number_field(1));
+    let destination = IsdAs::from_u64(slots.number_field(2));
+    Ok((source, destination))
 }

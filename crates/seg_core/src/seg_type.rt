@@ -7,7 +7,7 @@ use crate::error::SegError;
 
 /// The type of a segment: up and down segments lead from a core AS outwards, core segments from one core AS to
 /// another. The numbers are those of the messages.
-#[derive(Clone, Copy, Debug, PartialEq, Eq, PartialOrd, Ord)]
+#[derive(Clone, Copy, Debug, PartialEq, Eq)]
 pub enum SegType {
     Up = 1,
     Down = 2,

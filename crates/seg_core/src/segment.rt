@@ -1,31 +1,24 @@
 //! Path segments.
 
-ghost use Rattle.std.specs.Prelude.{◌≡◌, ◌≤◌, IfOk, OnOk, length};
+ghost use Rattle.std.specs.Prelude.{◌≡◌, IfOk, IfErr, IsOk};
 ghost use Rattle.pw_wire.specs.Fields.{fields};
+ghost use Rattle.seg_core.specs.declared.error.SegError.TheVariants.{NoMemory};
 ghost use Rattle.seg_core.specs.Steps.{Gives, each};
-ghost use Rattle.seg_core.specs.Message.{texts};
+ghost use Rattle.seg_core.specs.Message.{bytes_fields};
 ghost use Rattle.seg_core.specs.Entry.{as_entry_decoding};
 ghost use Rattle.seg_core.specs.EntryView.{entry_views};
-ghost use Rattle.seg_core.specs.WellFormed.{is_entry_count};
-ghost use Rattle.seg_core.specs.Segment.{segment_decoding};
+ghost use Rattle.seg_core.specs.Segment.{segment_decoding, segment_outline};
 ghost use Rattle.seg_core.specs.Encoding.{IsSegment};
 
+use crate::bytes_fields::BytesFields;
 use crate::entry::{Entry, read_as_entry};
 use crate::error::SegError;
-use crate::info::read_info;
 use crate::limits::check;
+use crate::outline::read_outline;
 use crate::path::{has_no_loop, is_chain};
-use crate::shape::PATH_SEGMENT;
-use crate::slots::slots_of;
-use crate::texts::Texts;
 use std::alloc::{AllocError, Global};
 use std::marker::Model;
 use std::sync::Arc;
-
-/// The most bytes of a segment.
-const MOST_BYTES: usize = 16_384;
-/// The most entries of a segment.
-const MOST_ENTRIES: usize = 64;
 
 /// What a segment has, which its copies share.
 #[derive(Debug, Drop)]
@@ -96,8 +89,8 @@ impl Segment {
 }
 
 /// Reads the entries of a segment, in order.
-fn read_entries(alloc: Global, messages: Texts<'_>) -> Result<Vec<Entry>, SegError>
-    ensures { Gives (λ v. entry_views v.items) result (each as_entry_decoding (texts messages.entry.number (fields messages.entry.rest.now))) }
+fn read_entries(alloc: Global, messages: BytesFields<'_>) -> Result<Vec<Entry>, SegError>
+    ensures { Gives (λ v. entry_views v.items) result (each as_entry_decoding (bytes_fields messages.entry.field_number (fields messages.entry.rest.now))) }
 {
     let mut entries = Vec::new(alloc);
     for message in messages {
@@ -106,36 +99,21 @@ fn read_entries(alloc: Global, messages: Texts<'_>) -> Result<Vec<Entry>, SegErr
     Ok(entries)
 }
 
-/// Whether there are 1 to 64 byte strings.
-fn is_entry_count(messages: Texts<'_>) -> bool
-    ensures { result ≡ is_entry_count (length (texts messages.entry.number (fields messages.entry.rest.now))) }
-{
-    let mut count: usize = 0;
-    for _message in messages {
-        if count == MOST_ENTRIES {
-            return false;
-        }
-        count += 1;
-    }
-    count > 0
-}
-
-/// Reads a `PathSegment`, all of its bytes. It is refused as too large before anything in it is read.
+/// Reads a `PathSegment`, all of its bytes. Its outline is judged before any memory is taken.
 #[tactic(auto, unfolding(crate::specs::Segment::segment_decoding))]
 pub fn read_segment(alloc: Global, message: &[u8]) -> Result<Segment, SegError>
-    ensures { Gives (λ s. s) result (segment_decoding message.now) }
+    ensures decoding { Gives (λ s. s) result (segment_decoding message.now) }
+    ensures whole { IfOk result IsSegment }
+    ensures memory { IfErr result (λ e. e ≡ NoMemory → IsOk (segment_outline message.now)) }
 {
-    check(message.len() <= MOST_BYTES, SegError::TooLarge)?;
-    let slots = slots_of(&PATH_SEGMENT, message)?;
-    check(is_entry_count(slots.texts(2)), SegError::Entries)?;
-    let info = read_info(slots.text_or_empty(1))?;
-    let entries = read_entries(alloc, slots.texts(2))?;
+    let outline = read_outline(message)?;
+    let entries = read_entries(alloc, outline.entries)?;
     check(is_chain(&entries), SegError::Chain)?;
     check(has_no_loop(&entries), SegError::Loop)?;
     let parts = Parts {
-        timestamp: info.timestamp,
-        segment_id: info.segment_id,
-        info: Vec::from_slice(alloc, slots.text_or_empty(1))?,
+        timestamp: outline.info.timestamp,
+        segment_id: outline.info.segment_id,
+        info: Vec::from_slice(alloc, outline.info_bytes)?,
         entries,
     };
     let shared = Arc::new(alloc, parts)?;

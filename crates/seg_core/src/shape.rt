@@ -1,7 +1,7 @@
 //! The shapes of the messages: what stands under each of their field numbers.
 
 /// What stands under a field number of a message.
-#[derive(Clone, Copy, Debug, PartialEq, Eq)]
+#[derive(Clone, Copy)]
 pub(crate) enum FieldKind {
     /// The message has no such field. It counts for nothing.
     Unknown,

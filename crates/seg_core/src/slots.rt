@@ -6,63 +6,63 @@ ghost use Rattle.pw_wire.specs.Field.{FieldView};
 ghost use Rattle.pw_wire.specs.Fields.{fields};
 ghost use Rattle.pw_wire.specs.View.{field_view, value_view};
 ghost use Rattle.seg_core.specs.Steps.{Reads};
-ghost use Rattle.seg_core.specs.Message.{checked, kind_at, is_single, misfit_at, number, suits, text, text_or_empty, texts, required};
+ghost use Rattle.seg_core.specs.Message.{bytes_field, bytes_field_or_empty, is_single, kind_at, message_fields, misfit_at, number_field, required_message, suits};
 ghost use Rattle.seg_core.specs.Slots.{AreNoted};
 
+use crate::bytes_fields::BytesFields;
 use crate::error::SegError;
 use crate::shape::{FieldKind, WIDTH};
-use crate::texts::Texts;
 use pw_wire::{Field, Value, next_field};
 
 /// The last number and the last bytes under each field number that a message may know.
 #[derive(Clone, Copy)]
 pub(crate) struct Noted<'a> {
     pub numbers: [u64; WIDTH],
-    pub texts: [Option<&'a [u8]>; WIDTH],
+    pub bytes: [Option<&'a [u8]>; WIDTH],
 }
 
 impl<'a> Noted<'a> {
     fn new() -> Self
-        ensures { AreNoted [] result.numbers result.texts }
+        ensures { AreNoted [] result.numbers result.bytes }
     {
         Noted {
             numbers: [0; WIDTH],
-            texts: [None; WIDTH],
+            bytes: [None; WIDTH],
         }
     }
 
     /// Takes in the next field.
     fn note(&mut self, field: &Field<'a>)
-        ensures { (before : List FieldView) → AreNoted before self.old.numbers self.old.texts
-            → AreNoted (before ++ field_view field.now ∷ []) self.new.numbers self.new.texts }
+        ensures { (before : List FieldView) → AreNoted before self.old.numbers self.old.bytes
+            → AreNoted (before ++ field_view field.now ∷ []) self.new.numbers self.new.bytes }
     {
-        let place = field.number as usize;
-        if place >= WIDTH {
+        let field_number = field.number as usize;
+        if field_number >= WIDTH {
             return;
         }
         match field.value {
-            Value::Varint(n) => self.numbers[place] = n,
-            Value::Bytes(text) => self.texts[place] = Some(text),
+            Value::Varint(n) => self.numbers[field_number] = n,
+            Value::Bytes(bytes) => self.bytes[field_number] = Some(bytes),
             Value::Fixed64(_) | Value::Fixed32(_) => {}
         }
     }
 
     /// Whether bytes stand under a field number.
-    fn has_text(&self, number: u32) -> bool
-        requires { number < 7 }
-        ensures { (before : List FieldView) → AreNoted before self.now.numbers self.now.texts
-            → result ≡ is_some (text number before) }
+    fn has_bytes(&self, field_number: u32) -> bool
+        requires { field_number < 7 }
+        ensures { (before : List FieldView) → AreNoted before self.now.numbers self.now.bytes
+            → result ≡ is_some (bytes_field field_number before) }
     {
-        self.texts[number as usize].is_some()
+        self.bytes[field_number as usize].is_some()
     }
 }
 
 /// The kind of the fields of a number.
-fn kind_at(shape: &[FieldKind], number: u32) -> FieldKind
-    ensures { result ≡ kind_at shape.now number }
+fn kind_at(shape: &[FieldKind], field_number: u32) -> FieldKind
+    ensures { result ≡ kind_at shape.now field_number }
 {
     shape
-        .get(number as usize)
+        .get(field_number as usize)
         .copied()
         .unwrap_or(FieldKind::Unknown)
 }
@@ -90,14 +90,14 @@ fn is_single(kind: FieldKind) -> bool
 /// What is wrong with a field behind those that are noted.
 fn misfit_of(shape: &[FieldKind], noted: &Noted<'_>, field: &Field<'_>) -> Option<SegError>
     requires { length shape.now ≤ 7 }
-    ensures { (before : List FieldView) → AreNoted before noted.now.numbers noted.now.texts
+    ensures { (before : List FieldView) → AreNoted before noted.now.numbers noted.now.bytes
         → result ≡ misfit_at shape.now before (field_view field.now) }
 {
     let kind = kind_at(shape, field.number);
     if !suits(kind, &field.value) {
         return Some(SegError::KindOfField);
     }
-    if is_single(kind) && noted.has_text(field.number) {
+    if is_single(kind) && noted.has_bytes(field.number) {
         return Some(SegError::RepeatedMessage);
     }
     None
@@ -108,15 +108,15 @@ fn misfit_of(shape: &[FieldKind], noted: &Noted<'_>, field: &Field<'_>) -> Optio
 pub(crate) struct Slots<'a> {
     message: &'a [u8],
     noted: Noted<'a>,
-    ghost all_noted: { AreNoted (fields message.now) noted.numbers noted.texts },
+    ghost all_noted: { AreNoted (fields message.now) noted.numbers noted.bytes },
 }
 
 /// Reads the fields of a message: first its wire, to its last byte, then kinds and repetitions, in the order of the
 /// fields.
-#[tactic(auto, unfolding(crate::specs::Message::checked))]
+#[tactic(auto, unfolding(crate::specs::Message::message_fields))]
 pub(crate) fn slots_of<'a>(shape: &[FieldKind], message: &'a [u8]) -> Result<Slots<'a>, SegError>
     requires { length shape.now ≤ 7 }
-    ensures exact { Reads (λ slots. fields slots.message.now) result (checked shape.now message.entry.now) }
+    ensures exact { Reads (λ slots. fields slots.message.now) result (message_fields shape.now message.entry.now) }
     ensures kept { IfOk result (λ slots. slots.message ≡ message.entry) }
 {
     let mut noted = Noted::new();
@@ -135,44 +135,44 @@ pub(crate) fn slots_of<'a>(shape: &[FieldKind], message: &'a [u8]) -> Result<Slo
 
 impl<'a> Slots<'a> {
     /// The last number under a field number, and 0 where there is none.
-    pub(crate) fn number(&self, place: usize) -> u64
-        requires { place < 7 }
-        ensures { result ≡ number place (fields self.now.message.now) }
+    pub(crate) fn number_field(&self, field_number: usize) -> u64
+        requires { field_number < 7 }
+        ensures { result ≡ number_field field_number (fields self.now.message.now) }
     {
-        self.noted.numbers[place]
+        self.noted.numbers[field_number]
     }
 
     /// The last bytes under a field number.
-    pub(crate) fn text(&self, place: usize) -> Option<&'a [u8]>
-        requires { place < 7 }
-        ensures { option_map (λ s. s.now) result ≡ text place (fields self.now.message.now) }
+    pub(crate) fn bytes_field(&self, field_number: usize) -> Option<&'a [u8]>
+        requires { field_number < 7 }
+        ensures { option_map (λ s. s.now) result ≡ bytes_field field_number (fields self.now.message.now) }
     {
-        self.noted.texts[place]
+        self.noted.bytes[field_number]
     }
 
     /// The last bytes under a field number, and none where there are none.
-    pub(crate) fn text_or_empty(&self, place: usize) -> &'a [u8]
-        requires { place < 7 }
-        ensures { result.now ≡ text_or_empty place (fields self.now.message.now) }
+    pub(crate) fn bytes_field_or_empty(&self, field_number: usize) -> &'a [u8]
+        requires { field_number < 7 }
+        ensures { result.now ≡ bytes_field_or_empty field_number (fields self.now.message.now) }
     {
-        self.text(place).unwrap_or(&[])
+        self.bytes_field(field_number).unwrap_or(&[])
     }
 
     /// The message under a field number, which has to be there.
-    pub(crate) fn required(&self, place: usize) -> Result<&'a [u8], SegError>
-        requires { place < 7 }
-        ensures { Reads (λ s. s.now) result (required place (fields self.now.message.now)) }
+    pub(crate) fn required_message(&self, field_number: usize) -> Result<&'a [u8], SegError>
+        requires { field_number < 7 }
+        ensures { Reads (λ s. s.now) result (required_message field_number (fields self.now.message.now)) }
     {
-        self.text(place).ok_or(SegError::MissingField)
+        self.bytes_field(field_number).ok_or(SegError::MissingField)
     }
 
     /// All byte strings under a field number.
-    pub(crate) fn texts(&self, number: u32) -> Texts<'a>
-        ensures number { result.number ≡ number }
+    pub(crate) fn bytes_fields(&self, field_number: u32) -> BytesFields<'a>
+        ensures number { result.field_number ≡ field_number }
         ensures whole { result.rest.now ≡ self.now.message.now }
     {
-        Texts {
-            number,
+        BytesFields {
+            field_number,
             rest: self.message,
         }
     }

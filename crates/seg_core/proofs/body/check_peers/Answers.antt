@@ -4,8 +4,8 @@ use Rattle.std.specs.Prelude.{Bool, false, is_some, not}
 use Rattle.std.specs.Option.{option_map, option_or}
 use Rattle.std.specs.Borrow.{Bor}
 use Rattle.pw_wire.specs.Fields.{fields}
-use Rattle.seg_core.specs.Steps.{each, seen_as}
-use Rattle.seg_core.specs.Message.{last_of, texts}
+use Rattle.seg_core.specs.Steps.{each, result_map}
+use Rattle.seg_core.specs.Message.{last_of, bytes_fields}
 use Rattle.seg_core.specs.Entry.{peer_entry_decoding}
 use Rattle.seg_core.proofs.body.check_peers.Goals as goal
 
@@ -24,5 +24,5 @@ none_noted (Some s) xs false h t e = absurd cc
 
 pub returns-then-is_none : goal.returns-then-is_none
 returns-then-is_none c =
-    let none : texts 4 (fields c.args.slots.now.message.now) ≡ [] = none_noted c.text.result _ c.is_none.result c.is_none.ensures c.if-is_none.true c.text.ensures in
-    ap (λ (xs : List (List ℕ)). seen_as (λ _. tt {0}) (each peer_entry_decoding xs)) none
+    let none : bytes_fields 4 (fields c.args.slots.now.message.now) ≡ [] = none_noted c.bytes_field.result _ c.is_none.result c.is_none.ensures c.if-is_none.true c.bytes_field.ensures in
+    ap (λ (xs : List (List ℕ)). result_map (λ _. tt {0}) (each peer_entry_decoding xs)) none

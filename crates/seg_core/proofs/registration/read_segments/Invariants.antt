@@ -1,14 +1,14 @@
 use Rattle.std.proofs.Common.{◌≡◌, ◌++◌, length}
 use Rattle.pw_wire.specs.Fields.{fields}
-use Rattle.seg_core.specs.Steps.{seen_as}
-use Rattle.seg_core.specs.Message.{texts}
+use Rattle.seg_core.specs.Steps.{result_map}
+use Rattle.seg_core.specs.Message.{bytes_fields}
 use Rattle.seg_core.specs.Registration.{segments_decoding, rows_of}
 use Rattle.seg_core.proofs.registration.read_segments.Given as goal
 
 -- What is left, behind what was found so far, gives what all of them give.
 abbrev pub invariant-loop-message : goal.invariant-loop-message
 invariant-loop-message l =
-    seen_as (λ segments. l.initial.found.items ++ rows_of l.kind segments)
-    (segments_decoding (length l.initial.found.items) (texts l.messages.number (fields l.messages.rest.now)))
-    ≡ seen_as (λ segments. l.found.items ++ rows_of l.kind segments)
-    (segments_decoding (length l.found.items) (texts l.message-iterator.number (fields l.message-iterator.rest.now)))
+    result_map (λ segments. l.initial.found.items ++ rows_of l.kind segments)
+    (segments_decoding (length l.initial.found.items) (bytes_fields l.messages.field_number (fields l.messages.rest.now)))
+    ≡ result_map (λ segments. l.found.items ++ rows_of l.kind segments)
+    (segments_decoding (length l.found.items) (bytes_fields l.message-iterator.field_number (fields l.message-iterator.rest.now)))

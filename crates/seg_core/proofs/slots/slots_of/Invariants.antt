@@ -3,7 +3,7 @@ use Rattle.seg_core.proofs.Misfits.{Midway}
 use Rattle.seg_core.proofs.slots.slots_of.Given as goal
 
 abbrev pub invariant-loop-field : goal.invariant-loop-field
-invariant-loop-field l = Midway l.shape l.message l.rest l.misfit l.noted.numbers l.noted.texts
+invariant-loop-field l = Midway l.shape l.message l.rest l.misfit l.noted.numbers l.noted.bytes
 
 abbrev pub decreases-loop-field : goal.decreases-loop-field
 decreases-loop-field l = length l.rest

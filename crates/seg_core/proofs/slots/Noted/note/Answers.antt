@@ -1,12 +1,12 @@
--- The field is past the places, a number, bytes, or of a fixed width.
+-- The field is past the field numbers that are noted, a number, bytes, or of a fixed width.
 use Rattle.std.proofs.Common.{ap, ⊎_elim, arith}
 use Rattle.pw_wire.specs.View.{field_view, value_view}
 use Rattle.seg_core.specs.Message.{varint_in, bytes_in}
 use Rattle.seg_core.proofs.Noting.{AreNoted-past, AreNoted-fixed, AreNoted-varint, AreNoted-bytes}
 use Rattle.seg_core.proofs.slots.Noted.note.Goals as goal
 
-pub returns-then-place-ge-WIDTH : goal.returns-then-place-ge-WIDTH
-returns-then-place-ge-WIDTH c = λ before noted. AreNoted-past before (field_view c.args.field.now) _ _ (omega arith) noted
+pub returns-then-field_number-ge-WIDTH : goal.returns-then-field_number-ge-WIDTH
+returns-then-field_number-ge-WIDTH c = λ before noted. AreNoted-past before (field_view c.args.field.now) _ _ (omega arith) noted
 
 pub returns-in-Varint : goal.returns-in-Varint
 returns-in-Varint c = λ before noted.

@@ -1,0 +1,7 @@
+use Rattle.std.proofs.Common.{rules}
+use Rattle.seg_core.specs.Registration.{segments_decoding}
+use Rattle.seg_core.proofs.registration.read_segments.Goals as goal
+
+pub returns : goal.returns
+unfolding segments_decoding
+returns c = search rules

@@ -1,0 +1,26 @@
+-- When a segment is refused for the path that its entries form.
+use Rattle.std.specs.Prelude.{◌≡◌, ℕ, List, Ok}
+use Rattle.seg_core.specs.Steps.{each}
+use Rattle.seg_core.specs.SegmentView.{EntryView}
+use Rattle.seg_core.specs.Entry.{as_entry_decoding}
+use Rattle.seg_core.specs.Segment.{SegmentOutline, segment_outline}
+use Rattle.seg_core.specs.WellFormed.{IsChain, HasNoLoop}
+
+-- a message whose outline stands, and whose entries are read as these
+pub record HasEntries (message : List ℕ) (entries : List EntryView) : Type 0 where
+  pub outline : SegmentOutline
+  pub outline_is : segment_outline message ≡ Ok outline
+  pub entries_are : each as_entry_decoding outline.entries ≡ Ok entries
+
+-- The entries are no chain.
+pub record HasNoChain (message : List ℕ) : Type 0 where
+  pub entries : List EntryView
+  pub read : HasEntries message entries
+  pub no_chain : ¬ IsChain entries
+
+-- The entries are a chain, and an AS stands in it twice.
+pub record HasLoop (message : List ℕ) : Type 0 where
+  pub entries : List EntryView
+  pub read : HasEntries message entries
+  pub chain : IsChain entries
+  pub loop : ¬ HasNoLoop entries

@@ -1,0 +1,65 @@
+//! A segment up to its entries: what of it is judged before any memory is taken.
+
+ghost use Rattle.std.specs.Prelude.{◌≡◌, ◌≢◌, length, IfErr};
+ghost use Rattle.pw_wire.specs.Fields.{fields};
+ghost use Rattle.seg_core.specs.declared.error.SegError.TheVariants.{NoMemory};
+ghost use Rattle.seg_core.specs.Steps.{Reads};
+ghost use Rattle.seg_core.specs.Message.{bytes_fields};
+ghost use Rattle.seg_core.specs.Outline.{outline_view};
+ghost use Rattle.seg_core.specs.Segment.{segment_outline};
+ghost use Rattle.seg_core.specs.WellFormed.{is_entry_count};
+
+use crate::bytes_fields::BytesFields;
+use crate::error::SegError;
+use crate::info::{Info, read_info};
+use crate::limits::check;
+use crate::shape::PATH_SEGMENT;
+use crate::slots::slots_of;
+
+/// The most bytes of a segment.
+const MOST_BYTES: usize = 16_384;
+/// The most entries of a segment.
+const MOST_ENTRIES: usize = 64;
+
+/// A segment whose entries are not read.
+#[derive(Clone, Copy)]
+pub(crate) struct Outline<'a> {
+    pub info: Info,
+    /// The segment's information as it came.
+    pub info_bytes: &'a [u8],
+    /// The messages of the entries, 1 to 64.
+    pub entries: BytesFields<'a>,
+}
+
+/// Whether there are 1 to 64 byte strings.
+fn is_entry_count(messages: BytesFields<'_>) -> bool
+    ensures { result ≡ is_entry_count (length (bytes_fields messages.entry.field_number (fields messages.entry.rest.now))) }
+{
+    let mut count: usize = 0;
+    for _message in messages {
+        if count == MOST_ENTRIES {
+            return false;
+        }
+        count += 1;
+    }
+    count > 0
+}
+
+/// Reads a `PathSegment` up to its entries. It is refused as too large before anything in it is read.
+#[tactic(auto, unfolding(crate::specs::Segment::segment_outline))]
+pub(crate) fn read_outline(message: &[u8]) -> Result<Outline<'_>, SegError>
+    ensures outline { Reads outline_view result (segment_outline message.now) }
+    ensures memory { IfErr result (λ e. e ≢ NoMemory) }
+{
+    check(message.len() <= MOST_BYTES, SegError::TooLarge)?;
+    let slots = slots_of(&PATH_SEGMENT, message)?;
+    let entries = slots.bytes_fields(2);
+    check(is_entry_count(entries), SegError::Entries)?;
+    let info_bytes = slots.bytes_field_or_empty(1);
+    let info = read_info(info_bytes)?;
+    Ok(Outline {
+        info,
+        info_bytes,
+        entries,
+    })
+}
