@@ -1,0 +1,69 @@
+-- A whole frame at the front of bytes, and what its encoding gives back: for `next_frame` and the laws.
+use Rattle.std.proofs.Common.{◌≡◌, ℕ, zero, suc, ◌+◌, ◌*◌, ◌-◌, ◌<◌, ◌≤◌, List, [], ◌∷◌, ◌++◌, length, take, drop, get_or, slice_range, refl, sym, ap, ◌∙◌, arith, lit<, append_assoc, take-append-drop}
+use Rattle.std.proofs.lemmas.List.{get_or-take, length-take-le, length-drop, drop-drop, drop_more}
+use Rattle.std.proofs.lemmas.Nat.{be_bytes_4}
+use Rattle.std.specs.Int.{w32, to_be_bytes}
+use Rattle.session_core.specs.Frames.{MessageView, kind_of, body_of, frame_encoding, length_at, IsFrameLength}
+use Rattle.session_core.specs.Front.{BeginsWithFrame}
+
+abbrev pub AreBytes : List ℕ → Type 0
+AreBytes bytes = (i : ℕ) → get_or bytes i 0 < 256
+
+pub take_below : (n : ℕ) (bytes : List ℕ) → AreBytes bytes → AreBytes (take n bytes)
+take_below zero bytes b i = lit< tt
+take_below (suc n) [] b i = b i
+take_below (suc n) (x ∷ xs) b zero = b zero
+take_below (suc n) (x ∷ xs) b (suc i) = take_below n xs (λ j. b (suc j)) i
+
+-- four bytes spell their number again
+pub length_encoded : (bytes : List ℕ) → AreBytes bytes → 4 ≤ length bytes → to_be_bytes w32 (length_at bytes) ≡ take 4 bytes
+length_encoded bytes b long = be_bytes_4 (take 4 bytes) (length_at bytes) (length-take-le 4 bytes long) (take_below 4 bytes b) refl
+
+-- a frame's content
+pub content_at : (bytes : List ℕ) (len : ℕ) → 1 ≤ len → 4 + len ≤ length bytes → (get_or bytes 4 0 ∷ slice_range bytes 5 (4 + len)) ≡ take len (drop 4 bytes)
+content_at bytes len some whole =
+    let inside : 4 < length bytes = omega arith in
+    let first : drop 4 bytes ≡ get_or bytes 4 0 ∷ drop 5 bytes = drop_more bytes 4 0 inside in
+    let count : 4 + len - 5 ≡ len - 1 = omega arith in
+    let more : len ≡ suc (len - 1) = omega arith in
+    rw (first, count) (ap (λ n. take n (get_or bytes 4 0 ∷ drop 5 bytes)) (sym more))
+
+pub length-content_at : (bytes : List ℕ) (len : ℕ) → 4 + len ≤ length bytes → length (take len (drop 4 bytes)) ≡ len
+length-content_at bytes len whole = length-take-le len (drop 4 bytes) (omega (arith, length-drop 4 bytes))
+
+pub frame_at : (bytes : List ℕ) (len : ℕ) → AreBytes bytes → len ≡ length_at bytes → 4 + len ≤ length bytes
+    → bytes ≡ frame_encoding (take len (drop 4 bytes)) ++ drop (4 + len) bytes
+frame_at bytes len b is whole =
+    let long : 4 ≤ length bytes = omega arith in
+    let content = take len (drop 4 bytes) in
+    let head : to_be_bytes w32 (length content) ≡ take 4 bytes =
+    ap (to_be_bytes w32) (length-content_at bytes len whole ∙ is) ∙ length_encoded bytes b long in
+    let rest : content ++ drop (4 + len) bytes ≡ drop 4 bytes =
+    ap (λ (t : List ℕ). content ++ t) (sym (drop-drop len 4 bytes)) ∙ take-append-drop len (drop 4 bytes) in
+    sym (append_assoc (to_be_bytes w32 (length content)) content (drop (4 + len) bytes)
+    ∙ ap (λ (t : List ℕ). to_be_bytes w32 (length content) ++ t) rest
+    ∙ ap (λ (t : List ℕ). t ++ drop 4 bytes) head
+    ∙ take-append-drop 4 bytes)
+
+-- a message at the front
+pub begins : (bytes : List ℕ) (len : ℕ) (m : MessageView) → AreBytes bytes → len ≡ length_at bytes → IsFrameLength len → 4 + len ≤ length bytes
+    → kind_of m ≡ get_or bytes 4 0 → body_of m ≡ slice_range bytes 5 (4 + len) → BeginsWithFrame bytes m (4 + len)
+begins bytes len m b is sized whole kind body =
+    let some : 1 ≤ len = sized.0 in
+    let content : (kind_of m ∷ body_of m) ≡ take len (drop 4 bytes) =
+    ap (λ k. k ∷ body_of m) kind ∙ ap (λ (t : List ℕ). get_or bytes 4 0 ∷ t) body ∙ content_at bytes len some whole in
+    let size : length (kind_of m ∷ body_of m) ≡ len = ap length content ∙ length-content_at bytes len whole in
+    record {
+      frame = frame_at bytes len b is whole ∙ ap (λ (t : List ℕ). frame_encoding t ++ drop (4 + len) bytes) (sym content);
+      sized = (omega arith, omega (arith, sized.1));
+      len_is = omega arith;
+    }
+
+-- the length, as a sum
+pub length_at_is : (bytes : List ℕ) (n : ℕ) → n ≡ get_or bytes 0 0 * 16777216 + (get_or bytes 1 0 * 65536 + (get_or bytes 2 0 * 256 + (get_or bytes 3 0 * 1 + 0))) → n ≡ length_at bytes
+length_at_is bytes n is =
+    let a : get_or (take 4 bytes) 0 0 ≡ get_or bytes 0 0 = get_or-take 4 bytes 0 0 (lit< tt) in
+    let b : get_or (take 4 bytes) 1 0 ≡ get_or bytes 1 0 = get_or-take 4 bytes 1 0 (lit< tt) in
+    let c : get_or (take 4 bytes) 2 0 ≡ get_or bytes 2 0 = get_or-take 4 bytes 2 0 (lit< tt) in
+    let d : get_or (take 4 bytes) 3 0 ≡ get_or bytes 3 0 = get_or-take 4 bytes 3 0 (lit< tt) in
+    omega arith

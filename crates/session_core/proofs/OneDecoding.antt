@@ -1,0 +1,78 @@
+-- Bytes are frames in one way at most: for the laws, and for what a session or a `Framer` says of its stream.
+use Rattle.std.proofs.Common.{◌≡◌, ℕ, ◌+◌, inl, inr, List, [], ◌∷◌, ◌++◌, length, take, drop, get_or, slice_index, refl, sym, ap, subst, ◌∙◌, arith, append_assoc}
+use Rattle.std.proofs.lemmas.List.{length-append, take_at, drop_at}
+use Rattle.std.proofs.lemmas.Nat.{from_be_bytes-to_be_bytes_4}
+use Rattle.std.specs.List.{flat_map, AllByRecursion}
+use Rattle.session_core.specs.declared.message.Message.TheVariants.{Register, Lookup}
+use Rattle.session_core.specs.Frames.{MessageView, kind_of, body_of, message_frame, length_at, IsFrameLength, IsMessageKind, FitsFrame, Ending, Rest, BadLength, BadKind, EndsAs, AreFrames}
+
+-- ---- one frame
+
+length-content : (m : MessageView) → length (kind_of m ∷ body_of m) ≡ 1 + length (body_of m)
+length-content m = omega arith
+
+length_at-frame : (m : MessageView) (rest : List ℕ) → FitsFrame m → length_at (message_frame m ++ rest) ≡ 1 + length (body_of m)
+length_at-frame m rest sized = from_be_bytes-to_be_bytes_4 (length (kind_of m ∷ body_of m)) (omega (arith, sized.1)) ∙ length-content m
+
+length-frame : (m : MessageView) (rest : List ℕ) → length (message_frame m ++ rest) ≡ 5 + length (body_of m) + length rest
+length-frame m rest = omega (arith, length-append (message_frame m) rest)
+
+message_from_content : (m n : MessageView) → kind_of m ∷ body_of m ≡ kind_of n ∷ body_of n → m ≡ n
+message_from_content (Register a) (Register b) h = ap Register (ap (λ (t : List ℕ). drop 1 t) h)
+message_from_content (Lookup a) (Lookup b) h = ap Lookup (ap (λ (t : List ℕ). drop 1 t) h)
+message_from_content (Register a) (Lookup b) h = absurd (omega (arith, ap (λ (t : List ℕ). get_or t 0 0) h))
+message_from_content (Lookup a) (Register b) h = absurd (omega (arith, ap (λ (t : List ℕ). get_or t 0 0) h))
+
+same_front : (m n : MessageView) (r s : List ℕ) → FitsFrame m → FitsFrame n → message_frame m ++ r ≡ message_frame n ++ s → (m ≡ n) × (r ≡ s)
+same_front m n r s a b e =
+    let lengths : 1 + length (body_of m) ≡ 1 + length (body_of n) = sym (length_at-frame m r a) ∙ ap length_at e ∙ length_at-frame n s b in
+    let contents : (kind_of m ∷ body_of m) ++ r ≡ (kind_of n ∷ body_of n) ++ s = ap (λ (t : List ℕ). drop 4 t) e in
+    let size = 1 + length (body_of n) in
+    let one : kind_of m ∷ body_of m ≡ kind_of n ∷ body_of n =
+    sym (take_at (kind_of m ∷ body_of m) r size (omega arith)) ∙ ap (take size) contents ∙ take_at (kind_of n ∷ body_of n) s size (omega arith) in
+    let rest : r ≡ s =
+    sym (drop_at (kind_of m ∷ body_of m) r size (omega arith)) ∙ ap (drop size) contents ∙ drop_at (kind_of n ∷ body_of n) s size (omega arith) in
+    (message_from_content m n one, rest)
+
+kind_is_known : (m : MessageView) → IsMessageKind (kind_of m)
+kind_is_known (Register body) = inl refl
+kind_is_known (Lookup body) = inr refl
+
+-- ---- an ending
+
+-- a frame is no ending
+no_ending : (m : MessageView) (bytes rest : List ℕ) (e : Ending) → bytes ≡ message_frame m ++ rest → FitsFrame m → EndsAs bytes e → ⊥
+no_ending m bytes rest (Rest left) e sized h =
+    let at : length_at bytes ≡ 1 + length (body_of m) = ap length_at e ∙ length_at-frame m rest sized in
+    let size : length bytes ≡ 5 + length (body_of m) + length rest = ap length e ∙ length-frame m rest in
+    let short = h.1.incomplete (omega (arith, size)) in
+    omega (arith, at, size, short)
+no_ending m bytes rest BadLength e sized h = h.bad (subst IsFrameLength (sym (ap length_at e ∙ length_at-frame m rest sized)) sized)
+no_ending m bytes rest BadKind e sized h = h.bad (subst IsMessageKind (sym (ap (λ (t : List ℕ). slice_index t 4) e)) (kind_is_known m))
+
+one_ending : (bytes : List ℕ) (e f : Ending) → EndsAs bytes e → EndsAs bytes f → e ≡ f
+one_ending bytes (Rest a) (Rest b) h k = ap Rest (sym h.0 ∙ k.0)
+one_ending bytes (Rest a) BadLength h k = absurd (k.bad (h.1.length_is_right k.long))
+one_ending bytes (Rest a) BadKind h k = absurd (k.bad (h.1.kind_is_right k.long))
+one_ending bytes BadLength (Rest b) h k = absurd (h.bad (k.1.length_is_right h.long))
+one_ending bytes BadLength BadLength h k = refl
+one_ending bytes BadLength BadKind h k = absurd (h.bad k.length_is_right)
+one_ending bytes BadKind (Rest b) h k = absurd (h.bad (k.1.kind_is_right h.long))
+one_ending bytes BadKind BadLength h k = absurd (k.bad h.length_is_right)
+one_ending bytes BadKind BadKind h k = refl
+
+-- ---- a stream
+
+one_stream : (ms ns : List MessageView) (r s : List ℕ) (e f : Ending) → flat_map message_frame ms ++ r ≡ flat_map message_frame ns ++ s
+    → AllByRecursion FitsFrame ms → AllByRecursion FitsFrame ns → EndsAs r e → EndsAs s f → (ms ≡ ns) × (e ≡ f)
+one_stream [] [] r s e f same p q h k = (refl, one_ending s e f (subst (λ (t : List ℕ). EndsAs t e) same h) k)
+one_stream [] (n ∷ ns) r s e f same p q h k = absurd (no_ending n r (flat_map message_frame ns ++ s) e (same ∙ append_assoc (message_frame n) (flat_map message_frame ns) s) q.0 h)
+one_stream (m ∷ ms) [] r s e f same p q h k = absurd (no_ending m s (flat_map message_frame ms ++ r) f (sym same ∙ append_assoc (message_frame m) (flat_map message_frame ms) r) p.0 k)
+one_stream (m ∷ ms) (n ∷ ns) r s e f same p q h k =
+    let front = same_front m n (flat_map message_frame ms ++ r) (flat_map message_frame ns ++ s) p.0 q.0
+    (sym (append_assoc (message_frame m) (flat_map message_frame ms) r) ∙ same ∙ append_assoc (message_frame n) (flat_map message_frame ns) s) in
+    let more = one_stream ms ns r s e f front.1 p.1 q.1 h k in
+    (ap (λ (x : MessageView). x ∷ ms) front.0 ∙ ap (λ (xs : List MessageView). n ∷ xs) more.0, more.1)
+
+pub one_decoding_of : (bytes : List ℕ) (ms ns : List MessageView) (e f : Ending) → AreFrames bytes ms e → AreFrames bytes ns f → (ms ≡ ns) × (e ≡ f)
+one_decoding_of bytes ms ns e f p q = one_stream ms ns p.rest q.rest e f (sym p.whole.joined ∙ q.whole.joined) p.whole.sized q.whole.sized p.ends q.ends

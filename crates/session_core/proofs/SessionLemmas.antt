@@ -1,0 +1,330 @@
+-- What was answered piece by piece makes a session: for `serve_piece` and `serve_session`.
+use Rattle.std.proofs.Common.{◌≡◌, ℕ, ◌+◌, ◌-◌, ◌^◌, ◌<◌, ◌≤◌, min, List, [], ◌∷◌, ◌++◌, length, take, Option, Result, Ok, Err, IfOk, IfErr, refl, sym, ap, subst, ◌∙◌, arith, append_assoc}
+use Rattle.std.proofs.lemmas.List.{append-nil, length-append}
+use Rattle.std.proofs.lemmas.List.Folds.{concat-append}
+use Rattle.std.proofs.lemmas.Fn.{FoldsTo-push}
+use Rattle.std.specs.List.{AllByRecursion, FoldsTo, concat}
+use Rattle.std.specs.Io.KnownBytes.{Appends, Keeps, IsAtEnd}
+use Rattle.std.proofs.KnownBytes.{Appends-nil, Appends-trans, Appends-kept}
+use Rattle.session_core.specs.declared.error.FrameError.{FrameError}
+use Rattle.session_core.specs.declared.error.FrameError.TheVariants as error
+use Rattle.session_core.specs.declared.source.TheConstants.{MOST_PIECE}
+use Rattle.session_core.specs.Frames.{MessageView, IsPartial, Rest, AreWholeFrames, AreFrames}
+use Rattle.session_core.specs.Reply.{ReplyView, HasReplySize}
+use Rattle.session_core.specs.Service.{Exchange, messages_of, replies_of, reply_frames, AreAnswered}
+use Rattle.session_core.specs.Source.{AreReads}
+use Rattle.session_core.specs.Session.{Begins, TellsAllBefore, Tells, IsPrompt, EndsFor, IsServed}
+use Rattle.session_core.specs.Answered.{AreFrontsAnswered}
+use Rattle.session_core.proofs.Streams.{AreWholeFrames-none, AreWholeFrames-append, AreWholeFrames-more}
+use Rattle.session_core.proofs.Exchanges.{HasAnswered, answered_none, sized-append, folds-append, messages-append, replies-append, frames-append}
+
+-- ---- one piece
+
+-- however it ended, a front of the replies was written
+pub begins_of : (r : Result ℕ FrameError) (written : List ℕ) (es : List Exchange) → Tells r written es → Begins written (reply_frames es)
+begins_of (Ok n) written es t = ([], sym t ∙ sym (append-nil written))
+begins_of (Err error.Length) written es t = ([], sym t ∙ sym (append-nil written))
+begins_of (Err error.Kind) written es t = ([], sym t ∙ sym (append-nil written))
+begins_of (Err error.Read) written es t = ([], sym t ∙ sym (append-nil written))
+begins_of (Err error.Turns) written es t = ([], sym t ∙ sym (append-nil written))
+begins_of (Err error.Write) written es t = t
+begins_of (Err error.NoMemory) written es t =
+    (reply_frames t.last, ap reply_frames t.parts ∙ frames-append t.before t.last ∙ ap (λ (w : List ℕ). w ++ reply_frames t.last) (sym t.written_is))
+
+module _ {S : Type 0} (answers : S → MessageView → ReplyView → S → Type 0) where
+  -- no memory for the piece
+  pub stops_at_once : (s : S) (bytes left : List ℕ) (o : Option (List ℕ)) (n : ℕ) → AreFrontsAnswered answers s bytes s left o o n (Err error.NoMemory)
+  stops_at_once s bytes left o n = record {
+    exchanges = [];
+    rest = bytes;
+    written = [];
+    framed = AreWholeFrames-none bytes;
+    answered = refl;
+    sized = tt;
+    appended = Appends-nil o;
+    told = record { before = []; last = []; parts = refl; one = omega arith; written_is = refl };
+    stops = tt;
+  }
+
+  -- a flush behind it
+  pub flushed : (a b : S) (bytes left : List ℕ) (o p q : Option (List ℕ)) (n : ℕ) (r : Result ℕ FrameError) → AreFrontsAnswered answers a bytes b left o p n r → Keeps p q
+      → AreFrontsAnswered answers a bytes b left o q n r
+  flushed a b bytes left o p q n r x k = record {
+    exchanges = x.exchanges;
+    rest = x.rest;
+    written = x.written;
+    framed = x.framed;
+    answered = x.answered;
+    sized = x.sized;
+    appended = Appends-kept o p q x.written x.appended k;
+    told = x.told;
+    stops = x.stops;
+  }
+
+  -- a flush that failed
+  pub not_flushed : (a b : S) (bytes left : List ℕ) (o p q : Option (List ℕ)) (n : ℕ) (r : Result ℕ FrameError) → AreFrontsAnswered answers a bytes b left o p n r → Keeps p q
+      → AreFrontsAnswered answers a bytes b left o q n (Err error.Write)
+  not_flushed a b bytes left o p q n r x k = record {
+    exchanges = x.exchanges;
+    rest = x.rest;
+    written = x.written;
+    framed = x.framed;
+    answered = x.answered;
+    sized = x.sized;
+    appended = Appends-kept o p q x.written x.appended k;
+    told = begins_of r x.written x.exchanges x.told;
+    stops = tt;
+  }
+
+-- ---- all pieces
+
+pub pieces-append : (ps qs : List (List ℕ)) → AllByRecursion (λ piece. length piece ≤ MOST_PIECE) ps → AllByRecursion (λ piece. length piece ≤ MOST_PIECE) qs → AllByRecursion (λ piece. length piece ≤ MOST_PIECE) (ps ++ qs)
+pieces-append [] qs a b = b
+pieces-append (p ∷ ps) qs a b = (a.0, pieces-append ps qs a.1 b)
+
+pub nothing_is_partial : IsPartial []
+nothing_is_partial = record { length_is_right = λ h. absurd (omega arith); kind_is_right = λ h. absurd (omega arith); incomplete = λ h. absurd (omega arith) }
+
+-- So many reads were made, all that stands whole in their pieces was answered, and all replies were written.
+pub record SoFar {S R : Type 0} (answers : S → MessageView → ReplyView → S → Type 0) (gives : R → List ℕ → R → Type 0) (service service_left : S) (source source_left : R) (inbox : List ℕ)
+    (output output_left : Option (List ℕ)) (count turn : ℕ) : Type 0 where
+  pub pieces : List (List ℕ)
+  pub made : FoldsTo gives source pieces source_left
+  pub turns_are : length pieces ≡ turn
+  pub short : AllByRecursion (λ piece. length piece ≤ MOST_PIECE) pieces
+  pub done : HasAnswered answers service (concat pieces) service_left inbox output output_left 0 count
+  pub partial : IsPartial inbox
+
+module _ {S R : Type 0} (answers : S → MessageView → ReplyView → S → Type 0) (gives : R → List ℕ → R → Type 0) where
+  pub so_far_none : (s : S) (r : R) (inbox : List ℕ) (o : Option (List ℕ)) → inbox ≡ [] → SoFar answers gives s s r r inbox o o 0 0
+  so_far_none s r inbox o none = subst (λ (bytes : List ℕ). SoFar answers gives s s r r bytes o o 0 0) (sym none) (record {
+    pieces = [];
+    made = refl;
+    turns_are = refl;
+    short = tt;
+    done = answered_none answers s [] o 0 (omega arith);
+    partial = nothing_is_partial;
+  })
+
+  -- no memory for the first read
+  pub ends_at_once : (turns : ℕ) (s : S) (r : R) (i o : Option (List ℕ)) (e : FrameError) → e ≡ error.NoMemory → IsServed answers gives turns s s r r i o o (Err e)
+  ends_at_once turns s r i o e is = subst (λ (x : FrameError). IsServed answers gives turns s s r r i o o (Err x)) (sym is) (record {
+    pieces = [];
+    exchanges = [];
+    rest = [];
+    written = [];
+    read = record { made = refl; few = omega arith; short = tt };
+    framed = AreWholeFrames-none [];
+    answered = refl;
+    sized = tt;
+    appended = Appends-nil o;
+    told = record { before = []; last = []; parts = refl; one = omega arith; written_is = refl };
+    prompt = record {
+      earlier = [];
+      last = [];
+      pieces_are = refl;
+      one = omega arith;
+      told = [];
+      others = [];
+      exchanges_are = refl;
+      rest = [];
+      framed = record { rest = []; whole = AreWholeFrames-none []; ends = (refl, nothing_is_partial) };
+      kept = ([], refl);
+    };
+    ended = tt;
+  })
+
+  module _ (a b : S) (r s : R) (inbox : List ℕ) (o p : Option (List ℕ)) (count turn : ℕ) (h : SoFar answers gives a b r s inbox o p count turn) where
+    -- what was told before the last piece
+    prompt_of : (last : List (List ℕ)) (others : List Exchange) (more : List ℕ) → length last ≤ 1 → IsPrompt (h.pieces ++ last) (h.done.exchanges ++ others) (reply_frames h.done.exchanges ++ more)
+    prompt_of last others more one = record {
+      earlier = h.pieces;
+      last = last;
+      pieces_are = refl;
+      one = one;
+      told = h.done.exchanges;
+      others = others;
+      exchanges_are = refl;
+      rest = inbox;
+      framed = record { rest = inbox; whole = h.done.framed; ends = (refl, h.partial) };
+      kept = (more, refl);
+    }
+
+    -- one read more that gave this piece
+    read_more : (turns : ℕ) (t : R) (piece : List ℕ) → turn < turns → gives s piece t → length piece ≤ MOST_PIECE → AreReads gives turns r (h.pieces ++ piece ∷ []) t
+    read_more turns t piece lt one short = record {
+      made = FoldsTo-push gives r h.pieces s piece t h.made one;
+      few = omega (arith, h.turns_are, length-append h.pieces (piece ∷ []));
+      short = pieces-append h.pieces (piece ∷ []) h.short (short, tt);
+    }
+
+    all_joined : (piece : List ℕ) → concat (h.pieces ++ piece ∷ []) ≡ concat h.pieces ++ piece
+    all_joined piece = concat-append h.pieces (piece ∷ []) ∙ ap (λ (t : List ℕ). concat h.pieces ++ t) (append-nil piece)
+
+    -- no piece came with the last read, or none was made
+    module _ (turns : ℕ) (t : R) (i : Option (List ℕ)) (last : List (List ℕ)) (nothing : concat (h.pieces ++ last) ≡ concat h.pieces) (one : length last ≤ 1) (read : AreReads gives turns r (h.pieces ++ last) t) where
+      same_exchanges : h.done.exchanges ++ [] ≡ h.done.exchanges
+      same_exchanges = append-nil h.done.exchanges
+
+      same_frames : reply_frames h.done.exchanges ++ [] ≡ reply_frames h.done.exchanges
+      same_frames = append-nil (reply_frames h.done.exchanges)
+
+      closed_prompt : IsPrompt (h.pieces ++ last) h.done.exchanges (reply_frames h.done.exchanges)
+      closed_prompt = subst (λ (es : List Exchange). IsPrompt (h.pieces ++ last) es (reply_frames h.done.exchanges)) same_exchanges
+          (subst (IsPrompt (h.pieces ++ last) (h.done.exchanges ++ [])) same_frames (prompt_of last [] [] one))
+
+      closed_framed : AreWholeFrames (concat (h.pieces ++ last)) (messages_of h.done.exchanges) inbox
+      closed_framed = subst (λ (bytes : List ℕ). AreWholeFrames bytes (messages_of h.done.exchanges) inbox) (sym nothing) h.done.framed
+
+      ends_well : IsAtEnd i → inbox ≡ [] → IsServed answers gives turns a b r t i o p (Ok count)
+      ends_well end none = record {
+        pieces = h.pieces ++ last;
+        exchanges = h.done.exchanges;
+        rest = inbox;
+        written = reply_frames h.done.exchanges;
+        read = read;
+        framed = closed_framed;
+        answered = h.done.answered;
+        sized = h.done.sized;
+        appended = h.done.appended;
+        told = refl;
+        prompt = closed_prompt;
+        ended = record { at_end = end; whole = none; counted = omega (arith, h.done.counted) };
+      }
+
+      ends_at_read : IsServed answers gives turns a b r t i o p (Err error.Read)
+      ends_at_read = record {
+        pieces = h.pieces ++ last;
+        exchanges = h.done.exchanges;
+        rest = inbox;
+        written = reply_frames h.done.exchanges;
+        read = read;
+        framed = closed_framed;
+        answered = h.done.answered;
+        sized = h.done.sized;
+        appended = h.done.appended;
+        told = refl;
+        prompt = closed_prompt;
+        ended = h.partial;
+      }
+
+      ends_in_time : length (h.pieces ++ last) ≡ turns → IsServed answers gives turns a b r t i o p (Err error.Turns)
+      ends_in_time all = record {
+        pieces = h.pieces ++ last;
+        exchanges = h.done.exchanges;
+        rest = inbox;
+        written = reply_frames h.done.exchanges;
+        read = read;
+        framed = closed_framed;
+        answered = h.done.answered;
+        sized = h.done.sized;
+        appended = h.done.appended;
+        told = refl;
+        prompt = closed_prompt;
+        ended = (h.partial, all);
+      }
+
+    nothing_more : concat (h.pieces ++ [] ∷ []) ≡ concat h.pieces
+    nothing_more = all_joined [] ∙ append-nil (concat h.pieces)
+
+    -- a read that failed
+    pub fails_to_read : (turns : ℕ) (t : R) (i : Option (List ℕ)) (e : FrameError) → turn < turns → gives s [] t → e ≡ error.Read → IsServed answers gives turns a b r t i o p (Err e)
+    fails_to_read turns t i e lt one is = subst (λ (x : FrameError). IsServed answers gives turns a b r t i o p (Err x)) (sym is)
+        (ends_at_read turns t i ([] ∷ []) nothing_more (omega arith) (read_more turns t [] lt one (omega arith)))
+
+    -- the end of the input
+    pub ends_at_end : (turns : ℕ) (t : R) (i : Option (List ℕ)) (result : Result ℕ FrameError) → turn < turns → gives s [] t → IsAtEnd i
+        → IfOk result (λ n. n ≡ count) → IfOk result (λ _. inbox ≡ []) → IfErr result (λ e. e ≡ error.Read) → IsServed answers gives turns a b r t i o p result
+    ends_at_end turns t i (Ok n) lt one end same none err = subst (λ (k : ℕ). IsServed answers gives turns a b r t i o p (Ok k)) (sym same)
+        (ends_well turns t i ([] ∷ []) nothing_more (omega arith) (read_more turns t [] lt one (omega arith)) end none)
+    ends_at_end turns t i (Err e) lt one end same none err = fails_to_read turns t i e lt one err
+
+    -- all reads are made
+    pub ends_at_turns : (i : Option (List ℕ)) → IsServed answers gives turn a b r s i o p (Err error.Turns)
+    ends_at_turns i =
+        let same : h.pieces ++ [] ≡ h.pieces = append-nil h.pieces in
+        ends_in_time turn s i [] (ap concat same) (omega arith)
+        (record { made = subst (λ (ps : List (List ℕ)). FoldsTo gives r ps s) (sym same) h.made; few = omega (arith, h.turns_are, ap length same); short = pieces-append h.pieces [] h.short tt })
+        (ap length same ∙ h.turns_are)
+
+    -- ---- one piece more
+
+    module _ (c : S) (t : R) (piece left : List ℕ) (q : Option (List ℕ)) (result : Result ℕ FrameError) (x : AreFrontsAnswered answers b (inbox ++ piece) c left p q count result) where
+      both_framed : AreWholeFrames (concat (h.pieces ++ piece ∷ [])) (messages_of (h.done.exchanges ++ x.exchanges)) x.rest
+      both_framed = subst (λ (bytes : List ℕ). AreWholeFrames bytes (messages_of (h.done.exchanges ++ x.exchanges)) x.rest) (sym (all_joined piece))
+          (subst (λ (ms : List MessageView). AreWholeFrames (concat h.pieces ++ piece) ms x.rest) (sym (messages-append h.done.exchanges x.exchanges))
+          (AreWholeFrames-append (messages_of h.done.exchanges) (messages_of x.exchanges) (concat h.pieces ++ piece) (inbox ++ piece) x.rest
+          (AreWholeFrames-more (messages_of h.done.exchanges) (concat h.pieces) inbox piece h.done.framed) x.framed))
+
+      both_answered : AreAnswered answers a (h.done.exchanges ++ x.exchanges) c
+      both_answered = folds-append (λ (u : S) (e : Exchange) (v : S). answers u e.message e.reply v) a b c h.done.exchanges x.exchanges h.done.answered x.answered
+
+      both_sized : AllByRecursion HasReplySize (replies_of (h.done.exchanges ++ x.exchanges))
+      both_sized = subst (AllByRecursion HasReplySize) (sym (replies-append h.done.exchanges x.exchanges)) (sized-append (replies_of h.done.exchanges) (replies_of x.exchanges) h.done.sized x.sized)
+
+      both_frames : reply_frames (h.done.exchanges ++ x.exchanges) ≡ reply_frames h.done.exchanges ++ reply_frames x.exchanges
+      both_frames = frames-append h.done.exchanges x.exchanges
+
+    pub so_far_more : (c : S) (t : R) (piece left : List ℕ) (q : Option (List ℕ)) (sum k : ℕ) → gives s piece t → length piece ≤ MOST_PIECE → k ≡ turn + 1
+        → AreFrontsAnswered answers b (inbox ++ piece) c left p q count (Ok sum) → SoFar answers gives a c r t left o q sum k
+    so_far_more c t piece left q sum k one short next x = record {
+      pieces = h.pieces ++ piece ∷ [];
+      made = FoldsTo-push gives r h.pieces s piece t h.made one;
+      turns_are = length-append h.pieces (piece ∷ []) ∙ omega (arith, h.turns_are, next);
+      short = pieces-append h.pieces (piece ∷ []) h.short (short, tt);
+      done = record {
+        exchanges = h.done.exchanges ++ x.exchanges;
+        framed = subst (AreWholeFrames (concat (h.pieces ++ piece ∷ [])) (messages_of (h.done.exchanges ++ x.exchanges))) (sym x.stops.left_is) (both_framed c t piece left q (Ok sum) x);
+        answered = both_answered c t piece left q (Ok sum) x;
+        sized = both_sized c t piece left q (Ok sum) x;
+        appended = subst (Appends o q) (ap (λ (w : List ℕ). reply_frames h.done.exchanges ++ w) x.told ∙ sym (both_frames c t piece left q (Ok sum) x))
+            (Appends-trans o p q (reply_frames h.done.exchanges) x.written h.done.appended x.appended);
+        counted = omega (arith, h.done.counted, x.stops.counted, length-append h.done.exchanges x.exchanges);
+      };
+      partial = subst IsPartial (sym x.stops.left_is) x.stops.partial;
+    }
+
+    -- told of both, what was told of the last ones
+    both_told : (result : Result ℕ FrameError) (written : List ℕ) (es fs : List Exchange) → Tells result written fs → Tells result (reply_frames es ++ written) (es ++ fs)
+    both_told (Ok n) written es fs told = ap (λ (w : List ℕ). reply_frames es ++ w) told ∙ sym (frames-append es fs)
+    both_told (Err error.Length) written es fs told = ap (λ (w : List ℕ). reply_frames es ++ w) told ∙ sym (frames-append es fs)
+    both_told (Err error.Kind) written es fs told = ap (λ (w : List ℕ). reply_frames es ++ w) told ∙ sym (frames-append es fs)
+    both_told (Err error.Read) written es fs told = ap (λ (w : List ℕ). reply_frames es ++ w) told ∙ sym (frames-append es fs)
+    both_told (Err error.Turns) written es fs told = ap (λ (w : List ℕ). reply_frames es ++ w) told ∙ sym (frames-append es fs)
+    both_told (Err error.Write) written es fs told =
+        (told.0, frames-append es fs ∙ ap (λ (w : List ℕ). reply_frames es ++ w) told.1 ∙ sym (append_assoc (reply_frames es) written told.0))
+    both_told (Err error.NoMemory) written es fs told = record {
+      before = es ++ told.before;
+      last = told.last;
+      parts = ap (λ (gs : List Exchange). es ++ gs) told.parts ∙ sym (append_assoc es told.before told.last);
+      one = told.one;
+      written_is = ap (λ (w : List ℕ). reply_frames es ++ w) told.written_is ∙ sym (frames-append es told.before);
+    }
+
+    -- the session ends within a piece, for this reason
+    ends_within : (turns : ℕ) (c : S) (t : R) (i : Option (List ℕ)) (piece left : List ℕ) (q : Option (List ℕ)) (result : Result ℕ FrameError) → turn < turns → gives s piece t → length piece ≤ MOST_PIECE
+        → (x : AreFrontsAnswered answers b (inbox ++ piece) c left p q count result)
+        → EndsFor i turns (h.pieces ++ piece ∷ []) (h.done.exchanges ++ x.exchanges) x.rest result → IsServed answers gives turns a c r t i o q result
+    ends_within turns c t i piece left q result lt one short x ended = record {
+      pieces = h.pieces ++ piece ∷ [];
+      exchanges = h.done.exchanges ++ x.exchanges;
+      rest = x.rest;
+      written = reply_frames h.done.exchanges ++ x.written;
+      read = read_more turns t piece lt one short;
+      framed = both_framed c t piece left q result x;
+      answered = both_answered c t piece left q result x;
+      sized = both_sized c t piece left q result x;
+      appended = Appends-trans o p q (reply_frames h.done.exchanges) x.written h.done.appended x.appended;
+      told = both_told result x.written h.done.exchanges x.exchanges x.told;
+      prompt = prompt_of (piece ∷ []) x.exchanges x.written (omega arith);
+      ended = ended;
+    }
+
+    pub ends_at_piece : (turns : ℕ) (c : S) (t : R) (i : Option (List ℕ)) (piece left : List ℕ) (q : Option (List ℕ)) (e : FrameError) → turn < turns → gives s piece t → length piece ≤ MOST_PIECE
+        → AreFrontsAnswered answers b (inbox ++ piece) c left p q count (Err e) → IsServed answers gives turns a c r t i o q (Err e)
+    ends_at_piece turns c t i piece left q error.Length lt one short x = ends_within turns c t i piece left q (Err error.Length) lt one short x x.stops
+    ends_at_piece turns c t i piece left q error.Kind lt one short x = ends_within turns c t i piece left q (Err error.Kind) lt one short x x.stops
+    ends_at_piece turns c t i piece left q error.NoMemory lt one short x = ends_within turns c t i piece left q (Err error.NoMemory) lt one short x tt
+    ends_at_piece turns c t i piece left q error.Write lt one short x = ends_within turns c t i piece left q (Err error.Write) lt one short x tt
+    ends_at_piece turns c t i piece left q error.Read lt one short x = absurd x.stops
+    ends_at_piece turns c t i piece left q error.Turns lt one short x = absurd x.stops

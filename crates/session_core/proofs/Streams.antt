@@ -1,0 +1,57 @@
+-- Whole frames, one behind the other, and what may follow them: for `Framer`, `serve` and the laws.
+use Rattle.std.proofs.Common.{◌≡◌, ℕ, ◌+◌, ◌≤◌, List, [], ◌∷◌, ◌++◌, length, drop, refl, sym, ap, ◌∙◌, arith, append_assoc}
+use Rattle.std.proofs.lemmas.List.{append-nil, length-append}
+use Rattle.std.proofs.lemmas.List.Concat.{flat_map-append}
+use Rattle.std.specs.List.{flat_map, AllByRecursion}
+use Rattle.session_core.specs.Frames.{MessageView, body_of, message_frame, FitsFrame, Ending, AreWholeFrames, AreFrames}
+use Rattle.session_core.specs.Front.{BeginsWithFrame}
+
+pub sized-append : (ms ns : List MessageView) → AllByRecursion FitsFrame ms → AllByRecursion FitsFrame ns → AllByRecursion FitsFrame (ms ++ ns)
+sized-append [] ns p q = q
+sized-append (m ∷ ms) ns p q = (p.0, sized-append ms ns p.1 q)
+
+-- bytes before the first frame is whole
+pub AreWholeFrames-none : (bytes : List ℕ) → AreWholeFrames bytes [] bytes
+AreWholeFrames-none bytes = record { joined = refl; sized = tt }
+
+-- frames and then the frames of what follows them
+pub AreWholeFrames-append : (ms ns : List MessageView) (bytes mid rest : List ℕ) → AreWholeFrames bytes ms mid → AreWholeFrames mid ns rest → AreWholeFrames bytes (ms ++ ns) rest
+AreWholeFrames-append ms ns bytes mid rest p q = record {
+  joined = p.joined ∙ ap (λ (t : List ℕ). flat_map message_frame ms ++ t) q.joined
+      ∙ sym (append_assoc (flat_map message_frame ms) (flat_map message_frame ns) rest)
+      ∙ ap (λ (t : List ℕ). t ++ rest) (sym (flat_map-append message_frame ms ns));
+  sized = sized-append ms ns p.sized q.sized;
+}
+
+-- more bytes come behind
+pub AreWholeFrames-more : (ms : List MessageView) (bytes rest more : List ℕ) → AreWholeFrames bytes ms rest → AreWholeFrames (bytes ++ more) ms (rest ++ more)
+AreWholeFrames-more ms bytes rest more p = record {
+  joined = ap (λ (t : List ℕ). t ++ more) p.joined ∙ append_assoc (flat_map message_frame ms) rest more;
+  sized = p.sized;
+}
+
+-- the frame at the front
+pub AreWholeFrames-one : (bytes : List ℕ) (m : MessageView) (len : ℕ) → BeginsWithFrame bytes m len → AreWholeFrames bytes (m ∷ []) (drop len bytes)
+AreWholeFrames-one bytes m len f = record {
+  joined = f.frame ∙ ap (λ (t : List ℕ). t ++ drop len bytes) (sym (append-nil (message_frame m)));
+  sized = (f.sized, tt);
+}
+
+-- one frame more behind others
+pub AreWholeFrames-next : (ms : List MessageView) (m : MessageView) (bytes mid : List ℕ) (len : ℕ) → AreWholeFrames bytes ms mid → BeginsWithFrame mid m len → AreWholeFrames bytes (ms ++ m ∷ []) (drop len mid)
+AreWholeFrames-next ms m bytes mid len p f = AreWholeFrames-append ms (m ∷ []) bytes mid (drop len mid) p (AreWholeFrames-one mid m len f)
+
+-- a frame ends within the bytes
+pub BeginsWithFrame-within : (bytes : List ℕ) (m : MessageView) (len : ℕ) → BeginsWithFrame bytes m len → len ≤ length bytes
+BeginsWithFrame-within bytes m len f =
+    let whole : length bytes ≡ length (message_frame m) + length (drop len bytes) = ap length f.frame ∙ length-append (message_frame m) (drop len bytes) in
+    let parts : length (message_frame m) ≡ 5 + length (body_of m) = omega arith in
+    omega (arith, whole, parts, f.len_is)
+
+-- whole frames, and then frames that end so
+pub AreFrames-behind : (ms ns : List MessageView) (bytes mid : List ℕ) (ending : Ending) → AreWholeFrames bytes ms mid → AreFrames mid ns ending → AreFrames bytes (ms ++ ns) ending
+AreFrames-behind ms ns bytes mid ending p q = record {
+  rest = q.rest;
+  whole = AreWholeFrames-append ms ns bytes mid q.rest p q.whole;
+  ends = q.ends;
+}

@@ -1,0 +1,8 @@
+use Rattle.session_core.proofs.Faults.{AreFrames-bad_length, AreFrames-bad_kind}
+use Rattle.session_core.proofs.laws.lasting_fault.Goals as goal
+
+pub returns : goal.returns
+returns c = record {
+  length = AreFrames-bad_length;
+  kind = AreFrames-bad_kind;
+}

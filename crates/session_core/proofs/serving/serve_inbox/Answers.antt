@@ -1,0 +1,43 @@
+use Rattle.std.proofs.Common.{◌≡◌, ◌≤◌, ◌∙◌, ℕ, List, length, Err, arith, refl, sym, subst}
+use Rattle.std.proofs.lemmas.Result.{err_from_is_err_and}
+use Rattle.session_core.specs.declared.error.FrameError.TheVariants as error
+use Rattle.session_core.specs.Session.{IsServed}
+use Rattle.session_core.proofs.SessionLemmas.{so_far_none, so_far_more, fails_to_read, ends_at_end, ends_at_piece, ends_at_turns}
+use Rattle.session_core.proofs.serving.serve_inbox.Goals as goal
+
+pub loop-turn-init : goal.loop-turn-init
+loop-turn-init g c = record {
+  piece = c.requires.room;
+  so_far = so_far_none _ _ _ _ _ _ c.requires.fresh;
+}
+
+pub returns-in_err-len : goal.returns-in_err-len
+returns-in_err-len g c =
+    let p = err_from_is_err_and c.from_residual.result c.from_residual.ensures.1 in
+    rw (p.1, p.2) (fails_to_read _ _ _ _ _ _ _ _ _ _ _ c.loop-turn.invariant.so_far _ _ _ _ c.loop-turn-test.true c.in_err-len.ensures.nothing c.in_err-len.ensures.fails)
+
+pub returns-then-len-eq0 : goal.returns-then-len-eq0
+returns-then-len-eq0 g c =
+    let none = rw c.if-len-eq0.true at c.in_ok-len.ensures.gives in
+    ends_at_end _ _ _ _ _ _ _ _ _ _ _ c.loop-turn.invariant.so_far _ _ _ _ c.loop-turn-test.true none (c.in_ok-len.ensures.end c.if-len-eq0.true) c.end.ensures.ok c.end.ensures.whole c.end.ensures.err
+
+pub returns-in_err-count : goal.returns-in_err-count
+returns-in_err-count g c =
+    let p = err_from_is_err_and c.from_residual-in_err-count.result c.from_residual-in_err-count.ensures.1 in
+    let gave = subst (λ (bytes : List ℕ). g.R.Source.gives c.loop-turn.reader bytes c.read_once.new.reader) (sym c.split_at.ensures.front) c.in_ok-len.ensures.gives in
+    rw (p.1, p.2) (ends_at_piece _ _ _ _ _ _ _ _ _ _ _ c.loop-turn.invariant.so_far _ _ _ _ _ _ _ _ c.loop-turn-test.true gave (omega arith) c.in_err-count.ensures)
+
+pub loop-turn-preserved : goal.loop-turn-preserved
+loop-turn-preserved g c =
+    let gave = subst (λ (bytes : List ℕ). g.R.Source.gives c.loop-turn.reader bytes c.read_once.new.reader) (sym c.split_at.ensures.front) c.in_ok-len.ensures.gives in
+    record {
+      piece = omega arith;
+      so_far = so_far_more _ _ _ _ _ _ _ _ _ _ _ c.loop-turn.invariant.so_far _ _ _ _ _ _ _ gave (omega arith) refl c.in_ok-count.ensures;
+    }
+
+pub returns : goal.returns
+returns g c =
+    let all : c.loop-turn._turn ≡ c.args.turns = omega arith in
+    subst (λ (turns : ℕ). IsServed g.S.Service.answers g.R.Source.gives turns c.args.service.now c.loop-turn.service c.args.reader.now c.loop-turn.reader (g.R.Read.remaining c.loop-turn.reader)
+    (g.W.Write.contents c.args.writer.now) (g.W.Write.contents c.loop-turn.writer) (Err error.Turns)) all
+    (ends_at_turns _ _ _ _ _ _ _ _ _ _ _ c.loop-turn.invariant.so_far _)

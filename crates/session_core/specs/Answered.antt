@@ -1,0 +1,90 @@
+-- What answering the frames that stand whole has done.
+use Rattle.std.specs.Prelude.{◌≡◌, ℕ, ◌+◌, ◌-◌, ◌^◌, min, List, [], ◌++◌, length, Option, Some, None, Result, Ok, Err}
+use Rattle.std.specs.List.{AllByRecursion}
+use Rattle.std.specs.Io.KnownBytes.{Appends}
+use Rattle.session_core.specs.declared.error.FrameError.{FrameError}
+use Rattle.session_core.specs.declared.error.FrameError.TheVariants as error
+use Rattle.session_core.specs.declared.reply.Reply.{Reply}
+use Rattle.session_core.specs.Frames.{MessageView, message_frame, FitsFrame, IsPartial, HasBadLength, HasBadKind, AreWholeFrames}
+use Rattle.session_core.specs.Reply.{ReplyView, HasReplySize}
+use Rattle.session_core.specs.ReplyViews.{reply_view}
+use Rattle.session_core.specs.Service.{Exchange, messages_of, replies_of, reply_frames, AreAnswered}
+use Rattle.session_core.specs.Session.{Begins, Tells}
+
+-- The message at the front was answered, and its frame taken off.
+pub record IsFirstAnswered {S : Type 0} (answers : S → MessageView → ReplyView → S → Type 0) (old : S) (bytes : List ℕ) (reply : ReplyView) (new : S) (rest : List ℕ) : Type 0 where
+  pub message : MessageView
+  pub framed : bytes ≡ message_frame message ++ rest
+  pub fits : FitsFrame message
+  pub answered : answers old message reply new
+  pub sized : HasReplySize reply
+
+-- Nothing was answered, and nothing taken off.
+pub record IsUnanswered {S : Type 0} (old : S) (bytes : List ℕ) (new : S) (rest : List ℕ) : Type 0 where
+  pub same : new ≡ old
+  pub left : rest ≡ bytes
+
+-- what is wrong with the frame at the front
+abbrev pub IsFaultAt : List ℕ → FrameError → Type 0
+IsFaultAt bytes error.Length = HasBadLength bytes
+IsFaultAt bytes error.Kind = HasBadKind bytes
+IsFaultAt bytes error.NoMemory = ⊥
+IsFaultAt bytes error.Read = ⊥
+IsFaultAt bytes error.Write = ⊥
+IsFaultAt bytes error.Turns = ⊥
+
+-- The first message was answered; or less than a frame is there, or a faulty one, and nothing is done.
+abbrev pub IsNext : {S : Type 0} → (S → MessageView → ReplyView → S → Type 0) → S → List ℕ → S → List ℕ → Result (Option Reply) FrameError → Type 0
+IsNext answers old bytes new rest (Ok (Some reply)) = IsFirstAnswered answers old bytes (reply_view reply) new rest
+IsNext answers old bytes new rest (Ok None) = IsPartial bytes × IsUnanswered old bytes new rest
+IsNext answers old bytes new rest (Err e) = IsFaultAt bytes e × IsUnanswered old bytes new rest
+
+-- Less than a frame is left over.
+pub record GoesOn (count : ℕ) (exchanges : List Exchange) (rest left : List ℕ) (sum : ℕ) : Type 0 where
+  pub partial : IsPartial rest
+  pub left_is : left ≡ rest
+  pub counted : sum ≡ min (count + length exchanges) (2 ^ 64 - 1)
+
+-- Why no more was answered: less than a frame is left, or a faulty one, or a write failed, or memory ran out.
+abbrev pub StopsFor : ℕ → List Exchange → List ℕ → List ℕ → Result ℕ FrameError → Type 0
+StopsFor count exchanges rest left (Ok sum) = GoesOn count exchanges rest left sum
+StopsFor count exchanges rest left (Err error.Length) = HasBadLength rest
+StopsFor count exchanges rest left (Err error.Kind) = HasBadKind rest
+StopsFor count exchanges rest left (Err error.NoMemory) = Unit {0}
+StopsFor count exchanges rest left (Err error.Write) = Unit {0}
+StopsFor count exchanges rest left (Err error.Read) = ⊥
+StopsFor count exchanges rest left (Err error.Turns) = ⊥
+
+-- Messages at the front of the bytes were answered, and this was written of their replies; the rest follows them, and is
+-- left where all went well.
+pub record AreFrontsAnswered {S : Type 0} (answers : S → MessageView → ReplyView → S → Type 0) (old : S) (bytes : List ℕ) (new : S) (left : List ℕ)
+    (output output_left : Option (List ℕ)) (count : ℕ) (result : Result ℕ FrameError) : Type 0 where
+  pub exchanges : List Exchange
+  pub rest : List ℕ
+  pub written : List ℕ
+  pub framed : AreWholeFrames bytes (messages_of exchanges) rest
+  pub answered : AreAnswered answers old exchanges new
+  pub sized : AllByRecursion HasReplySize (replies_of exchanges)
+  pub appended : Appends output output_left written
+  pub told : Tells result written exchanges
+  pub stops : StopsFor count exchanges rest left result
+
+-- A front of the bytes was written.
+pub record IsWrittenInPart (output output_left : Option (List ℕ)) (bytes : List ℕ) : Type 0 where
+  pub front : List ℕ
+  pub begins : Begins front bytes
+  pub appended : Appends output output_left front
+
+-- A write failed after a front of the bytes.
+pub record FailsWithin (output output_left : Option (List ℕ)) (bytes : List ℕ) (e : FrameError) : Type 0 where
+  pub part : IsWrittenInPart output output_left bytes
+  pub fault : e ≡ error.Write
+
+-- A write failed after a front of the bytes; or nothing was written, for want of memory.
+abbrev pub FailsToWrite : Option (List ℕ) → Option (List ℕ) → List ℕ → FrameError → Type 0
+FailsToWrite output output_left bytes error.Write = IsWrittenInPart output output_left bytes
+FailsToWrite output output_left bytes error.NoMemory = Appends output output_left []
+FailsToWrite output output_left bytes error.Length = ⊥
+FailsToWrite output output_left bytes error.Kind = ⊥
+FailsToWrite output output_left bytes error.Read = ⊥
+FailsToWrite output output_left bytes error.Turns = ⊥

@@ -1,0 +1,53 @@
+-- A stream of frames that comes in pieces.
+use Rattle.std.specs.Prelude.{ℕ, List, ◌++◌, map, Option, Some, None, Vec}
+use Rattle.session_core.specs.declared.error.FrameError.{FrameError}
+use Rattle.session_core.specs.declared.error.FrameError.TheVariants as error
+use Rattle.session_core.specs.declared.message.Message.{Message}
+use Rattle.session_core.specs.declared.message.Message.TheVariants.{Register, Lookup}
+use Rattle.session_core.specs.Frames.{MessageView, IsPartial, HasBadLength, HasBadKind, Ending, Rest, BadLength, BadKind, AreFrames}
+
+-- a message without how its body is kept
+abbrev pub message_view : {A : Type 0} → Message (Vec ℕ A) → MessageView
+message_view (Register body) = Register body.items
+message_view (Lookup body) = Lookup body.items
+
+abbrev pub message_views : {A : Type 0} → List (Message (Vec ℕ A)) → List MessageView
+message_views messages = map message_view messages
+
+-- the error that a fault is
+abbrev pub fault_of : Ending → Option FrameError
+fault_of (Rest bytes) = None
+fault_of BadLength = Some error.Length
+fault_of BadKind = Some error.Kind
+
+abbrev pub IsFaulty : Ending → Type 0
+IsFaulty (Rest bytes) = ⊥
+IsFaulty BadLength = Unit {0}
+IsFaulty BadKind = Unit {0}
+
+-- A stream that came to the old ending comes with the piece to these messages more, and to the new ending.
+abbrev pub Continues : Ending → List ℕ → List MessageView → Ending → Type 0
+Continues old piece messages new =
+    (stream : List ℕ) (before : List MessageView) → AreFrames stream before old → AreFrames (stream ++ piece) (before ++ messages) new
+
+-- ---- the fields of a `Framer`
+
+-- what is wrong with the bytes behind the last whole frame
+abbrev pub IsFaultOf : List ℕ → Option FrameError → Type 0
+IsFaultOf bytes None = IsPartial bytes
+IsFaultOf bytes (Some error.Length) = HasBadLength bytes
+IsFaultOf bytes (Some error.Kind) = HasBadKind bytes
+IsFaultOf bytes (Some error.NoMemory) = ⊥
+IsFaultOf bytes (Some error.Read) = ⊥
+IsFaultOf bytes (Some error.Write) = ⊥
+IsFaultOf bytes (Some error.Turns) = ⊥
+
+-- the ending that the bytes and what is wrong with them are
+abbrev pub ending_of : List ℕ → Option FrameError → Ending
+ending_of bytes None = Rest bytes
+ending_of bytes (Some error.Length) = BadLength
+ending_of bytes (Some error.Kind) = BadKind
+ending_of bytes (Some error.NoMemory) = Rest bytes
+ending_of bytes (Some error.Read) = Rest bytes
+ending_of bytes (Some error.Write) = Rest bytes
+ending_of bytes (Some error.Turns) = Rest bytes

@@ -1,0 +1,80 @@
+-- A stream of frames: a length of four bytes, big-endian, and that many bytes, which are a kind and a body.
+use Rattle.std.specs.Prelude.{◌≡◌, ℕ, ◌+◌, ◌<◌, ◌≤◌, ◌⊎◌, List, ◌∷◌, ◌++◌, length, take, slice_index}
+use Rattle.std.specs.List.{flat_map, AllByRecursion}
+use Rattle.std.specs.Int.{w32, to_be_bytes, from_be_bytes}
+use Rattle.session_core.specs.declared.message.Message.{Message}
+use Rattle.session_core.specs.declared.message.Message.TheVariants.{Register, Lookup}
+use Rattle.session_core.specs.declared.frames.TheConstants.{MOST_LENGTH}
+
+-- a message with the bytes of its body
+abbrev pub MessageView : Type 0
+MessageView = Message (List ℕ)
+
+abbrev pub kind_of : MessageView → ℕ
+kind_of (Register body) = 1
+kind_of (Lookup body) = 2
+
+abbrev pub body_of : MessageView → List ℕ
+body_of (Register body) = body
+body_of (Lookup body) = body
+
+-- length and content
+abbrev pub frame_encoding : List ℕ → List ℕ
+frame_encoding content = to_be_bytes w32 (length content) ++ content
+
+abbrev pub message_frame : MessageView → List ℕ
+message_frame message = frame_encoding (kind_of message ∷ body_of message)
+
+-- the length at the front of four bytes or more
+abbrev pub length_at : List ℕ → ℕ
+length_at bytes = from_be_bytes w32 (take 4 bytes)
+
+abbrev pub IsFrameLength : ℕ → Type 0
+IsFrameLength len = (1 ≤ len) × (len ≤ MOST_LENGTH)
+
+abbrev pub IsMessageKind : ℕ → Type 0
+IsMessageKind kind = (kind ≡ 1) ⊎ (kind ≡ 2)
+
+-- a message whose frame is not too long
+abbrev pub FitsFrame : MessageView → Type 0
+FitsFrame message = IsFrameLength (1 + length (body_of message))
+
+-- The bytes are the frames of these messages, one after the other, and then the rest.
+pub record AreWholeFrames (bytes : List ℕ) (messages : List MessageView) (rest : List ℕ) : Type 0 where
+  pub joined : bytes ≡ flat_map message_frame messages ++ rest
+  pub sized : AllByRecursion FitsFrame messages
+
+-- Less than a whole frame, in which nothing is wrong so far: the length is judged once four bytes are there, the kind
+-- once five are.
+pub record IsPartial (bytes : List ℕ) : Type 0 where
+  pub length_is_right : 4 ≤ length bytes → IsFrameLength (length_at bytes)
+  pub kind_is_right : 5 ≤ length bytes → IsMessageKind (slice_index bytes 4)
+  pub incomplete : 4 ≤ length bytes → length bytes < 4 + length_at bytes
+
+-- Bytes that begin with a length that no frame has.
+pub record HasBadLength (bytes : List ℕ) : Type 0 where
+  pub long : 4 ≤ length bytes
+  pub bad : ¬ IsFrameLength (length_at bytes)
+
+-- Bytes that begin with the length of a frame, and a kind that no message has.
+pub record HasBadKind (bytes : List ℕ) : Type 0 where
+  pub long : 5 ≤ length bytes
+  pub length_is_right : IsFrameLength (length_at bytes)
+  pub bad : ¬ IsMessageKind (slice_index bytes 4)
+
+-- how a stream ends behind its last whole frame: with less than a frame, or with a fault
+pub data Ending : Type 0 where
+  Rest : (bytes : List ℕ) → Ending
+  BadLength : Ending
+  BadKind : Ending
+
+abbrev pub EndsAs : List ℕ → Ending → Type 0
+EndsAs bytes (Rest rest) = (bytes ≡ rest) × IsPartial bytes
+EndsAs bytes BadLength = HasBadLength bytes
+EndsAs bytes BadKind = HasBadKind bytes
+
+-- The stream is the frames of these messages, one after the other, and ends so.
+pub record AreFrames (bytes : List ℕ) (messages : List MessageView) (ending : Ending) : Type 0 where
+  pub rest : List ℕ
+  pub whole : AreWholeFrames bytes messages rest
+  pub ends : EndsAs rest ending

@@ -1,0 +1,30 @@
+-- What stands at the front of a stream of frames.
+use Rattle.std.specs.Prelude.{◌≡◌, ℕ, ◌+◌, List, ◌++◌, length, drop, Option, Some, None, Result, Ok, Err}
+use Rattle.std.specs.Borrow.{Bor}
+use Rattle.session_core.specs.declared.error.FrameError.{FrameError}
+use Rattle.session_core.specs.declared.error.FrameError.TheVariants as error
+use Rattle.session_core.specs.declared.message.Message.{Message}
+use Rattle.session_core.specs.declared.message.Message.TheVariants.{Register, Lookup}
+use Rattle.session_core.specs.Frames.{MessageView, body_of, message_frame, FitsFrame, IsPartial, HasBadLength, HasBadKind}
+
+-- a message without where its body lies
+abbrev pub message_at : Message (Bor (List ℕ)) → MessageView
+message_at (Register body) = Register body.now
+message_at (Lookup body) = Lookup body.now
+
+-- Bytes begin with the frame of a message, of this many bytes.
+pub record BeginsWithFrame (bytes : List ℕ) (message : MessageView) (len : ℕ) : Type 0 where
+  pub frame : bytes ≡ message_frame message ++ drop len bytes
+  pub sized : FitsFrame message
+  pub len_is : len ≡ 5 + length (body_of message)
+
+-- A whole frame with its message, less than a frame, or what is wrong with the frame.
+abbrev pub IsFront : List ℕ → Result (Option (Message (Bor (List ℕ)) × ℕ)) FrameError → Type 0
+IsFront bytes (Ok None) = IsPartial bytes
+IsFront bytes (Ok (Some next)) = BeginsWithFrame bytes (message_at next.0) next.1
+IsFront bytes (Err error.Length) = HasBadLength bytes
+IsFront bytes (Err error.Kind) = HasBadKind bytes
+IsFront bytes (Err error.NoMemory) = ⊥
+IsFront bytes (Err error.Read) = ⊥
+IsFront bytes (Err error.Write) = ⊥
+IsFront bytes (Err error.Turns) = ⊥

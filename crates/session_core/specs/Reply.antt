@@ -1,0 +1,36 @@
+-- Replies, and their frames.
+use Rattle.std.specs.Prelude.{ℕ, List, [], ◌∷◌, ◌++◌, ◌≤◌, length}
+use Rattle.std.specs.Int.{w32, w64, to_be_bytes}
+use Rattle.seg_core.specs.declared.seg_type.SegType.{SegType}
+use Rattle.seg_core.specs.SegmentView.{SegmentView}
+use Rattle.seg_core.specs.Registration.{rows_of}
+use Rattle.seg_core.specs.Encoding.{response_encoding}
+use Rattle.session_core.specs.declared.service.Ack.{Ack}
+use Rattle.session_core.specs.Frames.{frame_encoding}
+
+-- a registration's acknowledgement, a lookup's segments of one type, or the code of a refusal
+pub data ReplyView : Type 0 where
+  Registered : (ack : Ack) → ReplyView
+  Found : (kind : SegType) (segments : List SegmentView) → ReplyView
+  Refused : (code : ℕ) → ReplyView
+
+-- the place in eight bytes, and four counts in four bytes each
+abbrev pub ack_encoding : Ack → List ℕ
+ack_encoding ack =
+    to_be_bytes w64 ack.place
+    ++ (to_be_bytes w32 ack.outcome.inserted
+    ++ (to_be_bytes w32 ack.outcome.updated
+    ++ (to_be_bytes w32 ack.outcome.kept ++ to_be_bytes w32 ack.outcome.purged)))
+
+-- a kind, and what belongs to it
+abbrev pub reply_content : ReplyView → List ℕ
+reply_content (Registered ack) = 0x81 ∷ ack_encoding ack
+reply_content (Found kind segments) = 0x82 ∷ response_encoding (rows_of kind segments)
+reply_content (Refused code) = 0xff ∷ code ∷ []
+
+unfoldable pub reply_frame : ReplyView → List ℕ
+reply_frame reply = frame_encoding (reply_content reply)
+
+-- a reply fits its frame
+abbrev pub HasReplySize : ReplyView → Type 0
+HasReplySize reply = length (reply_content reply) ≤ 1114112

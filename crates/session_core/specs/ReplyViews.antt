@@ -1,0 +1,17 @@
+-- What the program's replies stand for.
+use Rattle.std.specs.Prelude.{ℕ, List, ◌≤◌, length}
+use Rattle.session_core.specs.declared.reply.Reply.{Reply}
+use Rattle.session_core.specs.declared.reply.Reply.TheVariants as reply
+use Rattle.session_core.specs.declared.service.TheConstants.{MOST_SEGMENTS}
+use Rattle.session_core.specs.Reply.{ReplyView, Registered, Found, Refused}
+
+abbrev pub reply_view : Reply → ReplyView
+reply_view (reply.Registered ack) = Registered ack
+reply_view (reply.Found kind segments) = Found kind segments.items
+reply_view (reply.Refused code) = Refused code.0
+
+-- a reply has at most 64 segments
+abbrev pub IsShort : Reply → Type 0
+IsShort (reply.Registered ack) = Unit {0}
+IsShort (reply.Found kind segments) = length segments.items ≤ MOST_SEGMENTS
+IsShort (reply.Refused code) = Unit {0}

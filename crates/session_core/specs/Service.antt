@@ -1,0 +1,36 @@
+-- What a service answers, message by message.
+use Rattle.std.specs.Prelude.{ℕ, List, map, Result, Ok, Err, Vec}
+use Rattle.std.specs.List.{FoldsTo, flat_map}
+use Rattle.seg_core.specs.declared.seg_type.SegType.{SegType}
+use Rattle.seg_core.specs.SegmentView.{SegmentView}
+use Rattle.session_core.specs.declared.service.Ack.{Ack}
+use Rattle.session_core.specs.declared.service.Code.{Code}
+use Rattle.session_core.specs.Frames.{MessageView}
+use Rattle.session_core.specs.Reply.{ReplyView, Registered, Found, Refused, reply_frame}
+
+abbrev pub reply_to_register : Result Ack Code → ReplyView
+reply_to_register (Ok ack) = Registered ack
+reply_to_register (Err code) = Refused code.0
+
+abbrev pub reply_to_lookup : {A : Type 0} → Result (SegType × Vec SegmentView A) Code → ReplyView
+reply_to_lookup (Ok found) = Found found.0 found.1.items
+reply_to_lookup (Err code) = Refused code.0
+
+-- a message and the reply to it
+pub record Exchange : Type 0 where
+  pub message : MessageView
+  pub reply : ReplyView
+
+abbrev pub messages_of : List Exchange → List MessageView
+messages_of exchanges = map (λ e. e.message) exchanges
+
+abbrev pub replies_of : List Exchange → List ReplyView
+replies_of exchanges = map (λ e. e.reply) exchanges
+
+-- the frames of the replies, one after the other
+abbrev pub reply_frames : List Exchange → List ℕ
+reply_frames exchanges = flat_map (λ e. reply_frame e.reply) exchanges
+
+-- The service answered these messages so, one after the other, and each state was the next one's beginning.
+abbrev pub AreAnswered : {S : Type 0} → (S → MessageView → ReplyView → S → Type 0) → S → List Exchange → S → Type 0
+AreAnswered answers old exchanges new = FoldsTo (λ before e after. answers before e.message e.reply after) old exchanges new

@@ -1,0 +1,87 @@
+-- What a session over any service has read, answered and written when it ends.
+use Rattle.std.specs.Prelude.{◌≡◌, ℕ, ◌+◌, ◌-◌, ◌^◌, ◌≤◌, min, List, [], ◌++◌, length, Option, Result, Ok, Err}
+use Rattle.std.specs.List.{AllByRecursion, concat}
+use Rattle.std.specs.Io.KnownBytes.{Appends, IsAtEnd}
+use Rattle.session_core.specs.declared.error.FrameError.{FrameError}
+use Rattle.session_core.specs.declared.error.FrameError.TheVariants as error
+use Rattle.session_core.specs.Frames.{MessageView, IsPartial, HasBadLength, HasBadKind, Rest, AreWholeFrames, AreFrames}
+use Rattle.session_core.specs.Reply.{ReplyView, HasReplySize}
+use Rattle.session_core.specs.Service.{Exchange, messages_of, replies_of, reply_frames, AreAnswered}
+use Rattle.session_core.specs.Source.{AreReads}
+
+-- ---- what was written
+
+-- some bytes begin the others
+abbrev pub Begins : List ℕ → List ℕ → Type 0
+Begins front bytes = (rest : List ℕ) × (bytes ≡ front ++ rest)
+
+-- The replies to all messages but the last one, or to all.
+pub record TellsAllBefore (written : List ℕ) (exchanges : List Exchange) : Type 0 where
+  pub before : List Exchange
+  pub last : List Exchange
+  pub parts : exchanges ≡ before ++ last
+  pub one : length last ≤ 1
+  pub written_is : written ≡ reply_frames before
+
+-- What was written of the replies to the messages that were answered: all of them, but after a failed write, when a
+-- front of their bytes was, and for want of memory, when the last one may be missing.
+abbrev pub Tells : Result ℕ FrameError → List ℕ → List Exchange → Type 0
+Tells (Ok count) written exchanges = written ≡ reply_frames exchanges
+Tells (Err error.NoMemory) written exchanges = TellsAllBefore written exchanges
+Tells (Err error.Length) written exchanges = written ≡ reply_frames exchanges
+Tells (Err error.Kind) written exchanges = written ≡ reply_frames exchanges
+Tells (Err error.Read) written exchanges = written ≡ reply_frames exchanges
+Tells (Err error.Write) written exchanges = Begins written (reply_frames exchanges)
+Tells (Err error.Turns) written exchanges = written ≡ reply_frames exchanges
+
+-- All that was read but for its last piece was answered as far as its frames stand whole, no fault stands in it, and
+-- those replies were written.
+pub record IsPrompt (pieces : List (List ℕ)) (exchanges : List Exchange) (written : List ℕ) : Type 0 where
+  pub earlier : List (List ℕ)
+  pub last : List (List ℕ)
+  pub pieces_are : pieces ≡ earlier ++ last
+  pub one : length last ≤ 1
+  pub told : List Exchange
+  pub others : List Exchange
+  pub exchanges_are : exchanges ≡ told ++ others
+  pub rest : List ℕ
+  pub framed : AreFrames (concat earlier) (messages_of told) (Rest rest)
+  pub kept : Begins (reply_frames told) written
+
+-- ---- why a session ends
+
+-- At the end that the reader shows, with nothing left over; the count of replies stays at 2^64 - 1.
+pub record EndsWell (input_left : Option (List ℕ)) (exchanges : List Exchange) (rest : List ℕ) (count : ℕ) : Type 0 where
+  pub at_end : IsAtEnd input_left
+  pub whole : rest ≡ []
+  pub counted : count ≡ min (length exchanges) (2 ^ 64 - 1)
+
+-- At a fault of the frame that follows; at a failed read or within a frame; when all reads are made; at a failed write
+-- and for want of memory anywhere.
+abbrev pub EndsFor : Option (List ℕ) → ℕ → List (List ℕ) → List Exchange → List ℕ → Result ℕ FrameError → Type 0
+EndsFor input_left turns pieces exchanges rest (Ok count) = EndsWell input_left exchanges rest count
+EndsFor input_left turns pieces exchanges rest (Err error.NoMemory) = Unit {0}
+EndsFor input_left turns pieces exchanges rest (Err error.Length) = HasBadLength rest
+EndsFor input_left turns pieces exchanges rest (Err error.Kind) = HasBadKind rest
+EndsFor input_left turns pieces exchanges rest (Err error.Read) = IsPartial rest
+EndsFor input_left turns pieces exchanges rest (Err error.Write) = Unit {0}
+EndsFor input_left turns pieces exchanges rest (Err error.Turns) = IsPartial rest × (length pieces ≡ turns)
+
+-- ---- a session
+
+-- At most so many reads gave these pieces. Joined they are the frames of the messages that were answered, and a rest;
+-- the service answered them in order, from its first state to its last; what was written are the frames of those replies.
+pub record IsServed {S R : Type 0} (answers : S → MessageView → ReplyView → S → Type 0) (gives : R → List ℕ → R → Type 0) (turns : ℕ)
+    (service service_left : S) (source source_left : R) (input_left output output_left : Option (List ℕ)) (result : Result ℕ FrameError) : Type 0 where
+  pub pieces : List (List ℕ)
+  pub exchanges : List Exchange
+  pub rest : List ℕ
+  pub written : List ℕ
+  pub read : AreReads gives turns source pieces source_left
+  pub framed : AreWholeFrames (concat pieces) (messages_of exchanges) rest
+  pub answered : AreAnswered answers service exchanges service_left
+  pub sized : AllByRecursion HasReplySize (replies_of exchanges)
+  pub appended : Appends output output_left written
+  pub told : Tells result written exchanges
+  pub prompt : IsPrompt pieces exchanges written
+  pub ended : EndsFor input_left turns pieces exchanges rest result

@@ -1,0 +1,129 @@
+//! Messages from a stream that comes in pieces.
+
+ghost use Rattle.std.specs.Prelude.{◌≡◌, ◌≤◌, [], length, drop, IsOk, IfOk, OnErr};
+ghost use Rattle.session_core.specs.Frames.{Rest, AreWholeFrames};
+ghost use Rattle.session_core.specs.Front.{message_at};
+ghost use Rattle.session_core.specs.Framer.{message_view, message_views, fault_of, IsFaulty, Continues, IsFaultOf};
+
+use crate::error::FrameError;
+use crate::frames::next_frame;
+use crate::message::Message;
+use std::alloc::{AllocError, Global};
+use std::marker::Model;
+
+/// A stream of frames that comes in pieces.
+///
+/// It gives each message as soon as its frame is whole, and the same messages however the stream is cut. Beside them
+/// memory holds one piece and less than a frame. At a fault of a frame it stops: it gives that fault again for each piece
+/// that follows, and no message.
+#[derive(Drop)]
+pub struct Framer {
+    /// What came behind the last whole frame.
+    kept: Vec<u8>,
+    /// What is wrong with it: `Length` or `Kind`.
+    fault: Option<FrameError>,
+}
+
+/// What a piece of a stream completes.
+#[derive(Drop)]
+pub struct Fed {
+    /// The messages whose frames the piece ends, in order.
+    pub messages: Vec<Message>,
+    /// `Length` or `Kind`, where a frame with that fault follows them.
+    pub fault: Option<FrameError>,
+}
+
+impl Model for Framer {
+    ghost use Rattle.session_core.specs.Frames.{Ending};
+    ghost use Rattle.session_core.specs.Framer.{IsFaultOf, ending_of};
+
+    ghost Value = { Ending };
+
+    ghost view = { λ f. ending_of f.kept.items f.fault };
+
+    ghost invariant = { λ f. IsFaultOf f.kept.items f.fault };
+}
+
+impl Framer {
+    /// The start of a stream.
+    pub fn new(alloc: Global) -> Framer
+        ensures { result ≡ Rest [] }
+    {
+        Framer {
+            kept: Vec::new(alloc),
+            fault: None,
+        }
+    }
+
+    /// Takes the next piece of the stream. Where memory runs out it stays as it was, and the piece can be given again.
+    pub fn feed(&mut self, piece: &[u8]) -> Result<Fed, AllocError>
+        ensures stream { IfOk result (λ fed. Continues self.old piece.now (message_views fed.messages.items) self.new) }
+        ensures fault { IfOk result (λ fed. fed.fault ≡ fault_of self.new) }
+        ensures silent { IsFaulty self.old → IfOk result (λ fed. fed.messages.items ≡ []) }
+        ensures stopped { IsFaulty self.old → self.new ≡ self.old }
+        ensures ready { IsFaulty self.old → IsOk result }
+        ensures err { OnErr result (self.new ≡ self.old) }
+    {
+        let alloc = *self.kept.allocator();
+        if let Some(fault) = self.fault {
+            return Ok(Fed {
+                messages: Vec::new(alloc),
+                fault: Some(fault),
+            });
+        }
+        let len = self.kept.len();
+        self.kept.extend_from_slice(piece)?;
+        match whole_frames(alloc, self.kept.as_slice()) {
+            Ok((fed, used)) => {
+                drop_front(&mut self.kept, used);
+                self.fault = fed.fault;
+                Ok(fed)
+            }
+            Err(e) => {
+                self.kept.truncate(len);
+                Err(e)
+            }
+        }
+    }
+}
+
+/// The messages of the whole frames at the front, what is wrong behind them, and how many bytes the frames have.
+fn whole_frames(alloc: Global, bytes: &[u8]) -> Result<(Fed, usize), AllocError>
+    ensures within { IfOk result (λ r. r.1 ≤ length bytes.now) }
+    ensures messages { IfOk result (λ r. AreWholeFrames bytes.now (message_views r.0.messages.items) (drop r.1 bytes.now)) }
+    ensures fault { IfOk result (λ r. IsFaultOf (drop r.1 bytes.now) r.0.fault) }
+{
+    let mut messages = Vec::new(alloc);
+    let mut used = 0;
+    let fault = loop {
+        match next_frame(bytes.split_at(used).1) {
+            Ok(Some((message, len))) => {
+                messages.push(owned(alloc, message)?)?;
+                used += len;
+            }
+            Ok(None) => break None,
+            Err(fault) => break Some(fault),
+        }
+    };
+    Ok((Fed { messages, fault }, used))
+}
+
+/// The message with a body of its own.
+fn owned(alloc: Global, message: Message<&[u8]>) -> Result<Message, AllocError>
+    ensures { IfOk result (λ m. message_view m ≡ message_at message.entry) }
+{
+    Ok(match message {
+        Message::Register(body) => Message::Register(Vec::from_slice(alloc, body)?),
+        Message::Lookup(body) => Message::Lookup(Vec::from_slice(alloc, body)?),
+    })
+}
+
+/// Takes so many bytes off the front.
+fn drop_front(bytes: &mut Vec<u8>, count: usize)
+    requires { count ≤ length bytes.old.items }
+    ensures { bytes.new.items ≡ drop count bytes.old.items }
+{
+    let rest = bytes.len() - count;
+    bytes.copy_within(count.., 0);
+    bytes.truncate(rest);
+}

@@ -1,0 +1,81 @@
+//! What was read and is not answered yet.
+
+ghost use Rattle.std.specs.Prelude.{◌≡◌, ◌≤◌, ◌++◌, [], length, drop, OnOk, OnErr, IsTrue, ◌↔◌};
+ghost use Rattle.session_core.specs.Front.{IsFront};
+
+use crate::error::FrameError;
+use crate::frames::next_frame;
+use crate::message::Message;
+use std::alloc::{AllocError, Global};
+use std::marker::Model;
+
+/// Bytes of a stream of frames, from the first one on that is not answered: less than a frame and one piece of input.
+#[derive(Drop)]
+pub struct Inbox {
+    bytes: Vec<u8>,
+    used: usize,
+}
+
+impl Model for Inbox {
+    ghost use Rattle.std.specs.Prelude.{ℕ, List, ◌≤◌, length, drop};
+
+    ghost Value = { List ℕ };
+
+    ghost view = { λ s. drop s.used s.bytes.items };
+
+    ghost invariant = { λ s. s.used ≤ length s.bytes.items };
+}
+
+impl Inbox {
+    /// No bytes.
+    pub fn new(alloc: Global) -> Inbox
+        ensures { result ≡ [] }
+    {
+        Inbox {
+            bytes: Vec::new(alloc),
+            used: 0,
+        }
+    }
+
+    /// Whether nothing is left over.
+    pub fn is_empty(&self) -> bool
+        ensures { (IsTrue result) ↔ (self.now ≡ []) }
+    {
+        self.used == self.bytes.len()
+    }
+
+    /// Adds a piece of input at the end. Where memory runs out, nothing is added.
+    pub fn take_in(&mut self, piece: &[u8]) -> Result<(), AllocError>
+        ensures ok { OnOk result (self.new ≡ self.old ++ piece.now) }
+        ensures err { OnErr result (self.new ≡ self.old) }
+    {
+        drop_front(&mut self.bytes, self.used);
+        self.used = 0;
+        self.bytes.extend_from_slice(piece)
+    }
+
+    /// The message whose frame stands at the front, and how many bytes the frame has. `None` is less than a frame.
+    pub(crate) fn front(&self) -> Result<Option<(Message<&[u8]>, usize)>, FrameError>
+        ensures { IsFront self.now result }
+    {
+        next_frame(self.bytes.split_at(self.used).1)
+    }
+
+    /// Takes so many bytes off the front.
+    pub(crate) fn advance(&mut self, count: usize)
+        requires { count ≤ length self.old }
+        ensures { self.new ≡ drop count self.old }
+    {
+        self.used += count;
+    }
+}
+
+/// Takes so many bytes off the front of the memory.
+fn drop_front(bytes: &mut Vec<u8>, count: usize)
+    requires { count ≤ length bytes.old.items }
+    ensures { bytes.new.items ≡ drop count bytes.old.items }
+{
+    let rest = bytes.len() - count;
+    bytes.copy_within(count.., 0);
+    bytes.truncate(rest);
+}

@@ -1,0 +1,29 @@
+//! Sessions: frames of messages in, frames of replies out, over any service.
+//!
+//! To the layer above, `serve` reads in at most so many reads, and what it read is the frames of the messages that
+//! the service answered, in order; what it writes are the frames of those replies and nothing else. `Framer` finds the
+//! same messages in a stream that comes in pieces, however it is cut.
+#![tactic(auto)]
+
+mod error;
+mod framer;
+mod frames;
+mod inbox;
+pub mod laws;
+mod message;
+mod reply;
+mod service;
+mod serving;
+mod session;
+mod source;
+mod writing;
+
+pub use error::FrameError;
+pub use framer::{Fed, Framer};
+pub use frames::MOST_LENGTH;
+pub use inbox::Inbox;
+pub use message::Message;
+pub use reply::Reply;
+pub use service::{Ack, Code, MOST_SEGMENTS, Outcome, Service};
+pub use serving::serve;
+pub use source::{MOST_PIECE, Source};

@@ -1,0 +1,88 @@
+//! Replies, and their frames.
+
+ghost use Rattle.std.specs.Prelude.{◌≡◌, ◌≤◌, ◌<◌, ◌++◌, ◌∷◌, ℕ, List, length, IfOk};
+ghost use Rattle.seg_core.specs.Registration.{rows_of};
+ghost use Rattle.seg_core.specs.Encoding.{response_encoding};
+ghost use Rattle.session_core.specs.Frames.{frame_encoding};
+ghost use Rattle.session_core.specs.Reply.{reply_frame, Registered, Refused};
+ghost use Rattle.session_core.specs.ReplyViews.{reply_view};
+
+use crate::service::{Ack, Code};
+use byteorder::{BigEndian, ByteOrder};
+use seg_core::{SegType, Segment, write_response_of};
+use std::alloc::{AllocError, Global};
+
+const REGISTERED: u8 = 0x81;
+
+const FOUND: u8 = 0x82;
+
+const REFUSED: u8 = 0xff;
+
+/// The bytes of an acknowledgement's frame: its length, the kind, the place and four counts.
+pub(crate) const ACK_FRAME: usize = 29;
+
+/// The reply to one message.
+#[derive(Debug, Drop)]
+pub enum Reply {
+    /// A registration was accepted.
+    Registered(Ack),
+    /// The segments that a lookup found, of one type.
+    Found(SegType, Vec<Segment>),
+    /// A message was refused.
+    Refused(Code),
+}
+
+/// The frame of an acknowledgement.
+#[tactic(auto, unfolding(crate::specs::Reply::reply_frame))]
+pub(crate) fn ack_frame(ack: Ack) -> [u8; ACK_FRAME]
+    ensures { result ≡ reply_frame (Registered ack) }
+{
+    let mut frame = [0; ACK_FRAME];
+    BigEndian::write_u32(&mut frame, 25);
+    frame[4] = REGISTERED;
+    BigEndian::write_u64(&mut frame[5..], ack.place);
+    BigEndian::write_u32_into(
+        &[
+            ack.outcome.inserted,
+            ack.outcome.updated,
+            ack.outcome.kept,
+            ack.outcome.purged,
+        ],
+        &mut frame[13..],
+    );
+    frame
+}
+
+/// The frame of a refusal.
+#[tactic(auto, unfolding(crate::specs::Reply::reply_frame))]
+pub(crate) fn refusal_frame(code: Code) -> [u8; 6]
+    ensures { result ≡ reply_frame (Refused code.0) }
+{
+    [0, 0, 0, 2, REFUSED, code.0]
+}
+
+/// The length and the kind that stand before a response of so many bytes.
+pub(crate) fn found_head(response: usize) -> [u8; 5]
+    requires { response ≤ 1114111 }
+    ensures { (body : List ℕ) → length body ≡ response → result ++ body ≡ frame_encoding (0x82 ∷ body) }
+{
+    let mut head = [0; 5];
+    BigEndian::write_u32(&mut head, response as u32 + 1);
+    head[4] = FOUND;
+    head
+}
+
+/// The response to a lookup: a `SegmentsResponse` of segments of one type.
+pub(crate) fn response_of(
+    alloc: Global,
+    kind: SegType,
+    segments: &[Segment],
+) -> Result<Vec<u8>, AllocError>
+    ensures { IfOk result (λ response. response.items ≡ response_encoding (rows_of kind segments.now)) }
+{
+    let mut rows = Vec::with_capacity(alloc, segments.len())?;
+    for segment in segments {
+        rows.push((kind, segment))?;
+    }
+    write_response_of(alloc, &rows)
+}

@@ -1,0 +1,52 @@
+//! What answers the messages of a session.
+
+ghost use Rattle.std.specs.Prelude.{◌≤◌, length, IfOk};
+ghost use Rattle.std.specs.List.{AllByRecursion};
+ghost use Rattle.seg_core.specs.Encoding.{IsSegment};
+ghost use Rattle.session_core.specs.Frames.{MessageView};
+ghost use Rattle.session_core.specs.Reply.{ReplyView};
+ghost use Rattle.session_core.specs.Service.{reply_to_register, reply_to_lookup};
+ghost use Rattle.session_core.specs.declared.message.Message.TheVariants.{Register, Lookup};
+
+use seg_core::{SegType, Segment};
+use std::alloc::Global;
+
+/// The most segments of an answer to a lookup.
+pub const MOST_SEGMENTS: usize = 64;
+
+/// What a command did: how many segments it inserted, updated and kept, and how many rows it dropped. A greater count
+/// is 2^32 - 1.
+#[derive(Clone, Copy, Debug, PartialEq, Eq)]
+pub struct Outcome {
+    pub inserted: u32,
+    pub updated: u32,
+    pub kept: u32,
+    pub purged: u32,
+}
+
+/// The acknowledgement of a command: its place in the order of commands, from 0 on, and what it did.
+#[derive(Clone, Copy, Debug, PartialEq, Eq)]
+pub struct Ack {
+    pub place: u64,
+    pub outcome: Outcome,
+}
+
+/// The code of a refusal in a reply.
+#[derive(Clone, Copy, Debug, PartialEq, Eq)]
+pub struct Code(pub u8);
+
+/// Answers messages, each of which may change what it answers from.
+pub trait Service {
+    /// From the first state the service may answer the message with the reply, and be in the second state then.
+    ghost answers: { Self → MessageView → ReplyView → Self → Type 0 };
+
+    /// Answers the body of a registration.
+    fn register(&mut self, alloc: Global, message: &[u8]) -> Result<Ack, Code>
+        ensures { answers self.old (Register message.now) (reply_to_register result) self.new };
+
+    /// Answers the body of a lookup: segments of one type.
+    fn lookup(&mut self, alloc: Global, message: &[u8]) -> Result<(SegType, Vec<Segment>), Code>
+        ensures answers { answers self.old (Lookup message.now) (reply_to_lookup result) self.new }
+        ensures few { IfOk result (λ found. length found.1.items ≤ MOST_SEGMENTS) }
+        ensures whole { IfOk result (λ found. AllByRecursion IsSegment found.1.items) };
+}

@@ -1,0 +1,46 @@
+//! What a session reads from.
+
+ghost use Rattle.std.specs.Prelude.{◌≡◌, ◌≤◌, ◌<◌, ℕ, List, [], length, take, MatchResult, IfOk, IfErr};
+ghost use Rattle.std.specs.Io.KnownBytes.{Consumes, ReadConsumes, IsAtEnd};
+
+use crate::error::FrameError;
+use std::io;
+use std::io::Read;
+
+/// How many bytes one read asks for at most.
+pub const MOST_PIECE: usize = 65_536;
+
+/// A reader whose contract counts its reads: `piece` makes one, and nothing else is known to make one.
+///
+/// Every `Read` is a `Source`. A caller that is generic over `Source` can read by `piece` alone, since what any other
+/// call did to the reader it could not say.
+pub trait Source: Read {
+    /// One read may give these bytes, and lead from the first state to the second. A read that fails gives none.
+    ghost gives: { Self → List ℕ → Self → Type 0 };
+
+    /// Reads once, into `buf`, and answers how many bytes came.
+    fn piece(&mut self, buf: &mut [u8]) -> io::Result<usize>
+        ensures bytes { ReadConsumes (Self.remaining self.old) (Self.remaining self.new) result buf.new }
+        ensures ok { IfOk result (λ n. n ≤ length buf.new) }
+        ensures one { MatchResult result (λ n. gives self.old (take n buf.new) self.new) (λ _. gives self.old [] self.new) };
+}
+
+impl<R: Read> Source for R {
+    ghost gives = { λ old bytes new. Consumes (R.remaining old) (R.remaining new) bytes };
+
+    fn piece(&mut self, buf: &mut [u8]) -> io::Result<usize> {
+        self.read(buf)
+    }
+}
+
+/// Reads once, and answers how many bytes came: none at the end alone.
+pub(crate) fn read_once<R: Source>(reader: &mut R, piece: &mut [u8]) -> Result<usize, FrameError>
+    requires { 0 < length piece.old }
+    ensures ok { IfOk result (λ n. n ≤ length piece.new) }
+    ensures gives { IfOk result (λ n. R.gives reader.old (take n piece.new) reader.new) }
+    ensures end { IfOk result (λ n. n ≡ 0 → IsAtEnd (R.remaining reader.new)) }
+    ensures fails { IfErr result (λ e. e ≡ FrameError.Read) }
+    ensures nothing { IfErr result (λ _. R.gives reader.old [] reader.new) }
+{
+    reader.piece(piece).map_err(|_| FrameError::Read)
+}

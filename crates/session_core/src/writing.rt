@@ -1,0 +1,84 @@
+//! Replies on their way to a writer.
+
+ghost use Rattle.std.specs.Prelude.{◌≡◌, ◌≤◌, ◌++◌, [], length, take, OnOk, IfOk, IfErr};
+ghost use Rattle.std.specs.Io.KnownBytes.{Appends};
+ghost use Rattle.session_core.specs.Reply.{HasReplySize, Found, reply_frame};
+ghost use Rattle.session_core.specs.ReplyViews.{reply_view};
+ghost use Rattle.session_core.specs.Answered.{FailsToWrite, FailsWithin};
+
+use crate::error::FrameError;
+use crate::reply::{Reply, ack_frame, found_head, refusal_frame, response_of};
+use seg_core::{SegType, Segment};
+use std::alloc::Global;
+use std::io::Write;
+
+/// Writes the frame of a reply. Memory is wanted for a response alone, before its first byte.
+pub(crate) fn write_reply<W: Write>(
+    alloc: Global,
+    writer: &mut W,
+    reply: &Reply,
+) -> Result<(), FrameError>
+    requires { HasReplySize (reply_view reply.now) }
+    ensures ok { OnOk result (Appends (W.contents writer.old) (W.contents writer.new) (reply_frame (reply_view reply.now))) }
+    ensures err { IfErr result (FailsToWrite (W.contents writer.old) (W.contents writer.new) (reply_frame (reply_view reply.now))) }
+{
+    match reply {
+        Reply::Registered(ack) => write_all(writer, &ack_frame(*ack)),
+        Reply::Found(kind, segments) => write_found(alloc, writer, *kind, segments),
+        Reply::Refused(code) => write_all(writer, &refusal_frame(*code)),
+    }
+}
+
+/// Writes the frame of a response.
+#[tactic(auto, unfolding(crate::specs::Reply::reply_frame))]
+fn write_found<W: Write>(
+    alloc: Global,
+    writer: &mut W,
+    kind: SegType,
+    segments: &[Segment],
+) -> Result<(), FrameError>
+    requires { HasReplySize (Found kind segments.now) }
+    ensures ok { OnOk result (Appends (W.contents writer.old) (W.contents writer.new) (reply_frame (Found kind segments.now))) }
+    ensures err { IfErr result (FailsToWrite (W.contents writer.old) (W.contents writer.new) (reply_frame (Found kind segments.now))) }
+{
+    let Ok(response) = response_of(alloc, kind, segments) else {
+        return Err(FrameError::NoMemory);
+    };
+    write_both(writer, &found_head(response.len()), response.as_slice())
+}
+
+/// Writes all of two byte strings.
+fn write_both<W: Write>(writer: &mut W, head: &[u8], body: &[u8]) -> Result<(), FrameError>
+    ensures ok { OnOk result (Appends (W.contents writer.old) (W.contents writer.new) (head.now ++ body.now)) }
+    ensures err { IfErr result (FailsWithin (W.contents writer.old) (W.contents writer.new) (head.now ++ body.now)) }
+{
+    write_all(writer, head)?;
+    write_all(writer, body)
+}
+
+/// Writes all of the bytes. A write that takes none is a fault, and none is tried again.
+pub fn write_all<W: Write>(writer: &mut W, bytes: &[u8]) -> Result<(), FrameError>
+    ensures ok { OnOk result (Appends (W.contents writer.old) (W.contents writer.new) bytes.now) }
+    ensures err { IfErr result (FailsWithin (W.contents writer.old) (W.contents writer.new) bytes.now) }
+{
+    let mut rest = bytes;
+    while !rest.is_empty() {
+        let count = write_some(writer, rest)?;
+        rest = rest.split_at(count).1;
+    }
+    Ok(())
+}
+
+/// Writes a front of the bytes, of at least one.
+fn write_some<W: Write>(writer: &mut W, bytes: &[u8]) -> Result<usize, FrameError>
+    ensures ok { IfOk result (λ n. Appends (W.contents writer.old) (W.contents writer.new) (take n bytes.now)) }
+    ensures some { IfOk result (λ n. 1 ≤ n) }
+    ensures within { IfOk result (λ n. n ≤ length bytes.now) }
+    ensures err { IfErr result (λ e. e ≡ FrameError.Write) }
+    ensures nothing { IfErr result (λ _. Appends (W.contents writer.old) (W.contents writer.new) []) }
+{
+    match writer.write(bytes) {
+        Ok(0) | Err(_) => Err(FrameError::Write),
+        Ok(count) => Ok(count),
+    }
+}
