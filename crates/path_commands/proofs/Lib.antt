@@ -1,0 +1,10 @@
+mod Lists
+mod Order
+mod Puts
+mod Place
+mod Shown
+mod Steps
+mod Ends
+mod CoreLemmas
+mod MemoryLemmas
+mod SessionLemmas
