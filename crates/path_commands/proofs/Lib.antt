@@ -1,7 +1,7 @@
 mod Lists
 mod Order
 mod Puts
-mod Place
+mod Indices
 mod Shown
 mod Steps
 mod Ends

@@ -38,7 +38,7 @@ above_same a b (r ∷ rows) e all = (row_order.congr a b r e ∙ all.0, above_sa
 greater_before : (old row later : RowView) → key_order old later ≡ Less → key_order row later ≡ Equal → key_order row old ≡ Greater
 greater_before old row later below same = turned_less old row (alike_right row_order row later old same ∙ below)
 
--- ---- a put at the place of its key
+-- ---- a put at the index of its key
 
 pub put_at : (rows : List RowView) → IsRising rows → (row : RowView) (at : ℕ) (d : RowView) → at < length rows → key_order row (get_or rows at d) ≡ Equal → rows_after_put rows row ≡ set rows at (if is_newer row (get_or rows at d) then row else get_or rows at d)
 unfolding rows_after_put
@@ -60,7 +60,7 @@ change_at (old ∷ others) rising row (suc i) d lt same =
 
 -- ---- a put in the gap for its key
 
--- the rows before the place are below the row, and those from it on above
+-- the rows before the index are below the row, and those from it on above
 pub record IsGapFor (rows : List RowView) (row : RowView) (at : ℕ) : Type 0 where
   pub in_range : at ≤ length rows
   pub before : (j : ℕ) (d : RowView) → j < at → key_order (get_or rows j d) row ≡ Less

@@ -30,7 +30,7 @@ RefusesText text (fault.Frame e) = ⊥
 RefusesText text fault.Output = ⊥
 
 -- The first text that is no ISD-AS, and why.
-pub record FirstRefused (texts : List (List ℕ)) (e : IaError) : Type 0 where
+pub record FirstRefusal (texts : List (List ℕ)) (e : IaError) : Type 0 where
   pub front : List (List ℕ)
   pub cores : List IsdAs
   pub text : List ℕ
@@ -41,7 +41,7 @@ pub record FirstRefused (texts : List (List ℕ)) (e : IaError) : Type 0 where
 
 -- why a list is refused, unless memory ran out
 abbrev pub RefusesList : List ℕ → Fault → Type 0
-RefusesList list (fault.Text e) = FirstRefused (texts_of list) e
+RefusesList list (fault.Text e) = FirstRefusal (texts_of list) e
 RefusesList list fault.Memory = Unit {0}
 RefusesList list fault.Hex = ⊥
 RefusesList list (fault.Frame e) = ⊥

@@ -14,10 +14,10 @@ row_view row = (row.kind, row.segment)
 abbrev pub row_views : List Row → List RowView
 row_views rows = map row_view rows
 
--- the row at this place has the key
-abbrev pub IsPlace : List Row → List ℕ → ℕ → Type 0
-IsPlace rows key at = (at < length rows) × HoldsAt (λ row. slice_cmp nat_cmp row.key.items key ≡ Equal) rows at
+-- the row at this index has the key
+abbrev pub IsIndex : List Row → List ℕ → ℕ → Type 0
+IsIndex rows key at = (at < length rows) × HoldsAt (λ row. slice_cmp nat_cmp row.key.items key ≡ Equal) rows at
 
--- the key would go to this place: the keys before it are lower, those from it on are greater
+-- the key would go to this index: the keys before it are lower, those from it on are greater
 abbrev pub IsGap : List Row → List ℕ → ℕ → Type 0
 IsGap rows key at = (at ≤ length rows) × IsPartitionPoint (λ row. slice_cmp nat_cmp row.key.items key ≡ Less) (λ row. slice_cmp nat_cmp row.key.items key ≡ Greater) rows at

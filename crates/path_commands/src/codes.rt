@@ -10,7 +10,7 @@ use session_core::Code;
 use std::alloc::AllocError;
 
 /// Why a message is refused.
-#[derive(Clone, Copy, Debug, PartialEq, Eq)]
+#[derive(Clone, Copy)]
 pub enum Refusal {
     /// Memory ran out. It says nothing of the message.
     NoMemory,

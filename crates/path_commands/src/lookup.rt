@@ -19,7 +19,7 @@ use session_core::MOST_SEGMENTS;
 use std::alloc::{AllocError, Global};
 
 /// Why a lookup asks for no segments.
-#[derive(Clone, Copy, Debug, PartialEq, Eq)]
+#[derive(Clone, Copy)]
 pub enum LookupError {
     /// The ISD or the AS of a side is 0.
     Wildcard,
@@ -28,7 +28,7 @@ pub enum LookupError {
 }
 
 /// Segments of one type from one AS to another, by the order of their entries.
-#[derive(Clone, Copy, Debug, PartialEq, Eq)]
+#[derive(Clone, Copy)]
 pub struct Query {
     pub kind: SegType,
     /// The AS of the first entry.

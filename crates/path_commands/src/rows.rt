@@ -2,7 +2,7 @@
 
 ghost use Rattle.std.specs.Prelude.{◌≡◌, ◌+◌, ◌≤◌, ◌<◌, if◌then◌else◌, [], IfOk, IfErr, OnOk, OnErr, vec_len, vec_capacity};
 ghost use Rattle.path_commands.specs.Rows.{IsRising, is_newer, rows_after_put, rows_after_all, change_of, changes_of, outcome_of};
-ghost use Rattle.path_commands.specs.Row.{row_view, row_views, IsPlace, IsGap};
+ghost use Rattle.path_commands.specs.Row.{row_view, row_views, IsIndex, IsGap};
 ghost use Rattle.path_commands.specs.Outcome.{outcome_after};
 
 use crate::row::Row;
@@ -12,7 +12,7 @@ use std::alloc::{AllocError, Global};
 use std::marker::Model;
 
 /// What a put did to the rows.
-#[derive(Clone, Copy, Debug, PartialEq, Eq)]
+#[derive(Clone, Copy)]
 pub enum Change {
     /// No row was under the key.
     Inserted,
@@ -130,7 +130,7 @@ fn put(rows: &mut Vec<Row>, row: Row) -> Change
     ensures len { vec_len rows.new ≤ vec_len rows.old + 1 }
     ensures capacity { vec_capacity rows.old ≤ vec_capacity rows.new }
 {
-    match place_of(rows, &row.key) {
+    match index_of(rows, &row.key) {
         Ok(at) => replace_older(&mut rows[at], row),
         Err(at) => {
             rows.insert(at, row).unwrap();
@@ -153,9 +153,9 @@ fn replace_older(old: &mut Row, row: Row) -> Change
 }
 
 /// Where the row under a key stands, or where it would.
-fn place_of(rows: &[Row], key: &[u8]) -> Result<usize, usize>
+fn index_of(rows: &[Row], key: &[u8]) -> Result<usize, usize>
     requires { IsRising (row_views rows.now) }
-    ensures found { IfOk result (IsPlace rows.now key.now) }
+    ensures found { IfOk result (IsIndex rows.now key.now) }
     ensures absent { IfErr result (IsGap rows.now key.now) }
 {
     rows.binary_search_by(|row| row.cmp_key(key))

@@ -3,8 +3,8 @@ use Rattle.std.proofs.lemmas.Fn.{always_returns_same}
 use Rattle.std.specs.Ordering.{nat_cmp}
 use Rattle.std.specs.Cmp.Lexicographic.{slice_cmp}
 use Rattle.path_commands.specs.declared.row.Row.{Row}
-use Rattle.path_commands.proofs.Place.{searched}
-use Rattle.path_commands.proofs.rows.place_of.Goals as goal
+use Rattle.path_commands.proofs.Indices.{searched}
+use Rattle.path_commands.proofs.rows.index_of.Goals as goal
 
 -- the closure compares a row's key with the key that is sought
 pub returns : goal.returns

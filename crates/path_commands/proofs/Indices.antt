@@ -12,7 +12,7 @@ use Rattle.std.proofs.lemmas.List.{get_or-map, map-set, length-map, map-append, 
 use Rattle.path_commands.specs.declared.row.Row.{Row}
 use Rattle.path_commands.specs.declared.rows.Change.TheVariants.{Inserted, Updated, Kept}
 use Rattle.path_commands.specs.Rows.{RowView, key_of, key_order, is_newer, IsRising, rows_after_put, change_of}
-use Rattle.path_commands.specs.Row.{row_view, row_views, IsPlace, IsGap}
+use Rattle.path_commands.specs.Row.{row_view, row_views, IsIndex, IsGap}
 use Rattle.path_commands.proofs.Order.{IsGapFor, put_at, change_at, put_in_gap, change_in_gap}
 
 abbrev key_cmp : List ℕ → List ℕ → Ordering
@@ -44,7 +44,7 @@ comparisons_rise (x ∷ rows) rising key zero (suc j) d le lt =
     lower_index x.key.items later.key.items key (key_cmp later.key.items key) refl (rw (x.keyed, later.keyed) lower)
 
 -- a binary search by key ends at the key, or at the gap for it
-pub searched : (rows : List Row) → IsRising (row_views rows) → (key : List ℕ) (r : Result ℕ ℕ) → IsSearchInRange r (length rows) → IsBinarySearchResult (λ row. key_cmp row.key.items key) rows r → record { found : IfOk r (IsPlace rows key); absent : IfErr r (IsGap rows key) }
+pub searched : (rows : List Row) → IsRising (row_views rows) → (key : List ℕ) (r : Result ℕ ℕ) → IsSearchInRange r (length rows) → IsBinarySearchResult (λ row. key_cmp row.key.items key) rows r → record { found : IfOk r (IsIndex rows key); absent : IfErr r (IsGap rows key) }
 searched rows rising key (Ok at) in_range equal = record { found = (in_range, equal); absent = tt }
 searched rows rising key (Err at) in_range parted = record { found = tt; absent = (in_range, parted (comparisons_rise rows rising key)) }
 
@@ -52,24 +52,24 @@ searched rows rising key (Err at) in_range parted = record { found = tt; absent 
 by_views : (old row : Row) (o : Ordering) → key_cmp old.key.items row.key.items ≡ o → key_order (row_view old) (row_view row) ≡ o
 by_views old row o e = rw (old.keyed, row.keyed) at e
 
--- ---- a put at the place
+-- ---- a put at the index
 
-module _ (rows : List Row) (rising : IsRising (row_views rows)) (row : Row) (at : ℕ) (place : IsPlace rows row.key.items at) where
+module _ (rows : List Row) (rising : IsRising (row_views rows)) (row : Row) (at : ℕ) (there : IsIndex rows row.key.items at) where
   -- the row that stands there
   abbrev old_row : Row
   old_row = get_or rows at row
 
   old_view : get_or (row_views rows) at (row_view row) ≡ row_view old_row
-  old_view = get_or-map row_view rows at row (row_view row) place.0
+  old_view = get_or-map row_view rows at row (row_view row) there.0
 
   same_key : key_order (row_view row) (row_view old_row) ≡ Equal
-  same_key = tied_back nat_list_cmp_total (key_of (row_view old_row)) (key_of (row_view row)) (by_views old_row row Equal (place.1 row))
+  same_key = tied_back nat_list_cmp_total (key_of (row_view old_row)) (key_of (row_view row)) (by_views old_row row Equal (there.1 row))
 
   same_there : key_order (row_view row) (get_or (row_views rows) at (row_view row)) ≡ Equal
   same_there = rw old_view same_key
 
   in_views : at < length (row_views rows)
-  in_views = rw (length-map rows row_view) place.0
+  in_views = rw (length-map rows row_view) there.0
 
   abbrev winner_there : RowView
   winner_there = if is_newer (row_view row) (row_view old_row) then row_view row else row_view old_row
