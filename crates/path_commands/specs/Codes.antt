@@ -1,0 +1,40 @@
+-- The codes of refusals in replies.
+use Rattle.std.specs.Prelude.{ℕ}
+use Rattle.pw_wire.specs.declared.error.WireError.{WireError}
+use Rattle.pw_wire.specs.declared.error.WireError.TheVariants.{Truncated, LongVarint, BadField, GroupWire, BadWire}
+use Rattle.seg_core.specs.declared.error.SegError.{SegError}
+use Rattle.seg_core.specs.declared.error.SegError.TheVariants.{NoMemory, Wire, KindOfField, RepeatedMessage, MissingField, Range, Chain, Loop, Entries, BadType, TooLarge}
+use Rattle.path_commands.specs.declared.lookup.LookupError.{LookupError}
+use Rattle.path_commands.specs.declared.lookup.LookupError.TheVariants.{Wildcard, NoCore}
+
+-- want of memory
+abbrev pub memory_code : ℕ
+memory_code = 0x01
+
+-- no place is left for a command
+abbrev pub exhausted_code : ℕ
+exhausted_code = 0x55
+
+abbrev pub wire_code : WireError → ℕ
+wire_code Truncated = 0x11
+wire_code LongVarint = 0x12
+wire_code BadField = 0x13
+wire_code GroupWire = 0x14
+wire_code BadWire = 0x15
+
+abbrev pub seg_code : SegError → ℕ
+seg_code NoMemory = 0x01
+seg_code (Wire e) = wire_code e
+seg_code KindOfField = 0x22
+seg_code RepeatedMessage = 0x23
+seg_code MissingField = 0x24
+seg_code Range = 0x25
+seg_code Chain = 0x26
+seg_code Loop = 0x27
+seg_code Entries = 0x28
+seg_code BadType = 0x29
+seg_code TooLarge = 0x2a
+
+abbrev pub lookup_code : LookupError → ℕ
+lookup_code Wildcard = 0x41
+lookup_code NoCore = 0x43

@@ -1,0 +1,48 @@
+-- A list of core ASes as a text: ISD-AS texts joined by commas.
+use Rattle.std.specs.Prelude.{◌≡◌, ℕ, List, ◌∷◌, ◌++◌, ◌==◌}
+use Rattle.std.specs.List.{AllZip, slice_split}
+use Rattle.isd_as.specs.declared.number.IsdAs.{IsdAs}
+use Rattle.isd_as.specs.declared.fault.IaError.{IaError}
+use Rattle.isd_as.specs.declared.fault.IaError.TheVariants.{BadText, TooLarge}
+use Rattle.isd_as.specs.Text.{IsIsdAsText, IsInGrammar, IsTooLargeText}
+use Rattle.path_commands.specs.declared.fault.Fault.{Fault}
+use Rattle.path_commands.specs.declared.fault.Fault.TheVariants as fault
+
+-- what stands between the commas
+abbrev pub texts_of : List ℕ → List (List ℕ)
+texts_of list = slice_split (λ byte. byte == 0x2c) list
+
+-- each text, with its ISD-AS
+abbrev pub AreCores : List (List ℕ) → List IsdAs → Type 0
+AreCores texts cores = AllZip IsIsdAsText texts cores
+
+-- why a text is no ISD-AS
+abbrev pub IsRefused : List ℕ → IaError → Type 0
+IsRefused text BadText = ¬ IsInGrammar text
+IsRefused text TooLarge = IsTooLargeText text
+
+-- the program's fault for such a text
+abbrev pub RefusesText : List ℕ → Fault → Type 0
+RefusesText text (fault.Text e) = IsRefused text e
+RefusesText text fault.Memory = ⊥
+RefusesText text fault.Hex = ⊥
+RefusesText text (fault.Frame e) = ⊥
+RefusesText text fault.Output = ⊥
+
+-- The first text that is no ISD-AS, and why.
+pub record FirstRefusal (texts : List (List ℕ)) (e : IaError) : Type 0 where
+  pub front : List (List ℕ)
+  pub cores : List IsdAs
+  pub text : List ℕ
+  pub rest : List (List ℕ)
+  pub parts : texts ≡ front ++ text ∷ rest
+  pub before : AreCores front cores
+  pub refused : IsRefused text e
+
+-- why a list is refused, unless memory ran out
+abbrev pub RefusesList : List ℕ → Fault → Type 0
+RefusesList list (fault.Text e) = FirstRefusal (texts_of list) e
+RefusesList list fault.Memory = Unit {0}
+RefusesList list fault.Hex = ⊥
+RefusesList list (fault.Frame e) = ⊥
+RefusesList list fault.Output = ⊥

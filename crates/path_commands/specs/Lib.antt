@@ -1,0 +1,17 @@
+pub mod Rows
+pub mod Row
+pub mod Outcome
+pub mod RowLaws
+pub mod Lookup
+pub mod Query
+pub mod LookupLaws
+pub mod Codes
+pub mod Refusal
+pub mod Memory
+pub mod Replies
+pub mod Session
+pub mod SessionLaws
+pub mod HexInput
+pub mod Fault
+pub mod Cores
+pub mod HexSession
