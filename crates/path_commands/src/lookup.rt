@@ -116,7 +116,7 @@ pub fn answer(alloc: Global, rows: &Rows, query: &Query) -> Result<Vec<Segment>,
             break;
         }
         if query.matches(row) {
-            found.push(row.segment.try_clone(alloc)?)?;
+            found.push(row.segment.try_clone()?)?;
         }
     }
     Ok(found)
