@@ -1,5 +1,5 @@
 -- The replies of a session where memory suffices: for the laws.
-use Rattle.std.proofs.Common.{◌≡◌, ℕ, suc, inl, inr, List, [], ◌∷◌, ◌++◌, Option, Some, None, Ok, Contains, refl, sym, ap, subst, ◌∙◌, arith}
+use Rattle.std.proofs.Common.{◌≡◌, ℕ, suc, inl, inr, List, [], ◌∷◌, ◌++◌, Option, Some, None, refl, sym, ap, subst, ◌∙◌, arith}
 use Rattle.std.specs.List.{FoldsTo, flat_map, concat}
 use Rattle.std.specs.Io.KnownBytes.{Consumes, Appends, IsAtEnd}
 use Rattle.std.proofs.KnownBytes.{Consumes-nil, Consumes-trans}
@@ -7,10 +7,9 @@ use Rattle.std.proofs.lemmas.List.{append-nil}
 use Rattle.std.proofs.lemmas.List.Folds.{flat_map-map}
 use Rattle.session_core.specs.Frames.{MessageView, Rest, IsPartial, AreWholeFrames, AreFrames}
 use Rattle.session_core.specs.Reply.{ReplyView, reply_frame}
-use Rattle.session_core.specs.Service.{Exchange, messages_of, replies_of, reply_frames, AreAnswered}
+use Rattle.session_core.specs.Service.{Exchange, messages_of, replies_of, AreAnswered}
 use Rattle.session_core.proofs.OneDecoding.{one_decoding_of}
 use Rattle.path_commands.specs.Memory.{Served, opening, message_step, Answers}
-use Rattle.path_commands.specs.Session.{IsSession}
 use Rattle.path_commands.specs.SessionLaws.{replies_from, session_replies, HasMemory, OnlyReplies, WholeSession}
 
 -- ---- replies

@@ -1,5 +1,5 @@
 -- The replies of the calls that judge a message.
-use Rattle.std.specs.Prelude.{Result, Ok, Err, List, Vec}
+use Rattle.std.specs.Prelude.{Result, Ok, Err, Vec}
 use Rattle.seg_core.specs.declared.seg_type.SegType.{SegType}
 use Rattle.seg_core.specs.SegmentView.{SegmentView}
 use Rattle.session_core.specs.declared.service.Ack.{Ack}
