@@ -3,6 +3,7 @@
 
     frames.py pairs N           N times the worked segment's registration and its lookup
     frames.py registrations N   N times one registration of 16 segments of 8 entries
+    frames.py segment N         one segment of N entries, without a frame
 """
 import pathlib
 import sys
@@ -50,6 +51,9 @@ def frame(kind, message):
 
 def main():
     what, times = sys.argv[1], int(sys.argv[2])
+    if what == "segment":
+        sys.stdout.buffer.write(segment(0, times))
+        return
     if what == "pairs":
         once = bytes.fromhex("".join((ROOT / "crates/pathd/stdin").read_text().split()))
     else:

@@ -12,13 +12,16 @@ pub fn one_decoding()
 
 /// Any bytes are the frames of some messages, and end in some way.
 pub fn some_decoding()
-    ensures { (bytes : List ℕ) → ((i : ℕ) → slice_index bytes i < 256) → (messages : List MessageView) × (ending : Ending) × AreFrames bytes messages ending }
+    ensures { (bytes : List ℕ) → ((i : ℕ) → slice_index bytes i < 256)
+        → (messages : List MessageView) × (ending : Ending) × AreFrames bytes messages ending }
 {}
 
 /// A fault stays, and the messages before it, whatever comes behind.
 pub fn lasting_fault()
-    ensures length { (bytes more : List ℕ) (messages : List MessageView) → AreFrames bytes messages BadLength → AreFrames (bytes ++ more) messages BadLength }
-    ensures kind { (bytes more : List ℕ) (messages : List MessageView) → AreFrames bytes messages BadKind → AreFrames (bytes ++ more) messages BadKind }
+    ensures length { (bytes more : List ℕ) (messages : List MessageView) → AreFrames bytes messages BadLength
+        → AreFrames (bytes ++ more) messages BadLength }
+    ensures kind { (bytes more : List ℕ) (messages : List MessageView) → AreFrames bytes messages BadKind
+        → AreFrames (bytes ++ more) messages BadKind }
 {}
 
 /// However a stream is cut, its pieces bring what the whole stream is.
