@@ -1,4 +1,4 @@
--- The texts of a list, one after the other.
+-- The texts of a list, one after the other: for `cores_of`.
 use Rattle.std.proofs.Common.{◌≡◌, ℕ, ◌+◌, ◌<◌, List, [], ◌∷◌, ◌++◌, length, take, drop, map, get_or, sym, ap, subst, ◌∙◌, take-append-drop}
 use Rattle.std.proofs.lemmas.List.{map_more, map-append, drop_more}
 use Rattle.isd_as.specs.declared.number.IsdAs.{IsdAs}

@@ -1,4 +1,4 @@
--- The first and the last entry of a segment.
+-- The first and the last entry of a segment: for `begins_at` and `ends_at`.
 use Rattle.std.proofs.Common.{◌≡◌, ℕ, ◌-◌, List, [], ◌∷◌, length, Option, Some, None, Bor, refl, sym, ap, ◌∙◌, arith}
 use Rattle.std.specs.List.{slice_get}
 use Rattle.std.specs.Option.{option_map, option_copied, option_or}

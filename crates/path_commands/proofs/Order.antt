@@ -1,4 +1,4 @@
--- The order of keys, and what is under a key in rising rows.
+-- The order of keys, and what is under a key in rising rows: for the puts and their laws.
 use Rattle.std.proofs.Common.{◌≡◌, ℕ, zero, suc, ◌<◌, ◌≤◌, List, [], ◌∷◌, length, get_or, set, if◌then◌else◌, refl, ap, ◌∙◌, arith}
 use Rattle.std.specs.List.{AllByRecursion, insert}
 use Rattle.std.specs.Ordering.{ordering_reverse}

@@ -1,4 +1,4 @@
--- What an answer shows.
+-- What an answer shows: for `database_laws` and `answer`.
 use Rattle.std.proofs.Common.{◌≡◌, ℕ, zero, suc, ◌≤◌, Bool, true, false, List, [], ◌∷◌, ◌++◌, length, take, drop, cond, refl, sym, ap, ◌∙◌, subst, arith}
 use Rattle.std.specs.List.{Contains, filter}
 use Rattle.std.proofs.lemmas.List.{length-take, take-append-drop, take-map, map-append}

@@ -1,8 +1,8 @@
 //! Input as hexadecimal text.
 
-ghost use Rattle.std.specs.Prelude.{◌≡◌, ◌⊎◌, Ok, IfOk, IfErr, IsErr};
+ghost use Rattle.std.specs.Prelude.{◌≡◌, Ok, IfOk, IfErr};
 ghost use Rattle.hex.specs.Hex.{decode_of};
-ghost use Rattle.path_commands.specs.HexInput.{is_blank, without_blanks};
+ghost use Rattle.path_commands.specs.HexInput.{is_blank, without_blanks, RefusesHex};
 
 use crate::fault::Fault;
 use hex::FromHexError;
@@ -11,7 +11,7 @@ use std::alloc::Global;
 /// The bytes of a hexadecimal text, whose spaces and ends of lines count for nothing, even between two digits.
 pub fn bytes_of(alloc: Global, text: &[u8]) -> Result<Vec<u8>, Fault>
     ensures ok { IfOk result (λ bytes. decode_of (without_blanks text.now) ≡ Ok bytes.items) }
-    ensures err { IfErr result (λ e. (e ≡ Fault.Memory) ⊎ ((e ≡ Fault.Hex) × IsErr (decode_of (without_blanks text.now)))) }
+    ensures err { IfErr result (RefusesHex text.now) }
 {
     let digits: Vec<u8> = text
         .iter()
