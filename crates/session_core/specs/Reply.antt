@@ -8,6 +8,7 @@ use Rattle.seg_core.specs.Encoding.{response_encoding}
 use Rattle.session_core.specs.declared.service.Ack.{Ack}
 use Rattle.hex.specs.Hex.{encode_lower}
 use Rattle.session_core.specs.declared.reply.Form.{Form}
+use Rattle.session_core.specs.declared.reply.TheConstants.{MOST_REPLY}
 use Rattle.session_core.specs.declared.reply.Form.TheVariants.{Frames, Lines}
 use Rattle.session_core.specs.Frames.{frame_encoding}
 
@@ -41,4 +42,4 @@ told_as Lines reply = encode_lower (reply_frame reply) ++ 0x0a ∷ []
 
 -- a reply fits its frame
 abbrev pub HasReplySize : ReplyView → Type 0
-HasReplySize reply = length (reply_content reply) ≤ 1114112
+HasReplySize reply = length (reply_content reply) ≤ MOST_REPLY

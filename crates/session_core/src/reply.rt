@@ -18,6 +18,9 @@ const FOUND: u8 = 0x82;
 
 const REFUSED: u8 = 0xff;
 
+/// The greatest length of a reply's frame: its kind, and what belongs to it.
+pub const MOST_REPLY: usize = 1_114_112;
+
 /// The bytes of an acknowledgement's frame: its length, the kind, the place and four counts.
 pub(crate) const ACK_FRAME: usize = 29;
 
@@ -72,7 +75,7 @@ pub(crate) fn refusal_frame(code: Code) -> [u8; 6]
 
 /// The length and the kind that stand before a response of so many bytes.
 pub(crate) fn found_head(response: usize) -> [u8; 5]
-    requires { response ≤ 1114111 }
+    requires { response < MOST_REPLY }
     ensures { (body : List ℕ) → length body ≡ response → result ++ body ≡ frame_encoding (0x82 ∷ body) }
 {
     let mut head = [0; 5];
