@@ -5,7 +5,7 @@ ghost use Rattle.std.specs.List.{AllByRecursion};
 ghost use Rattle.std.specs.Option.{option_map};
 ghost use Rattle.isd_as.specs.IsdAs.{number_of};
 ghost use Rattle.seg_core.specs.EntryView.{entry_view, entry_views};
-ghost use Rattle.seg_core.specs.Encoding.{IsSegment, referred};
+ghost use Rattle.seg_core.specs.Encoding.{IsSegment, referred_rows};
 ghost use Rattle.pathd.specs.Row.{row_view};
 ghost use Rattle.pathd.specs.Lookup.{query_of, has_zero_part, is_core, begins_at, ends_at, is_at, matches, answer_of};
 ghost use Rattle.pathd.specs.Query.{query_view, query_read};
@@ -120,8 +120,8 @@ pub fn answer<'a>(
     rows: &'a Rows,
     query: &Query,
 ) -> Result<Vec<(SegType, &'a Segment)>, AllocError>
-    ensures same { IfOk result (λ found. referred found.items ≡ answer_of rows.now (query_view query.now)) }
-    ensures whole { IfOk result (λ found. AllByRecursion (λ row. IsSegment row.1) (referred found.items)) }
+    ensures same { IfOk result (λ found. referred_rows found.items ≡ answer_of rows.now (query_view query.now)) }
+    ensures whole { IfOk result (λ found. AllByRecursion (λ row. IsSegment row.1) (referred_rows found.items)) }
 {
     let mut found = Vec::new(alloc);
     for row in rows.as_slice() {
