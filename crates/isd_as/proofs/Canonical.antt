@@ -25,7 +25,7 @@ unfolding digits
 length-hex n h = length-onto 3 63 n [] h (omega arith)
 
 group_says : (n : ℕ) → n < 2 ^ 16 → IsHexGroup (digits 16 false n) n
-group_says n h = let says = digits_is_IsNumeral 16 false (omega arith) (omega arith) n (omega arith) in (says.0, length-hex n h, says.1)
+group_says n h = let says = digits_is_IsNumeral 16 false (omega arith) (omega arith) n (omega arith) in record { numeral = says.0; short = length-hex n h; number_is = says.1 }
 
 -- an AS of 48 bits is what its canonical text says
 as_says : (n : ℕ) → n < 2 ^ 48 → (number : AsNumber) × IsAsText (as_text n) number × FitsAs number × (n ≡ as_number number)

@@ -49,9 +49,9 @@ number_refused k radix text low h p =
 -- a group fits 16 bits
 pub hex_group_fits : (text : List ℕ) (n : ℕ) → IsHexGroup text n → n < 2 ^ 16
 hex_group_fits text n h =
-    let value : digits_value 16 text < 16 ^ length text = digits_value-lt 16 text h.0.1 in
-    let most : 16 ^ length text ≤ 16 ^ 4 = pow-le-pow_right (omega arith) h.1 in
-    omega (arith, h.2)
+    let value : digits_value 16 text < 16 ^ length text = digits_value-lt 16 text h.numeral.1 in
+    let most : 16 ^ length text ≤ 16 ^ 4 = pow-le-pow_right (omega arith) h.short in
+    omega (arith, h.number_is)
 
 -- so each group is read
 pub hex_group_read : {E : Type 0} (text : List ℕ) (r : Result ℕ E) (o : Option ℕ) → ParsesUnsigned 16 16 text r → o ≡ result_ok r → IfNone o ((n : ℕ) → ¬ IsHexGroup text n)
@@ -59,6 +59,6 @@ hex_group_read text (Ok x) o p e = subst (λ v. IfNone v ((n : ℕ) → ¬ IsHex
 hex_group_read text (Err x) o p e =
     subst (λ v. IfNone v ((n : ℕ) → ¬ IsHexGroup text n)) (sym e)
     (λ n h.
-    let large = number_refused 16 16 text (omega arith) h.0 p in
+    let large = number_refused 16 16 text (omega arith) h.numeral p in
     let small = hex_group_fits text n h in
-    omega (arith, h.2))
+    omega (arith, h.number_is))

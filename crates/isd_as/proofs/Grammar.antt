@@ -20,11 +20,11 @@ groups_joined g = g.joined ∙ simp append_assoc
 -- the same groups, in hexadecimal or in decimal
 groups_once : (text : List ℕ) (a b c x y z : ℕ) → AreHexGroups text a b c → AreHexGroups text x y z → Groups a b c ≡ Groups x y z
 groups_once text a b c x y z g k =
-    let outer = cut_once 16 58 g.first _ k.first _ (omega arith) g.first_says.0.1 k.first_says.0.1 (sym (groups_joined g) ∙ groups_joined k) in
-    let inner = cut_once 16 58 g.second g.third k.second k.third (omega arith) g.second_says.0.1 k.second_says.0.1 outer.1 in
-    let one : a ≡ x = sym g.first_says.2 ∙ ap (digits_value 16) outer.0 ∙ k.first_says.2 in
-    let two : b ≡ y = sym g.second_says.2 ∙ ap (digits_value 16) inner.0 ∙ k.second_says.2 in
-    let three : c ≡ z = sym g.third_says.2 ∙ ap (digits_value 16) inner.1 ∙ k.third_says.2 in
+    let outer = cut_once 16 58 g.first _ k.first _ (omega arith) g.first_says.numeral.1 k.first_says.numeral.1 (sym (groups_joined g) ∙ groups_joined k) in
+    let inner = cut_once 16 58 g.second g.third k.second k.third (omega arith) g.second_says.numeral.1 k.second_says.numeral.1 outer.1 in
+    let one : a ≡ x = sym g.first_says.number_is ∙ ap (digits_value 16) outer.0 ∙ k.first_says.number_is in
+    let two : b ≡ y = sym g.second_says.number_is ∙ ap (digits_value 16) inner.0 ∙ k.second_says.number_is in
+    let three : c ≡ z = sym g.third_says.number_is ∙ ap (digits_value 16) inner.1 ∙ k.third_says.number_is in
     cc
 
 -- groups are no decimal number
@@ -65,7 +65,7 @@ pub record AreTwoGroups (text : List ℕ) (middle low : ℕ) : Type 0 where
 -- where the first colon stands, a group ends and two follow
 pub groups_cut : (text : List ℕ) (high middle low : ℕ) (r : Option (Bor (List ℕ) × Bor (List ℕ))) → IsSplitOnceResult 58 text r → AreHexGroups text high middle low → MatchOption r ⊥ (λ x. IsHexGroup x.0.now high × AreTwoGroups x.1.now middle low)
 groups_cut text high middle low r h g =
-    parts r (split_after 58 text g.first _ r h (omega arith) (groups_joined g) (digits_lack 16 58 g.first (omega arith) g.first_says.0.1))
+    parts r (split_after 58 text g.first _ r h (omega arith) (groups_joined g) (digits_lack 16 58 g.first (omega arith) g.first_says.numeral.1))
   where
     parts : (r : Option (Bor (List ℕ) × Bor (List ℕ))) → MatchOption r ⊥ (λ x. (x.0.now ≡ g.first) × (x.1.now ≡ g.second ++ 58 ∷ g.third)) → MatchOption r ⊥ (λ x. IsHexGroup x.0.now high × AreTwoGroups x.1.now middle low)
     parts None p = p
@@ -76,7 +76,7 @@ groups_cut text high middle low r h g =
 
 pub two_groups_cut : (text : List ℕ) (middle low : ℕ) (r : Option (Bor (List ℕ) × Bor (List ℕ))) → IsSplitOnceResult 58 text r → AreTwoGroups text middle low → MatchOption r ⊥ (λ x. IsHexGroup x.0.now middle × IsHexGroup x.1.now low)
 two_groups_cut text middle low r h g =
-    parts r (split_after 58 text g.second g.third r h (omega arith) g.joined (digits_lack 16 58 g.second (omega arith) g.second_says.0.1))
+    parts r (split_after 58 text g.second g.third r h (omega arith) g.joined (digits_lack 16 58 g.second (omega arith) g.second_says.numeral.1))
   where
     parts : (r : Option (Bor (List ℕ) × Bor (List ℕ))) → MatchOption r ⊥ (λ x. (x.0.now ≡ g.second) × (x.1.now ≡ g.third)) → MatchOption r ⊥ (λ x. IsHexGroup x.0.now middle × IsHexGroup x.1.now low)
     parts None p = p
@@ -91,11 +91,11 @@ pub as_fails : (text : List ℕ) (front back : Bor (List ℕ)) (e : IaError) →
 as_fails text front back TooLarge h d r =
     record {
       isd = digits_value 10 front.now;
-      number = r.0;
-      says = says_from text front.now back.now _ r.0 (split_parts 45 text (Some (front, back)) h (omega arith)).0 (d, refl) r.1;
-      large = inr r.2;
+      number = r.number;
+      says = says_from text front.now back.now _ r.number (split_parts 45 text (Some (front, back)) h (omega arith)).0 (d, refl) r.says;
+      large = inr r.large;
     }
-as_fails text front back BadText h d r = λ g. r g.1 (says_cut text g.0 g.1 (Some (front, back)) h g.2).1
+as_fails text front back BadText h d r = λ g. r g.number (says_cut text g.isd g.number (Some (front, back)) h g.says).1
 
 -- an answer is the only one
 pub reads_only : (text : List ℕ) (r : Result IsdAs IaError) (ia : IsdAs) → Reads text r → IsIsdAsText text ia → r ≡ Ok ia
@@ -109,9 +109,9 @@ reads_only text (Err TooLarge) ia h k =
     fits_or_large : (n : AsNumber) → FitsAs n → IsLargeAs n → ⊥
     fits_or_large (Decimal n) p q = omega arith
     fits_or_large (Groups x y z) p q = q
-reads_only text (Err BadText) ia h k = absurd (h (ia.isd, k.number, k.says))
+reads_only text (Err BadText) ia h k = absurd (h (record { isd = ia.isd; number = k.number; says = k.says }))
 
 pub too_large_only : (text : List ℕ) (r : Result IsdAs IaError) → Reads text r → (IsErrOf r TooLarge) ↔ IsTooLargeText text
 too_large_only text (Ok found) h = (λ e. absurd cc, λ large. let same : ◌≡◌ {A = Result IsdAs IaError} (Err TooLarge) (Ok found) = reads_only text (Err TooLarge) found large h in absurd cc)
 too_large_only text (Err TooLarge) h = (λ _. h, λ _. refl)
-too_large_only text (Err BadText) h = (λ e. absurd cc, λ large. absurd (h (large.isd, large.number, large.says)))
+too_large_only text (Err BadText) h = (λ e. absurd cc, λ large. absurd (h (record { isd = large.isd; number = large.number; says = large.says })))

@@ -5,10 +5,23 @@ use Rattle.isd_as.specs.declared.fault.IaError.TheVariants.{BadText, TooLarge}
 use Rattle.isd_as.specs.declared.number.IsdAs.{IsdAs}
 use Rattle.isd_as.specs.Text.{AsNumber, FitsAs, IsAsText, IsInGrammar, IsIsdAsText, IsLargeAs, IsTooLargeText, as_number}
 
+-- the text says an AS that fits, and this is its number
+pub record SaysAs (text : List ℕ) (n : ℕ) : Type 0 where
+  pub number : AsNumber
+  pub says : IsAsText text number
+  pub fits : FitsAs number
+  pub number_is : n ≡ as_number number
+
+-- the text says an AS that is too large
+pub record SaysLargeAs (text : List ℕ) : Type 0 where
+  pub number : AsNumber
+  pub says : IsAsText text number
+  pub large : IsLargeAs number
+
 -- what reading an AS answers: a number that fits, or how the text fails
 abbrev pub ReadsAs : List ℕ → Result ℕ IaError → Type 0
-ReadsAs text (Ok n) = (number : AsNumber) × IsAsText text number × FitsAs number × (n ≡ as_number number)
-ReadsAs text (Err TooLarge) = (number : AsNumber) × IsAsText text number × IsLargeAs number
+ReadsAs text (Ok n) = SaysAs text n
+ReadsAs text (Err TooLarge) = SaysLargeAs text
 ReadsAs text (Err BadText) = (number : AsNumber) → ¬ IsAsText text number
 
 -- what reading a text answers: the ISD-AS that it says, or how it fails

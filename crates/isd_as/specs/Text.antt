@@ -9,8 +9,10 @@ abbrev pub IsDecimal : List ℕ → ℕ → Type 0
 IsDecimal text n = IsNumeral 10 text × (digits_value 10 text ≡ n)
 
 -- 1 to 4 hexadecimal digits of either case, and the 16 bits that they say
-abbrev pub IsHexGroup : List ℕ → ℕ → Type 0
-IsHexGroup text n = IsNumeral 16 text × (length text ≤ 4) × (digits_value 16 text ≡ n)
+pub record IsHexGroup (text : List ℕ) (n : ℕ) : Type 0 where
+  pub numeral : IsNumeral 16 text
+  pub short : length text ≤ 4
+  pub number_is : digits_value 16 text ≡ n
 
 -- three groups of 16 bits joined by colons, the highest first
 pub record AreHexGroups (text : List ℕ) (high middle low : ℕ) : Type 0 where
@@ -40,8 +42,10 @@ pub record Says (text : List ℕ) (isd : ℕ) (number : AsNumber) : Type 0 where
   pub back_says : IsAsText back number
 
 -- the text is in the grammar, whatever its numbers
-abbrev pub IsInGrammar : List ℕ → Type 0
-IsInGrammar text = (isd : ℕ) × (number : AsNumber) × Says text isd number
+pub record IsInGrammar (text : List ℕ) : Type 0 where
+  pub isd : ℕ
+  pub number : AsNumber
+  pub says : Says text isd number
 
 -- the AS fits: a decimal one 32 bits, and groups always do
 abbrev pub FitsAs : AsNumber → Type 0

@@ -1,6 +1,7 @@
--- Encoding a number from its low bits on: what was pushed so far, and what is left of the number. For `push_varint`.
-use Rattle.std.proofs.Common.{◌≡◌, ℕ, zero, suc, ◌+◌, ◌*◌, ◌/◌, ◌%◌, ◌-◌, ◌<◌, ◌≤◌, List, [], ◌∷◌, ◌++◌, refl, sym, ap, subst, ◌∙◌, append_assoc, arith}
-use Rattle.std.proofs.lemmas.Bool.{lt-ltb, le-ltb}
+-- Encoding a number from its low bits on: what was pushed so far, and what is left of the number. For `push_varint`, and
+-- for functions of other crates that count the bytes of an encoding.
+use Rattle.std.proofs.Common.{◌≡◌, ℕ, zero, suc, ◌+◌, ◌*◌, ◌/◌, ◌%◌, ◌-◌, ◌<◌, ◌≤◌, List, [], ◌∷◌, ◌++◌, length, refl, sym, ap, subst, ◌∙◌, append_assoc, arith, inl, inr}
+use Rattle.std.proofs.lemmas.Bool.{cases_lt, lt-ltb, le-ltb}
 use Rattle.pw_wire.specs.Varint.{encoding_within, varint_encoding}
 
 -- the numbers that have a varint of `left` bytes before the last one
@@ -51,3 +52,22 @@ is_small rest i ge small =
 -- the last byte
 pub ends : (start out : List ℕ) (n rest i : ℕ) → EncodedSoFar start out n rest i → rest < 128 → out ++ rest ∷ [] ≡ start ++ varint_encoding n
 ends start out n rest i encoded lt = ap (λ bytes. out ++ bytes) (sym (encoding-last (9 - i) rest lt)) ∙ encoded.so_far
+
+-- ---- how long an encoding is
+
+encoding-mono : (left m n : ℕ) → m ≤ n → length (encoding_within left m) ≤ length (encoding_within left n)
+unfolding encoding_within
+encoding-mono zero m n le = omega arith
+encoding-mono (suc left) m n le =
+    elim (cases_lt n 128) [
+      | inl lt ↦ let lt' : m < 128 = omega arith in rw (lt-ltb n 128 lt, lt-ltb m 128 lt') (omega arith)
+      | inr ge ↦ elim (cases_lt m 128) [
+        | inl lt ↦ rw (le-ltb n 128 ge, lt-ltb m 128 lt) (omega arith)
+        | inr ge' ↦ rw (le-ltb n 128 ge, le-ltb m 128 ge') (omega (arith, encoding-mono left (m / 128) (n / 128) (omega arith)))
+      ]
+    ]
+
+-- a larger number has no shorter varint
+pub varint_encoding-mono : (m n : ℕ) → m ≤ n → length (varint_encoding m) ≤ length (varint_encoding n)
+unfolding varint_encoding
+varint_encoding-mono m n le = encoding-mono 9 m n le

@@ -10,7 +10,6 @@ use Rattle.pw_wire.specs.declared.error.WireError.TheVariants.{Truncated, LongVa
 use Rattle.pw_wire.specs.Decoding.{◌>>=◌, IsBytes}
 use Rattle.pw_wire.specs.Varint.{IsVarint, BeginsWithVarint, varint_at}
 use Rattle.pw_wire.specs.Field.{FieldValue, Varint, Fixed64, Bytes, Fixed32, FieldView, wire_type, IsValue, IsField, HasNumber, IsTagFault, IsValueFault, in_varint, in_fixed64, in_length, in_bytes, in_fixed32, IsFieldFault, in_tag, at_tag, in_value, BeginsWithField, HasFieldFault, fixed64_at, fixed32_at, bytes_at, number_at, value_at, field_behind, field_at}
-use Rattle.pw_wire.proofs.FieldSizes.{value_size, field_size, small_took}
 use Rattle.pw_wire.proofs.Varints.{bind_ok, bind_err, ok_is, err_is, varint_again, within_took, varint_fault, varint_fault_again}
 
 -- ---- the front
@@ -99,31 +98,30 @@ value_again (Fixed32 n) content rest is =
     let long : ltb (length (content ++ rest)) 4 ≡ false = le-ltb _ _ (omega (arith, length-append content rest, is.0)) in
     value-5 (content ++ rest) ∙ rw (long, take_at content rest 4 is.0, ← is.1, is.0) refl
 
--- a value that was read stands at the front, and bytes are no shorter than in their shortest encoding
+-- a value that was read stands at the front
 pub record TookValue (kind : ℕ) (bytes : List ℕ) (value : FieldValue) (len : ℕ) : Type 0 where
   pub is : IsBytes bytes → IsValue (take len bytes) value
   pub kind_is : kind ≡ wire_type value
   pub within : len ≤ length bytes
-  pub size : length bytes ≤ 16384 → value_size value ≤ len
 
 fixed64_took : (bytes : List ℕ) (found : FieldValue × ℕ) → fixed64_at bytes ≡ Ok found → TookValue 1 bytes found.0 found.1
 fixed64_took bytes found e =
     let g = guard_ok (ltb (length bytes) 8) Truncated (Fixed64 (from_le_bytes w64 (take 8 bytes)), 8) found e in
     let within : 8 ≤ length bytes = ltb-false _ _ g.0 in
-    subst (λ (p : FieldValue × ℕ). TookValue 1 bytes p.0 p.1) g.1 (record { is = λ fits. (length-take-le 8 bytes within, refl); kind_is = refl; within = within; size = λ le. omega arith })
+    subst (λ (p : FieldValue × ℕ). TookValue 1 bytes p.0 p.1) g.1 (record { is = λ fits. (length-take-le 8 bytes within, refl); kind_is = refl; within = within })
 
 fixed32_took : (bytes : List ℕ) (found : FieldValue × ℕ) → fixed32_at bytes ≡ Ok found → TookValue 5 bytes found.0 found.1
 fixed32_took bytes found e =
     let g = guard_ok (ltb (length bytes) 4) Truncated (Fixed32 (from_le_bytes w32 (take 4 bytes)), 4) found e in
     let within : 4 ≤ length bytes = ltb-false _ _ g.0 in
-    subst (λ (p : FieldValue × ℕ). TookValue 5 bytes p.0 p.1) g.1 (record { is = λ fits. (length-take-le 4 bytes within, refl); kind_is = refl; within = within; size = λ le. omega arith })
+    subst (λ (p : FieldValue × ℕ). TookValue 5 bytes p.0 p.1) g.1 (record { is = λ fits. (length-take-le 4 bytes within, refl); kind_is = refl; within = within })
 
 number_took : (bytes : List ℕ) (found : FieldValue × ℕ) → number_at bytes ≡ Ok found → TookValue 0 bytes found.0 found.1
 unfolding number_at
 number_took bytes found e =
     let h = bind_ok (varint_at bytes) (λ n. Ok (Varint n.0, n.1)) found e in
     subst (λ (p : FieldValue × ℕ). TookValue 0 bytes p.0 p.1) (ok_is (Varint h.0.0, h.0.1) found h.2)
-    (record { is = λ fits. (read_varint_is bytes h.0.0 h.0.1 fits h.1).is_front; kind_is = refl; within = (within_took 9 bytes h.0 h.1).within; size = λ le. omega arith })
+    (record { is = λ fits. (read_varint_is bytes h.0.0 h.0.1 fits h.1).is_front; kind_is = refl; within = (within_took 9 bytes h.0 h.1).within })
 
 bytes_took : (bytes : List ℕ) (found : FieldValue × ℕ) → bytes_at bytes ≡ Ok found → TookValue 2 bytes found.0 found.1
 unfolding bytes_at
@@ -140,8 +138,7 @@ bytes_took bytes found e =
     let positive : 1 ≤ k = took.positive in
     let is : IsBytes bytes → BeginsWithVarint (take (k + n) bytes) (length (take n (drop k bytes))) (take n (drop k bytes)) =
     λ fits. record { front = take k bytes; varint = subst (IsVarint (take k bytes)) (sym len) (read_varint_is bytes n k fits h.1).is_front; parts = take-add k n bytes } in
-    let size : length bytes ≤ 16384 → value_size (Bytes (take n (drop k bytes))) ≤ k + n = λ le. rw len (omega (arith, small_took bytes n k h.1 (omega arith))) in
-    subst (λ (p : FieldValue × ℕ). TookValue 2 bytes p.0 p.1) g.1 (record { is = is; kind_is = refl; within = omega arith; size = size })
+    subst (λ (p : FieldValue × ℕ). TookValue 2 bytes p.0 p.1) g.1 (record { is = is; kind_is = refl; within = omega arith })
 
 pub value_took : (kind : ℕ) (bytes : List ℕ) (found : FieldValue × ℕ) → value_at kind bytes ≡ Ok found → TookValue kind bytes found.0 found.1
 value_took zero bytes found e = number_took bytes found (sym (value-0 bytes) ∙ e)
@@ -293,12 +290,11 @@ made_field bytes tag k value m fits read good took =
       content_is = took.is (rest_fits k bytes fits);
     }
 
--- a field that was read stands at the front, and takes no fewer bytes than a field like it does
+-- a field that was read stands at the front
 pub record TookField (bytes : List ℕ) (found : FieldView × ℕ) : Type 0 where
   pub is : IsBytes bytes → IsField bytes found.0.number found.0.value found.1
   pub positive : 1 ≤ found.1
   pub within : found.1 ≤ length bytes
-  pub size : length bytes ≤ 16384 → field_size found.0 ≤ found.1
 
 took_same : (bytes : List ℕ) (found result : FieldView × ℕ) → TookField bytes found → found ≡ result → TookField bytes result
 took_same bytes found result took same = subst (TookField bytes) same took
@@ -323,7 +319,6 @@ field_took bytes found e =
             is = λ fits. made_field bytes tag k b.0.0 b.0.1 fits (read_varint_is bytes tag k fits h.1) good value;
             positive = omega arith;
             within = omega (arith, value.within);
-            size = λ le. omega (arith, value.size (omega arith));
           } in
           took_same bytes (record { number = tag / 8; value = b.0.0 }, k + b.0.1) found took (ok_is (record { number = tag / 8; value = b.0.0 }, k + b.0.1) found b.2)
     ]

@@ -3,6 +3,5 @@ pub mod Messages
 pub mod VarintReading
 pub mod Encoding
 pub mod Varints
-pub mod FieldSizes
 pub mod FieldLemmas
 pub mod NextField

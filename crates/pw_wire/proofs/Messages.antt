@@ -1,9 +1,7 @@
--- The fields and the fault of bytes that begin with a field, and how long such bytes are. For the laws `all_fields` and
+-- The fields and the fault of bytes that begin with a field. For the laws `all_fields` and
 -- `encoded_fields`, and for `NextField`.
-use Rattle.std.proofs.Common.{◌≡◌, ◌≢◌, ◌↔◌, ℕ, zero, suc, ◌+◌, ◌*◌, ◌-◌, ◌^◌, ◌<◌, ◌≤◌, List, [], ◌∷◌, ◌++◌, length, drop, Option, Some, None, Result, Ok, Err, refl, sym, ap, subst, ◌∙◌, append_assoc, arith}
-use Rattle.std.specs.List.{sum_by}
+use Rattle.std.proofs.Common.{◌≡◌, ◌≢◌, ◌↔◌, ℕ, zero, suc, ◌+◌, ◌*◌, ◌^◌, ◌<◌, ◌≤◌, List, [], ◌∷◌, ◌++◌, length, drop, Option, Some, None, Result, Ok, Err, refl, sym, ap, subst, ◌∙◌, append_assoc, arith}
 use Rattle.std.proofs.lemmas.List.{length-append, length-drop, get_or-drop, drop_at}
-use Rattle.std.proofs.lemmas.List.Sums.{sum_by-cons}
 use Rattle.pw_wire.specs.declared.error.WireError.{WireError}
 use Rattle.pw_wire.specs.declared.error.WireError.TheVariants.{Truncated}
 use Rattle.pw_wire.specs.Decoding.{◌>>=◌, IsBytes}
@@ -12,8 +10,7 @@ use Rattle.pw_wire.specs.Field.{Varint, Bytes, FieldView, varint_field, bytes_fi
 use Rattle.pw_wire.specs.Fields.{AreFields, AreFieldsUntil, fields_from, fault_from, fields_within, fault_within, fields, fault}
 use Rattle.pw_wire.proofs.VarintReading.{within-nil}
 use Rattle.pw_wire.proofs.Varints.{varint_encoding_is}
-use Rattle.pw_wire.proofs.FieldSizes.{field_size}
-use Rattle.pw_wire.proofs.FieldLemmas.{begins_again, field_again, TookField, field_took, fault_again, fault_is}
+use Rattle.pw_wire.proofs.FieldLemmas.{begins_again, field_again, field_took, fault_again, fault_is}
 
 -- ---- one step
 
@@ -164,30 +161,6 @@ whole bytes fs fits =
 pub until : (bytes : List ℕ) (fs : List FieldView) (e : WireError) → IsBytes bytes → (AreFieldsUntil bytes fs e) ↔ ((fault bytes ≡ Some e) × (fields bytes ≡ fs))
 until bytes fs e fits =
     (λ are. are_until fs bytes e are, λ told. subst (λ (gs : List FieldView). AreFieldsUntil bytes gs e) told.1 (subst (Reaches bytes (fields bytes)) told.0 (reaches (length bytes) bytes (omega arith) fits)))
-
--- ---- how long a message is
-
--- what was read and what is behind it are no longer than the bytes
-from-size : (bytes : List ℕ) (read : Result (FieldView × ℕ) WireError) (others : ℕ → List FieldView) → length bytes ≤ 16384
-    → ((found : FieldView × ℕ) → read ≡ Ok found → TookField bytes found) → ((n : ℕ) → sum_by field_size (others n) ≤ length bytes - n)
-    → sum_by field_size (fields_from read others) ≤ length bytes
-from-size bytes (Ok found) others le took rest =
-    let field = took found refl in
-    rw (sum_by-cons field_size found.0 (others found.1)) (omega (arith, rest found.1, field.within, field.size le))
-from-size bytes (Err e) others le took rest = omega arith
-
-within-size : (most : ℕ) (bytes : List ℕ) → length bytes ≤ 16384 → sum_by field_size (fields_within most bytes) ≤ length bytes
-unfolding fields_within
-within-size zero bytes le = omega arith
-within-size (suc most) [] le = omega arith
-within-size (suc most) (b ∷ bytes) le =
-    from-size (b ∷ bytes) (field_at (b ∷ bytes)) (λ n. fields_within most (drop n (b ∷ bytes))) le (λ found e. field_took (b ∷ bytes) found e)
-    (λ n. omega (arith, within-size most (drop n (b ∷ bytes)) (omega (arith, length-drop n (b ∷ bytes))), length-drop n (b ∷ bytes)))
-
--- A message of at most 2 ^ 14 bytes is no shorter than its fields in their shortest encodings.
-pub fields-size : (message : List ℕ) → length message ≤ 16384 → sum_by field_size (fields message) ≤ length message
-unfolding fields
-fields-size message le = within-size (length message) message le
 
 -- ---- encoded fields
 

@@ -13,8 +13,12 @@ pub fn field_or_fault()
     ensures one { (bytes : List ℕ) → IsBytes bytes → bytes ≢ []
         → BeginsWithField bytes ⊎ HasFieldFault bytes }
     ensures not_both { (bytes : List ℕ) → BeginsWithField bytes → HasFieldFault bytes → ⊥ }
-    ensures one_field { (bytes : List ℕ) (m n : ℕ) (v w : FieldValue) (k l : ℕ)
-        → IsField bytes m v k → IsField bytes n w l → (m ≡ n) × (v ≡ w) × (k ≡ l) }
+    ensures one_number { (bytes : List ℕ) (m n : ℕ) (v w : FieldValue) (k l : ℕ)
+        → IsField bytes m v k → IsField bytes n w l → m ≡ n }
+    ensures one_value { (bytes : List ℕ) (m n : ℕ) (v w : FieldValue) (k l : ℕ)
+        → IsField bytes m v k → IsField bytes n w l → v ≡ w }
+    ensures one_length { (bytes : List ℕ) (m n : ℕ) (v w : FieldValue) (k l : ℕ)
+        → IsField bytes m v k → IsField bytes n w l → k ≡ l }
     ensures one_fault { (bytes : List ℕ) (d e : WireError)
         → IsFieldFault bytes d → IsFieldFault bytes e → d ≡ e }
 {}

@@ -8,8 +8,7 @@ use Rattle.pw_wire.specs.Decoding.{IsBytes}
 use Rattle.pw_wire.specs.Varint.{EncodesNumber, varint_encoding}
 use Rattle.pw_wire.specs.Field.{FieldValue, Varint, Fixed64, Bytes, Fixed32, FieldView, IsValue, bytes_field_encoding}
 use Rattle.pw_wire.specs.Fields.{AreFields, fields, fault}
-use Rattle.pw_wire.proofs.Messages.{whole}
-use Rattle.pw_wire.proofs.Varints.{varint_encoding_is}
+use Rattle.pw_wire.proofs.Exports.{whole, varint_encoding_is}
 use Rattle.seg_core.specs.declared.error.SegError.{SegError}
 use Rattle.seg_core.specs.declared.error.SegError.TheVariants as error
 use Rattle.seg_core.specs.declared.shape.FieldKind.{FieldKind}

@@ -4,7 +4,6 @@ pub mod Readings
 pub mod RoundTrip
 pub mod Sizes
 pub mod EncodedFields
-pub mod WireSizes
 pub mod Paths
 pub mod Ranges
 pub mod Noting

@@ -1,5 +1,5 @@
 -- A message of bytes, of any length, is no shorter than the shortest encodings of what stands under its field numbers 1
--- and 2. It serves the law `read_registrations_are_whole`.
+-- and 2. For the laws that what is read is whole.
 use Rattle.std.proofs.Common.{◌≡◌, ℕ, ◌+◌, ◌<◌, ◌≤◌, List, [], ◌∷◌, ◌++◌, length, drop, ap, ◌∙◌, inl, inr, arith, length-append}
 use Rattle.std.specs.Prelude.{◌==◌, if◌then◌else◌}
 use Rattle.std.proofs.lemmas.Bool.{cases_Bool, eqb-true}
@@ -7,11 +7,11 @@ use Rattle.std.proofs.lemmas.List.{length-drop}
 use Rattle.std.proofs.lemmas.List.Sums.{sum_by-append, sum_by-cons}
 use Rattle.pw_wire.specs.Varint.{EncodesNumber}
 use Rattle.pw_wire.specs.Field.{FieldValue, Varint, Fixed64, Bytes, Fixed32, FieldView, IsValue, bytes_field_encoding}
-use Rattle.pw_wire.specs.Fields.{AreFields}
-use Rattle.pw_wire.proofs.Varints.{varint_encoding_shortest}
+use Rattle.pw_wire.specs.Fields.{AreFields, fields}
+use Rattle.pw_wire.proofs.Exports.{varint_encoding_shortest}
 use Rattle.seg_core.specs.Message.{bytes_in, bytes_fields}
 use Rattle.seg_core.proofs.EncodedLengths.{field-length}
-use Rattle.seg_core.proofs.WireSizes.{encoded_len}
+use Rattle.seg_core.proofs.Sizes.{encoded_len, HasRoom}
 
 -- a varint has a byte
 some_byte : (bytes : List ℕ) (n : ℕ) → EncodesNumber bytes n → 1 ≤ length bytes
@@ -41,7 +41,7 @@ field_adds f content is = elim (cases_Bool (f.number == 1)) [
   ]
 ]
 
-pub message-size : (fs : List FieldView) (bytes : List ℕ) → AreFields bytes fs → encoded_len 1 (bytes_fields 1 fs) + encoded_len 2 (bytes_fields 2 fs) ≤ length bytes
+message-size : (fs : List FieldView) (bytes : List ℕ) → AreFields bytes fs → encoded_len 1 (bytes_fields 1 fs) + encoded_len 2 (bytes_fields 2 fs) ≤ length bytes
 message-size [] bytes are = omega arith
 message-size (f ∷ fs) bytes are =
     let is = are.field in
@@ -51,3 +51,6 @@ message-size (f ∷ fs) bytes are =
     rw (sum_by-append (λ bytes. length (bytes_field_encoding 1 bytes)) (if f.number == 1 then bytes_in f.value else []) (bytes_fields 1 fs))
     (rw (sum_by-append (λ bytes. length (bytes_field_encoding 2 bytes)) (if f.number == 2 then bytes_in f.value else []) (bytes_fields 2 fs))
     (omega (arith, parts, is.len_is, tag, others, length-append is.content is.rest, length-drop are.len bytes, field_adds f is.content is.content_is)))
+
+pub message-HasRoom : (message : List ℕ) → AreFields message (fields message) → HasRoom message
+message-HasRoom message are = record { both = message-size (fields message) message are }

@@ -18,13 +18,12 @@ use Rattle.seg_core.specs.Segment.{segment_decoding}
 use Rattle.seg_core.specs.Registration.{MapEntry, rows_of, entry_rows, new_type, segments_decoding, map_entry_decoding, map_decoding, registration_outline, registration_decoding}
 use Rattle.seg_core.specs.Encoding.{IsSegment, segment_encoding}
 use Rattle.seg_core.proofs.Bytes.{message_fields-are, message_fields-fit, bytes_fields-IsBytes, bytes_field_or_empty-IsBytes}
-use Rattle.seg_core.proofs.MessageSizes.{message-size}
+use Rattle.seg_core.proofs.MessageSizes.{message-HasRoom}
 use Rattle.seg_core.proofs.Readings.{step_ok, ok_is, after_message_fields, after_check}
-use Rattle.seg_core.proofs.Sizes.{bytes_field-within, last-length, or_empty-length}
+use Rattle.seg_core.proofs.Sizes.{encoded_len, bytes_field-within, last-length, or_empty-length}
 use Rattle.seg_core.proofs.EncodedFields.{bytes-within}
 use Rattle.seg_core.proofs.Whole.{decoding-IsSegment, decoding-length}
 use Rattle.seg_core.proofs.Rows.{entry_rows-push}
-use Rattle.seg_core.proofs.WireSizes.{encoded_len}
 
 abbrev Row : Type 0
 Row = SegType × SegmentView
@@ -96,19 +95,19 @@ entry_read earlier message entry le are reading =
     let fs = fields message in
     let count = length (entry_rows earlier) in
     let fits = message_fields-fit map_entry_shape message _ entry are reading in
-    let size = message-size fs message (message_fields-are map_entry_shape message _ entry are reading) in
+    let room = message-HasRoom message (message_fields-are map_entry_shape message _ entry are reading) in
     let in_fields = after_message_fields map_entry_shape message _ entry reading in
     let kind = step_ok (new_type earlier (number_field 1 fs)) _ entry in_fields in
     let value = bytes_field_or_empty 2 fs in
     let value_bytes = bytes_field_or_empty-IsBytes 2 fs fits in
     let value_fits = message_fields-fit segments_shape value _ entry value_bytes kind.2 in
-    let value_size = message-size (fields value) value (message_fields-are segments_shape value _ entry value_bytes kind.2) in
+    let value_room = message-HasRoom value (message_fields-are segments_shape value _ entry value_bytes kind.2) in
     let in_value = after_message_fields segments_shape value _ entry kind.2 in
     let messages = bytes_fields 1 (fields value) in
     let segments = step_ok (segments_decoding count messages) _ entry in_value in
     let rows = segments_read kind.0 count messages segments.0 le (bytes_fields-IsBytes 1 (fields value) value_fits) segments.1 in
     let within : encoded_len 1 messages ≤ length message =
-    omega (arith, size, value_size, bytes-within 2 value, or_empty-length 2 (bytes_field 2 fs), last-length 2 (bytes_fields 2 fs)) in
+    omega (arith, room.both, value_room.both, bytes-within 2 value, or_empty-length 2 (bytes_field 2 fs), last-length 2 (bytes_fields 2 fs)) in
     subst (λ entry. AreRegistered count (length message) (rows_of entry.0 entry.1)) (ok_is (kind.0, segments.0) entry segments.2)
     (fewer count (encoded_len 1 messages) (length message) (rows_of kind.0 segments.0) within rows)
 
@@ -143,9 +142,9 @@ outline_read message messages are reading =
     let sized = after_check (nat_le (length message) 131072) TooLarge _ messages reading in
     let le : length message ≤ 131072 = leb-true (length message) 131072 sized.0 in
     let fits = message_fields-fit map_shape message _ messages are sized.1 in
-    let size = message-size fs message (message_fields-are map_shape message _ messages are sized.1) in
+    let room = message-HasRoom message (message_fields-are map_shape message _ messages are sized.1) in
     subst AreOutlined (ok_is (bytes_fields 1 fs) messages (after_message_fields map_shape message _ messages sized.1))
-    (record { are_bytes = bytes_fields-IsBytes 1 fs fits; short = omega (arith, size) })
+    (record { are_bytes = bytes_fields-IsBytes 1 fs fits; short = omega (arith, room.both) })
 
 -- a reading seen in another way
 mapped_ok : {A B : Type 0} (view : A → B) (r : Result A SegError) (y : B) → result_map view r ≡ Ok y → (x : A) × (r ≡ Ok x) × (view x ≡ y)

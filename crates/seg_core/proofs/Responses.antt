@@ -11,7 +11,7 @@ use Rattle.seg_core.specs.declared.seg_type.SegType.{SegType}
 use Rattle.seg_core.specs.declared.seg_type.SegType.TheVariants.{Up, Down, Core}
 use Rattle.seg_core.specs.Registration.{type_number}
 use Rattle.seg_core.specs.SegmentView.{SegmentView}
-use Rattle.seg_core.specs.Encoding.{head_encoding, segment_encoding, segments_encoding, of_type, map_entry_encoding, rows_behind}
+use Rattle.seg_core.specs.Encoding.{head_encoding, segment_encoding, segments_encoding, of_type, map_entry_encoding, referred_rows}
 use Rattle.seg_core.proofs.EncodedLengths.{field-length}
 use Rattle.seg_core.proofs.Written.{field-put, both-put}
 
@@ -34,10 +34,10 @@ abbrev Referring : Type 0
 Referring = SegType × Bor SegmentView
 
 -- what is left of the rows has the next one first
-split_at : (rows : List Referring) (i : ℕ) (row : Referring) → i < length rows → row ≡ get_or rows i row → rows_behind (drop i rows) ≡ (row.0, row.1.now) ∷ rows_behind (drop (i + 1) rows)
+split_at : (rows : List Referring) (i : ℕ) (row : Referring) → i < length rows → row ≡ get_or rows i row → referred_rows (drop i rows) ≡ (row.0, row.1.now) ∷ referred_rows (drop (i + 1) rows)
 split_at rows i row lt is =
     let split : drop i rows ≡ get_or rows i row ∷ drop (i + 1) rows = rw add-one (drop-cons rows i row lt) in
-    ap rows_behind (split ∙ ap (λ r. r ∷ drop (i + 1) rows) (sym is))
+    ap referred_rows (split ∙ ap (λ r. r ∷ drop (i + 1) rows) (sym is))
 
 one_of_type : (kind : SegType) (row : SegType × SegmentView) (rows : List (SegType × SegmentView)) → (type_number row.0 == type_number kind) ≡ true → of_type kind (row ∷ rows) ≡ row.1 ∷ of_type kind rows
 one_of_type kind row rows same = rw same refl
@@ -47,15 +47,15 @@ not_of_type kind row rows other = rw other refl
 
 -- the next row is of the type
 pub segment-next : (kind : SegType) (rows : List Referring) (i : ℕ) (row : Referring) (len : ℕ) (whole out headed done : List ℕ)
-    → i < length rows → row ≡ get_or rows i row → sameb the_type row.0 kind ≡ true → out ++ segments_encoding (of_type kind (rows_behind (drop i rows))) ≡ whole
+    → i < length rows → row ≡ get_or rows i row → sameb the_type row.0 kind ≡ true → out ++ segments_encoding (of_type kind (referred_rows (drop i rows))) ≡ whole
     → len ≡ length (segment_encoding row.1.now) → headed ≡ out ++ head_encoding 1 len → done ≡ headed ++ segment_encoding row.1.now
-    → done ++ segments_encoding (of_type kind (rows_behind (drop (i + 1) rows))) ≡ whole
+    → done ++ segments_encoding (of_type kind (referred_rows (drop (i + 1) rows))) ≡ whole
 segment-next kind rows i row len whole out headed done lt is same so_far long head one =
-    let others = of_type kind (rows_behind (drop (i + 1) rows)) in
+    let others = of_type kind (referred_rows (drop (i + 1) rows)) in
     let first = segment_encoding row.1.now in
-    let left : segments_encoding (of_type kind (rows_behind (drop i rows))) ≡ bytes_field_encoding 1 first ++ segments_encoding others =
+    let left : segments_encoding (of_type kind (referred_rows (drop i rows))) ≡ bytes_field_encoding 1 first ++ segments_encoding others =
     ap (λ rs. segments_encoding (of_type kind rs)) (split_at rows i row lt is)
-    ∙ ap segments_encoding (one_of_type kind (row.0, row.1.now) (rows_behind (drop (i + 1) rows)) (sym (same-type row.0 kind) ∙ same))
+    ∙ ap segments_encoding (one_of_type kind (row.0, row.1.now) (referred_rows (drop (i + 1) rows)) (sym (same-type row.0 kind) ∙ same))
     ∙ flat_map-cons (λ s. bytes_field_encoding 1 (segment_encoding s)) row.1.now others in
     ap (λ xs. xs ++ segments_encoding others) (field-put 1 len first out headed done long head one)
     ∙ append_assoc out (bytes_field_encoding 1 first) (segments_encoding others)
@@ -64,12 +64,12 @@ segment-next kind rows i row len whole out headed done lt is same so_far long he
 
 -- the next row is of another type
 pub other-next : (kind : SegType) (rows : List Referring) (i : ℕ) (row : Referring) (whole out : List ℕ)
-    → i < length rows → row ≡ get_or rows i row → sameb the_type row.0 kind ≡ false → out ++ segments_encoding (of_type kind (rows_behind (drop i rows))) ≡ whole
-    → out ++ segments_encoding (of_type kind (rows_behind (drop (i + 1) rows))) ≡ whole
+    → i < length rows → row ≡ get_or rows i row → sameb the_type row.0 kind ≡ false → out ++ segments_encoding (of_type kind (referred_rows (drop i rows))) ≡ whole
+    → out ++ segments_encoding (of_type kind (referred_rows (drop (i + 1) rows))) ≡ whole
 other-next kind rows i row whole out lt is other so_far =
-    let left : segments_encoding (of_type kind (rows_behind (drop i rows))) ≡ segments_encoding (of_type kind (rows_behind (drop (i + 1) rows))) =
+    let left : segments_encoding (of_type kind (referred_rows (drop i rows))) ≡ segments_encoding (of_type kind (referred_rows (drop (i + 1) rows))) =
     ap (λ rs. segments_encoding (of_type kind rs)) (split_at rows i row lt is)
-    ∙ ap segments_encoding (not_of_type kind (row.0, row.1.now) (rows_behind (drop (i + 1) rows)) (sym (same-type row.0 kind) ∙ other)) in
+    ∙ ap segments_encoding (not_of_type kind (row.0, row.1.now) (referred_rows (drop (i + 1) rows)) (sym (same-type row.0 kind) ∙ other)) in
     ap (λ xs. out ++ xs) (sym left) ∙ so_far
 
 -- ---- the map entry of a type

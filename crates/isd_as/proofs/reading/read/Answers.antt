@@ -8,11 +8,11 @@ use Rattle.isd_as.proofs.Grammar.{as_fails, says_cut, says_from}
 use Rattle.isd_as.proofs.reading.read.Goals as goal
 
 pub returns-in_default : goal.returns-in_default
-returns-in_default c g = says_cut c.args.text.now g.0 g.1 None c.in_default.ensures.cases g.2
+returns-in_default c g = says_cut c.args.text.now g.isd g.number None c.in_default.ensures.cases g.says
 
 pub returns-then-not-is_decimal : goal.returns-then-not-is_decimal
 returns-then-not-is_decimal c g =
-    let cut = says_cut c.args.text.now g.0 g.1 (Some (c.in-Some.front, c.in-Some.back)) c.in-Some.ensures.cases g.2 in
+    let cut = says_cut c.args.text.now g.isd g.number (Some (c.in-Some.front, c.in-Some.back)) c.in-Some.ensures.cases g.says in
     both_ways _ c.if-not-is_decimal.true (c.is_decimal.ensures.1 cut.0.0)
 
 pub returns-in_err-asn : goal.returns-in_err-asn
@@ -29,11 +29,11 @@ returns-in-Ok c =
     let isd = number_read 16 10 c.in-Some.front.now c.in-Ok.isd (omega arith) decimal c.in-Ok.ensures.value.0 in
     let found = c.in_ok-asn.ensures.reads in
     record {
-      number = found.0;
-      says = says_from text c.in-Some.front.now c.in-Some.back.now c.new.result.isd found.0 parts.0 (decimal, isd.0 ∙ sym c.new.ensures.isd) found.1;
+      number = found.number;
+      says = says_from text c.in-Some.front.now c.in-Some.back.now c.new.result.isd found.number parts.0 (decimal, isd.0 ∙ sym c.new.ensures.isd) found.says;
       isd = omega (arith, isd.1, c.new.ensures.isd);
-      fits = found.2;
-      asn = c.new.ensures.asn ∙ found.3;
+      fits = found.fits;
+      asn = c.new.ensures.asn ∙ found.number_is;
     }
 
 pub returns-in-Err : goal.returns-in-Err
@@ -45,7 +45,7 @@ returns-in-Err c =
     let found = c.in_ok-asn.ensures.reads in
     record {
       isd = digits_value 10 front;
-      number = found.0;
-      says = says_from text front c.in-Some.back.now (digits_value 10 front) found.0 parts.0 (decimal, refl) found.1;
+      number = found.number;
+      says = says_from text front c.in-Some.back.now (digits_value 10 front) found.number parts.0 (decimal, refl) found.says;
       large = inl (number_refused 16 10 front (omega arith) decimal c.in-Err.ensures.value.0);
     }
