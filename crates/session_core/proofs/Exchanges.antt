@@ -1,19 +1,18 @@
 -- Messages answered one behind the other: for `answer_all`, `serve_piece` and `serve`.
-use Rattle.std.proofs.Common.{◌≡◌, ℕ, ◌+◌, ◌-◌, ◌^◌, ◌<◌, min, List, [], ◌∷◌, ◌++◌, length, Option, Result, Ok, Err, refl, sym, ap, subst, ◌∙◌, arith, append_assoc}
+use Rattle.std.proofs.Common.{◌≡◌, ℕ, ◌+◌, ◌-◌, ◌^◌, ◌<◌, min, List, [], ◌∷◌, ◌++◌, length, Option, Ok, Err, refl, sym, ap, subst, ◌∙◌, arith, append_assoc}
 use Rattle.std.proofs.lemmas.List.{append-nil, length-append, map-append}
 use Rattle.std.proofs.lemmas.List.Concat.{flat_map-append}
 use Rattle.std.proofs.lemmas.Fn.{FoldsTo-push}
 use Rattle.std.specs.List.{AllByRecursion, FoldsTo}
-use Rattle.std.specs.Io.KnownBytes.{Appends, Keeps}
-use Rattle.std.proofs.KnownBytes.{Appends-nil, Appends-trans, Appends-kept}
+use Rattle.std.specs.Io.KnownBytes.{Appends}
+use Rattle.std.proofs.KnownBytes.{Appends-nil, Appends-trans}
 use Rattle.session_core.specs.declared.error.FrameError.{FrameError}
 use Rattle.session_core.specs.declared.error.FrameError.TheVariants as error
 use Rattle.session_core.specs.Frames.{MessageView, message_frame, IsPartial, AreWholeFrames}
 use Rattle.session_core.specs.Reply.{ReplyView, HasReplySize, told_as}
 use Rattle.session_core.specs.Service.{Exchange, messages_of, replies_of, all_told, AreAnswered}
 use Rattle.session_core.specs.declared.reply.Form.{Form}
-use Rattle.session_core.specs.Session.{Begins, TellsAllBefore, Tells}
-use Rattle.session_core.specs.Answered.{IsFirstAnswered, IsUnanswered, IsFaultAt, GoesOn, AreFrontsAnswered, FailsToWrite}
+use Rattle.session_core.specs.Answered.{IsFirstAnswered, IsFaultAt, AreFrontsAnswered, FailsToWrite}
 use Rattle.session_core.proofs.Streams.{AreWholeFrames-none, AreWholeFrames-append}
 
 -- ---- lists of exchanges

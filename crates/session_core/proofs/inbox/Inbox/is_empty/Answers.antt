@@ -1,4 +1,4 @@
-use Rattle.std.proofs.Common.{◌≡◌, ℕ, ◌-◌, length, drop, arith, ap, sym, ◌∙◌, eq-eqb, eqb-true}
+use Rattle.std.proofs.Common.{◌≡◌, ◌-◌, length, arith, ap, sym, ◌∙◌, eq-eqb, eqb-true}
 use Rattle.std.proofs.lemmas.List.{nil_from_length, length-drop}
 use Rattle.session_core.proofs.inbox.Inbox.is_empty.Goals as goal
 
