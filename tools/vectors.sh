@@ -5,7 +5,7 @@
 #
 # PROGRAM is crates/pathd/out/pathd if left out, which `rt run` builds. A case is the files NAME.args, the program's
 # words, one a line; NAME.in, hexadecimal text, which is standard input as it stands where --hex is among the words,
-# and else spells it; NAME.out, standard output; NAME.err, the line of standard error that begins with `error:`, which
+# and else encodes it; NAME.out, standard output; NAME.err, the line of standard error that begins with `error:`, which
 # is not compared where the status is 2; and NAME.status, the exit status.
 set -u
 

@@ -2,7 +2,8 @@
 
 use thiserror::Error;
 
-/// What ends a session. Earlier replies stand whole, and nothing is written for the frame in which it happened.
+/// What ends a session. After each but `Write` the replies to earlier messages stand whole, and nothing is written for
+/// the frame in which it happened; after `Write` a front of the replies' bytes stands.
 #[derive(Clone, Copy, Debug, PartialEq, Eq, Error)]
 pub enum FrameError {
     /// Memory for a frame ran out.
