@@ -7,8 +7,7 @@ work=$(mktemp -d)
 trap 'rm -rf "$work"' EXIT
 mkdir -p "$work/crates/segments/src"
 for crate in isd_as pw_wire seg_core; do
-  mkdir -p "$work/crates/$crate"
-  cp -r "$root/crates/$crate"/{src,specs,proofs} "$work/crates/$crate/"
+  cp -r "$root/crates/$crate" "$work/crates/" # with what was proved of it, if it was
 done
 printf 'isd_as:\npw_wire: thiserror\nseg_core: isd_as pw_wire thiserror\nsegments: seg_core\n' > "$work/crates.txt"
 cat > "$work/crates/segments/src/main.rt" <<'SOURCE'

@@ -72,24 +72,19 @@ fn seventeen_segments(rt: HostRuntime) -> Result<(), Fail> {
     Ok(())
 }
 
-/// The registration of the worked segment, made at this time.
-fn registration(alloc: Global, timestamp: &str) -> Result<String, Fail> {
+/// The message that registers the worked segment, made at this time, behind a frame's length and kind.
+fn framed(alloc: Global, head: &str, timestamp: &str) -> Result<String, Fail> {
     let entries = REGISTER.split_at(46).1;
     text_of(
         alloc,
-        &[
-            "0000005d010a5a080212560a540a0408",
-            timestamp,
-            "1007",
-            entries,
-        ],
+        &[head, "0a5a080212560a540a0408", timestamp, "1007", entries],
     )
 }
 
 #[test]
 fn newer_timestamp_wins(rt: HostRuntime) -> Result<(), Fail> {
     let alloc = rt.alloc();
-    let mut frames = Vec::new(alloc);
+    let mut input = Vec::new(alloc);
     let mut wanted = String::new(alloc);
     for (timestamp, reply) in [
         (
@@ -109,17 +104,13 @@ fn newer_timestamp_wins(rt: HostRuntime) -> Result<(), Fail> {
             "0000001981000000000000000300000000000000000000000100000000",
         ),
     ] {
-        frames.push(registration(alloc, timestamp)?)?;
+        let frame = framed(alloc, "0000005d01", timestamp)?;
+        input.extend_from_slice(joined(alloc, &[frame.as_str()])?.as_slice())?;
         wanted.push_str(reply)?;
     }
-    let mut texts = Vec::new(alloc);
-    for frame in &frames {
-        texts.push(frame.as_str())?;
-    }
-    texts.push(LOOKUP)?;
-    wanted.push_str("0000005d82")?;
-    wanted.push_str(registration(alloc, "0b")?.as_str().split_at(10).1)?;
-    let (outcome, output) = answer(alloc, texts.as_slice())?;
+    input.extend_from_slice(joined(alloc, &[LOOKUP])?.as_slice())?;
+    wanted.push_str(framed(alloc, "0000005d82", "0b")?.as_str())?;
+    let (outcome, output) = answer_in_pieces(alloc, input.as_slice(), 1_000)?;
     assert_eq!(rt; outcome, Ok(5));
     assert_eq!(rt; output.as_str(), wanted.as_str());
     Ok(())
