@@ -1,5 +1,5 @@
 -- An ISD-AS as 64 bits, and what a pattern with wildcards covers.
-use Rattle.std.specs.Prelude.{◌≡◌, ℕ, ◌+◌, ◌*◌, ◌/◌, ◌%◌, ◌^◌, ◌⊎◌, Bool, ◌==◌, ◌||◌}
+use Rattle.std.specs.Prelude.{◌≡◌, ℕ, ◌+◌, ◌*◌, ◌/◌, ◌%◌, ◌^◌, ◌⊎◌, Bool, ◌==◌, ◌&&◌, ◌||◌}
 use Rattle.isd_as.specs.declared.number.IsdAs.{IsdAs}
 
 -- the 64 bits: the upper 16 are the ISD, the lower 48 the AS
@@ -17,3 +17,11 @@ PartCovers pattern n = (pattern ≡ 0) ⊎ (pattern ≡ n)
 -- both parts of the pattern cover those of the ISD-AS
 abbrev pub Covers : IsdAs → IsdAs → Type 0
 Covers pattern ia = PartCovers pattern.isd ia.isd × PartCovers pattern.asn ia.asn
+
+-- the same of two parts, as a test
+abbrev pub part_covers : ℕ → ℕ → Bool
+part_covers pattern n = pattern == 0 || pattern == n
+
+-- the same of two ISD-ASes by their 64 bits, as a test
+abbrev pub covers_number : ℕ → ℕ → Bool
+covers_number pattern number = part_covers (pattern / 2 ^ 48) (number / 2 ^ 48) && part_covers (pattern % 2 ^ 48) (number % 2 ^ 48)

@@ -1,5 +1,5 @@
 ghost use Rattle.std.specs.Prelude.{◌≡◌, ◌↔◌, IsTrue};
-ghost use Rattle.isd_as.specs.IsdAs.{Covers, has_zero_part, number_of};
+ghost use Rattle.isd_as.specs.IsdAs.{Covers, covers_number, has_zero_part, number_of};
 
 use crate::number::IsdAs;
 
@@ -14,7 +14,8 @@ impl IsdAs {
 
 /// Whether the pattern covers the ISD-AS. A part of the pattern that is 0 covers every number.
 pub fn covers(pattern: IsdAs, ia: IsdAs) -> bool
-    ensures { IsTrue result ↔ Covers pattern ia }
+    ensures parts { IsTrue result ↔ Covers pattern ia }
+    ensures number { result ≡ covers_number (number_of pattern) (number_of ia) }
 {
     (pattern.isd == 0 || pattern.isd == ia.isd) && (pattern.asn == 0 || pattern.asn == ia.asn)
 }

@@ -1,0 +1,160 @@
+//! The database.
+
+ghost use Rattle.std.specs.Prelude.{◌≡◌, ◌-◌, ◌^◌, ◌<◌, [], length, min, not, count_by, if◌then◌else◌, IfOk, OnOk, OnErr};
+ghost use Rattle.std.specs.Option.{option_copied, option_map, is_some};
+ghost use Rattle.path_db.specs.Database.{IsDatabase, key, row_under, rows_len};
+ghost use Rattle.path_db.specs.Put.{database_after_puts, changes_of};
+ghost use Rattle.path_db.specs.Outcome.{outcome_of_puts, outcome_of_drops};
+ghost use Rattle.path_db.specs.Command.{database_after, database_after_purge, database_after_removal, is_valid_beyond, outcome_of, TakesMemory};
+ghost use Rattle.path_db.specs.Row.{row_views};
+
+use crate::command::Command;
+use crate::outcome::Outcome;
+use crate::puts::{index_of, put_all, rows_of};
+use crate::row::Row;
+use crate::row_list::Rows;
+use seg_check::expiry;
+use seg_core::{SegType, Segment};
+use std::alloc::{AllocError, Global};
+use std::marker::Model;
+
+/// A finite map from keys to segments. A key is a type and an id, and keys are in the order of the type's number and then
+/// of the id's bytes. It keeps the allocator that it was made with.
+#[derive(Drop)]
+pub struct PathDb {
+    alloc: Global,
+    rows: Vec<Row>,
+    bytes: u128,
+}
+
+impl Model for PathDb {
+    ghost use Rattle.std.specs.Prelude.{List};
+    ghost use Rattle.path_db.specs.Database.{RowView};
+    ghost use Rattle.path_db.specs.Table.{rows_of_table, IsTable};
+
+    ghost Value = { List RowView };
+
+    ghost view = { rows_of_table };
+
+    ghost invariant = { IsTable };
+}
+
+impl PathDb {
+    /// No rows.
+    pub fn new(alloc: Global) -> PathDb
+        ensures { result ≡ [] }
+    {
+        PathDb {
+            alloc,
+            rows: Vec::new(alloc),
+            bytes: 0,
+        }
+    }
+
+    /// Applies a command, whole or, where memory runs out, not at all. A purge, a removal and a registration of nothing take
+    /// no memory. A segment that is registered is shared with its row.
+    #[tactic(auto, unfolding(crate::specs::Command::database_after, crate::specs::Command::outcome_of))]
+    pub fn apply(&mut self, command: &Command) -> Result<Outcome, AllocError>
+        ensures database { OnOk result (self.new ≡ database_after self.old command.now) }
+        ensures outcome { IfOk result (λ outcome. outcome ≡ outcome_of self.old command.now) }
+        ensures refused { OnErr result (self.new ≡ self.old) }
+        ensures memory { OnErr result (TakesMemory command.now) }
+        ensures whole { IsDatabase self.new }
+    {
+        match command {
+            Command::Register(registration) => self.register(registration.as_slice()),
+            Command::Purge(moment) => Ok(self.purge(*moment)),
+            Command::Remove(kind, id) => Ok(self.remove(*kind, id)),
+        }
+    }
+
+    /// Puts segments one after the other.
+    fn register(&mut self, new: &[(SegType, Segment)]) -> Result<Outcome, AllocError>
+        ensures database { OnOk result (self.new ≡ database_after_puts self.old new.now) }
+        ensures outcome { IfOk result (λ outcome. outcome ≡ outcome_of_puts (changes_of self.old new.now)) }
+        ensures refused { OnErr result (self.new ≡ self.old) }
+        ensures memory { OnErr result (0 < length new.now) }
+        ensures whole { IsDatabase self.new }
+    {
+        let new = rows_of(self.alloc, new)?;
+        self.rows.try_reserve(new.len())?;
+        Ok(put_all(&mut self.rows, &mut self.bytes, new))
+    }
+
+    /// Drops every row that expires at the moment or before.
+    fn purge(&mut self, moment: u64) -> Outcome
+        ensures database { self.new ≡ database_after_purge self.old moment }
+        ensures outcome { result ≡ outcome_of_drops (count_by (λ row. not (is_valid_beyond moment row)) self.old) }
+        ensures whole { IsDatabase self.new }
+    {
+        let before = self.rows.len();
+        self.rows.retain(|row| moment < expiry(&row.segment));
+        self.bytes = bytes_of(&self.rows);
+        Outcome::dropped(before - self.rows.len())
+    }
+
+    /// Drops the row of a type and an id, where there is one.
+    fn remove(&mut self, kind: SegType, id: &[u8; 32]) -> Outcome
+        ensures database { self.new ≡ database_after_removal self.old (key kind id.now) }
+        ensures outcome { result ≡ outcome_of_drops (if is_some (row_under (key kind id.now) self.old) then 1 else 0) }
+        ensures whole { IsDatabase self.new }
+    {
+        match index_of(&self.rows, kind, id) {
+            Ok(at) => {
+                let row = self.rows.remove(at);
+                self.bytes -= u128::from(row.len());
+                Outcome::dropped(1)
+            }
+            Err(_) => Outcome::dropped(0),
+        }
+    }
+
+    /// The segment of a type and an id.
+    pub fn get(&self, kind: SegType, id: &[u8; 32]) -> Option<&Segment>
+        ensures same { option_copied result ≡ option_map (λ row. row.1) (row_under (key kind id.now) self.now) }
+        ensures whole { IsDatabase self.now }
+    {
+        match index_of(&self.rows, kind, id) {
+            Ok(at) => Some(&self.rows[at].segment),
+            Err(_) => None,
+        }
+    }
+
+    /// All rows, in the order of their keys.
+    pub fn rows(&self) -> Rows<'_>
+        ensures same { result ≡ self.now }
+        ensures whole { IsDatabase self.now }
+    {
+        Rows::of(&self.rows)
+    }
+
+    /// The bytes of all rows as records: for each a type in one, a length in four, and the segment's encoding. A greater
+    /// count is told as 2^64 - 1. It costs nothing, as it is kept up to date.
+    pub fn encoded_len(&self) -> u64
+        ensures { result ≡ min (rows_len self.now) (2 ^ 64 - 1) }
+    {
+        u64::try_from(self.bytes).unwrap_or(u64::MAX)
+    }
+
+    /// An equal database, which shares the segments.
+    pub fn try_clone(&self) -> Result<PathDb, AllocError>
+        ensures { IfOk result (λ copy. copy ≡ self.now) }
+    {
+        let mut rows = Vec::with_capacity(self.alloc, self.rows.len())?;
+        for row in &self.rows {
+            rows.push(row.try_clone()?)?;
+        }
+        Ok(PathDb {
+            alloc: self.alloc,
+            rows,
+            bytes: self.bytes,
+        })
+    }
+}
+
+/// The bytes of these rows.
+fn bytes_of(rows: &[Row]) -> u128
+    ensures { result ≡ rows_len (row_views rows.now) }
+{
+    rows.iter().map(|row| u128::from(row.len())).sum()
+}

@@ -1,0 +1,20 @@
+//! The database of a path segment server: a finite map from keys, a type and an id, to segments.
+//!
+//! To the layer above, `PathDb::apply` answers the database that the definition gives after a command and what the command
+//! did, or refuses for want of memory and leaves all as it was. `rows` is the map in the order of its keys, and
+//! `matching` what a lookup shows of it.
+#![tactic(auto)]
+
+mod change;
+mod command;
+mod database;
+mod outcome;
+mod puts;
+mod row;
+mod row_list;
+
+pub use command::{Command, Registration};
+pub use database::PathDb;
+pub use outcome::Outcome;
+pub use row::Row;
+pub use row_list::Rows;
