@@ -4,5 +4,7 @@ mod Order
 mod Rising
 mod Indices
 mod Steps
+mod Shown
+mod Ends
 mod Found
 mod Drops

@@ -1,18 +1,24 @@
 //! The database.
 
-ghost use Rattle.std.specs.Prelude.{◌≡◌, ◌-◌, ◌^◌, ◌<◌, [], length, min, not, count_by, if◌then◌else◌, IfOk, OnOk, OnErr};
+ghost use Rattle.std.specs.Prelude.{◌≡◌, ◌-◌, ◌^◌, ◌<◌, ◌≤◌, [], length, min, not, count_by, if◌then◌else◌, IfOk, OnOk, OnErr};
+ghost use Rattle.std.specs.List.{AllByRecursion};
 ghost use Rattle.std.specs.Option.{option_copied, option_map, is_some};
 ghost use Rattle.path_db.specs.Database.{IsDatabase, key, row_under, rows_len};
 ghost use Rattle.path_db.specs.Put.{database_after_puts, changes_of};
 ghost use Rattle.path_db.specs.Outcome.{outcome_of_puts, outcome_of_drops};
 ghost use Rattle.path_db.specs.Command.{database_after, database_after_purge, database_after_removal, is_valid_beyond, outcome_of, TakesMemory};
 ghost use Rattle.path_db.specs.Row.{row_views};
+ghost use Rattle.path_db.specs.Answer.{answer_of, segments_of};
+ghost use Rattle.seg_core.specs.Encoding.{IsSegment};
+ghost use Rattle.isd_as.specs.IsdAs.{number_of};
 
+use crate::answers::{Wanted, first_shown};
 use crate::command::Command;
 use crate::outcome::Outcome;
 use crate::puts::{index_of, put_all, rows_of};
 use crate::row::Row;
 use crate::row_list::Rows;
+use isd_as::IsdAs;
 use seg_check::expiry;
 use seg_core::{SegType, Segment};
 use std::alloc::{AllocError, Global};
@@ -126,6 +132,30 @@ impl PathDb {
         ensures whole { IsDatabase self.now }
     {
         Rows::of(&self.rows)
+    }
+
+    /// The segments of the first rows by key, at most `limit`, that are of this type, whose first entry `start` covers and
+    /// whose last `end` covers (a part that is 0 covers all), and that expire after `now`, in half seconds since 1970. The
+    /// segments are shared, not copied.
+    pub fn matching(
+        &self,
+        kind: SegType,
+        start: IsdAs,
+        end: IsdAs,
+        now: u64,
+        limit: usize,
+    ) -> Result<Vec<Segment>, AllocError>
+        ensures same { IfOk result (λ found. found.items ≡ segments_of (answer_of limit self.now kind (number_of start) (number_of end) now)) }
+        ensures few { IfOk result (λ found. length found.items ≤ limit) }
+        ensures whole { IfOk result (λ found. AllByRecursion IsSegment found.items) }
+    {
+        let wanted = Wanted {
+            kind,
+            start,
+            end,
+            moment: now,
+        };
+        first_shown(self.alloc, &self.rows, wanted, limit)
     }
 
     /// The bytes of all rows as records: for each a type in one, a length in four, and the segment's encoding. A greater

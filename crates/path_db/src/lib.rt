@@ -5,6 +5,7 @@
 //! `matching` what a lookup shows of it.
 #![tactic(auto)]
 
+mod answers;
 mod change;
 mod command;
 mod database;

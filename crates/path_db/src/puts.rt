@@ -14,10 +14,7 @@ use seg_core::{SegType, Segment};
 use std::alloc::{AllocError, Global};
 
 /// The rows of these segments, in their order, which share them.
-pub(crate) fn rows_of(
-    alloc: Global,
-    new: &[(SegType, Segment)],
-) -> Result<Vec<Row>, AllocError>
+pub(crate) fn rows_of(alloc: Global, new: &[(SegType, Segment)]) -> Result<Vec<Row>, AllocError>
     ensures same { IfOk result (λ rows. row_views rows.items ≡ new.now) }
     ensures whole { IfOk result (λ rows. AreWhole (row_views rows.items)) }
     ensures memory { OnErr result (0 < length new.now) }
