@@ -1,2 +1,5 @@
 pub mod Digest
 pub mod Expiry
+pub mod Signatures
+pub mod Checking
+pub mod Keyed

@@ -1,13 +1,24 @@
 //! The id and the expiry of a path segment, and the check that it is accepted.
 //!
 //! To the layer above, id and expiry are functions of the segment alone, and a check answers exactly the first refusal.
-//! Whose signature is good is the business of a `Verifier`, which is handed in.
+//! Whose signature is good is for a `Verifier` to say, which is handed in.
 #![tactic(auto)]
 
+mod checking;
 mod digest;
+mod error;
 mod expiring;
+mod keyed;
 mod laws;
+mod verifier;
 
+pub use checking::check;
 pub use digest::seg_id;
+pub use error::CheckError;
 pub use expiring::expiry;
-pub use laws::{digests_have_32_bytes, segments_expire_with_a_hop};
+pub use keyed::{Keyed, MOST_KEY, keyed_signature};
+pub use laws::{
+    check_refusals_are_exact, digests_have_32_bytes, keyed_verdicts_are_exact,
+    segments_expire_with_a_hop,
+};
+pub use verifier::{TrustAll, Verifier};

@@ -1,0 +1,51 @@
+-- When a segment is accepted, and which refusal is met first.
+use Rattle.std.specs.Prelude.{◌≡◌, ℕ, ◌<◌, ◌≤◌, List, [], ◌∷◌, ◌++◌, length, Bool, IsTrue, nat_le, if◌then◌else◌, Option, Some, None}
+use Rattle.seg_core.specs.SegmentView.{EntryView, SegmentView}
+use Rattle.seg_core.specs.Encoding.{IsSegment}
+use Rattle.seg_check.specs.declared.error.CheckError.{CheckError}
+use Rattle.seg_check.specs.declared.error.CheckError.TheVariants.{BadSignature, Expired}
+use Rattle.seg_check.specs.Expiry.{expiry_of}
+use Rattle.seg_check.specs.Signatures.{Verdicts, is_verified, AllVerified}
+
+-- ---- what it means
+
+-- A segment is accepted where it is whole, the signature of each entry is good, and it expires later than now.
+pub record IsAccepted (verifies : Verdicts) (now : ℕ) (s : SegmentView) : Type 0 where
+  pub whole : IsSegment s
+  pub verified : AllVerified verifies s.info s.entries
+  pub lasting : now < expiry_of s
+
+-- The entry at this place, counted from 0, is the first whose signature is not good.
+pub record HasFirstBad (verifies : Verdicts) (info : List ℕ) (entries : List EntryView) (at : ℕ) : Type 0 where
+  pub earlier : List EntryView
+  pub entry : EntryView
+  pub later : List EntryView
+  pub stands : entries ≡ earlier ++ entry ∷ later
+  pub place : length earlier ≡ at
+  pub verified : AllVerified verifies info earlier
+  pub unverified : ¬ IsTrue (is_verified verifies info earlier entry)
+
+-- The signature of each entry is good, and the segment has expired.
+pub record HasExpired (verifies : Verdicts) (now : ℕ) (s : SegmentView) : Type 0 where
+  pub verified : AllVerified verifies s.info s.entries
+  pub over : expiry_of s ≤ now
+
+-- ---- the test of it
+
+-- the place of the first of the entries whose signature is not good; the earlier ones stand before them
+abbrev pub first_bad_behind : List EntryView → Verdicts → List ℕ → List EntryView → Option ℕ
+first_bad_behind earlier verifies info [] = None
+first_bad_behind earlier verifies info (e ∷ entries) =
+    if is_verified verifies info earlier e then first_bad_behind (earlier ++ e ∷ []) verifies info entries else Some (length earlier)
+
+abbrev pub first_bad : Verdicts → List ℕ → List EntryView → Option ℕ
+first_bad = first_bad_behind []
+
+-- a bad signature, or else the expiry
+abbrev pub refusal_of : Option ℕ → Bool → Option CheckError
+refusal_of (Some at) expired = Some (BadSignature at)
+refusal_of None expired = if expired then Some Expired else None
+
+-- the first refusal of a segment: the entries in order, then its expiry
+unfoldable pub check_refusal : Verdicts → ℕ → SegmentView → Option CheckError
+check_refusal verifies now s = refusal_of (first_bad verifies s.info s.entries) (nat_le (expiry_of s) now)

@@ -1,0 +1,33 @@
+//! Who says whether a signature is good.
+
+ghost use Rattle.std.specs.Prelude.{◌≡◌, ℕ, List, Bool, true};
+ghost use Rattle.isd_as.specs.IsdAs.{number_of};
+ghost use Rattle.seg_check.specs.Signatures.{referred_pieces};
+
+use isd_as::IsdAs;
+
+/// Judges the signatures of a segment's entries.
+pub trait Verifier {
+    /// What it answers of an ISD-AS, signed bytes, a signature and associated pieces.
+    ghost verifies: { Self → ℕ → List ℕ → List ℕ → List (List ℕ) → Bool };
+
+    /// Whether the signature of the AS over the signed bytes and the associated pieces is good. The pieces are those that the
+    /// signature of an entry covers beside its own bytes: the segment's information, then of each earlier entry, in order,
+    /// the signed bytes and the signature.
+    fn verify(&self, ia: IsdAs, signed: &[u8], signature: &[u8], associated: &[&[u8]]) -> bool
+        ensures { result ≡ verifies self.now (number_of ia) signed.now signature.now (referred_pieces associated.now) };
+}
+
+/// Holds every signature good.
+#[derive(Drop)]
+pub struct TrustAll;
+
+impl Verifier for TrustAll {
+    ghost use Rattle.std.specs.Prelude.{true};
+
+    ghost verifies = { λ _ _ _ _ _. true };
+
+    fn verify(&self, _ia: IsdAs, _signed: &[u8], _signature: &[u8], _associated: &[&[u8]]) -> bool {
+        true
+    }
+}
