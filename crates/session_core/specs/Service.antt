@@ -6,7 +6,7 @@ use Rattle.seg_core.specs.SegmentView.{SegmentView}
 use Rattle.session_core.specs.declared.service.Ack.{Ack}
 use Rattle.session_core.specs.declared.service.Code.{Code}
 use Rattle.session_core.specs.Frames.{MessageView}
-use Rattle.session_core.specs.Reply.{ReplyView, Registered, Found, Refused, told_as}
+use Rattle.session_core.specs.Reply.{ReplyView, Registered, Found, Purged, Removed, Refused, told_as}
 use Rattle.session_core.specs.declared.reply.Form.{Form}
 use Rattle.session_core.specs.declared.reply.Form.TheVariants.{Frames}
 
@@ -17,6 +17,14 @@ reply_to_register (Err code) = Refused code.0
 abbrev pub reply_to_lookup : {A : Type 0} → Result (SegType × Vec SegmentView A) Code → ReplyView
 reply_to_lookup (Ok found) = Found found.0 found.1.items
 reply_to_lookup (Err code) = Refused code.0
+
+abbrev pub reply_to_purge : Result Ack Code → ReplyView
+reply_to_purge (Ok ack) = Purged ack
+reply_to_purge (Err code) = Refused code.0
+
+abbrev pub reply_to_remove : Result Ack Code → ReplyView
+reply_to_remove (Ok ack) = Removed ack
+reply_to_remove (Err code) = Refused code.0
 
 -- a message and the reply to it
 pub record Exchange : Type 0 where

@@ -45,5 +45,13 @@ fn answer<S: Service>(alloc: Global, service: &mut S, message: Message<&[u8]>) -
             Ok((kind, segments)) => Reply::Found(kind, segments),
             Err(code) => Reply::Refused(code),
         },
+        Message::Purge(moment) => match service.purge(moment) {
+            Ok(ack) => Reply::Purged(ack),
+            Err(code) => Reply::Refused(code),
+        },
+        Message::Remove(kind, id) => match service.remove(kind, &id) {
+            Ok(ack) => Reply::Removed(ack),
+            Err(code) => Reply::Refused(code),
+        },
     }
 }
