@@ -1,5 +1,6 @@
 -- What a service answers, message by message.
-use Rattle.std.specs.Prelude.{ℕ, List, map, Result, Ok, Err, Vec}
+use Rattle.std.specs.Prelude.{◌≡◌, ℕ, List, map, Result, Ok, Err, Vec}
+use Rattle.std.specs.Borrow.{MutBor}
 use Rattle.std.specs.List.{FoldsTo, flat_map}
 use Rattle.seg_core.specs.declared.seg_type.SegType.{SegType}
 use Rattle.seg_core.specs.SegmentView.{SegmentView}
@@ -48,3 +49,7 @@ reply_frames exchanges = all_told Frames exchanges
 -- The service answered these messages so, one after the other, and each state was the next one's beginning.
 abbrev pub AreAnswered : {S : Type 0} → (S → MessageView → ReplyView → S → Type 0) → S → List Exchange → S → Type 0
 AreAnswered answers old exchanges new = FoldsTo (λ before e after. answers before e.message e.reply after) old exchanges new
+
+-- A service answered that is borrowed, and the borrow stays the same.
+abbrev pub AnswersBehind : {S : Type 0} → (S → MessageView → ReplyView → S → Type 0) → MutBor S → MessageView → ReplyView → MutBor S → Type 0
+AnswersBehind answers old message reply new = answers old.now message reply new.now × (new.ghost_name ≡ old.ghost_name)

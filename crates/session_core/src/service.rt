@@ -5,7 +5,7 @@ ghost use Rattle.std.specs.List.{AllByRecursion};
 ghost use Rattle.seg_core.specs.Encoding.{IsSegment};
 ghost use Rattle.session_core.specs.Frames.{MessageView};
 ghost use Rattle.session_core.specs.Reply.{ReplyView};
-ghost use Rattle.session_core.specs.Service.{reply_to_register, reply_to_lookup, reply_to_purge, reply_to_remove};
+ghost use Rattle.session_core.specs.Service.{reply_to_register, reply_to_lookup, reply_to_purge, reply_to_remove, AnswersBehind};
 ghost use Rattle.session_core.specs.declared.message.Message.TheVariants.{Register, Lookup, Purge, Remove};
 
 use seg_core::{SegType, Segment};
@@ -57,4 +57,25 @@ pub trait Service {
     /// Answers the removal of a segment by the byte of its type, which may be any, and its id.
     fn remove(&mut self, kind: u8, id: &[u8; 32]) -> Result<Ack, Code>
         ensures { answers self.old (Remove kind id.now) (reply_to_remove result) self.new };
+}
+
+/// A borrowed service answers as the service itself does.
+impl<S: Service> Service for &mut S {
+    ghost answers = { AnswersBehind S.answers };
+
+    fn register(&mut self, alloc: Global, message: &[u8]) -> Result<Ack, Code> {
+        (**self).register(alloc, message)
+    }
+
+    fn lookup(&mut self, alloc: Global, message: &[u8]) -> Result<(SegType, Vec<Segment>), Code> {
+        (**self).lookup(alloc, message)
+    }
+
+    fn purge(&mut self, moment: u64) -> Result<Ack, Code> {
+        (**self).purge(moment)
+    }
+
+    fn remove(&mut self, kind: u8, id: &[u8; 32]) -> Result<Ack, Code> {
+        (**self).remove(kind, id)
+    }
 }
