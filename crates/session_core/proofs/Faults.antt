@@ -1,31 +1,45 @@
 -- A fault of a frame stays, whatever comes behind: for `Framer` and the laws.
-use Rattle.std.proofs.Common.{◌≡◌, ℕ, ◌≤◌, List, ◌++◌, length, slice_index, ap, subst, arith}
+use Rattle.std.proofs.Common.{◌≡◌, ℕ, ◌≤◌, List, ◌++◌, length, sym, ap, subst, ◌∙◌, arith}
 use Rattle.std.proofs.lemmas.List.{length-append, take-append-le, get_or_append_left}
 use Rattle.std.specs.Int.{w32, from_be_bytes}
-use Rattle.session_core.specs.Frames.{MessageView, length_at, IsFrameLength, IsMessageKind, HasBadLength, HasBadKind, BadLength, BadKind, AreFrames}
+use Rattle.session_core.specs.Frames.{MessageView, length_at, kind_at, IsFrameLength, IsMessageKind, IsLengthOf, HasRightLength, HasBadLength, HasBadKind, BadLength, BadKind, AreFrames}
 use Rattle.session_core.proofs.Streams.{AreWholeFrames-more}
 
 length_at-more : (bytes more : List ℕ) → 4 ≤ length bytes → length_at (bytes ++ more) ≡ length_at bytes
 length_at-more bytes more long = ap (from_be_bytes w32) (take-append-le 4 bytes more long)
 
-kind_at-more : (bytes more : List ℕ) → 5 ≤ length bytes → slice_index (bytes ++ more) 4 ≡ slice_index bytes 4
+kind_at-more : (bytes more : List ℕ) → 5 ≤ length bytes → kind_at (bytes ++ more) ≡ kind_at bytes
 kind_at-more bytes more long = get_or_append_left bytes more 0 4 (omega arith)
+
+length_of-more : (bytes more : List ℕ) → 5 ≤ length bytes → IsLengthOf (kind_at (bytes ++ more)) (length_at (bytes ++ more)) ≡ IsLengthOf (kind_at bytes) (length_at bytes)
+length_of-more bytes more long =
+    ap (λ (k : ℕ). IsLengthOf k (length_at (bytes ++ more))) (kind_at-more bytes more long) ∙ ap (IsLengthOf (kind_at bytes)) (length_at-more bytes more (omega arith))
+
+-- what comes behind mends no length
+HasRightLength-front : (bytes more : List ℕ) → 4 ≤ length bytes → HasRightLength (bytes ++ more) → HasRightLength bytes
+HasRightLength-front bytes more four h = record {
+  in_range = subst IsFrameLength (length_at-more bytes more four) h.in_range;
+  of_kind = λ long. subst (λ (P : Type 0). P) (length_of-more bytes more long) (h.of_kind (omega (arith, length-append bytes more, long)));
+}
+
+HasRightLength-more : (bytes more : List ℕ) → 5 ≤ length bytes → HasRightLength bytes → HasRightLength (bytes ++ more)
+HasRightLength-more bytes more long h = record {
+  in_range = subst IsFrameLength (sym (length_at-more bytes more (omega arith))) h.in_range;
+  of_kind = λ _. subst (λ (P : Type 0). P) (sym (length_of-more bytes more long)) (h.of_kind long);
+}
 
 HasBadLength-more : (bytes more : List ℕ) → HasBadLength bytes → HasBadLength (bytes ++ more)
 HasBadLength-more bytes more h = record {
   long = omega (arith, h.long, length-append bytes more);
-  bad = λ fits. h.bad (subst IsFrameLength (length_at-more bytes more h.long) fits);
+  bad = λ right. h.bad (HasRightLength-front bytes more h.long right);
 }
 
 HasBadKind-more : (bytes more : List ℕ) → HasBadKind bytes → HasBadKind (bytes ++ more)
-HasBadKind-more bytes more h =
-    let long : 5 ≤ length bytes = h.long in
-    let four : 4 ≤ length bytes = omega arith in
-    record {
-      long = omega (arith, length-append bytes more);
-      length_is_right = rw (length_at-more bytes more four) h.length_is_right;
-      bad = λ known. h.bad (subst IsMessageKind (kind_at-more bytes more long) known);
-    }
+HasBadKind-more bytes more h = record {
+  long = omega (arith, h.long, length-append bytes more);
+  length_is_right = HasRightLength-more bytes more h.long h.length_is_right;
+  bad = λ known. h.bad (subst IsMessageKind (kind_at-more bytes more h.long) known);
+}
 
 pub AreFrames-bad_length : (bytes more : List ℕ) (ms : List MessageView) → AreFrames bytes ms BadLength → AreFrames (bytes ++ more) ms BadLength
 AreFrames-bad_length bytes more ms p = record {

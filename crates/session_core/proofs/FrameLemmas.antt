@@ -1,9 +1,10 @@
 -- A whole frame at the front of bytes, and what its encoding gives back: for `next_frame` and the laws.
-use Rattle.std.proofs.Common.{◌≡◌, ℕ, zero, suc, ◌+◌, ◌*◌, ◌-◌, ◌<◌, ◌≤◌, List, [], ◌∷◌, ◌++◌, length, take, drop, get_or, slice_range, refl, sym, ap, ◌∙◌, arith, lit<, append_assoc, take-append-drop}
+use Rattle.std.proofs.Common.{◌≡◌, ℕ, zero, suc, ◌+◌, ◌*◌, ◌-◌, ◌<◌, ◌≤◌, List, [], ◌∷◌, ◌++◌, ◌^◌, length, take, drop, get_or, slice_range, refl, sym, ap, ◌∙◌, arith, lit<, append_assoc, take-append-drop}
 use Rattle.std.proofs.lemmas.List.{get_or-take, length-take-le, length-drop, drop-drop, drop_more}
-use Rattle.std.proofs.lemmas.Nat.{be_bytes_4}
-use Rattle.std.specs.Int.{w32, to_be_bytes}
-use Rattle.session_core.specs.Frames.{MessageView, kind_of, body_of, frame_encoding, length_at, IsFrameLength}
+use Rattle.std.proofs.lemmas.Nat.{be_bytes_4, be_bytes_8}
+use Rattle.std.specs.Int.{w32, w64, to_be_bytes, from_be_bytes}
+use Rattle.session_core.specs.declared.message.Message.TheVariants.{Register, Lookup, Purge, Remove}
+use Rattle.session_core.specs.Frames.{MessageView, kind_of, body_of, frame_encoding, length_at, kind_at, IsFrameLength, IsMessageKind, IsLengthOf, FitsFrame}
 use Rattle.session_core.specs.Front.{BeginsWithFrame}
 
 abbrev pub AreBytes : List ℕ → Type 0
@@ -14,6 +15,11 @@ take_below zero bytes b i = lit< tt
 take_below (suc n) [] b i = b i
 take_below (suc n) (x ∷ xs) b zero = b zero
 take_below (suc n) (x ∷ xs) b (suc i) = take_below n xs (λ j. b (suc j)) i
+
+pub drop_below : (n : ℕ) (bytes : List ℕ) → AreBytes bytes → AreBytes (drop n bytes)
+drop_below zero bytes b i = b i
+drop_below (suc n) [] b i = b i
+drop_below (suc n) (x ∷ xs) b i = drop_below n xs (λ j. b (suc j)) i
 
 -- four bytes spell their number again
 pub length_encoded : (bytes : List ℕ) → AreBytes bytes → 4 ≤ length bytes → to_be_bytes w32 (length_at bytes) ≡ take 4 bytes
@@ -31,6 +37,11 @@ content_at bytes len some whole =
 pub length-content_at : (bytes : List ℕ) (len : ℕ) → 4 + len ≤ length bytes → length (take len (drop 4 bytes)) ≡ len
 length-content_at bytes len whole = length-take-le len (drop 4 bytes) (omega (arith, length-drop 4 bytes))
 
+pub length-body_at : (bytes : List ℕ) (len : ℕ) → 1 ≤ len → 4 + len ≤ length bytes → 1 + length (slice_range bytes 5 (4 + len)) ≡ len
+length-body_at bytes len some whole =
+    let size : length (get_or bytes 4 0 ∷ slice_range bytes 5 (4 + len)) ≡ len = ap length (content_at bytes len some whole) ∙ length-content_at bytes len whole in
+    omega (arith, size)
+
 pub frame_at : (bytes : List ℕ) (len : ℕ) → AreBytes bytes → len ≡ length_at bytes → 4 + len ≤ length bytes
     → bytes ≡ frame_encoding (take len (drop 4 bytes)) ++ drop (4 + len) bytes
 frame_at bytes len b is whole =
@@ -46,16 +57,15 @@ frame_at bytes len b is whole =
     ∙ take-append-drop 4 bytes)
 
 -- a message at the front
-pub begins : (bytes : List ℕ) (len : ℕ) (m : MessageView) → AreBytes bytes → len ≡ length_at bytes → IsFrameLength len → 4 + len ≤ length bytes
-    → kind_of m ≡ get_or bytes 4 0 → body_of m ≡ slice_range bytes 5 (4 + len) → BeginsWithFrame bytes m (4 + len)
-begins bytes len m b is sized whole kind body =
-    let some : 1 ≤ len = sized.0 in
+pub begins : (bytes : List ℕ) (len : ℕ) (m : MessageView) → AreBytes bytes → len ≡ length_at bytes → 1 ≤ len → 4 + len ≤ length bytes
+    → kind_of m ≡ kind_at bytes → body_of m ≡ slice_range bytes 5 (4 + len) → FitsFrame m → BeginsWithFrame bytes m (4 + len)
+begins bytes len m b is some whole kind body fits =
     let content : (kind_of m ∷ body_of m) ≡ take len (drop 4 bytes) =
     ap (λ k. k ∷ body_of m) kind ∙ ap (λ (t : List ℕ). get_or bytes 4 0 ∷ t) body ∙ content_at bytes len some whole in
     let size : length (kind_of m ∷ body_of m) ≡ len = ap length content ∙ length-content_at bytes len whole in
     record {
       frame = frame_at bytes len b is whole ∙ ap (λ (t : List ℕ). frame_encoding t ++ drop (4 + len) bytes) (sym content);
-      sized = (omega arith, omega (arith, sized.1));
+      sized = fits;
       len_is = omega arith;
     }
 
@@ -67,3 +77,32 @@ length_at_is bytes n is =
     let c : get_or (take 4 bytes) 2 0 ≡ get_or bytes 2 0 = get_or-take 4 bytes 2 0 (lit< tt) in
     let d : get_or (take 4 bytes) 3 0 ≡ get_or bytes 3 0 = get_or-take 4 bytes 3 0 (lit< tt) in
     omega arith
+
+-- ---- the message of a kind with a body
+
+abbrev pub message_with : ℕ → List ℕ → MessageView
+message_with (suc zero) body = Register body
+message_with (suc (suc zero)) body = Lookup body
+message_with (suc (suc (suc zero))) body = Purge (from_be_bytes w64 body)
+message_with _ body = Remove (get_or body 0 0) (drop 1 body)
+
+pub record IsMessageWith (kind : ℕ) (body : List ℕ) (m : MessageView) : Type 0 where
+  pub kind_is : kind_of m ≡ kind
+  pub body_is : body_of m ≡ body
+  pub fits : FitsFrame m
+
+moment_fits : (body : List ℕ) → AreBytes body → from_be_bytes w64 body < 2 ^ 64
+moment_fits body b = omega (arith, b 0, b 1, b 2, b 3, b 4, b 5, b 6, b 7)
+
+-- each kind has the message of each body that its frames may have
+pub message_with_is : (kind : ℕ) (body : List ℕ) → AreBytes body → IsMessageKind kind → IsFrameLength (1 + length body) → IsLengthOf kind (1 + length body) → IsMessageWith kind body (message_with kind body)
+message_with_is zero body b known sized of_kind = absurd (omega (arith, known.0))
+message_with_is (suc zero) body b known sized of_kind = record { kind_is = refl; body_is = refl; fits = sized }
+message_with_is (suc (suc zero)) body b known sized of_kind = record { kind_is = refl; body_is = refl; fits = sized }
+message_with_is (suc (suc (suc zero))) body b known sized of_kind =
+    let nine : 1 + length body ≡ 9 = of_kind.0 refl in
+    record { kind_is = refl; body_is = be_bytes_8 body (from_be_bytes w64 body) (omega arith) b refl; fits = moment_fits body b }
+message_with_is (suc (suc (suc (suc zero)))) body b known sized of_kind =
+    let size : 1 + length body ≡ 34 = of_kind.1 refl in
+    record { kind_is = refl; body_is = sym (drop_more body 0 0 (omega arith)); fits = (b 0, omega (arith, length-drop 1 body)) }
+message_with_is (suc (suc (suc (suc (suc k))))) body b known sized of_kind = absurd (omega (arith, known.1))

@@ -7,5 +7,6 @@ mod ResponseLengths
 mod WriteLemmas
 mod Exchanges
 mod SessionLemmas
+mod Behind
 pub mod FramerLemmas
 mod Pieces

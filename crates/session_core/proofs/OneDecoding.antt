@@ -1,27 +1,44 @@
 -- Bytes are frames in one way at most: for the laws, and for what a session or a `Framer` says of its stream.
-use Rattle.std.proofs.Common.{◌≡◌, ℕ, ◌+◌, inl, inr, List, [], ◌∷◌, ◌++◌, length, take, drop, get_or, slice_index, refl, sym, ap, subst, ◌∙◌, arith, append_assoc}
+use Rattle.std.proofs.Common.{◌≡◌, ℕ, ◌+◌, List, [], ◌∷◌, ◌++◌, length, take, drop, get_or, refl, sym, ap, subst, ◌∙◌, arith, append_assoc}
 use Rattle.std.proofs.lemmas.List.{length-append, take_at, drop_at}
-use Rattle.std.proofs.lemmas.Nat.{from_be_bytes-to_be_bytes_4}
+use Rattle.std.proofs.lemmas.Nat.{from_be_bytes-to_be_bytes_4, from_be_bytes-to_be_bytes_8}
 use Rattle.std.specs.List.{flat_map, AllByRecursion}
-use Rattle.session_core.specs.declared.message.Message.TheVariants.{Register, Lookup}
-use Rattle.session_core.specs.Frames.{MessageView, kind_of, body_of, message_frame, length_at, IsFrameLength, IsMessageKind, FitsFrame, Ending, Rest, BadLength, BadKind, EndsAs, AreFrames}
+use Rattle.session_core.specs.declared.message.Message.TheVariants.{Register, Lookup, Purge, Remove}
+use Rattle.session_core.specs.Frames.{MessageView, kind_of, body_of, message_frame, length_at, kind_at, IsFrameLength, IsMessageKind, IsLengthOf, HasRightLength, FitsFrame, Ending, Rest, BadLength, BadKind, EndsAs, AreFrames}
+use Rattle.session_core.proofs.FrameLemmas.{message_with}
 
 -- ---- one frame
+
+in_range_of : (m : MessageView) → FitsFrame m → IsFrameLength (1 + length (body_of m))
+in_range_of (Register body) h = h
+in_range_of (Lookup body) h = h
+in_range_of (Purge moment) h = (omega arith, omega arith)
+in_range_of (Remove kind id) h = (omega arith, omega (arith, h.1))
+
+length_of_kind : (m : MessageView) → FitsFrame m → IsLengthOf (kind_of m) (1 + length (body_of m))
+length_of_kind (Register body) h = (λ no. absurd (omega arith), λ no. absurd (omega arith))
+length_of_kind (Lookup body) h = (λ no. absurd (omega arith), λ no. absurd (omega arith))
+length_of_kind (Purge moment) h = (λ _. omega arith, λ no. absurd (omega arith))
+length_of_kind (Remove kind id) h = (λ no. absurd (omega arith), λ _. omega (arith, h.1))
 
 length-content : (m : MessageView) → length (kind_of m ∷ body_of m) ≡ 1 + length (body_of m)
 length-content m = omega arith
 
 length_at-frame : (m : MessageView) (rest : List ℕ) → FitsFrame m → length_at (message_frame m ++ rest) ≡ 1 + length (body_of m)
-length_at-frame m rest sized = from_be_bytes-to_be_bytes_4 (length (kind_of m ∷ body_of m)) (omega (arith, sized.1)) ∙ length-content m
+length_at-frame m rest sized = from_be_bytes-to_be_bytes_4 (length (kind_of m ∷ body_of m)) (omega (arith, (in_range_of m sized).1)) ∙ length-content m
 
 length-frame : (m : MessageView) (rest : List ℕ) → length (message_frame m ++ rest) ≡ 5 + length (body_of m) + length rest
 length-frame m rest = omega (arith, length-append (message_frame m) rest)
 
-message_from_content : (m n : MessageView) → kind_of m ∷ body_of m ≡ kind_of n ∷ body_of n → m ≡ n
-message_from_content (Register a) (Register b) h = ap Register (ap (λ (t : List ℕ). drop 1 t) h)
-message_from_content (Lookup a) (Lookup b) h = ap Lookup (ap (λ (t : List ℕ). drop 1 t) h)
-message_from_content (Register a) (Lookup b) h = absurd (omega (arith, ap (λ (t : List ℕ). get_or t 0 0) h))
-message_from_content (Lookup a) (Register b) h = absurd (omega (arith, ap (λ (t : List ℕ). get_or t 0 0) h))
+message_with-content : (m : MessageView) → FitsFrame m → message_with (kind_of m) (body_of m) ≡ m
+message_with-content (Register body) h = refl
+message_with-content (Lookup body) h = refl
+message_with-content (Purge moment) h = ap Purge (from_be_bytes-to_be_bytes_8 moment h)
+message_with-content (Remove kind id) h = refl
+
+message_from_content : (m n : MessageView) → FitsFrame m → FitsFrame n → kind_of m ∷ body_of m ≡ kind_of n ∷ body_of n → m ≡ n
+message_from_content m n a b h =
+    sym (message_with-content m a) ∙ ap (λ (t : List ℕ). message_with (get_or t 0 0) (drop 1 t)) h ∙ message_with-content n b
 
 same_front : (m n : MessageView) (r s : List ℕ) → FitsFrame m → FitsFrame n → message_frame m ++ r ≡ message_frame n ++ s → (m ≡ n) × (r ≡ s)
 same_front m n r s a b e =
@@ -32,11 +49,22 @@ same_front m n r s a b e =
     sym (take_at (kind_of m ∷ body_of m) r size (omega arith)) ∙ ap (take size) contents ∙ take_at (kind_of n ∷ body_of n) s size (omega arith) in
     let rest : r ≡ s =
     sym (drop_at (kind_of m ∷ body_of m) r size (omega arith)) ∙ ap (drop size) contents ∙ drop_at (kind_of n ∷ body_of n) s size (omega arith) in
-    (message_from_content m n one, rest)
+    (message_from_content m n a b one, rest)
 
 kind_is_known : (m : MessageView) → IsMessageKind (kind_of m)
-kind_is_known (Register body) = inl refl
-kind_is_known (Lookup body) = inr refl
+kind_is_known (Register body) = (omega arith, omega arith)
+kind_is_known (Lookup body) = (omega arith, omega arith)
+kind_is_known (Purge moment) = (omega arith, omega arith)
+kind_is_known (Remove kind id) = (omega arith, omega arith)
+
+kind_at-frame : (m : MessageView) (rest : List ℕ) → kind_at (message_frame m ++ rest) ≡ kind_of m
+kind_at-frame m rest = refl
+
+length_is_right : (m : MessageView) (rest : List ℕ) → FitsFrame m → HasRightLength (message_frame m ++ rest)
+length_is_right m rest h = record {
+  in_range = subst IsFrameLength (sym (length_at-frame m rest h)) (in_range_of m h);
+  of_kind = λ _. subst (IsLengthOf (kind_of m)) (sym (length_at-frame m rest h)) (length_of_kind m h);
+}
 
 -- ---- an ending
 
@@ -47,8 +75,8 @@ no_ending m bytes rest (Rest left) e sized h =
     let size : length bytes ≡ 5 + length (body_of m) + length rest = ap length e ∙ length-frame m rest in
     let short = h.1.incomplete (omega (arith, size)) in
     omega (arith, at, size, short)
-no_ending m bytes rest BadLength e sized h = h.bad (subst IsFrameLength (sym (ap length_at e ∙ length_at-frame m rest sized)) sized)
-no_ending m bytes rest BadKind e sized h = h.bad (subst IsMessageKind (sym (ap (λ (t : List ℕ). slice_index t 4) e)) (kind_is_known m))
+no_ending m bytes rest BadLength e sized h = h.bad (subst HasRightLength (sym e) (length_is_right m rest sized))
+no_ending m bytes rest BadKind e sized h = h.bad (subst IsMessageKind (sym (ap kind_at e ∙ kind_at-frame m rest)) (kind_is_known m))
 
 one_ending : (bytes : List ℕ) (e f : Ending) → EndsAs bytes e → EndsAs bytes f → e ≡ f
 one_ending bytes (Rest a) (Rest b) h k = ap Rest (sym h.0 ∙ k.0)

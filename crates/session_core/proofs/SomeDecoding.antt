@@ -1,17 +1,11 @@
 -- Any bytes are the frames of some messages, with an ending: for the laws.
-use Rattle.std.proofs.Common.{ℕ, zero, suc, ◌+◌, ◌<◌, ◌≤◌, ◌⊎◌, inl, inr, List, [], ◌∷◌, length, drop, slice_index, slice_range, refl, sym, arith}
+use Rattle.std.proofs.Common.{◌≡◌, ℕ, zero, suc, ◌+◌, ◌<◌, ◌≤◌, ◌⊎◌, inl, inr, List, [], ◌∷◌, ◌-◌, length, drop, slice_range, refl, sym, subst, arith}
 use Rattle.std.proofs.lemmas.List.{length-drop}
 use Rattle.std.proofs.lemmas.Bool.{cases_lt, cases_eq}
-use Rattle.session_core.specs.declared.message.Message.TheVariants.{Register, Lookup}
-use Rattle.session_core.specs.Frames.{MessageView, length_at, IsFrameLength, IsMessageKind, Ending, Rest, BadLength, BadKind, EndsAs, AreFrames}
+use Rattle.session_core.specs.Frames.{MessageView, length_at, kind_at, IsFrameLength, IsMessageKind, IsLengthOf, HasRightLength, Ending, Rest, BadLength, BadKind, EndsAs, AreFrames}
 use Rattle.session_core.specs.Front.{BeginsWithFrame}
-use Rattle.session_core.proofs.FrameLemmas.{AreBytes, begins}
+use Rattle.session_core.proofs.FrameLemmas.{AreBytes, take_below, drop_below, length-body_at, begins, message_with, message_with_is}
 use Rattle.session_core.proofs.Streams.{AreWholeFrames-none, AreWholeFrames-one, AreFrames-behind}
-
-drop_below : (n : ℕ) (bytes : List ℕ) → AreBytes bytes → AreBytes (drop n bytes)
-drop_below zero bytes b i = b i
-drop_below (suc n) [] b i = b i
-drop_below (suc n) (x ∷ xs) b i = drop_below n xs (λ j. b (suc j)) i
 
 -- the messages at the front, and the ending behind them
 pub record Decoding (bytes : List ℕ) : Type 0 where
@@ -26,13 +20,13 @@ decoding_short : (bytes : List ℕ) → length bytes < 4 → Decoding bytes
 decoding_short bytes short = decoding_none bytes (Rest bytes)
     (refl, record { length_is_right = λ h. absurd (omega arith); kind_is_right = λ h. absurd (omega arith); incomplete = λ h. absurd (omega arith) })
 
-decoding_bad_length : (bytes : List ℕ) → 4 ≤ length bytes → ¬ IsFrameLength (length_at bytes) → Decoding bytes
+decoding_bad_length : (bytes : List ℕ) → 4 ≤ length bytes → ¬ HasRightLength bytes → Decoding bytes
 decoding_bad_length bytes long bad = decoding_none bytes BadLength (record { long = long; bad = bad })
 
-decoding_bad_kind : (bytes : List ℕ) → 5 ≤ length bytes → IsFrameLength (length_at bytes) → ¬ IsMessageKind (slice_index bytes 4) → Decoding bytes
+decoding_bad_kind : (bytes : List ℕ) → 5 ≤ length bytes → HasRightLength bytes → ¬ IsMessageKind (kind_at bytes) → Decoding bytes
 decoding_bad_kind bytes long sized bad = decoding_none bytes BadKind (record { long = long; length_is_right = sized; bad = bad })
 
-decoding_partial : (bytes : List ℕ) → 4 ≤ length bytes → IsFrameLength (length_at bytes) → (5 ≤ length bytes → IsMessageKind (slice_index bytes 4)) → length bytes < 4 + length_at bytes → Decoding bytes
+decoding_partial : (bytes : List ℕ) → 4 ≤ length bytes → HasRightLength bytes → (5 ≤ length bytes → IsMessageKind (kind_at bytes)) → length bytes < 4 + length_at bytes → Decoding bytes
 decoding_partial bytes long sized kind short = decoding_none bytes (Rest bytes)
     (refl, record { length_is_right = λ _. sized; kind_is_right = kind; incomplete = λ _. short })
 
@@ -44,12 +38,14 @@ decoding_more bytes m len f rest = record {
 }
 
 -- a whole frame of a known kind
-frame_of_kind : (bytes : List ℕ) → AreBytes bytes → IsFrameLength (length_at bytes) → 4 + length_at bytes ≤ length bytes → IsMessageKind (slice_index bytes 4)
+frame_of_kind : (bytes : List ℕ) → AreBytes bytes → HasRightLength bytes → 5 ≤ length bytes → 4 + length_at bytes ≤ length bytes → IsMessageKind (kind_at bytes)
     → (m : MessageView) × BeginsWithFrame bytes m (4 + length_at bytes)
-frame_of_kind bytes b sized whole (inl one) =
-    (Register (slice_range bytes 5 (4 + length_at bytes)), begins bytes (length_at bytes) (Register (slice_range bytes 5 (4 + length_at bytes))) b refl sized whole (sym one) refl)
-frame_of_kind bytes b sized whole (inr two) =
-    (Lookup (slice_range bytes 5 (4 + length_at bytes)), begins bytes (length_at bytes) (Lookup (slice_range bytes 5 (4 + length_at bytes))) b refl sized whole (sym two) refl)
+frame_of_kind bytes b right long whole known =
+    let body = slice_range bytes 5 (4 + length_at bytes) in
+    let size : 1 + length body ≡ length_at bytes = length-body_at bytes (length_at bytes) right.in_range.0 whole in
+    let below : AreBytes body = take_below (4 + length_at bytes - 5) (drop 5 bytes) (drop_below 5 bytes b) in
+    let is = message_with_is (kind_at bytes) body below known (subst IsFrameLength (sym size) right.in_range) (subst (IsLengthOf (kind_at bytes)) (sym size) (right.of_kind long)) in
+    (message_with (kind_at bytes) body, begins bytes (length_at bytes) (message_with (kind_at bytes) body) b refl right.in_range.0 whole is.kind_is is.body_is is.fits)
 
 frame_length_cases : (n : ℕ) → IsFrameLength n ⊎ (¬ IsFrameLength n)
 frame_length_cases n =
@@ -58,28 +54,51 @@ frame_length_cases n =
       | inr some ↦ elim (cases_lt 131073 n) [ inl high ↦ inr (λ h. omega (arith, h.1, high)) | inr fits ↦ inl (some, fits) ]
     ]
 
+length_of_cases : (kind len : ℕ) → IsLengthOf kind len ⊎ (¬ IsLengthOf kind len)
+length_of_cases kind len =
+    elim (cases_eq kind 3) [
+      | inl three ↦ elim (cases_eq len 9) [ inl nine ↦ inl (λ _. nine, λ four. absurd (omega arith)) | inr other ↦ inr (λ h. other (h.0 three)) ]
+      | inr not_three ↦ elim (cases_eq kind 4) [
+        | inl four ↦ elim (cases_eq len 34) [ inl size ↦ inl (λ three. absurd (not_three three), λ _. size) | inr other ↦ inr (λ h. other (h.1 four)) ]
+        | inr not_four ↦ inl (λ three. absurd (not_three three), λ four. absurd (not_four four))
+      ]
+    ]
+
+right_length_cases : (bytes : List ℕ) → HasRightLength bytes ⊎ (¬ HasRightLength bytes)
+right_length_cases bytes =
+    elim (frame_length_cases (length_at bytes)) [
+      | inr bad ↦ inr (λ h. bad h.in_range)
+      | inl fits ↦ elim (cases_lt (length bytes) 5) [
+        | inl short ↦ inl (record { in_range = fits; of_kind = λ h. absurd (omega (arith, h, short)) })
+        | inr long ↦ elim (length_of_cases (kind_at bytes) (length_at bytes)) [
+          | inr bad ↦ inr (λ h. bad (h.of_kind long))
+          | inl right ↦ inl (record { in_range = fits; of_kind = λ _. right })
+        ]
+      ]
+    ]
+
 kind_cases : (n : ℕ) → IsMessageKind n ⊎ (¬ IsMessageKind n)
 kind_cases n =
-    elim (cases_eq n 1) [
-      | inl one ↦ inl (inl one)
-      | inr not_one ↦ elim (cases_eq n 2) [ inl two ↦ inl (inr two) | inr not_two ↦ inr (λ h. elim h [ inl one ↦ not_one one | inr two ↦ not_two two ]) ]
+    elim (cases_lt n 1) [
+      | inl low ↦ inr (λ h. omega (arith, h.0, low))
+      | inr some ↦ elim (cases_lt 4 n) [ inl high ↦ inr (λ h. omega (arith, h.1, high)) | inr known ↦ inl (some, known) ]
     ]
 
 decoding_whole : (fuel : ℕ) (bytes : List ℕ) → length bytes ≤ suc fuel → AreBytes bytes → ((rest : List ℕ) → length rest ≤ fuel → AreBytes rest → Decoding rest) → Decoding bytes
 decoding_whole fuel bytes enough b again =
     elim (cases_lt (length bytes) 4) [
       | inl short ↦ decoding_short bytes short
-      | inr long ↦ elim (frame_length_cases (length_at bytes)) [
+      | inr long ↦ elim (right_length_cases bytes) [
         | inr bad ↦ decoding_bad_length bytes long bad
         | inl sized ↦ elim (cases_lt (length bytes) 5) [
-          | inl four ↦ decoding_partial bytes long sized (λ h. absurd (omega arith)) (omega (arith, sized.0))
-          | inr five ↦ elim (kind_cases (slice_index bytes 4)) [
+          | inl four ↦ decoding_partial bytes long sized (λ h. absurd (omega arith)) (omega (arith, sized.in_range.0))
+          | inr five ↦ elim (kind_cases (kind_at bytes)) [
             | inr bad ↦ decoding_bad_kind bytes five sized bad
             | inl kind ↦ elim (cases_lt (length bytes) (4 + length_at bytes)) [
               | inl short ↦ decoding_partial bytes long sized (λ _. kind) short
               | inr whole ↦
-                  let m = frame_of_kind bytes b sized whole kind in
-                  decoding_more bytes m.0 (4 + length_at bytes) m.1 (again (drop (4 + length_at bytes) bytes) (omega (arith, length-drop (4 + length_at bytes) bytes)) (drop_below (4 + length_at bytes) bytes b))
+                  let m = frame_of_kind bytes b sized five whole kind in
+                  decoding_more bytes m.0 (4 + length_at bytes) m.1 (again (drop (4 + length_at bytes) bytes) (omega (arith, sized.in_range.0, length-drop (4 + length_at bytes) bytes)) (drop_below (4 + length_at bytes) bytes b))
             ]
           ]
         ]

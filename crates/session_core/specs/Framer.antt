@@ -3,13 +3,15 @@ use Rattle.std.specs.Prelude.{ℕ, List, ◌++◌, map, Option, Some, None, Vec}
 use Rattle.session_core.specs.declared.error.FrameError.{FrameError}
 use Rattle.session_core.specs.declared.error.FrameError.TheVariants as error
 use Rattle.session_core.specs.declared.message.Message.{Message}
-use Rattle.session_core.specs.declared.message.Message.TheVariants.{Register, Lookup}
+use Rattle.session_core.specs.declared.message.Message.TheVariants.{Register, Lookup, Purge, Remove}
 use Rattle.session_core.specs.Frames.{MessageView, IsPartial, HasBadLength, HasBadKind, Ending, Rest, BadLength, BadKind, AreFrames}
 
 -- a message without how its body is kept
 abbrev pub message_view : {A : Type 0} → Message (Vec ℕ A) → MessageView
 message_view (Register body) = Register body.items
 message_view (Lookup body) = Lookup body.items
+message_view (Purge moment) = Purge moment
+message_view (Remove kind id) = Remove kind id
 
 abbrev pub message_views : {A : Type 0} → List (Message (Vec ℕ A)) → List MessageView
 message_views messages = map message_view messages

@@ -1,9 +1,9 @@
 -- A stream of frames: a length of four bytes, big-endian, and that many bytes, which are a kind and a body.
-use Rattle.std.specs.Prelude.{◌≡◌, ℕ, ◌+◌, ◌<◌, ◌≤◌, ◌⊎◌, List, ◌∷◌, ◌++◌, length, take, slice_index}
+use Rattle.std.specs.Prelude.{◌≡◌, ℕ, ◌+◌, ◌^◌, ◌<◌, ◌≤◌, List, ◌∷◌, ◌++◌, length, take, slice_index}
 use Rattle.std.specs.List.{flat_map, AllByRecursion}
-use Rattle.std.specs.Int.{w32, to_be_bytes, from_be_bytes}
+use Rattle.std.specs.Int.{w32, w64, to_be_bytes, from_be_bytes}
 use Rattle.session_core.specs.declared.message.Message.{Message}
-use Rattle.session_core.specs.declared.message.Message.TheVariants.{Register, Lookup}
+use Rattle.session_core.specs.declared.message.Message.TheVariants.{Register, Lookup, Purge, Remove}
 use Rattle.session_core.specs.declared.frames.TheConstants.{MOST_LENGTH}
 
 -- a message with the bytes of its body
@@ -13,10 +13,14 @@ MessageView = Message (List ℕ)
 abbrev pub kind_of : MessageView → ℕ
 kind_of (Register body) = 1
 kind_of (Lookup body) = 2
+kind_of (Purge moment) = 3
+kind_of (Remove kind id) = 4
 
 abbrev pub body_of : MessageView → List ℕ
 body_of (Register body) = body
 body_of (Lookup body) = body
+body_of (Purge moment) = to_be_bytes w64 moment
+body_of (Remove kind id) = kind ∷ id
 
 -- length and content
 abbrev pub frame_encoding : List ℕ → List ℕ
@@ -29,38 +33,54 @@ message_frame message = frame_encoding (kind_of message ∷ body_of message)
 abbrev pub length_at : List ℕ → ℕ
 length_at bytes = from_be_bytes w32 (take 4 bytes)
 
+-- the kind at the front of five bytes or more
+abbrev pub kind_at : List ℕ → ℕ
+kind_at bytes = slice_index bytes 4
+
 abbrev pub IsFrameLength : ℕ → Type 0
 IsFrameLength len = (1 ≤ len) × (len ≤ MOST_LENGTH)
 
 abbrev pub IsMessageKind : ℕ → Type 0
-IsMessageKind kind = (kind ≡ 1) ⊎ (kind ≡ 2)
+IsMessageKind kind = (1 ≤ kind) × (kind ≤ 4)
 
--- a message whose frame is not too long
+-- the frames of purges have one length, and those of removals
+abbrev pub IsLengthOf : ℕ → ℕ → Type 0
+IsLengthOf kind len = (kind ≡ 3 → len ≡ 9) × (kind ≡ 4 → len ≡ 34)
+
+-- a message whose frame is not too long, and whose numbers fit their bytes
 abbrev pub FitsFrame : MessageView → Type 0
-FitsFrame message = IsFrameLength (1 + length (body_of message))
+FitsFrame (Register body) = IsFrameLength (1 + length body)
+FitsFrame (Lookup body) = IsFrameLength (1 + length body)
+FitsFrame (Purge moment) = moment < 2 ^ 64
+FitsFrame (Remove kind id) = (kind < 256) × (length id ≡ 32)
 
 -- The bytes are the frames of these messages, one after the other, and then the rest.
 pub record AreWholeFrames (bytes : List ℕ) (messages : List MessageView) (rest : List ℕ) : Type 0 where
   pub joined : bytes ≡ flat_map message_frame messages ++ rest
   pub sized : AllByRecursion FitsFrame messages
 
--- Less than a whole frame, in which nothing is wrong so far: the length is judged once four bytes are there, the kind
--- once five are.
+-- Four bytes or more begin with the length of a frame, and, once the kind is there, of a frame of that kind.
+pub record HasRightLength (bytes : List ℕ) : Type 0 where
+  pub in_range : IsFrameLength (length_at bytes)
+  pub of_kind : 5 ≤ length bytes → IsLengthOf (kind_at bytes) (length_at bytes)
+
+-- Less than a whole frame, in which nothing is wrong so far: the length is judged once four bytes are there, and again
+-- with the kind once five are.
 pub record IsPartial (bytes : List ℕ) : Type 0 where
-  pub length_is_right : 4 ≤ length bytes → IsFrameLength (length_at bytes)
-  pub kind_is_right : 5 ≤ length bytes → IsMessageKind (slice_index bytes 4)
+  pub length_is_right : 4 ≤ length bytes → HasRightLength bytes
+  pub kind_is_right : 5 ≤ length bytes → IsMessageKind (kind_at bytes)
   pub incomplete : 4 ≤ length bytes → length bytes < 4 + length_at bytes
 
--- Bytes that begin with a length that no frame has.
+-- Bytes that begin with a length that no frame has, or none of the kind that follows.
 pub record HasBadLength (bytes : List ℕ) : Type 0 where
   pub long : 4 ≤ length bytes
-  pub bad : ¬ IsFrameLength (length_at bytes)
+  pub bad : ¬ HasRightLength bytes
 
 -- Bytes that begin with the length of a frame, and a kind that no message has.
 pub record HasBadKind (bytes : List ℕ) : Type 0 where
   pub long : 5 ≤ length bytes
-  pub length_is_right : IsFrameLength (length_at bytes)
-  pub bad : ¬ IsMessageKind (slice_index bytes 4)
+  pub length_is_right : HasRightLength bytes
+  pub bad : ¬ IsMessageKind (kind_at bytes)
 
 -- how a stream ends behind its last whole frame: with less than a frame, or with a fault
 pub data Ending : Type 0 where

@@ -4,13 +4,15 @@ use Rattle.std.specs.Borrow.{Bor}
 use Rattle.session_core.specs.declared.error.FrameError.{FrameError}
 use Rattle.session_core.specs.declared.error.FrameError.TheVariants as error
 use Rattle.session_core.specs.declared.message.Message.{Message}
-use Rattle.session_core.specs.declared.message.Message.TheVariants.{Register, Lookup}
+use Rattle.session_core.specs.declared.message.Message.TheVariants.{Register, Lookup, Purge, Remove}
 use Rattle.session_core.specs.Frames.{MessageView, body_of, message_frame, FitsFrame, IsPartial, HasBadLength, HasBadKind}
 
 -- a message without where its body lies
 abbrev pub message_at : Message (Bor (List ℕ)) → MessageView
 message_at (Register body) = Register body.now
 message_at (Lookup body) = Lookup body.now
+message_at (Purge moment) = Purge moment
+message_at (Remove kind id) = Remove kind id
 
 -- Bytes begin with the frame of a message, of this many bytes.
 pub record BeginsWithFrame (bytes : List ℕ) (message : MessageView) (len : ℕ) : Type 0 where

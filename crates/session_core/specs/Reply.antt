@@ -12,10 +12,12 @@ use Rattle.session_core.specs.declared.reply.TheConstants.{MOST_REPLY}
 use Rattle.session_core.specs.declared.reply.Form.TheVariants.{Frames, Lines}
 use Rattle.session_core.specs.Frames.{frame_encoding}
 
--- a registration's acknowledgement, a lookup's segments of one type, or the code of a refusal
+-- a command's acknowledgement, a lookup's segments of one type, or the code of a refusal
 pub data ReplyView : Type 0 where
   Registered : (ack : Ack) → ReplyView
   Found : (kind : SegType) (segments : List SegmentView) → ReplyView
+  Purged : (ack : Ack) → ReplyView
+  Removed : (ack : Ack) → ReplyView
   Refused : (code : ℕ) → ReplyView
 
 -- the place in eight bytes, and four counts in four bytes each
@@ -30,6 +32,8 @@ ack_encoding ack =
 abbrev pub reply_content : ReplyView → List ℕ
 reply_content (Registered ack) = 0x81 ∷ ack_encoding ack
 reply_content (Found kind segments) = 0x82 ∷ response_encoding (rows_of kind segments)
+reply_content (Purged ack) = 0x83 ∷ ack_encoding ack
+reply_content (Removed ack) = 0x84 ∷ ack_encoding ack
 reply_content (Refused code) = 0xff ∷ code ∷ []
 
 unfoldable pub reply_frame : ReplyView → List ℕ

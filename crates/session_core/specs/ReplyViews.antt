@@ -3,15 +3,19 @@ use Rattle.std.specs.Prelude.{◌≤◌, length}
 use Rattle.session_core.specs.declared.reply.Reply.{Reply}
 use Rattle.session_core.specs.declared.reply.Reply.TheVariants as reply
 use Rattle.session_core.specs.declared.service.TheConstants.{MOST_SEGMENTS}
-use Rattle.session_core.specs.Reply.{ReplyView, Registered, Found, Refused}
+use Rattle.session_core.specs.Reply.{ReplyView, Registered, Found, Purged, Removed, Refused}
 
 abbrev pub reply_view : Reply → ReplyView
 reply_view (reply.Registered ack) = Registered ack
 reply_view (reply.Found kind segments) = Found kind segments.items
+reply_view (reply.Purged ack) = Purged ack
+reply_view (reply.Removed ack) = Removed ack
 reply_view (reply.Refused code) = Refused code.0
 
 -- a reply has at most 64 segments
 abbrev pub IsShort : Reply → Type 0
 IsShort (reply.Registered ack) = Unit {0}
 IsShort (reply.Found kind segments) = length segments.items ≤ MOST_SEGMENTS
+IsShort (reply.Purged ack) = Unit {0}
+IsShort (reply.Removed ack) = Unit {0}
 IsShort (reply.Refused code) = Unit {0}

@@ -1,12 +1,13 @@
 -- What a service answers, message by message.
-use Rattle.std.specs.Prelude.{ℕ, List, map, Result, Ok, Err, Vec}
+use Rattle.std.specs.Prelude.{◌≡◌, ℕ, List, map, Result, Ok, Err, Vec}
+use Rattle.std.specs.Borrow.{MutBor}
 use Rattle.std.specs.List.{FoldsTo, flat_map}
 use Rattle.seg_core.specs.declared.seg_type.SegType.{SegType}
 use Rattle.seg_core.specs.SegmentView.{SegmentView}
 use Rattle.session_core.specs.declared.service.Ack.{Ack}
 use Rattle.session_core.specs.declared.service.Code.{Code}
 use Rattle.session_core.specs.Frames.{MessageView}
-use Rattle.session_core.specs.Reply.{ReplyView, Registered, Found, Refused, told_as}
+use Rattle.session_core.specs.Reply.{ReplyView, Registered, Found, Purged, Removed, Refused, told_as}
 use Rattle.session_core.specs.declared.reply.Form.{Form}
 use Rattle.session_core.specs.declared.reply.Form.TheVariants.{Frames}
 
@@ -17,6 +18,14 @@ reply_to_register (Err code) = Refused code.0
 abbrev pub reply_to_lookup : {A : Type 0} → Result (SegType × Vec SegmentView A) Code → ReplyView
 reply_to_lookup (Ok found) = Found found.0 found.1.items
 reply_to_lookup (Err code) = Refused code.0
+
+abbrev pub reply_to_purge : Result Ack Code → ReplyView
+reply_to_purge (Ok ack) = Purged ack
+reply_to_purge (Err code) = Refused code.0
+
+abbrev pub reply_to_remove : Result Ack Code → ReplyView
+reply_to_remove (Ok ack) = Removed ack
+reply_to_remove (Err code) = Refused code.0
 
 -- a message and the reply to it
 pub record Exchange : Type 0 where
@@ -40,3 +49,7 @@ reply_frames exchanges = all_told Frames exchanges
 -- The service answered these messages so, one after the other, and each state was the next one's beginning.
 abbrev pub AreAnswered : {S : Type 0} → (S → MessageView → ReplyView → S → Type 0) → S → List Exchange → S → Type 0
 AreAnswered answers old exchanges new = FoldsTo (λ before e after. answers before e.message e.reply after) old exchanges new
+
+-- A service answered that is borrowed, and the borrow stays the same.
+abbrev pub AnswersBehind : {S : Type 0} → (S → MessageView → ReplyView → S → Type 0) → MutBor S → MessageView → ReplyView → MutBor S → Type 0
+AnswersBehind answers old message reply new = answers old.now message reply new.now × (new.ghost_name ≡ old.ghost_name)

@@ -115,6 +115,8 @@ fn message_copy(alloc: Global, message: Message<&[u8]>) -> Result<Message, Alloc
     Ok(match message {
         Message::Register(body) => Message::Register(Vec::from_slice(alloc, body)?),
         Message::Lookup(body) => Message::Lookup(Vec::from_slice(alloc, body)?),
+        Message::Purge(moment) => Message::Purge(moment),
+        Message::Remove(kind, id) => Message::Remove(kind, id),
     })
 }
 

@@ -1,6 +1,8 @@
 //! Frames: a length of four bytes, big-endian, and that many bytes, which are a kind and a body.
 
-ghost use Rattle.session_core.specs.Front.{IsFront};
+ghost use Rattle.std.specs.Prelude.{◌≡◌, ◌+◌, length, IsTrue, ◌↔◌};
+ghost use Rattle.session_core.specs.Frames.{kind_of, body_of, IsFrameLength, IsMessageKind, IsLengthOf, FitsFrame};
+ghost use Rattle.session_core.specs.Front.{message_at, IsFront};
 
 use crate::error::FrameError;
 use crate::message::Message;
@@ -16,9 +18,19 @@ const REGISTER: u8 = 1;
 
 const LOOKUP: u8 = 2;
 
+const PURGE: u8 = 3;
+
+const REMOVE: u8 = 4;
+
+/// The length of a purge's frame: its kind and the eight bytes of a moment.
+const PURGE_LENGTH: usize = 9;
+
+/// The length of a removal's frame: its kind, a type of one byte and an id of 32.
+const REMOVE_LENGTH: usize = 34;
+
 /// The message at the front of the bytes, and how many bytes its frame has. `None` is less than a frame.
 ///
-/// The length is judged once four bytes are there, the kind once five are.
+/// The length is judged once four bytes are there. Once five are, so is the kind, and the length of a purge or a removal.
 pub(crate) fn next_frame(bytes: &[u8]) -> Result<Option<(Message<&[u8]>, usize)>, FrameError>
     ensures { IsFront bytes.now result }
 {
@@ -33,17 +45,53 @@ pub(crate) fn next_frame(bytes: &[u8]) -> Result<Option<(Message<&[u8]>, usize)>
         return Ok(None);
     }
     let kind = bytes[LENGTH_SIZE];
-    if kind != REGISTER && kind != LOOKUP {
+    if kind < REGISTER || kind > REMOVE {
         return Err(FrameError::Kind);
+    }
+    if !is_length_of(kind, len) {
+        return Err(FrameError::Length);
     }
     if bytes.len() < LENGTH_SIZE + len {
         return Ok(None);
     }
     let body = &bytes[LENGTH_SIZE + 1..LENGTH_SIZE + len];
-    let message = if kind == REGISTER {
-        Message::Register(body)
-    } else {
-        Message::Lookup(body)
-    };
-    Ok(Some((message, LENGTH_SIZE + len)))
+    Ok(Some((message_of(kind, body), LENGTH_SIZE + len)))
+}
+
+/// Whether frames of this kind may have this length, as far as the kind says.
+fn is_length_of(kind: u8, len: usize) -> bool
+    ensures { IsTrue result ↔ IsLengthOf kind len }
+{
+    match kind {
+        PURGE => len == PURGE_LENGTH,
+        REMOVE => len == REMOVE_LENGTH,
+        _ => true,
+    }
+}
+
+/// The message of a known kind with this body.
+fn message_of(kind: u8, body: &[u8]) -> Message<&[u8]>
+    requires known { IsMessageKind kind }
+    requires in_range { IsFrameLength (1 + length body.now) }
+    requires of_kind { IsLengthOf kind (1 + length body.now) }
+    ensures kind { kind_of (message_at result) ≡ kind }
+    ensures body { body_of (message_at result) ≡ body.now }
+    ensures fits { FitsFrame (message_at result) }
+{
+    match kind {
+        REGISTER => Message::Register(body),
+        LOOKUP => Message::Lookup(body),
+        PURGE => Message::Purge(BigEndian::read_u64(body)),
+        _ => Message::Remove(body[0], id_of(&body[1..])),
+    }
+}
+
+/// An id, from its bytes.
+fn id_of(bytes: &[u8]) -> [u8; 32]
+    requires { length bytes.now ≡ 32 }
+    ensures { result ≡ bytes.now }
+{
+    let mut id = [0; 32];
+    id.copy_from_slice(bytes);
+    id
 }

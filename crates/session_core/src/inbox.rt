@@ -11,7 +11,7 @@ use std::marker::Model;
 
 /// Bytes of a stream of frames, from the first one on that is not answered: less than a frame and one piece of input.
 #[derive(Drop)]
-pub struct Inbox {
+pub(crate) struct Inbox {
     bytes: Vec<u8>,
     used: usize,
 }
@@ -28,7 +28,7 @@ impl Model for Inbox {
 
 impl Inbox {
     /// No bytes.
-    pub fn new(alloc: Global) -> Inbox
+    pub(crate) fn new(alloc: Global) -> Inbox
         ensures { result ≡ [] }
     {
         Inbox {
@@ -38,21 +38,21 @@ impl Inbox {
     }
 
     /// These bytes.
-    pub fn holding(bytes: Vec<u8>) -> Inbox
+    pub(crate) fn holding(bytes: Vec<u8>) -> Inbox
         ensures { result ≡ bytes.items }
     {
         Inbox { bytes, used: 0 }
     }
 
     /// Whether nothing is left over.
-    pub fn is_empty(&self) -> bool
+    pub(crate) fn is_empty(&self) -> bool
         ensures { (IsTrue result) ↔ (self.now ≡ []) }
     {
         self.used == self.bytes.len()
     }
 
     /// Adds a piece of input at the end. Where memory runs out, nothing is added.
-    pub fn take_in(&mut self, piece: &[u8]) -> Result<(), AllocError>
+    pub(crate) fn take_in(&mut self, piece: &[u8]) -> Result<(), AllocError>
         ensures ok { OnOk result (self.new ≡ self.old ++ piece.now) }
         ensures err { OnErr result (self.new ≡ self.old) }
     {

@@ -23,7 +23,6 @@ mod writing;
 pub use error::FrameError;
 pub use framer::{Fed, Framer};
 pub use frames::MOST_LENGTH;
-pub use inbox::Inbox;
 pub use lines::serve_in_lines;
 pub use message::Message;
 pub use reading::read_all;

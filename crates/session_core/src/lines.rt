@@ -3,10 +3,10 @@
 ghost use Rattle.session_core.specs.Lines.{IsServedInLines};
 
 use crate::error::FrameError;
-use crate::inbox::Inbox;
 use crate::reply::Form;
 use crate::service::Service;
 use crate::serving::{answer_and_flush, end};
+use crate::session::Session;
 use std::alloc::Global;
 use std::io::Write;
 
@@ -20,7 +20,21 @@ pub fn serve_in_lines<W: Write, S: Service>(
 ) -> Result<u64, FrameError>
     ensures { IsServedInLines S.answers bytes.items service.old service.new (W.contents writer.old) (W.contents writer.new) result }
 {
-    let mut inbox = Inbox::holding(bytes);
-    let count = answer_and_flush(alloc, writer, service, &mut inbox, Form::Lines, 0)?;
-    end(&inbox, count)
+    let mut session = Session::holding(service, bytes);
+    let served = serve_whole(alloc, writer, &mut session);
+    let _service = session.into_service();
+    served
+}
+
+/// Answers the messages to which all that came belongs, each in a line.
+fn serve_whole<W: Write, S: Service>(
+    alloc: Global,
+    writer: &mut W,
+    session: &mut Session<S>,
+) -> Result<u64, FrameError>
+    ensures { IsServedInLines S.answers session.old.inbox session.old.service session.new.service
+        (W.contents writer.old) (W.contents writer.new) result }
+{
+    let count = answer_and_flush(alloc, writer, session, Form::Lines, 0)?;
+    end(session, count)
 }

@@ -1,10 +1,15 @@
 //! What a frame carries.
 
-/// A message, with its body: owned by a `Framer`'s caller, or a slice of the bytes that were read.
+/// A message. The body of a registration or a lookup is owned by a `Framer`'s caller, or a slice of the bytes that were
+/// read.
 #[derive(Clone, Copy, Debug, Drop, PartialEq, Eq)]
 pub enum Message<B = Vec<u8>> {
     /// Kind 1: a `SegmentsRegistrationRequest`.
     Register(B),
     /// Kind 2: a `SegmentsRequest`.
     Lookup(B),
+    /// Kind 3: a purge of what has expired by this moment, in half seconds since 1970; eight bytes, big-endian.
+    Purge(u64),
+    /// Kind 4: the removal of a segment by its type, a byte that a service judges, and its id.
+    Remove(u8, [u8; 32]),
 }

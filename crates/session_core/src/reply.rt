@@ -4,7 +4,7 @@ ghost use Rattle.std.specs.Prelude.{◌≡◌, ◌≤◌, ◌<◌, ◌++◌, ◌
 ghost use Rattle.seg_core.specs.Registration.{rows_of};
 ghost use Rattle.seg_core.specs.Encoding.{response_encoding};
 ghost use Rattle.session_core.specs.Frames.{frame_encoding};
-ghost use Rattle.session_core.specs.Reply.{reply_frame, HasReplySize, Registered, Found, Refused};
+ghost use Rattle.session_core.specs.Reply.{ack_encoding, reply_frame, HasReplySize, Found, Refused};
 ghost use Rattle.session_core.specs.ReplyViews.{reply_view};
 
 use crate::service::{Ack, Code};
@@ -12,9 +12,16 @@ use byteorder::{BigEndian, ByteOrder};
 use seg_core::{SegType, Segment, write_response_of};
 use std::alloc::{AllocError, Global};
 
-const REGISTERED: u8 = 0x81;
+/// The kind of a reply to a registration.
+pub(crate) const REGISTERED: u8 = 0x81;
 
 const FOUND: u8 = 0x82;
+
+/// The kind of a reply to a purge.
+pub(crate) const PURGED: u8 = 0x83;
+
+/// The kind of a reply to a removal.
+pub(crate) const REMOVED: u8 = 0x84;
 
 const REFUSED: u8 = 0xff;
 
@@ -40,18 +47,21 @@ pub enum Reply {
     Registered(Ack),
     /// The segments that a lookup found, of one type.
     Found(SegType, Vec<Segment>),
+    /// A purge was accepted.
+    Purged(Ack),
+    /// A removal was accepted.
+    Removed(Ack),
     /// A message was refused.
     Refused(Code),
 }
 
-/// The frame of an acknowledgement.
-#[tactic(auto, unfolding(crate::specs::Reply::reply_frame))]
-pub(crate) fn ack_frame(ack: Ack) -> [u8; ACK_FRAME]
-    ensures { result ≡ reply_frame (Registered ack) }
+/// The frame of an acknowledgement, under the kind of its command.
+pub(crate) fn ack_frame(kind: u8, ack: Ack) -> [u8; ACK_FRAME]
+    ensures { result ≡ frame_encoding (kind ∷ ack_encoding ack) }
 {
     let mut frame = [0; ACK_FRAME];
     BigEndian::write_u32(&mut frame, 25);
-    frame[4] = REGISTERED;
+    frame[4] = kind;
     BigEndian::write_u64(&mut frame[5..], ack.place);
     BigEndian::write_u32_into(
         &[
@@ -106,8 +116,10 @@ pub(crate) fn whole_frame(alloc: Global, reply: &Reply) -> Result<Vec<u8>, Alloc
     ensures { IfOk result (λ frame. frame.items ≡ reply_frame (reply_view reply.now)) }
 {
     match reply {
-        Reply::Registered(ack) => Vec::from_slice(alloc, &ack_frame(*ack)),
+        Reply::Registered(ack) => Vec::from_slice(alloc, &ack_frame(REGISTERED, *ack)),
         Reply::Found(kind, segments) => found_frame(alloc, *kind, segments),
+        Reply::Purged(ack) => Vec::from_slice(alloc, &ack_frame(PURGED, *ack)),
+        Reply::Removed(ack) => Vec::from_slice(alloc, &ack_frame(REMOVED, *ack)),
         Reply::Refused(code) => Vec::from_slice(alloc, &refusal_frame(*code)),
     }
 }

@@ -5,8 +5,8 @@ ghost use Rattle.std.specs.List.{AllByRecursion};
 ghost use Rattle.seg_core.specs.Encoding.{IsSegment};
 ghost use Rattle.session_core.specs.Frames.{MessageView};
 ghost use Rattle.session_core.specs.Reply.{ReplyView};
-ghost use Rattle.session_core.specs.Service.{reply_to_register, reply_to_lookup};
-ghost use Rattle.session_core.specs.declared.message.Message.TheVariants.{Register, Lookup};
+ghost use Rattle.session_core.specs.Service.{reply_to_register, reply_to_lookup, reply_to_purge, reply_to_remove, AnswersBehind};
+ghost use Rattle.session_core.specs.declared.message.Message.TheVariants.{Register, Lookup, Purge, Remove};
 
 use seg_core::{SegType, Segment};
 use std::alloc::Global;
@@ -49,4 +49,33 @@ pub trait Service {
         ensures answers { answers self.old (Lookup message.now) (reply_to_lookup result) self.new }
         ensures few { IfOk result (λ found. length found.1.items ≤ MOST_SEGMENTS) }
         ensures whole { IfOk result (λ found. AllByRecursion IsSegment found.1.items) };
+
+    /// Answers a purge of what has expired by this moment, in half seconds since 1970.
+    fn purge(&mut self, moment: u64) -> Result<Ack, Code>
+        ensures { answers self.old (Purge moment) (reply_to_purge result) self.new };
+
+    /// Answers the removal of a segment by the byte of its type, which may be any, and its id.
+    fn remove(&mut self, kind: u8, id: &[u8; 32]) -> Result<Ack, Code>
+        ensures { answers self.old (Remove kind id.now) (reply_to_remove result) self.new };
+}
+
+/// A borrowed service answers as the service itself does.
+impl<S: Service> Service for &mut S {
+    ghost answers = { AnswersBehind S.answers };
+
+    fn register(&mut self, alloc: Global, message: &[u8]) -> Result<Ack, Code> {
+        (**self).register(alloc, message)
+    }
+
+    fn lookup(&mut self, alloc: Global, message: &[u8]) -> Result<(SegType, Vec<Segment>), Code> {
+        (**self).lookup(alloc, message)
+    }
+
+    fn purge(&mut self, moment: u64) -> Result<Ack, Code> {
+        (**self).purge(moment)
+    }
+
+    fn remove(&mut self, kind: u8, id: &[u8; 32]) -> Result<Ack, Code> {
+        (**self).remove(kind, id)
+    }
 }

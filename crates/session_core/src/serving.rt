@@ -5,9 +5,9 @@ ghost use Rattle.session_core.specs.Answered.{AreFrontsAnswered};
 ghost use Rattle.session_core.specs.Session.{IsServed};
 
 use crate::error::FrameError;
-use crate::inbox::Inbox;
 use crate::reply::Form;
 use crate::service::Service;
+use crate::session::Session;
 use crate::source::{MOST_PIECE, Source, read_once};
 use crate::writing::write_reply;
 use std::alloc::Global;
@@ -30,40 +30,40 @@ pub fn serve<R: Source, W: Write, S: Service>(
         (R.remaining reader.new) (W.contents writer.old) (W.contents writer.new) result }
 {
     let mut piece = new_piece(alloc)?;
-    let mut inbox = Inbox::new(alloc);
-    serve_inbox(
+    let mut session = Session::new(alloc, service);
+    let served = serve_session(
         alloc,
         reader,
         writer,
-        service,
-        &mut inbox,
+        &mut session,
         piece.as_mut_slice(),
         turns,
-    )
+    );
+    let _service = session.into_service();
+    served
 }
 
-/// Answers the messages that a reader gives, by way of an inbox with nothing in it, and with room for one read.
-fn serve_inbox<R: Source, W: Write, S: Service>(
+/// Answers the messages that a reader gives, in a session to which nothing came, and with room for one read.
+fn serve_session<R: Source, W: Write, S: Service>(
     alloc: Global,
     reader: &mut R,
     writer: &mut W,
-    service: &mut S,
-    inbox: &mut Inbox,
+    session: &mut Session<S>,
     piece: &mut [u8],
     turns: u64,
 ) -> Result<u64, FrameError>
-    requires fresh { inbox.old ≡ [] }
+    requires fresh { session.old.inbox ≡ [] }
     requires room { length piece.old ≡ MOST_PIECE }
-    ensures { IsServed S.answers R.gives turns service.old service.new reader.old reader.new
+    ensures { IsServed S.answers R.gives turns session.old.service session.new.service reader.old reader.new
         (R.remaining reader.new) (W.contents writer.old) (W.contents writer.new) result }
 {
     let mut count = 0;
     for _turn in 0..turns {
         let len = read_once(reader, piece)?;
         if len == 0 {
-            return end(inbox, count);
+            return end(session, count);
         }
-        count = serve_piece(alloc, writer, service, inbox, piece.split_at(len).0, count)?;
+        count = serve_piece(alloc, writer, session, piece.split_at(len).0, count)?;
     }
     Err(FrameError::Turns)
 }
@@ -77,12 +77,12 @@ pub(crate) fn new_piece(alloc: Global) -> Result<Vec<u8>, FrameError>
 }
 
 /// What a session answers at the end of the input: nothing may be left over.
-pub(crate) fn end(inbox: &Inbox, count: u64) -> Result<u64, FrameError>
+pub(crate) fn end<S: Service>(session: &Session<S>, count: u64) -> Result<u64, FrameError>
     ensures ok { IfOk result (λ n. n ≡ count) }
-    ensures whole { IfOk result (λ _. inbox.now ≡ []) }
+    ensures whole { IfOk result (λ _. session.now.inbox ≡ []) }
     ensures err { IfErr result (λ e. e ≡ FrameError.Read) }
 {
-    if inbox.is_empty() {
+    if session.is_done() {
         Ok(count)
     } else {
         Err(FrameError::Read)
@@ -93,33 +93,31 @@ pub(crate) fn end(inbox: &Inbox, count: u64) -> Result<u64, FrameError>
 fn serve_piece<W: Write, S: Service>(
     alloc: Global,
     writer: &mut W,
-    service: &mut S,
-    inbox: &mut Inbox,
+    session: &mut Session<S>,
     piece: &[u8],
     count: u64,
 ) -> Result<u64, FrameError>
-    ensures { AreFrontsAnswered Form.Frames S.answers service.old (inbox.old ++ piece.now) service.new inbox.new
-        (W.contents writer.old) (W.contents writer.new) count result }
+    ensures { AreFrontsAnswered Form.Frames S.answers session.old.service (session.old.inbox ++ piece.now)
+        session.new.service session.new.inbox (W.contents writer.old) (W.contents writer.new) count result }
 {
-    if inbox.take_in(piece).is_err() {
+    if session.feed(piece).is_err() {
         return Err(FrameError::NoMemory);
     }
-    answer_and_flush(alloc, writer, service, inbox, Form::Frames, count)
+    answer_and_flush(alloc, writer, session, Form::Frames, count)
 }
 
 /// Answers the messages that stand whole, and flushes what was written, unless a write failed.
 pub(crate) fn answer_and_flush<W: Write, S: Service>(
     alloc: Global,
     writer: &mut W,
-    service: &mut S,
-    inbox: &mut Inbox,
+    session: &mut Session<S>,
     form: Form,
     count: u64,
 ) -> Result<u64, FrameError>
-    ensures { AreFrontsAnswered form S.answers service.old inbox.old service.new inbox.new
+    ensures { AreFrontsAnswered form S.answers session.old.service session.old.inbox session.new.service session.new.inbox
         (W.contents writer.old) (W.contents writer.new) count result }
 {
-    match answer_all(alloc, writer, service, inbox, form, count) {
+    match answer_all(alloc, writer, session, form, count) {
         Err(FrameError::Write) => Err(FrameError::Write),
         answered => {
             if writer.flush().is_err() {
@@ -134,16 +132,15 @@ pub(crate) fn answer_and_flush<W: Write, S: Service>(
 fn answer_all<W: Write, S: Service>(
     alloc: Global,
     writer: &mut W,
-    service: &mut S,
-    inbox: &mut Inbox,
+    session: &mut Session<S>,
     form: Form,
     count: u64,
 ) -> Result<u64, FrameError>
-    ensures { AreFrontsAnswered form S.answers service.old inbox.old service.new inbox.new
+    ensures { AreFrontsAnswered form S.answers session.old.service session.old.inbox session.new.service session.new.inbox
         (W.contents writer.old) (W.contents writer.new) count result }
 {
     let mut sum = count;
-    while let Some(reply) = inbox.next_reply(alloc, service)? {
+    while let Some(reply) = session.next_reply(alloc)? {
         write_reply(alloc, writer, &reply, form)?;
         sum = sum.saturating_add(1);
     }

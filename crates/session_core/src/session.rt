@@ -1,5 +1,6 @@
-//! The core of a session, which neither reads nor writes: bytes go into an inbox, and replies come out of it.
+//! The core of a session, which neither reads nor writes: it is fed with pieces, and gives replies.
 
+ghost use Rattle.std.specs.Prelude.{◌≡◌, ◌++◌, [], OnOk, OnErr, IsTrue, ◌↔◌};
 ghost use Rattle.session_core.specs.Answered.{IsNext};
 ghost use Rattle.session_core.specs.Front.{message_at};
 ghost use Rattle.session_core.specs.Reply.{HasReplySize};
@@ -10,24 +11,75 @@ use crate::inbox::Inbox;
 use crate::message::Message;
 use crate::reply::Reply;
 use crate::service::Service;
-use std::alloc::Global;
+use std::alloc::{AllocError, Global};
 
-impl Inbox {
-    /// Lets a service answer the message whose frame stands whole at the front. `None` is less than a frame, an error a
-    /// faulty frame: then nothing changes.
-    pub fn next_reply<S: Service>(
-        &mut self,
-        alloc: Global,
-        service: &mut S,
-    ) -> Result<Option<Reply>, FrameError>
-        ensures { IsNext S.answers service.old self.old service.new self.new result }
+/// A service, and what came for it and is not answered yet. At the end the service is taken out again.
+pub(crate) struct Session<S> {
+    service: S,
+    inbox: Inbox,
+}
+
+impl<S: Service> Session<S> {
+    /// A session to which nothing came.
+    pub(crate) fn new(alloc: Global, service: S) -> Session<S>
+        ensures service { result.service ≡ service }
+        ensures inbox { result.inbox ≡ [] }
     {
-        let Some((message, len)) = self.front()? else {
+        Session {
+            service,
+            inbox: Inbox::new(alloc),
+        }
+    }
+
+    /// A session to which these bytes came.
+    pub(crate) fn holding(service: S, bytes: Vec<u8>) -> Session<S>
+        ensures service { result.service ≡ service }
+        ensures inbox { result.inbox ≡ bytes.items }
+    {
+        Session {
+            service,
+            inbox: Inbox::holding(bytes),
+        }
+    }
+
+    /// Takes the next piece of input. Where memory runs out, nothing changes.
+    pub(crate) fn feed(&mut self, piece: &[u8]) -> Result<(), AllocError>
+        ensures service { self.new.service ≡ self.old.service }
+        ensures ok { OnOk result (self.new.inbox ≡ self.old.inbox ++ piece.now) }
+        ensures err { OnErr result (self.new.inbox ≡ self.old.inbox) }
+    {
+        self.inbox.take_in(piece)
+    }
+
+    /// Lets the service answer the message whose frame stands whole at the front. `None` is less than a frame, an error a
+    /// faulty frame: then nothing changes.
+    pub(crate) fn next_reply(&mut self, alloc: Global) -> Result<Option<Reply>, FrameError>
+        ensures { IsNext S.answers self.old.service self.old.inbox self.new.service self.new.inbox result }
+    {
+        let Some((message, len)) = self.inbox.front()? else {
             return Ok(None);
         };
-        let reply = answer(alloc, service, message);
-        self.advance(len);
+        let reply = answer(alloc, &mut self.service, message);
+        self.inbox.advance(len);
         Ok(Some(reply))
+    }
+
+    /// Whether all that came is answered.
+    pub(crate) fn is_done(&self) -> bool
+        ensures { (IsTrue result) ↔ (self.now.inbox ≡ []) }
+    {
+        self.inbox.is_empty()
+    }
+
+    /// Gives the service back.
+    pub(crate) fn into_service(self) -> S
+        ensures { result ≡ self.service }
+    {
+        let Session {
+            service,
+            inbox: _inbox,
+        } = self;
+        service
     }
 }
 
@@ -43,6 +95,14 @@ fn answer<S: Service>(alloc: Global, service: &mut S, message: Message<&[u8]>) -
         },
         Message::Lookup(body) => match service.lookup(alloc, body) {
             Ok((kind, segments)) => Reply::Found(kind, segments),
+            Err(code) => Reply::Refused(code),
+        },
+        Message::Purge(moment) => match service.purge(moment) {
+            Ok(ack) => Reply::Purged(ack),
+            Err(code) => Reply::Refused(code),
+        },
+        Message::Remove(kind, id) => match service.remove(kind, &id) {
+            Ok(ack) => Reply::Removed(ack),
             Err(code) => Reply::Refused(code),
         },
     }

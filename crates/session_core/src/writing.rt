@@ -7,7 +7,10 @@ ghost use Rattle.session_core.specs.ReplyViews.{reply_view};
 ghost use Rattle.session_core.specs.Answered.{FailsToWrite, FailsWithin};
 
 use crate::error::FrameError;
-use crate::reply::{Form, Reply, ack_frame, found_head, refusal_frame, response_of, whole_frame};
+use crate::reply::{
+    Form, PURGED, REGISTERED, REMOVED, Reply, ack_frame, found_head, refusal_frame, response_of,
+    whole_frame,
+};
 use seg_core::{SegType, Segment};
 use std::alloc::{AllocError, Global};
 use std::io::Write;
@@ -53,14 +56,17 @@ fn line_of(alloc: Global, reply: &Reply) -> Result<String, AllocError>
 }
 
 /// Writes the frame of a reply. Memory is wanted for a response alone, before its first byte.
+#[tactic(auto, unfolding(crate::specs::Reply::reply_frame))]
 fn write_frame<W: Write>(alloc: Global, writer: &mut W, reply: &Reply) -> Result<(), FrameError>
     requires { HasReplySize (reply_view reply.now) }
     ensures ok { OnOk result (Appends (W.contents writer.old) (W.contents writer.new) (reply_frame (reply_view reply.now))) }
     ensures err { IfErr result (FailsToWrite (W.contents writer.old) (W.contents writer.new) (reply_frame (reply_view reply.now))) }
 {
     match reply {
-        Reply::Registered(ack) => write_all(writer, &ack_frame(*ack)),
+        Reply::Registered(ack) => write_all(writer, &ack_frame(REGISTERED, *ack)),
         Reply::Found(kind, segments) => write_found(alloc, writer, *kind, segments),
+        Reply::Purged(ack) => write_all(writer, &ack_frame(PURGED, *ack)),
+        Reply::Removed(ack) => write_all(writer, &ack_frame(REMOVED, *ack)),
         Reply::Refused(code) => write_all(writer, &refusal_frame(*code)),
     }
 }

@@ -60,14 +60,20 @@ fn byte_by_byte(rt: HostRuntime) -> Result<(), Fail> {
 }
 
 /// Frames with a fault that their last byte shows, and no byte before it.
-const FAULTS: [(&[u8], FrameError); 7] = [
+const FAULTS: [(&[u8], FrameError); 13] = [
     (b"\0\0\0\0", FrameError::Length),
     (b"\0\x02\0\x02", FrameError::Length),
     (b"\xff\xff\xff\xff", FrameError::Length),
     (b"\0\0\0\x01\0", FrameError::Kind),
-    (b"\0\0\0\x01\x03", FrameError::Kind),
-    (b"\0\0\0\x11\x04", FrameError::Kind),
+    (b"\0\0\0\x01\x05", FrameError::Kind),
+    (b"\0\0\0\x22\x05", FrameError::Kind),
     (b"\0\x02\0\x01\xff", FrameError::Kind),
+    (b"\0\0\0\x01\x03", FrameError::Length),
+    (b"\0\0\0\x08\x03", FrameError::Length),
+    (b"\0\0\0\x0a\x03", FrameError::Length),
+    (b"\0\0\0\x21\x04", FrameError::Length),
+    (b"\0\0\0\x23\x04", FrameError::Length),
+    (b"\0\x02\0\x01\x04", FrameError::Length),
 ];
 
 // A fault is told at the byte that shows it, and again for each piece from then on, with no message.

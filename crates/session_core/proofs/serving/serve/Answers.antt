@@ -1,8 +1,15 @@
+use Rattle.std.proofs.Common.{rules}
 use Rattle.std.proofs.lemmas.Result.{err_from_is_err_and}
 use Rattle.session_core.proofs.SessionLemmas.{ends_at_once}
+use Rattle.session_core.proofs.Behind.{served_behind}
 use Rattle.session_core.proofs.serving.serve.Goals as goal
 
 pub returns-in_err-piece : goal.returns-in_err-piece
 returns-in_err-piece g c =
     let p = err_from_is_err_and c.from_residual.result c.from_residual.ensures.1 in
     rw (p.1, p.2) (ends_at_once _ _ _ _ _ _ _ _ c.in_err-piece.ensures.err)
+
+pub returns : goal.returns
+returns g c =
+    let served = rw (c.new-session.ensures.service, ← c.into_service-service.ensures) at c.serve_session-served.ensures in
+    served_behind _ _ _ _ _ _ _ _ _ _ _ _ (search rules) served

@@ -3,7 +3,7 @@ use Rattle.std.proofs.lemmas.Result.{err_from_is_err_and}
 use Rattle.session_core.specs.declared.error.FrameError.TheVariants as error
 use Rattle.session_core.specs.Session.{IsServed}
 use Rattle.session_core.proofs.SessionLemmas.{so_far_none, so_far_more, fails_to_read, ends_at_end, ends_at_piece, ends_at_turns}
-use Rattle.session_core.proofs.serving.serve_inbox.Goals as goal
+use Rattle.session_core.proofs.serving.serve_session.Goals as goal
 
 pub loop-turn-init : goal.loop-turn-init
 loop-turn-init g c = record {
@@ -38,6 +38,6 @@ loop-turn-preserved g c =
 pub returns : goal.returns
 returns g c =
     let all : c.loop-turn._turn ≡ c.args.turns = omega arith in
-    subst (λ (turns : ℕ). IsServed g.S.Service.answers g.R.Source.gives turns c.args.service.now c.loop-turn.service c.args.reader.now c.loop-turn.reader (g.R.Read.remaining c.loop-turn.reader)
+    subst (λ (turns : ℕ). IsServed g.S.Service.answers g.R.Source.gives turns c.args.session.now.service c.loop-turn.session.service c.args.reader.now c.loop-turn.reader (g.R.Read.remaining c.loop-turn.reader)
     (g.W.Write.contents c.args.writer.now) (g.W.Write.contents c.loop-turn.writer) (Err error.Turns)) all
     (ends_at_turns _ _ _ _ _ _ _ _ _ _ _ c.loop-turn.invariant.so_far _)

@@ -1,0 +1,111 @@
+//! Purges and removals, over a service that tells what it was given.
+
+use seg_core::{SegType, Segment};
+use session_core::{Ack, Code, Outcome, Service, serve};
+use std::alloc::{AllocError, Global};
+use std::io::Read;
+use std::test::Fail;
+
+/// Counts the commands, and keeps nothing of them.
+#[derive(Drop)]
+struct Counter {
+    place: u64,
+}
+
+impl Counter {
+    /// An acknowledgement at the next place, with these counts.
+    fn ack(&mut self, kept: u32, purged: u32) -> Ack {
+        let place = self.place;
+        self.place = place.saturating_add(1);
+        Ack {
+            place,
+            outcome: Outcome {
+                inserted: 0,
+                updated: 0,
+                kept,
+                purged,
+            },
+        }
+    }
+}
+
+impl Service for Counter {
+    ghost answers = { λ _ _ _ _. Unit {0} };
+
+    fn register(&mut self, _alloc: Global, _message: &[u8]) -> Result<Ack, Code> {
+        Ok(self.ack(0, 0))
+    }
+
+    fn lookup(&mut self, _alloc: Global, _message: &[u8]) -> Result<(SegType, Vec<Segment>), Code> {
+        Err(Code(0x26))
+    }
+
+    /// Tells the moment's lower half as what was purged.
+    fn purge(&mut self, moment: u64) -> Result<Ack, Code> {
+        Ok(self.ack(0, (moment & 0xffff_ffff) as u32))
+    }
+
+    /// Refuses a type that is none, and tells the last byte of the id as what was kept.
+    fn remove(&mut self, kind: u8, id: &[u8; 32]) -> Result<Ack, Code> {
+        if kind < 1 || kind > 3 {
+            return Err(Code(0x29));
+        }
+        Ok(self.ack(u32::from(id[31]), 0))
+    }
+}
+
+/// A purge up to the beginning of 2024.
+const PURGE: [u8; 13] = [
+    0x00, 0x00, 0x00, 0x09, 0x03, // a length of 9, and a purge
+    0x00, 0x00, 0x00, 0x00, 0xcb, 0x24, 0x01, 0x00, // the moment, in half seconds
+];
+
+/// The removal of a segment of this type.
+fn removal(kind: u8) -> [u8; 38] {
+    let mut frame = [0x1f; 38];
+    frame[..5].copy_from_slice(b"\0\0\0\x22\x04");
+    frame[5] = kind;
+    frame
+}
+
+/// A purge, the removals of a down segment and of a segment of no type, and a registration of nothing.
+fn input(alloc: Global) -> Result<Vec<u8>, AllocError> {
+    let mut bytes = Vec::from_slice(alloc, &PURGE)?;
+    bytes.extend_from_slice(&removal(2))?;
+    bytes.extend_from_slice(&removal(4))?;
+    bytes.extend_from_slice(b"\0\0\0\x01\x01")?;
+    Ok(bytes)
+}
+
+/// Their replies: acknowledgements at the places 0 and 1, a refusal, and an acknowledgement at the place 2.
+const OUTPUT: [u8; 93] = [
+    0x00, 0x00, 0x00, 0x19, 0x83, // the purge's, of 25 bytes
+    0x00, 0x00, 0x00, 0x00, 0x00, 0x00, 0x00, 0x00, // its place
+    0x00, 0x00, 0x00, 0x00, 0x00, 0x00, 0x00, 0x00, // inserted, updated
+    0x00, 0x00, 0x00, 0x00, 0xcb, 0x24, 0x01, 0x00, // kept, purged
+    0x00, 0x00, 0x00, 0x19, 0x84, // the removal's, of 25 bytes
+    0x00, 0x00, 0x00, 0x00, 0x00, 0x00, 0x00, 0x01, // its place
+    0x00, 0x00, 0x00, 0x00, 0x00, 0x00, 0x00, 0x00, // inserted, updated
+    0x00, 0x00, 0x00, 0x1f, 0x00, 0x00, 0x00, 0x00, // kept, purged
+    0x00, 0x00, 0x00, 0x02, 0xff, 0x29, // the refusal's, of 2 bytes
+    0x00, 0x00, 0x00, 0x19, 0x81, // the registration's, of 25 bytes
+    0x00, 0x00, 0x00, 0x00, 0x00, 0x00, 0x00, 0x02, // its place
+    0x00, 0x00, 0x00, 0x00, 0x00, 0x00, 0x00, 0x00, // inserted, updated
+    0x00, 0x00, 0x00, 0x00, 0x00, 0x00, 0x00, 0x00, // kept, purged
+];
+
+// A session gives the same replies however its input is cut in two.
+#[test]
+fn any_cut(rt: HostRuntime) -> Result<(), Fail> {
+    let alloc = rt.alloc();
+    let input = input(alloc)?;
+    for cut in 0..=input.len() {
+        let (front, rest) = input.as_slice().split_at(cut);
+        let mut service = Counter { place: 0 };
+        let mut output = Vec::new(alloc);
+        let count = serve(alloc, &mut front.chain(rest), &mut output, &mut service, 9)?;
+        assert_eq!(rt; count, 4, "cut at {cut}");
+        assert_eq!(rt; output.as_slice(), OUTPUT.as_slice(), "cut at {cut}");
+    }
+    Ok(())
+}
