@@ -27,6 +27,7 @@ pub use lines::serve_in_lines;
 pub use message::Message;
 pub use reading::read_all;
 pub use reply::{Form, MOST_REPLY, Reply};
-pub use service::{Ack, Code, MOST_SEGMENTS, Outcome, Service};
+pub use path_db::Outcome;
+pub use service::{Ack, Code, MOST_SEGMENTS, Service};
 pub use serving::serve;
 pub use source::{MOST_PIECE, Source};

@@ -8,21 +8,12 @@ ghost use Rattle.session_core.specs.Reply.{ReplyView};
 ghost use Rattle.session_core.specs.Service.{reply_to_register, reply_to_lookup, reply_to_purge, reply_to_remove, AnswersBehind};
 ghost use Rattle.session_core.specs.declared.message.Message.TheVariants.{Register, Lookup, Purge, Remove};
 
+use path_db::Outcome;
 use seg_core::{SegType, Segment};
 use std::alloc::Global;
 
 /// The most segments of an answer to a lookup.
 pub const MOST_SEGMENTS: usize = 64;
-
-/// What a command did: how many segments it inserted, updated and kept, and how many rows it dropped. A greater count
-/// is 2^32 - 1.
-#[derive(Clone, Copy, Debug, PartialEq, Eq)]
-pub struct Outcome {
-    pub inserted: u32,
-    pub updated: u32,
-    pub kept: u32,
-    pub purged: u32,
-}
 
 /// The acknowledgement of a command: its place in the order of commands, from 0 on, and what it did.
 #[derive(Clone, Copy, Debug, PartialEq, Eq)]
