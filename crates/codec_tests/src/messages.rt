@@ -100,24 +100,23 @@ fn messages_are_refused(rt: HostRuntime) {
     }
 }
 
+/// So many copies of the worked segment behind these bytes.
+fn repeated(alloc: Global, head: &[u8], times: usize) -> Result<Vec<u8>, Fail> {
+    let mut message = Vec::from_slice(alloc, head)?;
+    for _ in 0..times {
+        message.extend_from_slice(b"\x0a\x58")?;
+        message.extend_from_slice(&SEGMENT)?;
+    }
+    Ok(message)
+}
+
 // Sixteen segments of one type are read, and the seventeenth is refused.
 #[test]
 fn seventeen_segments_are_refused(rt: HostRuntime) -> Result<(), Fail> {
-    for (head, times, expected) in [
-        (b"\x0a\xa5\x0b\x08\x02\x12\xa0\x0b".as_slice(), 16, Ok(16)),
-        (
-            b"\x0a\xff\x0b\x08\x02\x12\xfa\x0b".as_slice(),
-            17,
-            Err(SegError::TooLarge),
-        ),
-    ] {
-        let mut message = Vec::from_slice(rt.alloc(), head)?;
-        for _ in 0..times {
-            message.extend_from_slice(b"\x0a\x58")?;
-            message.extend_from_slice(&SEGMENT)?;
-        }
-        assert_eq!(rt; count(rt.alloc(), &message), expected);
-    }
+    let sixteen = repeated(rt.alloc(), b"\x0a\xa5\x0b\x08\x02\x12\xa0\x0b", 16)?;
+    assert_eq!(rt; count(rt.alloc(), &sixteen), Ok(16));
+    let seventeen = repeated(rt.alloc(), b"\x0a\xff\x0b\x08\x02\x12\xfa\x0b", 17)?;
+    assert_eq!(rt; count(rt.alloc(), &seventeen), Err(SegError::TooLarge));
     Ok(())
 }
 

@@ -2,8 +2,8 @@
 use Rattle.std.proofs.Common.{◌≡◌, ℕ, ◌↔◌, List, [], ◌∷◌, ◌++◌, Option, None, Some, MatchOption, Result, Ok, Err, Bor, IsErrOf, refl, sym, ap, ◌∙◌, subst, inr, ⊎_elim, arith, append_assoc}
 use Rattle.std.specs.Str.Parse.{AllDigits, IsNumeral, digits_value}
 use Rattle.std.proofs.lemmas.Str.Pattern.{IsSplitOnceResult, split_after, split_parts}
-use Rattle.isd_as.specs.declared.fault.IaError.{IaError}
-use Rattle.isd_as.specs.declared.fault.IaError.TheVariants.{BadText, TooLarge}
+use Rattle.isd_as.specs.declared.error.IaError.{IaError}
+use Rattle.isd_as.specs.declared.error.IaError.TheVariants.{BadText, TooLarge}
 use Rattle.isd_as.specs.declared.number.IsdAs.{IsdAs}
 use Rattle.isd_as.specs.Reading.{Reads, ReadsAs}
 use Rattle.isd_as.specs.Text.{AreHexGroups, AsNumber, Decimal, Groups, FitsAs, IsAsText, IsDecimal, IsHexGroup, IsIsdAsText, IsLargeAs, IsTooLargeText, Says, as_number}

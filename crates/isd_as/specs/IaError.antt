@@ -1,7 +1,7 @@
 -- What is printed of each refusal.
 use Rattle.std.specs.Prelude.{ℕ, List, codes}
-use Rattle.isd_as.specs.declared.fault.IaError.{IaError}
-use Rattle.isd_as.specs.declared.fault.IaError.TheVariants.{BadText, TooLarge}
+use Rattle.isd_as.specs.declared.error.IaError.{IaError}
+use Rattle.isd_as.specs.declared.error.IaError.TheVariants.{BadText, TooLarge}
 
 -- the message of a refusal
 abbrev pub message_of : IaError → List ℕ

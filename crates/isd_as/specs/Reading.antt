@@ -1,7 +1,7 @@
 -- What the readers of a text, and of the AS in it, answer.
 use Rattle.std.specs.Prelude.{◌≡◌, ℕ, List, Result, Ok, Err}
-use Rattle.isd_as.specs.declared.fault.IaError.{IaError}
-use Rattle.isd_as.specs.declared.fault.IaError.TheVariants.{BadText, TooLarge}
+use Rattle.isd_as.specs.declared.error.IaError.{IaError}
+use Rattle.isd_as.specs.declared.error.IaError.TheVariants.{BadText, TooLarge}
 use Rattle.isd_as.specs.declared.number.IsdAs.{IsdAs}
 use Rattle.isd_as.specs.Text.{AsNumber, FitsAs, IsAsText, IsInGrammar, IsIsdAsText, IsLargeAs, IsTooLargeText, as_number}
 

@@ -7,13 +7,13 @@
 //! and `covers` matches a pattern whose parts may be wildcards.
 #![tactic(auto)]
 
-mod fault;
+mod error;
 mod number;
 mod reading;
 mod wildcard;
 mod writing;
 
-pub use fault::IaError;
+pub use error::IaError;
 pub use number::IsdAs;
 pub use reading::parse;
 pub use wildcard::covers;

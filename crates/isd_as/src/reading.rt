@@ -4,7 +4,7 @@ ghost use Rattle.isd_as.specs.declared.number.IsdAs.{IsdAs};
 ghost use Rattle.isd_as.specs.Reading.{Reads, ReadsAs};
 ghost use Rattle.isd_as.specs.Text.{AreHexGroups, IsHexGroup, IsInGrammar, IsIsdAsText, IsTooLargeText, isd_as_text};
 
-use crate::fault::IaError;
+use crate::error::IaError;
 use crate::number::IsdAs;
 
 /// The ISD-AS that a text says.

@@ -3,8 +3,8 @@ use Rattle.std.proofs.Common.{◌≡◌, ℕ, ◌+◌, ◌<◌, List, [], ◌∷
 use Rattle.std.proofs.lemmas.List.{map_more, map-append, drop_more}
 use Rattle.isd_as.specs.declared.number.IsdAs.{IsdAs}
 use Rattle.isd_as.specs.Text.{IsIsdAsText}
-use Rattle.path_commands.specs.declared.fault.Fault.{Fault}
-use Rattle.path_commands.specs.declared.fault.Fault.TheVariants as fault
+use Rattle.path_commands.specs.declared.error.Fault.{Fault}
+use Rattle.path_commands.specs.declared.error.Fault.TheVariants as fault
 use Rattle.path_commands.specs.Cores.{texts_of, AreCores, RefusesText, RefusesList}
 
 AreCores-push : (texts : List (List ℕ)) (cores : List IsdAs) (text : List ℕ) (core : IsdAs) → AreCores texts cores → IsIsdAsText text core → AreCores (texts ++ text ∷ []) (cores ++ core ∷ [])

@@ -2,11 +2,11 @@
 use Rattle.std.specs.Prelude.{◌≡◌, ℕ, List, ◌∷◌, ◌++◌, ◌==◌}
 use Rattle.std.specs.List.{AllZip, slice_split}
 use Rattle.isd_as.specs.declared.number.IsdAs.{IsdAs}
-use Rattle.isd_as.specs.declared.fault.IaError.{IaError}
-use Rattle.isd_as.specs.declared.fault.IaError.TheVariants.{BadText, TooLarge}
+use Rattle.isd_as.specs.declared.error.IaError.{IaError}
+use Rattle.isd_as.specs.declared.error.IaError.TheVariants.{BadText, TooLarge}
 use Rattle.isd_as.specs.Text.{IsIsdAsText, IsInGrammar, IsTooLargeText}
-use Rattle.path_commands.specs.declared.fault.Fault.{Fault}
-use Rattle.path_commands.specs.declared.fault.Fault.TheVariants as fault
+use Rattle.path_commands.specs.declared.error.Fault.{Fault}
+use Rattle.path_commands.specs.declared.error.Fault.TheVariants as fault
 
 -- what stands between the commas
 abbrev pub texts_of : List ℕ → List (List ℕ)

@@ -1,8 +1,8 @@
 -- What the program says of the fault that ended a session.
 use Rattle.session_core.specs.declared.error.FrameError.{FrameError}
 use Rattle.session_core.specs.declared.error.FrameError.TheVariants as error
-use Rattle.path_commands.specs.declared.fault.Fault.{Fault}
-use Rattle.path_commands.specs.declared.fault.Fault.TheVariants as fault
+use Rattle.path_commands.specs.declared.error.Fault.{Fault}
+use Rattle.path_commands.specs.declared.error.Fault.TheVariants as fault
 
 -- want of memory is no fault of a frame
 abbrev pub fault_of : FrameError → Fault

@@ -1,8 +1,8 @@
 -- Hexadecimal text.
 use Rattle.std.specs.Prelude.{ℕ, List, Bool, ◌==◌, ◌||◌, not, filter, IsErr}
 use Rattle.hex.specs.Hex.{decode_of}
-use Rattle.path_commands.specs.declared.fault.Fault.{Fault}
-use Rattle.path_commands.specs.declared.fault.Fault.TheVariants as fault
+use Rattle.path_commands.specs.declared.error.Fault.{Fault}
+use Rattle.path_commands.specs.declared.error.Fault.TheVariants as fault
 
 -- a space or the end of a line
 abbrev pub is_blank : ℕ → Bool

@@ -7,8 +7,8 @@ use Rattle.session_core.specs.declared.error.FrameError.{FrameError}
 use Rattle.session_core.specs.declared.error.FrameError.TheVariants as error
 use Rattle.session_core.specs.Source.{AreReads}
 use Rattle.session_core.specs.Lines.{IsServedInLines}
-use Rattle.path_commands.specs.declared.fault.Fault.{Fault}
-use Rattle.path_commands.specs.declared.fault.Fault.TheVariants as fault
+use Rattle.path_commands.specs.declared.error.Fault.{Fault}
+use Rattle.path_commands.specs.declared.error.Fault.TheVariants as fault
 use Rattle.path_commands.specs.Fault.{fault_of}
 use Rattle.path_commands.specs.HexInput.{without_blanks}
 use Rattle.path_commands.specs.Memory.{Served, opening, Answers}

@@ -4,7 +4,7 @@ ghost use Rattle.std.specs.Prelude.{◌≡◌, map, IfOk, IfErr};
 ghost use Rattle.isd_as.specs.Text.{IsIsdAsText};
 ghost use Rattle.path_commands.specs.Cores.{texts_of, AreCores, RefusesText, RefusesList};
 
-use crate::fault::Fault;
+use crate::error::Fault;
 use isd_as::{IaError, IsdAs, parse};
 use std::alloc::Global;
 

@@ -4,7 +4,7 @@ ghost use Rattle.std.specs.Prelude.{◌≡◌, Ok, IfOk, IfErr};
 ghost use Rattle.hex.specs.Hex.{decode_of};
 ghost use Rattle.path_commands.specs.HexInput.{is_blank, without_blanks, RefusesHex};
 
-use crate::fault::Fault;
+use crate::error::Fault;
 use hex::FromHexError;
 use std::alloc::Global;
 

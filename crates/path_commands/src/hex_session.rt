@@ -4,7 +4,7 @@ ghost use Rattle.std.specs.Prelude.{map};
 ghost use Rattle.isd_as.specs.IsdAs.{number_of};
 ghost use Rattle.path_commands.specs.HexSession.{IsHexSession};
 
-use crate::fault::Fault;
+use crate::error::Fault;
 use crate::hex_input::bytes_of;
 use crate::memory::Memory;
 use isd_as::IsdAs;

@@ -8,7 +8,7 @@
 mod codes;
 mod cores;
 pub mod database_laws;
-mod fault;
+mod error;
 mod hex_input;
 mod hex_session;
 pub mod laws;
@@ -19,7 +19,7 @@ mod rows;
 mod session;
 
 pub use cores::cores_of;
-pub use fault::Fault;
+pub use error::Fault;
 pub use hex_input::bytes_of;
 pub use hex_session::once_in_hex;
 pub use memory::Memory;

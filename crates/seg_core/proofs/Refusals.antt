@@ -1,8 +1,8 @@
 -- Which refusals the parts of a reading have: none is for want of memory, and up to its entries, and in them, none is
 -- for the path that they form. It serves the readers of segments and registrations, and the laws on decodings.
-use Rattle.std.proofs.Common.{◌≡◌, ◌≢◌, ℕ, zero, suc, ◌+◌, Bool, true, false, List, [], ◌∷◌, ◌++◌, Result, Ok, Err, Option, Some, None, refl, sym, ap, ◌∙◌}
+use Rattle.std.proofs.Common.{◌≡◌, ◌≢◌, ℕ, zero, suc, ◌+◌, Bool, true, false, List, [], ◌∷◌, ◌++◌, Result, Ok, Err, Option, Some, None, refl, sym, ap, ◌∙◌, arith}
 use Rattle.std.specs.Prelude.{nat_le, nat_lt, ok_or, if◌then◌else◌, not, ◌&&◌, is_some}
-use Rattle.std.proofs.lemmas.Bool.{false≢true}
+use Rattle.std.proofs.lemmas.Bool.{false≢true, lt-ltb, ltb-true}
 use Rattle.std.specs.Option.{option_map, option_or}
 use Rattle.pw_wire.specs.declared.error.WireError.{WireError}
 use Rattle.pw_wire.specs.Field.{FieldView}
@@ -18,19 +18,26 @@ use Rattle.seg_core.specs.Request.{request_decoding}
 use Rattle.seg_core.specs.declared.seg_type.SegType.TheVariants.{Up, Down, Core}
 use Rattle.seg_core.specs.Entry.{hop_field_decoding, hop_entry_decoding, peer_entry_decoding, body_decoding, header_and_body_decoding, as_entry_decoding}
 
+-- Refusals in three ranks: for want of memory, for a path, and all others.
+abbrev rank : SegError → ℕ
+rank NoMemory = 0
+rank (Wire e) = 2
+rank KindOfField = 2
+rank RepeatedMessage = 2
+rank MissingField = 2
+rank Range = 2
+rank Chain = 1
+rank Loop = 1
+rank Entries = 2
+rank BadType = 2
+rank TooLarge = 2
+
 -- neither for want of memory nor for a path
 abbrev pub is_plain : SegError → Bool
-is_plain NoMemory = false
-is_plain (Wire e) = true
-is_plain KindOfField = true
-is_plain RepeatedMessage = true
-is_plain MissingField = true
-is_plain Range = true
-is_plain Chain = false
-is_plain Loop = false
-is_plain Entries = true
-is_plain BadType = true
-is_plain TooLarge = true
+is_plain e = nat_lt 1 (rank e)
+
+abbrev pub is_not_memory : SegError → Bool
+is_not_memory e = nat_lt 0 (rank e)
 
 -- a reading whose refusals all pass a test
 pub record FailsWithin {A : Type 0} (p : SegError → Bool) (r : Result A SegError) : Type 0 where
@@ -153,31 +160,8 @@ never_memory r e within is memory = false≢true (sym (ap is_plain memory) ∙ w
 
 -- ---- whole messages
 
-abbrev pub is_not_memory : SegError → Bool
-is_not_memory NoMemory = false
-is_not_memory (Wire e) = true
-is_not_memory KindOfField = true
-is_not_memory RepeatedMessage = true
-is_not_memory MissingField = true
-is_not_memory Range = true
-is_not_memory Chain = true
-is_not_memory Loop = true
-is_not_memory Entries = true
-is_not_memory BadType = true
-is_not_memory TooLarge = true
-
 plain_not_memory : (e : SegError) → is_plain e ≡ true → is_not_memory e ≡ true
-plain_not_memory NoMemory plain = absurd (false≢true plain)
-plain_not_memory (Wire e) plain = refl
-plain_not_memory KindOfField plain = refl
-plain_not_memory RepeatedMessage plain = refl
-plain_not_memory MissingField plain = refl
-plain_not_memory Range plain = refl
-plain_not_memory Chain plain = refl
-plain_not_memory Loop plain = refl
-plain_not_memory Entries plain = refl
-plain_not_memory BadType plain = refl
-plain_not_memory TooLarge plain = refl
+plain_not_memory e plain = lt-ltb 0 (rank e) (omega (arith, ltb-true 1 (rank e) plain))
 
 weaker : {A : Type 0} (r : Result A SegError) → FailsWithin is_plain r → FailsWithin is_not_memory r
 weaker r within = record { passes = λ e is. plain_not_memory e (within.passes e is) }

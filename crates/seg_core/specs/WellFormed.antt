@@ -1,6 +1,7 @@
 -- When the entries of a segment are one path: each leads to the next, and no AS stands twice.
 use Rattle.std.specs.Prelude.{◌≡◌, ◌≢◌, ℕ, ◌<◌, ◌≤◌, ◌^◌, ◌/◌, ◌%◌, List, [], ◌∷◌, ◌++◌, length, map, All, AllPairs, Bool, true, ◌==◌, ◌&&◌, not, nat_le}
 use Rattle.std.specs.List.{list_any}
+use Rattle.seg_core.specs.declared.outline.TheConstants.{MOST_ENTRIES}
 use Rattle.seg_core.specs.SegmentView.{EntryView, SegmentView}
 
 -- ---- what it means
@@ -32,7 +33,7 @@ HasNoLoop entries = HasNoRepeats (map (λ e. e.ia) entries)
 
 -- 1 to 64
 abbrev pub HasEntryCount : List EntryView → Type 0
-HasEntryCount entries = (1 ≤ length entries) × (length entries ≤ 64)
+HasEntryCount entries = (1 ≤ length entries) × (length entries ≤ MOST_ENTRIES)
 
 -- an entry of an ISD and an AS that aren't 0, with numbers of their widths
 pub record IsEntryInRange (e : EntryView) : Type 0 where
@@ -61,7 +62,7 @@ pub record IsWellFormed (s : SegmentView) : Type 0 where
 
 -- 1 to 64
 abbrev pub is_entry_count : ℕ → Bool
-is_entry_count n = nat_le 1 n && nat_le n 64
+is_entry_count n = nat_le 1 n && nat_le n MOST_ENTRIES
 
 -- Each entry leads to the one after it, and the last one ends the path.
 abbrev pub is_linked : List EntryView → Bool

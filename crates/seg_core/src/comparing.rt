@@ -5,6 +5,7 @@ ghost use Rattle.std.specs.Prelude.{◌≡◌, ◌↔◌, ◌+◌, ◌<◌, ◌�
 ghost use Rattle.std.specs.Option.{option_map};
 ghost use Rattle.pw_wire.specs.Varint.{varint_encoding};
 ghost use Rattle.pw_wire.specs.Field.{bytes_field_encoding};
+ghost use Rattle.seg_core.specs.declared.outline.TheConstants.{MOST_BYTES};
 ghost use Rattle.seg_core.specs.Front.{after_front};
 ghost use Rattle.seg_core.specs.EntryView.{entry_view, entry_views};
 ghost use Rattle.seg_core.specs.Encoding.{head_encoding, bytes_encoding, optional_encoding, signed_encoding, as_entry_encoding, entries_encoding, segment_encoding, IsSegment};
@@ -93,7 +94,7 @@ fn after_unsigned<'a>(bytes: &'a [u8], entry: &Entry) -> Option<&'a [u8]>
 
 /// Passes an entry.
 fn after_entry<'a>(bytes: &'a [u8], entry: &Entry) -> Option<&'a [u8]>
-    requires { length (as_entry_encoding (entry_view entry.now)) ≤ 16384 }
+    requires { length (as_entry_encoding (entry_view entry.now)) ≤ MOST_BYTES }
     ensures { option_map (λ s. s.now) result ≡ after_front (as_entry_encoding (entry_view entry.now)) bytes.entry.now }
 {
     let headed = after_head(bytes, 1, signed_len(entry))?;
@@ -103,7 +104,7 @@ fn after_entry<'a>(bytes: &'a [u8], entry: &Entry) -> Option<&'a [u8]>
 
 /// Passes a segment's entries, each behind its tag and its length.
 fn after_entries<'a>(bytes: &'a [u8], entries: &[Entry]) -> Option<&'a [u8]>
-    requires { length (entries_encoding (entry_views entries.now)) ≤ 16384 }
+    requires { length (entries_encoding (entry_views entries.now)) ≤ MOST_BYTES }
     ensures { option_map (λ s. s.now) result ≡ after_front (entries_encoding (entry_views entries.now)) bytes.entry.now }
 {
     let mut rest = bytes;

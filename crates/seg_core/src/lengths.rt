@@ -3,6 +3,7 @@
 ghost use Rattle.std.specs.Prelude.{◌≡◌, ℕ, ◌+◌, ◌<◌, ◌≤◌, List, length};
 ghost use Rattle.pw_wire.specs.Varint.{varint_encoding};
 ghost use Rattle.pw_wire.specs.Field.{bytes_field_encoding};
+ghost use Rattle.seg_core.specs.declared.outline.TheConstants.{MOST_BYTES};
 ghost use Rattle.seg_core.specs.EntryView.{entry_view, entry_views};
 ghost use Rattle.seg_core.specs.Encoding.{bytes_encoding, optional_encoding, signed_encoding, as_entry_encoding, entries_encoding, segment_encoding, IsSegment};
 
@@ -32,7 +33,7 @@ pub(crate) fn head_len(len: usize) -> usize
 
 /// The bytes of a field of bytes, which is left out where they are empty.
 fn bytes_len(bytes: &[u8]) -> usize
-    requires { length bytes.now ≤ 16384 }
+    requires { length bytes.now ≤ MOST_BYTES }
     ensures { (k : ℕ) → k < 15 → result ≡ length (bytes_encoding k bytes.now) }
 {
     if bytes.is_empty() {
@@ -43,7 +44,7 @@ fn bytes_len(bytes: &[u8]) -> usize
 
 /// The bytes of an entry's signed message.
 pub(crate) fn signed_len(entry: &Entry) -> usize
-    requires { length (signed_encoding (entry_view entry.now)) ≤ 16384 }
+    requires { length (signed_encoding (entry_view entry.now)) ≤ MOST_BYTES }
     ensures { result ≡ length (signed_encoding (entry_view entry.now)) }
 {
     bytes_len(&entry.signed) + bytes_len(&entry.signature)
@@ -51,7 +52,7 @@ pub(crate) fn signed_len(entry: &Entry) -> usize
 
 /// The bytes of the field with what an entry has that is not signed, where it is there.
 fn unsigned_len(entry: &Entry) -> usize
-    requires { length (optional_encoding 2 (entry_view entry.now).unsigned) ≤ 16384 }
+    requires { length (optional_encoding 2 (entry_view entry.now).unsigned) ≤ MOST_BYTES }
     ensures { result ≡ length (optional_encoding 2 (entry_view entry.now).unsigned) }
 {
     match &entry.unsigned {
@@ -62,7 +63,7 @@ fn unsigned_len(entry: &Entry) -> usize
 
 /// The bytes of an entry.
 pub(crate) fn entry_len(entry: &Entry) -> usize
-    requires { length (as_entry_encoding (entry_view entry.now)) ≤ 16384 }
+    requires { length (as_entry_encoding (entry_view entry.now)) ≤ MOST_BYTES }
     ensures { result ≡ length (as_entry_encoding (entry_view entry.now)) }
 {
     let signed = signed_len(entry);
@@ -71,7 +72,7 @@ pub(crate) fn entry_len(entry: &Entry) -> usize
 
 /// The bytes of a segment's entries, each behind its tag and its length.
 fn entries_len(entries: &[Entry]) -> usize
-    requires { length (entries_encoding (entry_views entries.now)) ≤ 16384 }
+    requires { length (entries_encoding (entry_views entries.now)) ≤ MOST_BYTES }
     ensures { result ≡ length (entries_encoding (entry_views entries.now)) }
 {
     let mut len = 0;
@@ -86,7 +87,7 @@ fn entries_len(entries: &[Entry]) -> usize
 #[tactic(auto, unfolding(crate::specs::Encoding::segment_encoding))]
 pub fn encoded_len(segment: &Segment) -> usize
     ensures exact { result ≡ length (segment_encoding segment.now) }
-    ensures most { result ≤ 16384 }
+    ensures most { result ≤ MOST_BYTES }
     ensures whole { IsSegment segment.now }
 {
     let entries = segment.entries();

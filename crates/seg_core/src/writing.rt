@@ -1,6 +1,7 @@
 //! Writing segments, in their one encoding.
 
 ghost use Rattle.std.specs.Prelude.{◌≡◌, ◌<◌, ◌≤◌, ◌++◌, length, take, IfOk, OnOk, OnErr};
+ghost use Rattle.seg_core.specs.declared.outline.TheConstants.{MOST_BYTES};
 ghost use Rattle.seg_core.specs.EntryView.{entry_view, entry_views};
 ghost use Rattle.seg_core.specs.Encoding.{head_encoding, bytes_encoding, optional_encoding, signed_encoding, as_entry_encoding, entries_encoding, segment_encoding, IsSegment};
 
@@ -59,7 +60,7 @@ fn put_unsigned(out: &mut Vec<u8>, entry: &Entry) -> Result<(), AllocError>
 
 /// Appends an entry.
 fn put_entry(out: &mut Vec<u8>, entry: &Entry) -> Result<(), AllocError>
-    requires { length (as_entry_encoding (entry_view entry.now)) ≤ 16384 }
+    requires { length (as_entry_encoding (entry_view entry.now)) ≤ MOST_BYTES }
     ensures ok { OnOk result (out.new.items ≡ out.old.items ++ as_entry_encoding (entry_view entry.now)) }
     ensures kept { take (length out.old.items) out.new.items ≡ out.old.items }
 {
@@ -70,7 +71,7 @@ fn put_entry(out: &mut Vec<u8>, entry: &Entry) -> Result<(), AllocError>
 
 /// Appends a segment's entries, each behind its tag and its length.
 fn put_entries(out: &mut Vec<u8>, entries: &[Entry]) -> Result<(), AllocError>
-    requires { length (entries_encoding (entry_views entries.now)) ≤ 16384 }
+    requires { length (entries_encoding (entry_views entries.now)) ≤ MOST_BYTES }
     ensures ok { OnOk result (out.new.items ≡ out.old.items ++ entries_encoding (entry_views entries.now)) }
     ensures kept { take (length out.old.items) out.new.items ≡ out.old.items }
 {
