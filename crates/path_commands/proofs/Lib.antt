@@ -1,10 +1,3 @@
-mod Lists
-mod Order
-mod Puts
-mod Indices
-mod Shown
-mod Steps
-mod Ends
 mod CoreLemmas
 mod MemoryLemmas
 mod SessionLemmas

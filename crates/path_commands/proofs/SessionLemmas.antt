@@ -9,8 +9,8 @@ use Rattle.session_core.specs.Frames.{MessageView, Rest, IsPartial, AreWholeFram
 use Rattle.session_core.specs.Reply.{ReplyView, reply_frame}
 use Rattle.session_core.specs.Service.{Exchange, messages_of, replies_of, AreAnswered}
 use Rattle.session_core.proofs.OneDecoding.{one_decoding_of}
-use Rattle.path_commands.specs.Memory.{Served, opening, message_step, Answers}
-use Rattle.path_commands.specs.SessionLaws.{replies_from, session_replies, HasMemory, OnlyReplies, WholeSession}
+use Rattle.path_commands.specs.Memory.{Served, message_step, Answers}
+use Rattle.path_commands.specs.SessionLaws.{replies_from, HasMemory, OnlyReplies, WholeSession}
 
 -- ---- replies
 
@@ -24,7 +24,7 @@ replies_of_steps old (e ∷ es) left (next, inr step, rest) enough =
     ∙ ap (λ (rs : List ReplyView). (message_step old e.message).0 ∷ rs) (others ∙ ap (λ (s : Served). replies_from s (messages_of es)) step.left)
 
 pub only_replies_of : OnlyReplies
-only_replies_of cores exchanges left answered enough = replies_of_steps (opening cores) exchanges left answered enough
+only_replies_of start exchanges left answered enough = replies_of_steps start exchanges left answered enough
 
 -- ---- what was read
 
@@ -53,14 +53,14 @@ wrote output written None a = absurd a
 wrote output written (Some all) a = ap Some a
 
 pub whole_session_of : {R : Type 0} (remaining : R → Option (List ℕ)) → WholeSession remaining
-whole_session_of remaining turns cores input output old new output_left count session from enough messages framed =
+whole_session_of remaining turns start input output old new output_left count session from enough messages framed =
     let s = session.served in
     let read = subst (λ (o : Option (List ℕ)). Consumes o (remaining new) (concat s.pieces)) from (joined_reads remaining old s.pieces new s.read.made) in
     let all = read_all input (concat s.pieces) (remaining new) read s.ended.at_end in
     let same = one_decoding_of (concat s.pieces) (messages_of s.exchanges) messages (Rest []) (Rest [])
     (all_frames (concat s.pieces) s.rest (messages_of s.exchanges) s.framed s.ended.whole)
     (subst (λ (t : List ℕ). AreFrames t messages (Rest [])) all framed) in
-    let replies = only_replies_of cores s.exchanges session.left s.answered enough ∙ ap (session_replies cores) same.0 in
+    let replies = only_replies_of start s.exchanges session.left s.answered enough ∙ ap (replies_from start) same.0 in
     wrote output s.written output_left s.appended
     ∙ ap (λ (t : List ℕ). Some (output ++ t)) (s.told ∙ sym (flat_map-map reply_frame (λ (e : Exchange). e.reply) s.exchanges))
     ∙ ap (λ (rs : List ReplyView). Some (output ++ flat_map reply_frame rs)) replies

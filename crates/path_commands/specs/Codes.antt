@@ -4,8 +4,10 @@ use Rattle.pw_wire.specs.declared.error.WireError.{WireError}
 use Rattle.pw_wire.specs.declared.error.WireError.TheVariants.{Truncated, LongVarint, BadField, GroupWire, BadWire}
 use Rattle.seg_core.specs.declared.error.SegError.{SegError}
 use Rattle.seg_core.specs.declared.error.SegError.TheVariants.{NoMemory, Wire, KindOfField, RepeatedMessage, MissingField, Range, Chain, Loop, Entries, BadType, TooLarge}
-use Rattle.path_commands.specs.declared.lookup.LookupError.{LookupError}
-use Rattle.path_commands.specs.declared.lookup.LookupError.TheVariants.{Wildcard, NoCore}
+use Rattle.seg_check.specs.declared.error.CheckError.{CheckError}
+use Rattle.seg_check.specs.declared.error.CheckError.TheVariants.{BadSignature, Expired}
+use Rattle.seg_lookup.specs.declared.error.LookupError.{LookupError}
+use Rattle.seg_lookup.specs.declared.error.LookupError.TheVariants.{NullDestination, IsdOnlyWildcard, NoCore}
 
 -- want of memory
 abbrev pub memory_code : ℕ
@@ -35,6 +37,11 @@ seg_code Entries = 0x28
 seg_code BadType = 0x29
 seg_code TooLarge = 0x2a
 
+abbrev pub check_code : CheckError → ℕ
+check_code (BadSignature entry) = 0x31
+check_code Expired = 0x32
+
 abbrev pub lookup_code : LookupError → ℕ
-lookup_code Wildcard = 0x41
+lookup_code NullDestination = 0x41
+lookup_code IsdOnlyWildcard = 0x42
 lookup_code NoCore = 0x43

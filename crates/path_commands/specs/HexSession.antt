@@ -11,7 +11,7 @@ use Rattle.path_commands.specs.declared.error.Fault.{Fault}
 use Rattle.path_commands.specs.declared.error.Fault.TheVariants as fault
 use Rattle.path_commands.specs.Fault.{fault_of}
 use Rattle.path_commands.specs.HexInput.{without_blanks}
-use Rattle.path_commands.specs.Memory.{Served, opening, Answers}
+use Rattle.path_commands.specs.Memory.{Served, Answers}
 
 -- why reading stops before the end of the input
 abbrev pub EndsEarly : ℕ → List (List ℕ) → FrameError → Type 0
@@ -40,22 +40,22 @@ answer_for (Ok count) = Ok count
 answer_for (Err e) = Err (fault_of e)
 
 -- The input is a text that encodes bytes, whose messages were answered in lines.
-pub record IsAnsweredText (cores text : List ℕ) (output output_left : Option (List ℕ)) (result : Result ℕ Fault) : Type 0 where
+pub record IsAnsweredText (start : Served) (text : List ℕ) (output output_left : Option (List ℕ)) (result : Result ℕ Fault) : Type 0 where
   pub bytes : List ℕ
   pub encoded : decode_of (without_blanks text) ≡ Ok bytes
   pub left : Served
   pub outcome : Result ℕ FrameError
-  pub served : IsServedInLines Answers bytes (opening cores) left output output_left outcome
+  pub served : IsServedInLines Answers bytes start left output output_left outcome
   pub said : result ≡ answer_for outcome
 
 -- The input was read whole, and judged as a text before anything was answered.
-pub record IsReadText (cores text : List ℕ) (input_left output output_left : Option (List ℕ)) (result : Result ℕ Fault) : Type 0 where
+pub record IsReadText (start : Served) (text : List ℕ) (input_left output output_left : Option (List ℕ)) (result : Result ℕ Fault) : Type 0 where
   pub end : IsAtEnd input_left
-  pub ended : IsNoText text output output_left result ⊎ IsAnsweredText cores text output output_left result
+  pub ended : IsNoText text output output_left result ⊎ IsAnsweredText start text output output_left result
 
 -- What was read in at most so many reads, and what became of it.
-pub record IsHexSession {R : Type 0} (gives : R → List ℕ → R → Type 0) (turns : ℕ) (cores : List ℕ) (source source_left : R)
+pub record IsHexSession {R : Type 0} (gives : R → List ℕ → R → Type 0) (turns : ℕ) (start : Served) (source source_left : R)
     (input_left output output_left : Option (List ℕ)) (result : Result ℕ Fault) : Type 0 where
   pub pieces : List (List ℕ)
   pub read : AreReads gives turns source pieces source_left
-  pub ended : IsUnread turns pieces output output_left result ⊎ IsReadText cores (concat pieces) input_left output output_left result
+  pub ended : IsUnread turns pieces output output_left result ⊎ IsReadText start (concat pieces) input_left output output_left result

@@ -1,25 +1,41 @@
 -- A service in memory: what it holds, and what it answers to a message.
-use Rattle.std.specs.Prelude.{◌≡◌, ℕ, ◌+◌, ◌-◌, ◌^◌, ◌⊎◌, List, [], ◌==◌, if◌then◌else◌, Result, Ok, Err, IsOk}
+use Rattle.std.specs.Prelude.{◌≡◌, ℕ, ◌+◌, ◌-◌, ◌^◌, ◌⊎◌, List, [], ◌∷◌, ◌==◌, if◌then◌else◌, Option, Some, None, Result, Ok, Err, IsOk}
+use Rattle.std.specs.Option.{option_or}
 use Rattle.seg_core.specs.declared.error.SegError.{SegError}
+use Rattle.seg_core.specs.declared.seg_type.SegType.{SegType}
 use Rattle.seg_core.specs.Request.{request_decoding}
-use Rattle.seg_core.specs.Registration.{registration_outline, registration_decoding}
-use Rattle.session_core.specs.declared.message.Message.TheVariants.{Register, Lookup}
+use Rattle.seg_core.specs.Registration.{registration_outline, registration_decoding, type_of}
+use Rattle.seg_check.specs.declared.error.CheckError.{CheckError}
+use Rattle.seg_check.specs.Signatures.{Verdicts}
+use Rattle.seg_check.specs.Checking.{check_refusal}
+use Rattle.path_db.specs.declared.command.Command.{Command}
+use Rattle.path_db.specs.declared.command.Command.TheVariants as command
+use Rattle.path_db.specs.Database.{RowView}
+use Rattle.path_db.specs.Command.{database_after, outcome_of}
+use Rattle.path_db.specs.Answer.{answer_of, segments_of}
+use Rattle.seg_lookup.specs.declared.error.LookupError.{LookupError}
+use Rattle.seg_lookup.specs.Roster.{RosterView}
+use Rattle.seg_lookup.specs.Query.{QueryView}
+use Rattle.seg_lookup.specs.Classification.{query_of}
+use Rattle.session_core.specs.declared.message.Message.TheVariants.{Register, Lookup, Purge, Remove}
+use Rattle.session_core.specs.declared.service.Ack.{Ack}
+use Rattle.session_core.specs.declared.service.TheConstants.{MOST_SEGMENTS}
 use Rattle.session_core.specs.Frames.{MessageView}
-use Rattle.session_core.specs.Reply.{ReplyView, Registered, Found, Refused}
-use Rattle.path_commands.specs.declared.lookup.LookupError.{LookupError}
-use Rattle.path_commands.specs.Rows.{RowView, rows_after_all, changes_of, outcome_of}
-use Rattle.path_commands.specs.Lookup.{QueryView, query_of, answer_of, segments_of}
-use Rattle.path_commands.specs.Codes.{memory_code, exhausted_code, seg_code, lookup_code}
+use Rattle.session_core.specs.Reply.{ReplyView, Registered, Found, Purged, Removed, Refused}
+use Rattle.path_commands.specs.Codes.{memory_code, exhausted_code, seg_code, check_code, lookup_code}
 
--- the core ASes, the rows of a database, and the place of the next command
+-- The core ASes, the verdicts on signatures and the moment, which stay, and the database and the place of the next
+-- command, which commands change.
 pub record Served : Type 0 where
-  pub cores : List ℕ
+  pub roster : RosterView
+  pub verifies : Verdicts
+  pub now : ℕ
   pub rows : List RowView
   pub place : ℕ
 
 -- A service begins with no rows, at place 0.
-abbrev pub opening : List ℕ → Served
-opening cores = record { cores = cores; rows = []; place = 0 }
+abbrev pub opening : RosterView → Verdicts → ℕ → Served
+opening roster verifies now = record { roster = roster; verifies = verifies; now = now; rows = []; place = 0 }
 
 -- ---- one message
 
@@ -27,45 +43,75 @@ opening cores = record { cores = cores; rows = []; place = 0 }
 abbrev pub Step : Type 0
 Step = ReplyView × Served
 
+-- a refusal, which changes nothing
+abbrev pub refused_step : Served → ℕ → Step
+refused_step served code = (Refused code, served)
+
+-- what is there after a command was taken
+abbrev pub after_command : Served → Command → Served
+after_command served c = record served { rows = database_after served.rows c; place = served.place + 1 }
+
+-- the acknowledgement of a command
+abbrev pub ack_of : Served → Command → Ack
+ack_of served c = record { place = served.place; outcome = outcome_of served.rows c }
+
 -- A command takes the next place. The last number of 64 bits is no place.
-abbrev pub command_step : Served → List RowView → Step
-command_step served new =
-    if served.place == 2 ^ 64 - 1
-    then (Refused exhausted_code, served)
-    else (
-      Registered (record { place = served.place; outcome = outcome_of (changes_of served.rows new) }),
-      record { cores = served.cores; rows = rows_after_all served.rows new; place = served.place + 1 },
-    )
+abbrev pub command_step : (Ack → ReplyView) → Served → Command → Step
+command_step taken served c =
+    if served.place == 2 ^ 64 - 1 then refused_step served exhausted_code else (taken (ack_of served c), after_command served c)
+
+-- the first of the segments that is not accepted, and why
+abbrev pub first_refusal : Verdicts → ℕ → List RowView → Option CheckError
+first_refusal verifies now [] = None
+first_refusal verifies now (row ∷ rows) = option_or (check_refusal verifies now row.1) (first_refusal verifies now rows)
+
+abbrev pub checked_step : Served → List RowView → Option CheckError → Step
+checked_step served new None = command_step Registered served (command.Register new)
+checked_step served new (Some e) = refused_step served (check_code e)
 
 abbrev pub registration_step : Served → Result (List RowView) SegError → Step
-registration_step served (Ok new) = command_step served new
-registration_step served (Err e) = (Refused (seg_code e), served)
+registration_step served (Ok new) = checked_step served new (first_refusal served.verifies served.now new)
+registration_step served (Err e) = refused_step served (seg_code e)
+
+abbrev pub removal_step : Served → List ℕ → Result SegType SegError → Step
+removal_step served id (Ok kind) = command_step Removed served (command.Remove kind id)
+removal_step served id (Err e) = refused_step served (seg_code e)
+
+-- what a query shows
+abbrev pub shown : Served → QueryView → List RowView
+shown served query = answer_of MOST_SEGMENTS served.rows query.kind query.start query.end served.now
 
 abbrev pub query_step : Served → Result QueryView LookupError → Step
-query_step served (Ok query) = (Found query.kind (segments_of (answer_of served.rows query)), served)
-query_step served (Err e) = (Refused (lookup_code e), served)
+query_step served (Ok query) = (Found query.kind (segments_of (shown served query)), served)
+query_step served (Err e) = refused_step served (lookup_code e)
 
 abbrev pub lookup_step : Served → Result (ℕ × ℕ) SegError → Step
-lookup_step served (Ok ends) = query_step served (query_of served.cores ends.0 ends.1)
-lookup_step served (Err e) = (Refused (seg_code e), served)
+lookup_step served (Ok ends) = query_step served (query_of served.roster ends.0 ends.1)
+lookup_step served (Err e) = refused_step served (seg_code e)
 
--- one message, read, classified and applied: the first refusal is the reply
+-- One message, read, checked or classified, and applied: the first refusal is the reply.
 unfoldable pub message_step : Served → MessageView → Step
 message_step served (Register body) = registration_step served (registration_decoding body)
 message_step served (Lookup body) = lookup_step served (request_decoding body)
+message_step served (Purge moment) = command_step Purged served (command.Purge moment)
+message_step served (Remove kind id) = removal_step served id (type_of kind)
 
 -- ---- want of memory
 
 abbrev pub IsFound : ReplyView → Type 0
 IsFound (Registered ack) = ⊥
 IsFound (Found kind segments) = Unit {0}
+IsFound (Purged ack) = ⊥
+IsFound (Removed ack) = ⊥
 IsFound (Refused code) = ⊥
 
 -- Whether memory may run out for a message: a registration is refused without memory where its outline is, a lookup
--- wherever it is refused.
+-- wherever it is refused; a purge and a removal take none.
 abbrev pub MayRunOut : Served → MessageView → Type 0
 MayRunOut served (Register body) = IsOk (registration_outline body)
 MayRunOut served (Lookup body) = IsFound (message_step served (Lookup body)).0
+MayRunOut served (Purge moment) = ⊥
+MayRunOut served (Remove kind id) = ⊥
 
 -- The message was refused memory, and nothing changed.
 pub record IsOutOfMemory (old : Served) (message : MessageView) (reply : ReplyView) (new : Served) : Type 0 where

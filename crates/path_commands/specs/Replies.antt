@@ -3,13 +3,14 @@ use Rattle.std.specs.Prelude.{Result, Ok, Err, Vec}
 use Rattle.seg_core.specs.declared.seg_type.SegType.{SegType}
 use Rattle.seg_core.specs.SegmentView.{SegmentView}
 use Rattle.session_core.specs.declared.service.Ack.{Ack}
-use Rattle.session_core.specs.Reply.{ReplyView, Registered, Found, Refused}
+use Rattle.session_core.specs.Reply.{ReplyView, Found, Refused}
 use Rattle.path_commands.specs.declared.codes.Refusal.{Refusal}
 use Rattle.path_commands.specs.Refusal.{refusal_code}
 
-abbrev pub reply_to_command : Result Ack Refusal → ReplyView
-reply_to_command (Ok ack) = Registered ack
-reply_to_command (Err refusal) = Refused (refusal_code refusal)
+-- the reply to a command of some kind
+abbrev pub reply_to_command : (Ack → ReplyView) → Result Ack Refusal → ReplyView
+reply_to_command taken (Ok ack) = taken ack
+reply_to_command taken (Err refusal) = Refused (refusal_code refusal)
 
 abbrev pub reply_to_query : {A : Type 0} → Result (SegType × Vec SegmentView A) Refusal → ReplyView
 reply_to_query (Ok found) = Found found.0 found.1.items

@@ -1,11 +1,12 @@
 //! The codes of refusals in replies.
 
 ghost use Rattle.std.specs.Prelude.{◌≡◌};
-ghost use Rattle.path_commands.specs.Codes.{wire_code, seg_code, lookup_code};
+ghost use Rattle.path_commands.specs.Codes.{wire_code, seg_code, check_code, lookup_code};
 
-use crate::lookup::LookupError;
 use pw_wire::WireError;
+use seg_check::CheckError;
 use seg_core::SegError;
+use seg_lookup::LookupError;
 use session_core::Code;
 use std::alloc::AllocError;
 
@@ -16,6 +17,8 @@ pub enum Refusal {
     NoMemory,
     /// The message is not what its kind says.
     Message(SegError),
+    /// A segment of the registration isn't accepted.
+    Check(CheckError),
     /// The lookup asks for no segments.
     Lookup(LookupError),
     /// No place is left for a command.
@@ -32,6 +35,7 @@ impl Refusal {
         Code(match self {
             Refusal::NoMemory => 0x01,
             Refusal::Message(error) => seg_code(error),
+            Refusal::Check(error) => check_code(error),
             Refusal::Lookup(error) => lookup_code(error),
             Refusal::Exhausted => 0x55,
         })
@@ -68,11 +72,21 @@ fn wire_code(error: WireError) -> u8
     }
 }
 
+fn check_code(error: CheckError) -> u8
+    ensures { result ≡ check_code error }
+{
+    match error {
+        CheckError::BadSignature(_) => 0x31,
+        CheckError::Expired => 0x32,
+    }
+}
+
 fn lookup_code(error: LookupError) -> u8
     ensures { result ≡ lookup_code error }
 {
     match error {
-        LookupError::Wildcard => 0x41,
+        LookupError::NullDestination => 0x41,
+        LookupError::IsdOnlyWildcard => 0x42,
         LookupError::NoCore => 0x43,
     }
 }
@@ -94,6 +108,16 @@ impl From<SegError> for Refusal {
 
     fn from(error: SegError) -> Refusal {
         Refusal::Message(error)
+    }
+}
+
+impl From<CheckError> for Refusal {
+    ghost use Rattle.path_commands.specs.declared.codes.Refusal.TheVariants.{Check};
+
+    ghost from_gives = { λ error refusal. refusal ≡ Check error };
+
+    fn from(error: CheckError) -> Refusal {
+        Refusal::Check(error)
     }
 }
 

@@ -1,85 +1,133 @@
 //! A service over a database in memory.
 
-ghost use Rattle.std.specs.Prelude.{◌≡◌, ◌≤◌, length, map, IfOk};
+ghost use Rattle.std.specs.Prelude.{◌≡◌, ◌≤◌, length, IfOk};
 ghost use Rattle.std.specs.List.{AllByRecursion};
-ghost use Rattle.isd_as.specs.IsdAs.{number_of};
+ghost use Rattle.std.specs.Result.{result_err};
 ghost use Rattle.seg_core.specs.Encoding.{IsSegment};
-ghost use Rattle.session_core.specs.declared.message.Message.TheVariants.{Register, Lookup};
+ghost use Rattle.session_core.specs.declared.message.Message.TheVariants.{Register, Lookup, Purge, Remove};
 ghost use Rattle.session_core.specs.declared.service.TheConstants.{MOST_SEGMENTS};
-ghost use Rattle.path_commands.specs.Memory.{Answers, opening};
+ghost use Rattle.session_core.specs.Reply.{Registered, Purged, Removed};
+ghost use Rattle.path_commands.specs.Memory.{Answers, first_refusal, opening};
 ghost use Rattle.path_commands.specs.Replies.{reply_to_command, reply_to_query};
+ghost use Rattle.path_commands.specs.Taking.{MayTake};
 
 use crate::codes::Refusal;
-use crate::lookup::{answer, classify};
-use crate::rows::Rows;
-use isd_as::IsdAs;
+use path_db::{Command, PathDb, Registration};
+use seg_check::{CheckError, Verifier, check};
 use seg_core::{SegType, Segment, read_registration, read_request};
+use seg_lookup::{Roster, answer, classify};
 use session_core::{Ack, Code, Service};
 use std::alloc::Global;
 use std::marker::Model;
 
-/// The core ASes, the rows of a database, and the place that the next command takes.
+/// The core ASes, who judges signatures and the moment, and the database with the place that the next command takes.
 #[derive(Drop)]
-pub struct Memory<'c> {
-    cores: &'c [IsdAs],
-    rows: Rows,
+pub struct Memory<'a, V: Verifier> {
+    roster: &'a Roster,
+    checker: &'a V,
+    /// In half seconds since 1970.
+    now: u64,
+    database: PathDb,
     place: u64,
 }
 
-impl<'c> Model for Memory<'c> {
-    ghost use Rattle.std.specs.Prelude.{map};
-    ghost use Rattle.isd_as.specs.IsdAs.{number_of};
+impl<'a, V: Verifier> Model for Memory<'a, V> {
     ghost use Rattle.path_commands.specs.Memory.{Served};
 
     ghost Value = { Served };
 
-    ghost view = { λ s. record { cores = map number_of s.cores.now; rows = s.rows; place = s.place } };
+    ghost view = { λ s. record {
+        roster = s.roster.now;
+        verifies = V.verifies s.checker.now;
+        now = s.now;
+        rows = s.database;
+        place = s.place;
+    } };
 }
 
-impl<'c> Memory<'c> {
-    /// No rows, and place 0.
-    pub fn new(alloc: Global, cores: &'c [IsdAs]) -> Memory<'c>
-        ensures { result ≡ opening (map number_of cores.now) }
+impl<'a, V: Verifier> Memory<'a, V> {
+    /// No rows, and place 0. The moment is in half seconds since 1970.
+    pub fn new(alloc: Global, roster: &'a Roster, checker: &'a V, now: u64) -> Memory<'a, V>
+        ensures { result ≡ opening roster.now (V.verifies checker.now) now }
     {
         Memory {
-            cores,
-            rows: Rows::new(alloc),
+            roster,
+            checker,
+            now,
+            database: PathDb::new(alloc),
             place: 0,
         }
     }
-}
 
-impl Memory<'_> {
-    /// Puts the segments of a registration, at the next place. Where memory runs out, nothing changes.
-    #[tactic(auto, unfolding(crate::specs::Memory::message_step))]
-    fn accept(&mut self, alloc: Global, message: &[u8]) -> Result<Ack, Refusal>
-        ensures { Answers self.old (Register message.now) (reply_to_command result) self.new }
+    /// Applies a command at the next place. Where memory runs out, nothing changes.
+    fn take(&mut self, command: &Command) -> Result<Ack, Refusal>
+        ensures { MayTake self.old command.now result self.new }
     {
-        let new = read_registration(alloc, message)?;
         let place = self.place;
         if place == u64::MAX {
             return Err(Refusal::Exhausted);
         }
-        let outcome = self.rows.register(alloc, new)?;
+        let outcome = self.database.apply(command)?;
         self.place = place + 1;
         Ok(Ack { place, outcome })
     }
 
+    /// Registers the segments of a registration, once they are accepted.
+    #[tactic(auto, unfolding(crate::specs::Memory::message_step))]
+    fn accept(&mut self, alloc: Global, message: &[u8]) -> Result<Ack, Refusal>
+        ensures { Answers self.old (Register message.now) (reply_to_command Registered result) self.new }
+    {
+        let new = read_registration(alloc, message)?;
+        check_all(&new, self.checker, self.now)?;
+        self.take(&Command::Register(Registration::new(new)))
+    }
+
+    /// Drops what has expired by a moment.
+    #[tactic(auto, unfolding(crate::specs::Memory::message_step))]
+    fn drop_expired(&mut self, moment: u64) -> Result<Ack, Refusal>
+        ensures { Answers self.old (Purge moment) (reply_to_command Purged result) self.new }
+    {
+        self.take(&Command::Purge(moment))
+    }
+
+    /// Drops the segment of a type's number and an id.
+    #[tactic(auto, unfolding(crate::specs::Memory::message_step))]
+    fn drop_one(&mut self, kind: u8, id: &[u8; 32]) -> Result<Ack, Refusal>
+        ensures { Answers self.old (Remove kind id.now) (reply_to_command Removed result) self.new }
+    {
+        let kind = SegType::from_number(u64::from(kind))?;
+        self.take(&Command::Remove(kind, *id))
+    }
+
     /// The segments that a request asks for, of one type.
     #[tactic(auto, unfolding(crate::specs::Memory::message_step))]
-    fn find(&self, alloc: Global, message: &[u8]) -> Result<(SegType, Vec<Segment>), Refusal>
+    fn find(&self, message: &[u8]) -> Result<(SegType, Vec<Segment>), Refusal>
         ensures answers { Answers self.now (Lookup message.now) (reply_to_query result) self.now }
         ensures few { IfOk result (λ found. length found.1.items ≤ MOST_SEGMENTS) }
         ensures whole { IfOk result (λ found. AllByRecursion IsSegment found.1.items) }
     {
         let (source, destination) = read_request(message)?;
-        let query = classify(self.cores, source, destination)?;
-        let found = answer(alloc, &self.rows, &query)?;
+        let query = classify(self.roster, source, destination)?;
+        let found = answer(&self.database, &query, self.now)?;
         Ok((query.kind, found))
     }
 }
 
-impl Service for Memory<'_> {
+/// Checks segments in order.
+fn check_all<V: Verifier>(
+    new: &[(SegType, Segment)],
+    checker: &V,
+    now: u64,
+) -> Result<(), CheckError>
+    ensures { result_err result ≡ first_refusal (V.verifies checker.now) now new.now }
+{
+    for (_kind, segment) in new {
+        check(segment, checker, now)?;
+    }
+    Ok(())
+}
+
+impl<V: Verifier> Service for Memory<'_, V> {
     ghost use Rattle.path_commands.specs.Memory.{Answers};
 
     ghost answers = { Answers };
@@ -91,9 +139,23 @@ impl Service for Memory<'_> {
         }
     }
 
-    fn lookup(&mut self, alloc: Global, message: &[u8]) -> Result<(SegType, Vec<Segment>), Code> {
-        match self.find(alloc, message) {
+    fn lookup(&mut self, _alloc: Global, message: &[u8]) -> Result<(SegType, Vec<Segment>), Code> {
+        match self.find(message) {
             Ok(found) => Ok(found),
+            Err(refusal) => Err(refusal.code()),
+        }
+    }
+
+    fn purge(&mut self, moment: u64) -> Result<Ack, Code> {
+        match self.drop_expired(moment) {
+            Ok(ack) => Ok(ack),
+            Err(refusal) => Err(refusal.code()),
+        }
+    }
+
+    fn remove(&mut self, kind: u8, id: &[u8; 32]) -> Result<Ack, Code> {
+        match self.drop_one(kind, id) {
+            Ok(ack) => Ok(ack),
             Err(refusal) => Err(refusal.code()),
         }
     }

@@ -1,0 +1,17 @@
+-- What taking a command answers.
+use Rattle.std.specs.Prelude.{◌≡◌, ◌≢◌, ◌-◌, ◌^◌, Result, Ok, Err}
+use Rattle.path_db.specs.declared.command.Command.{Command}
+use Rattle.path_db.specs.Command.{TakesMemory}
+use Rattle.session_core.specs.declared.service.Ack.{Ack}
+use Rattle.path_commands.specs.declared.codes.Refusal.{Refusal}
+use Rattle.path_commands.specs.declared.codes.Refusal.TheVariants.{NoMemory, Message, Check, Lookup, Exhausted}
+use Rattle.path_commands.specs.Memory.{Served, ack_of, after_command}
+
+-- The command was acknowledged, or memory ran out or no place was left and nothing changed.
+abbrev pub MayTake : Served → Command → Result Ack Refusal → Served → Type 0
+MayTake old c (Ok ack) new = (old.place ≢ 2 ^ 64 - 1) × (ack ≡ ack_of old c) × (new ≡ after_command old c)
+MayTake old c (Err NoMemory) new = (old.place ≢ 2 ^ 64 - 1) × TakesMemory c × (new ≡ old)
+MayTake old c (Err Exhausted) new = (old.place ≡ 2 ^ 64 - 1) × (new ≡ old)
+MayTake old c (Err (Message e)) new = ⊥
+MayTake old c (Err (Check e)) new = ⊥
+MayTake old c (Err (Lookup e)) new = ⊥
