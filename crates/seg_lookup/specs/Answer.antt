@@ -1,0 +1,10 @@
+-- What a query shows of a database.
+use Rattle.std.specs.Prelude.{ℕ, List}
+use Rattle.path_db.specs.Database.{RowView}
+use Rattle.path_db.specs.Answer.{answer_of}
+use Rattle.seg_lookup.specs.declared.answers.TheConstants.{ANSWER_LIMIT}
+use Rattle.seg_lookup.specs.Query.{QueryView}
+
+-- the first 64 rows by key that match the query and expire after this moment
+abbrev pub answer_to : List RowView → QueryView → ℕ → List RowView
+answer_to rows query now = answer_of ANSWER_LIMIT rows query.kind query.start query.end now

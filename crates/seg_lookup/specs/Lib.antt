@@ -1,0 +1,4 @@
+pub mod Roster
+pub mod Query
+pub mod Classification
+pub mod Answer

@@ -1,0 +1,20 @@
+-- What a lookup asks for.
+use Rattle.std.specs.Prelude.{ℕ, Result, Ok, Err}
+use Rattle.isd_as.specs.IsdAs.{number_of}
+use Rattle.seg_core.specs.declared.seg_type.SegType.{SegType}
+use Rattle.seg_lookup.specs.declared.error.LookupError.{LookupError}
+use Rattle.seg_lookup.specs.declared.query.Query.{Query}
+
+-- segments of one type, from one AS to another by the order of their entries
+pub record QueryView : Type 0 where
+  pub kind : SegType
+  pub start : ℕ
+  pub end : ℕ
+
+abbrev pub query_view : Query → QueryView
+query_view query = record { kind = query.kind; start = number_of query.start; end = number_of query.end }
+
+-- what a classification stands for
+abbrev pub query_result : Result Query LookupError → Result QueryView LookupError
+query_result (Ok query) = Ok (query_view query)
+query_result (Err e) = Err e

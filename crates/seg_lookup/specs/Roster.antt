@@ -1,0 +1,18 @@
+-- The core ASes of a network, and which sides of a lookup are core.
+use Rattle.std.specs.Prelude.{ℕ, ◌%◌, ◌^◌, List, Bool, ◌==◌, ◌||◌, map}
+use Rattle.std.specs.Ordering.{nat_cmp}
+use Rattle.std.specs.FinSet as set
+use Rattle.isd_as.specs.declared.number.IsdAs.{IsdAs}
+use Rattle.isd_as.specs.IsdAs.{number_of}
+
+-- a finite set of ISD-ASes, by their numbers
+abbrev pub RosterView : Type 0
+RosterView = set.FinSet nat_cmp
+
+-- the set of these
+abbrev pub roster_of : List IsdAs → RosterView
+roster_of cores = set.from_list (map number_of cores)
+
+-- A side is core where its AS is 0, or it is on the roster.
+abbrev pub is_core : RosterView → ℕ → Bool
+is_core roster side = side % 2 ^ 48 == 0 || set.contains roster side

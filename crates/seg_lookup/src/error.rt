@@ -1,0 +1,15 @@
+use thiserror::Error;
+
+/// Why a lookup asks for no segments. Where several hold, the first is answered.
+#[derive(Clone, Copy, Debug, PartialEq, Eq, Error)]
+pub enum LookupError {
+    /// Source and destination are both 0-0.
+    #[error("source and destination are both empty")]
+    NullDestination = 1,
+    /// A side has the ISD 0, and an AS other than 0.
+    #[error("a side has an AS, and no ISD")]
+    IsdOnlyWildcard = 2,
+    /// Neither side is core.
+    #[error("neither side is core")]
+    NoCore = 3,
+}

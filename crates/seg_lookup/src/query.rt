@@ -1,0 +1,15 @@
+//! What a lookup asks for.
+
+use isd_as::IsdAs;
+use seg_core::SegType;
+
+/// Segments of one type, from one AS to another by the order of their entries. A part of a side that is 0 stands for every
+/// number.
+#[derive(Clone, Copy)]
+pub struct Query {
+    pub kind: SegType,
+    /// Covers the AS of the first entry.
+    pub start: IsdAs,
+    /// Covers the AS of the last entry.
+    pub end: IsdAs,
+}

@@ -1,0 +1,60 @@
+//! The core ASes of a network.
+
+ghost use Rattle.std.specs.Prelude.{◌≡◌};
+ghost use Rattle.std.specs.FinSet as set;
+ghost use Rattle.isd_as.specs.IsdAs.{number_of};
+ghost use Rattle.seg_lookup.specs.Roster.{is_core, roster_of};
+
+use isd_as::IsdAs;
+use std::marker::Model;
+
+/// A set of core ASes. Members with a zero part are allowed, and count only where a side equals them.
+#[derive(Drop)]
+pub struct Roster {
+    /// In the order of their numbers; one may stand several times.
+    cores: Vec<IsdAs>,
+}
+
+impl Model for Roster {
+    ghost use Rattle.std.specs.Coded.{coded_ℕ};
+    ghost use Rattle.std.specs.FinSet as set;
+    ghost use Rattle.std.specs.List.Sorted.{IsNonDecreasingBy};
+    ghost use Rattle.isd_as.specs.IsdAs.{number_of};
+    ghost use Rattle.seg_lookup.specs.Roster.{RosterView, roster_of};
+
+    ghost Value = { RosterView };
+
+    ghost coded = { set.code coded_ℕ };
+
+    ghost view = { λ s. roster_of s.cores.items };
+
+    ghost invariant = { λ s. IsNonDecreasingBy number_of s.cores.items };
+}
+
+impl Roster {
+    /// The set of these ASes, in any order and each any number of times. It takes no memory.
+    pub fn new(mut cores: Vec<IsdAs>) -> Roster
+        ensures { result ≡ roster_of cores.items }
+    {
+        cores.sort_unstable_by_key(|core| core.to_u64());
+        Roster { cores }
+    }
+
+    /// Whether the AS is one of them, in logarithmic time.
+    pub fn contains(&self, ia: IsdAs) -> bool
+        ensures { result ≡ set.contains self.now (number_of ia) }
+    {
+        let number = ia.to_u64();
+        let found = self
+            .cores
+            .binary_search_by_key(&number, |core| core.to_u64());
+        found.is_ok()
+    }
+
+    /// Whether a side of a lookup is core: its AS is 0, or it is one of them.
+    pub(crate) fn is_core(&self, side: IsdAs) -> bool
+        ensures { result ≡ is_core self.now (number_of side) }
+    {
+        side.asn == 0 || self.contains(side)
+    }
+}
