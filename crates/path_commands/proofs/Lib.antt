@@ -1,3 +1,4 @@
 mod CoreLemmas
 mod MemoryLemmas
 mod SessionLemmas
+mod Kept

@@ -39,13 +39,17 @@ abbrev pub answer_for : Result ℕ FrameError → Result ℕ Fault
 answer_for (Ok count) = Ok count
 answer_for (Err e) = Err (fault_of e)
 
+-- The messages of these bytes were answered in lines, from this start on.
+pub record AreAnsweredInLines (start : Served) (bytes : List ℕ) (output output_left : Option (List ℕ)) (outcome : Result ℕ FrameError) : Type 0 where
+  pub left : Served
+  pub served : IsServedInLines Answers bytes start left output output_left outcome
+
 -- The input is a text that encodes bytes, whose messages were answered in lines.
 pub record IsAnsweredText (start : Served) (text : List ℕ) (output output_left : Option (List ℕ)) (result : Result ℕ Fault) : Type 0 where
   pub bytes : List ℕ
   pub encoded : decode_of (without_blanks text) ≡ Ok bytes
-  pub left : Served
   pub outcome : Result ℕ FrameError
-  pub served : IsServedInLines Answers bytes start left output output_left outcome
+  pub answered : AreAnsweredInLines start bytes output output_left outcome
   pub said : result ≡ answer_for outcome
 
 -- The input was read whole, and judged as a text before anything was answered.

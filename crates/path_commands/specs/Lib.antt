@@ -3,6 +3,7 @@ pub mod Refusal
 pub mod Replies
 pub mod Memory
 pub mod Taking
+pub mod Kept
 pub mod Session
 pub mod SessionLaws
 pub mod Fault

@@ -12,14 +12,14 @@ use Rattle.path_db.specs.declared.command.Command.{Command}
 use Rattle.path_db.specs.declared.command.Command.TheVariants as command
 use Rattle.path_db.specs.Database.{RowView}
 use Rattle.path_db.specs.Command.{database_after, outcome_of}
-use Rattle.path_db.specs.Answer.{answer_of, segments_of}
+use Rattle.path_db.specs.Answer.{segments_of}
 use Rattle.seg_lookup.specs.declared.error.LookupError.{LookupError}
 use Rattle.seg_lookup.specs.Roster.{RosterView}
 use Rattle.seg_lookup.specs.Query.{QueryView}
 use Rattle.seg_lookup.specs.Classification.{query_of}
+use Rattle.seg_lookup.specs.Answer.{answer_to}
 use Rattle.session_core.specs.declared.message.Message.TheVariants.{Register, Lookup, Purge, Remove}
 use Rattle.session_core.specs.declared.service.Ack.{Ack}
-use Rattle.session_core.specs.declared.service.TheConstants.{MOST_SEGMENTS}
 use Rattle.session_core.specs.Frames.{MessageView}
 use Rattle.session_core.specs.Reply.{ReplyView, Registered, Found, Purged, Removed, Refused}
 use Rattle.path_commands.specs.Codes.{memory_code, exhausted_code, seg_code, check_code, lookup_code}
@@ -77,12 +77,8 @@ abbrev pub removal_step : Served → List ℕ → Result SegType SegError → St
 removal_step served id (Ok kind) = command_step Removed served (command.Remove kind id)
 removal_step served id (Err e) = refused_step served (seg_code e)
 
--- what a query shows
-abbrev pub shown : Served → QueryView → List RowView
-shown served query = answer_of MOST_SEGMENTS served.rows query.kind query.start query.end served.now
-
 abbrev pub query_step : Served → Result QueryView LookupError → Step
-query_step served (Ok query) = (Found query.kind (segments_of (shown served query)), served)
+query_step served (Ok query) = (Found query.kind (segments_of (answer_to served.rows query served.now)), served)
 query_step served (Err e) = refused_step served (lookup_code e)
 
 abbrev pub lookup_step : Served → Result (ℕ × ℕ) SegError → Step

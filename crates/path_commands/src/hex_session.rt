@@ -1,14 +1,14 @@
 //! A session whose input is hexadecimal text and whose replies are lines of it.
 
 ghost use Rattle.path_commands.specs.Memory.{opening};
-ghost use Rattle.path_commands.specs.HexSession.{IsHexSession};
+ghost use Rattle.path_commands.specs.HexSession.{IsHexSession, AreAnsweredInLines};
 
 use crate::error::Fault;
 use crate::hex_input::bytes_of;
 use crate::memory::Memory;
 use seg_check::Verifier;
 use seg_lookup::Roster;
-use session_core::{Source, read_all, serve_in_lines};
+use session_core::{FrameError, Source, read_all, serve_in_lines};
 use std::alloc::Global;
 use std::io::Write;
 
@@ -28,7 +28,21 @@ pub fn once_in_hex<R: Source, W: Write, V: Verifier>(
 {
     let text = read_all(alloc, reader, turns)?;
     let input = bytes_of(alloc, text.as_slice())?;
-    let mut memory = Memory::new(alloc, cores, checker, now);
-    let count = serve_in_lines(alloc, input, writer, &mut memory)?;
+    let count = answer_in_lines(alloc, input, writer, cores, checker, now)?;
     Ok(count)
+}
+
+/// Answers the messages of these bytes, from no rows and place 0, in lines.
+fn answer_in_lines<W: Write, V: Verifier>(
+    alloc: Global,
+    input: Vec<u8>,
+    writer: &mut W,
+    cores: &Roster,
+    checker: &V,
+    now: u64,
+) -> Result<u64, FrameError>
+    ensures { AreAnsweredInLines (opening cores.now (V.verifies checker.now) now) input.items (W.contents writer.old) (W.contents writer.new) result }
+{
+    let mut memory = Memory::new(alloc, cores, checker, now);
+    serve_in_lines(alloc, input, writer, &mut memory)
 }

@@ -7,6 +7,7 @@ ghost use Rattle.seg_core.specs.Encoding.{IsSegment};
 ghost use Rattle.session_core.specs.declared.message.Message.TheVariants.{Register, Lookup, Purge, Remove};
 ghost use Rattle.session_core.specs.declared.service.TheConstants.{MOST_SEGMENTS};
 ghost use Rattle.session_core.specs.Reply.{Registered, Purged, Removed};
+ghost use Rattle.path_commands.specs.Kept.{served_by};
 ghost use Rattle.path_commands.specs.Memory.{Answers, first_refusal, opening};
 ghost use Rattle.path_commands.specs.Replies.{reply_to_command, reply_to_query};
 ghost use Rattle.path_commands.specs.Taking.{MayTake};
@@ -18,7 +19,6 @@ use seg_core::{SegType, Segment, read_registration, read_request};
 use seg_lookup::{Roster, answer, classify};
 use session_core::{Ack, Code, Service};
 use std::alloc::Global;
-use std::marker::Model;
 
 /// The core ASes, who judges signatures and the moment, and the database with the place that the next command takes.
 #[derive(Drop)]
@@ -26,34 +26,20 @@ pub struct Memory<'a, V: Verifier> {
     roster: &'a Roster,
     checker: &'a V,
     /// In half seconds since 1970.
-    now: u64,
+    moment: u64,
     database: PathDb,
     place: u64,
-}
-
-impl<'a, V: Verifier> Model for Memory<'a, V> {
-    ghost use Rattle.path_commands.specs.Memory.{Served};
-
-    ghost Value = { Served };
-
-    ghost view = { λ s. record {
-        roster = s.roster.now;
-        verifies = V.verifies s.checker.now;
-        now = s.now;
-        rows = s.database;
-        place = s.place;
-    } };
 }
 
 impl<'a, V: Verifier> Memory<'a, V> {
     /// No rows, and place 0. The moment is in half seconds since 1970.
     pub fn new(alloc: Global, roster: &'a Roster, checker: &'a V, now: u64) -> Memory<'a, V>
-        ensures { result ≡ opening roster.now (V.verifies checker.now) now }
+        ensures { served_by V.verifies result ≡ opening roster.now (V.verifies checker.now) now }
     {
         Memory {
             roster,
             checker,
-            now,
+            moment: now,
             database: PathDb::new(alloc),
             place: 0,
         }
@@ -61,7 +47,7 @@ impl<'a, V: Verifier> Memory<'a, V> {
 
     /// Applies a command at the next place. Where memory runs out, nothing changes.
     fn take(&mut self, command: &Command) -> Result<Ack, Refusal>
-        ensures { MayTake self.old command.now result self.new }
+        ensures { MayTake (served_by V.verifies self.old) command.now result (served_by V.verifies self.new) }
     {
         let place = self.place;
         if place == u64::MAX {
@@ -75,17 +61,17 @@ impl<'a, V: Verifier> Memory<'a, V> {
     /// Registers the segments of a registration, once they are accepted.
     #[tactic(auto, unfolding(crate::specs::Memory::message_step))]
     fn accept(&mut self, alloc: Global, message: &[u8]) -> Result<Ack, Refusal>
-        ensures { Answers self.old (Register message.now) (reply_to_command Registered result) self.new }
+        ensures { Answers (served_by V.verifies self.old) (Register message.now) (reply_to_command Registered result) (served_by V.verifies self.new) }
     {
         let new = read_registration(alloc, message)?;
-        check_all(&new, self.checker, self.now)?;
+        check_all(&new, self.checker, self.moment)?;
         self.take(&Command::Register(Registration::new(new)))
     }
 
     /// Drops what has expired by a moment.
     #[tactic(auto, unfolding(crate::specs::Memory::message_step))]
     fn drop_expired(&mut self, moment: u64) -> Result<Ack, Refusal>
-        ensures { Answers self.old (Purge moment) (reply_to_command Purged result) self.new }
+        ensures { Answers (served_by V.verifies self.old) (Purge moment) (reply_to_command Purged result) (served_by V.verifies self.new) }
     {
         self.take(&Command::Purge(moment))
     }
@@ -93,7 +79,7 @@ impl<'a, V: Verifier> Memory<'a, V> {
     /// Drops the segment of a type's number and an id.
     #[tactic(auto, unfolding(crate::specs::Memory::message_step))]
     fn drop_one(&mut self, kind: u8, id: &[u8; 32]) -> Result<Ack, Refusal>
-        ensures { Answers self.old (Remove kind id.now) (reply_to_command Removed result) self.new }
+        ensures { Answers (served_by V.verifies self.old) (Remove kind id.now) (reply_to_command Removed result) (served_by V.verifies self.new) }
     {
         let kind = SegType::from_number(u64::from(kind))?;
         self.take(&Command::Remove(kind, *id))
@@ -102,13 +88,13 @@ impl<'a, V: Verifier> Memory<'a, V> {
     /// The segments that a request asks for, of one type.
     #[tactic(auto, unfolding(crate::specs::Memory::message_step))]
     fn find(&self, message: &[u8]) -> Result<(SegType, Vec<Segment>), Refusal>
-        ensures answers { Answers self.now (Lookup message.now) (reply_to_query result) self.now }
+        ensures answers { Answers (served_by V.verifies self.now) (Lookup message.now) (reply_to_query result) (served_by V.verifies self.now) }
         ensures few { IfOk result (λ found. length found.1.items ≤ MOST_SEGMENTS) }
         ensures whole { IfOk result (λ found. AllByRecursion IsSegment found.1.items) }
     {
         let (source, destination) = read_request(message)?;
         let query = classify(self.roster, source, destination)?;
-        let found = answer(&self.database, &query, self.now)?;
+        let found = answer(&self.database, &query, self.moment)?;
         Ok((query.kind, found))
     }
 }
@@ -121,16 +107,17 @@ fn check_all<V: Verifier>(
 ) -> Result<(), CheckError>
     ensures { result_err result ≡ first_refusal (V.verifies checker.now) now new.now }
 {
-    for (_kind, segment) in new {
-        check(segment, checker, now)?;
+    for row in new {
+        check(&row.1, checker, now)?;
     }
     Ok(())
 }
 
 impl<V: Verifier> Service for Memory<'_, V> {
+    ghost use Rattle.path_commands.specs.Kept.{served_by};
     ghost use Rattle.path_commands.specs.Memory.{Answers};
 
-    ghost answers = { Answers };
+    ghost answers = { λ old message reply new. Answers (served_by V.verifies old) message reply (served_by V.verifies new) };
 
     fn register(&mut self, alloc: Global, message: &[u8]) -> Result<Ack, Code> {
         match self.accept(alloc, message) {
