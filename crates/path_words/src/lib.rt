@@ -8,7 +8,7 @@ ghost use Rattle.std.specs.Prelude.{◌≡◌, [], ◌∷◌, codes, IfOk};
 ghost use Rattle.clap.specs.Words.{subcommand_names};
 ghost use Rattle.clap.specs.declared.builder.command.Command.TheViews.{out-Command};
 
-use clap::{Arg, ArgAction, Command};
+use clap::{Arg, ArgAction, Command, value_parser};
 use std::alloc::{AllocError, Global};
 
 /// The name of the command that answers one session.
@@ -16,6 +16,12 @@ pub const ONCE: &str = "once";
 
 /// The name of its option with the core ASes.
 pub const CORES: &str = "cores";
+
+/// The name of its option with the moment, in half seconds since 1970.
+pub const NOW: &str = "now";
+
+/// The name of its option with the key by which signatures are checked, as hexadecimal text.
+pub const KEY: &str = "key";
 
 /// The name of its flag for hexadecimal input and output.
 pub const HEX: &str = "hex";
@@ -41,6 +47,17 @@ fn once_command<'a>(alloc: Global) -> Result<Command<'a>, AllocError>
         .value_name("LIST")
         .help("The core ASes, as ISD-AS texts joined by commas")
         .action(ArgAction::Set);
+    let now = Arg::new(alloc, NOW)
+        .long(NOW)
+        .value_name("T")
+        .help("The moment, in half seconds since 1970 [default: 0]")
+        .value_parser(value_parser!(u64))
+        .action(ArgAction::Set);
+    let key = Arg::new(alloc, KEY)
+        .long(KEY)
+        .value_name("HEX")
+        .help("Check signatures by this key of a test profile; without it all are trusted")
+        .action(ArgAction::Set);
     let hex = Arg::new(alloc, HEX)
         .long(HEX)
         .help("Read hexadecimal text, and print each reply as a line of it")
@@ -48,6 +65,8 @@ fn once_command<'a>(alloc: Global) -> Result<Command<'a>, AllocError>
     let once = Command::new(alloc, ONCE)
         .about("Answers one session from standard input to standard output")
         .arg(cores)?
+        .arg(now)?
+        .arg(key)?
         .arg(hex)?;
     Ok(once)
 }

@@ -6,8 +6,10 @@
 
 use clap::error::ErrorKind;
 use clap::{ArgMatches, Error};
-use path_commands::{Fault, cores_of, once, once_in_hex};
-use path_words::{CORES, HEX, ONCE, command};
+use path_commands::{Fault, cores_of, key_of, once, once_in_hex};
+use path_words::{CORES, HEX, KEY, NOW, ONCE, command};
+use seg_check::{TrustAll, Verifier};
+use seg_lookup::Roster;
 use std::env;
 use std::io::{BufWriter, Read, Write};
 use std::process::ExitCode;
@@ -52,20 +54,40 @@ fn answer<R: AllocGlobal, I: Read, O: Write + Drop>(
     rt: &R,
     options: &ArgMatches<'_>,
     input: &mut I,
-    mut output: O,
+    output: O,
 ) -> Result<(), Fault> {
     let cores = match options.get_str(CORES) {
         Some(list) => cores_of(rt.alloc(), list)?,
         None => Vec::new(rt.alloc()),
     };
+    let roster = Roster::new(cores);
+    match options.get_str(KEY) {
+        Some(text) => {
+            let checker = key_of(rt.alloc(), text)?;
+            answer_checked(rt, options, input, output, &roster, &checker)
+        }
+        None => answer_checked(rt, options, input, output, &roster, &TrustAll),
+    }
+}
+
+/// Answers one session whose signatures are judged by `checker`.
+fn answer_checked<R: AllocGlobal, I: Read, O: Write + Drop, V: Verifier>(
+    rt: &R,
+    options: &ArgMatches<'_>,
+    input: &mut I,
+    mut output: O,
+    cores: &Roster,
+    checker: &V,
+) -> Result<(), Fault> {
+    let now = options.get_one::<u64>(NOW).unwrap_or(0);
     if options.get_flag(HEX) {
-        once_in_hex(rt.alloc(), input, &mut output, cores.as_slice(), TURNS)?;
+        once_in_hex(rt.alloc(), input, &mut output, cores, checker, now, TURNS)?;
         return Ok(());
     }
     let Ok(mut output) = BufWriter::new(rt.alloc(), output) else {
         return Err(Fault::Memory);
     };
-    once(rt.alloc(), input, &mut output, cores.as_slice(), TURNS)?;
+    once(rt.alloc(), input, &mut output, cores, checker, now, TURNS)?;
     Ok(())
 }
 
