@@ -48,22 +48,7 @@ module _ {S : Type 0} (form : Form) (answers : S → MessageView → ReplyView �
     stops = tt;
   }
 
-  -- a flush behind it
-  pub flushed : (a b : S) (bytes left : List ℕ) (o p q : Option (List ℕ)) (n : ℕ) (r : Result ℕ FrameError) → AreFrontsAnswered form answers a bytes b left o p n r → Keeps p q
-      → AreFrontsAnswered form answers a bytes b left o q n r
-  flushed a b bytes left o p q n r x k = record {
-    exchanges = x.exchanges;
-    rest = x.rest;
-    written = x.written;
-    framed = x.framed;
-    answered = x.answered;
-    sized = x.sized;
-    appended = Appends-kept o p q x.written x.appended k;
-    told = x.told;
-    stops = x.stops;
-  }
-
-  -- a flush that failed
+  -- a flush behind it that failed
   pub not_flushed : (a b : S) (bytes left : List ℕ) (o p q : Option (List ℕ)) (n : ℕ) (r : Result ℕ FrameError) → AreFrontsAnswered form answers a bytes b left o p n r → Keeps p q
       → AreFrontsAnswered form answers a bytes b left o q n (Err error.Write)
   not_flushed a b bytes left o p q n r x k = record {
