@@ -1,5 +1,5 @@
 -- Messages answered one behind the other: for `answer_all`, `serve_piece` and `serve`.
-use Rattle.std.proofs.Common.{◌≡◌, ℕ, ◌+◌, ◌-◌, ◌^◌, ◌<◌, min, List, [], ◌∷◌, ◌++◌, length, Option, Ok, Err, refl, sym, ap, subst, ◌∙◌, arith, append_assoc}
+use Rattle.std.proofs.Common.{◌≡◌, ℕ, ◌+◌, ◌-◌, ◌^◌, ◌<◌, min, List, [], ◌∷◌, ◌++◌, length, Option, Err, refl, sym, ap, subst, ◌∙◌, arith, append_assoc}
 use Rattle.std.proofs.lemmas.List.{append-nil, length-append, map-append}
 use Rattle.std.proofs.lemmas.List.Concat.{flat_map-append}
 use Rattle.std.proofs.lemmas.Fn.{FoldsTo-push}
@@ -8,11 +8,11 @@ use Rattle.std.specs.Io.KnownBytes.{Appends}
 use Rattle.std.proofs.KnownBytes.{Appends-nil, Appends-trans}
 use Rattle.session_core.specs.declared.error.FrameError.{FrameError}
 use Rattle.session_core.specs.declared.error.FrameError.TheVariants as error
-use Rattle.session_core.specs.Frames.{MessageView, message_frame, IsPartial, AreWholeFrames}
+use Rattle.session_core.specs.Frames.{MessageView, message_frame, AreWholeFrames}
 use Rattle.session_core.specs.Reply.{ReplyView, HasReplySize, told_as}
 use Rattle.session_core.specs.Service.{Exchange, messages_of, replies_of, all_told, AreAnswered}
 use Rattle.session_core.specs.declared.reply.Form.{Form}
-use Rattle.session_core.specs.Answered.{IsFirstAnswered, IsFaultAt, AreFrontsAnswered, FailsToWrite}
+use Rattle.session_core.specs.Answered.{IsFirstAnswered, AreFrontsAnswered, FailsToWrite}
 use Rattle.session_core.proofs.Streams.{AreWholeFrames-none, AreWholeFrames-append}
 
 -- ---- lists of exchanges
@@ -127,28 +127,3 @@ module _ {S : Type 0} (form : Form) (answers : S → MessageView → ReplyView �
     stops_at_write left q error.Kind f = absurd f
     stops_at_write left q error.Read f = absurd f
     stops_at_write left q error.Turns f = absurd f
-
-  -- less than a frame is left
-  pub stops_well : (a b : S) (bytes rest left : List ℕ) (o p : Option (List ℕ)) (n m : ℕ) → HasAnswered form answers a bytes b rest o p n m → IsPartial rest → left ≡ rest
-      → AreFrontsAnswered form answers a bytes b left o p n (Ok m)
-  stops_well a b bytes rest left o p n m h partial same = record {
-    exchanges = h.exchanges;
-    rest = rest;
-    written = all_told form h.exchanges;
-    framed = h.framed;
-    answered = h.answered;
-    sized = h.sized;
-    appended = h.appended;
-    told = refl;
-    stops = record { partial = partial; left_is = same; counted = h.counted };
-  }
-
-  -- the next frame is faulty
-  pub stops_at_fault : (a b : S) (bytes rest left : List ℕ) (o p : Option (List ℕ)) (n m : ℕ) (e : FrameError) → HasAnswered form answers a bytes b rest o p n m → IsFaultAt rest e
-      → AreFrontsAnswered form answers a bytes b left o p n (Err e)
-  stops_at_fault a b bytes rest left o p n m error.Length h f = record { exchanges = h.exchanges; rest = rest; written = all_told form h.exchanges; framed = h.framed; answered = h.answered; sized = h.sized; appended = h.appended; told = refl; stops = f }
-  stops_at_fault a b bytes rest left o p n m error.Kind h f = record { exchanges = h.exchanges; rest = rest; written = all_told form h.exchanges; framed = h.framed; answered = h.answered; sized = h.sized; appended = h.appended; told = refl; stops = f }
-  stops_at_fault a b bytes rest left o p n m error.NoMemory h f = absurd f
-  stops_at_fault a b bytes rest left o p n m error.Read h f = absurd f
-  stops_at_fault a b bytes rest left o p n m error.Write h f = absurd f
-  stops_at_fault a b bytes rest left o p n m error.Turns h f = absurd f

@@ -48,22 +48,7 @@ module _ {S : Type 0} (form : Form) (answers : S → MessageView → ReplyView �
     stops = tt;
   }
 
-  -- a flush behind it
-  pub flushed : (a b : S) (bytes left : List ℕ) (o p q : Option (List ℕ)) (n : ℕ) (r : Result ℕ FrameError) → AreFrontsAnswered form answers a bytes b left o p n r → Keeps p q
-      → AreFrontsAnswered form answers a bytes b left o q n r
-  flushed a b bytes left o p q n r x k = record {
-    exchanges = x.exchanges;
-    rest = x.rest;
-    written = x.written;
-    framed = x.framed;
-    answered = x.answered;
-    sized = x.sized;
-    appended = Appends-kept o p q x.written x.appended k;
-    told = x.told;
-    stops = x.stops;
-  }
-
-  -- a flush that failed
+  -- a flush behind it that failed
   pub not_flushed : (a b : S) (bytes left : List ℕ) (o p q : Option (List ℕ)) (n : ℕ) (r : Result ℕ FrameError) → AreFrontsAnswered form answers a bytes b left o p n r → Keeps p q
       → AreFrontsAnswered form answers a bytes b left o q n (Err error.Write)
   not_flushed a b bytes left o p q n r x k = record {
@@ -178,8 +163,9 @@ module _ {S R : Type 0} (answers : S → MessageView → ReplyView → S → Typ
       closed_framed : AreWholeFrames (concat (h.pieces ++ last)) (messages_of h.done.exchanges) inbox
       closed_framed = subst (λ (bytes : List ℕ). AreWholeFrames bytes (messages_of h.done.exchanges) inbox) (sym nothing) h.done.framed
 
-      ends_well : IsAtEnd i → inbox ≡ [] → IsServed answers gives turns a b r t i o p (Ok count)
-      ends_well end none = record {
+      ends_here : (result : Result ℕ FrameError) → Tells Frames result (reply_frames h.done.exchanges) h.done.exchanges → EndsFor i turns (h.pieces ++ last) h.done.exchanges inbox result
+          → IsServed answers gives turns a b r t i o p result
+      ends_here result told ended = record {
         pieces = h.pieces ++ last;
         exchanges = h.done.exchanges;
         rest = inbox;
@@ -189,42 +175,19 @@ module _ {S R : Type 0} (answers : S → MessageView → ReplyView → S → Typ
         answered = h.done.answered;
         sized = h.done.sized;
         appended = h.done.appended;
-        told = refl;
+        told = told;
         prompt = closed_prompt;
-        ended = record { at_end = end; whole = none; counted = omega (arith, h.done.counted) };
+        ended = ended;
       }
+
+      ends_well : IsAtEnd i → inbox ≡ [] → IsServed answers gives turns a b r t i o p (Ok count)
+      ends_well end none = ends_here (Ok count) refl (record { at_end = end; whole = none; counted = omega (arith, h.done.counted) })
 
       ends_at_read : IsServed answers gives turns a b r t i o p (Err error.Read)
-      ends_at_read = record {
-        pieces = h.pieces ++ last;
-        exchanges = h.done.exchanges;
-        rest = inbox;
-        written = reply_frames h.done.exchanges;
-        read = read;
-        framed = closed_framed;
-        answered = h.done.answered;
-        sized = h.done.sized;
-        appended = h.done.appended;
-        told = refl;
-        prompt = closed_prompt;
-        ended = h.partial;
-      }
+      ends_at_read = ends_here (Err error.Read) refl h.partial
 
       ends_in_time : length (h.pieces ++ last) ≡ turns → IsServed answers gives turns a b r t i o p (Err error.Turns)
-      ends_in_time all = record {
-        pieces = h.pieces ++ last;
-        exchanges = h.done.exchanges;
-        rest = inbox;
-        written = reply_frames h.done.exchanges;
-        read = read;
-        framed = closed_framed;
-        answered = h.done.answered;
-        sized = h.done.sized;
-        appended = h.done.appended;
-        told = refl;
-        prompt = closed_prompt;
-        ended = (h.partial, all);
-      }
+      ends_in_time all = ends_here (Err error.Turns) refl (h.partial, all)
 
     nothing_more : concat (h.pieces ++ [] ∷ []) ≡ concat h.pieces
     nothing_more = all_joined [] ∙ append-nil (concat h.pieces)

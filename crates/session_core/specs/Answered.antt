@@ -5,12 +5,13 @@ use Rattle.std.specs.Io.KnownBytes.{Appends}
 use Rattle.session_core.specs.declared.error.FrameError.{FrameError}
 use Rattle.session_core.specs.declared.error.FrameError.TheVariants as error
 use Rattle.session_core.specs.declared.reply.Reply.{Reply}
-use Rattle.session_core.specs.Frames.{MessageView, message_frame, FitsFrame, IsPartial, HasBadLength, HasBadKind, AreWholeFrames}
+use Rattle.session_core.specs.Frames.{MessageView, message_frame, FitsFrame, IsPartial, AreWholeFrames}
+use Rattle.session_core.specs.Front.{IsFaultAt}
 use Rattle.session_core.specs.Reply.{ReplyView, HasReplySize}
 use Rattle.session_core.specs.ReplyViews.{reply_view}
 use Rattle.session_core.specs.Service.{Exchange, messages_of, replies_of, AreAnswered}
 use Rattle.session_core.specs.declared.reply.Form.{Form}
-use Rattle.session_core.specs.Session.{Begins, Tells}
+use Rattle.session_core.specs.Session.{Begins, Tells, EndsEarly}
 
 -- The message at the front was answered, and its frame taken off.
 pub record IsFirstAnswered {S : Type 0} (answers : S → MessageView → ReplyView → S → Type 0) (old : S) (bytes : List ℕ) (reply : ReplyView) (new : S) (rest : List ℕ) : Type 0 where
@@ -24,15 +25,6 @@ pub record IsFirstAnswered {S : Type 0} (answers : S → MessageView → ReplyVi
 pub record IsUnanswered {S : Type 0} (old : S) (bytes : List ℕ) (new : S) (rest : List ℕ) : Type 0 where
   pub same : new ≡ old
   pub left : rest ≡ bytes
-
--- what is wrong with the frame at the front
-abbrev pub IsFaultAt : List ℕ → FrameError → Type 0
-IsFaultAt bytes error.Length = HasBadLength bytes
-IsFaultAt bytes error.Kind = HasBadKind bytes
-IsFaultAt bytes error.NoMemory = ⊥
-IsFaultAt bytes error.Read = ⊥
-IsFaultAt bytes error.Write = ⊥
-IsFaultAt bytes error.Turns = ⊥
 
 -- The first message was answered; or less than a frame is there, or a faulty one, and nothing is done.
 abbrev pub IsNext : {S : Type 0} → (S → MessageView → ReplyView → S → Type 0) → S → List ℕ → S → List ℕ → Result (Option Reply) FrameError → Type 0
@@ -49,12 +41,7 @@ pub record GoesOn (count : ℕ) (exchanges : List Exchange) (rest left : List �
 -- Why no more was answered: less than a frame is left, or a faulty one, or a write failed, or memory ran out.
 abbrev pub StopsFor : ℕ → List Exchange → List ℕ → List ℕ → Result ℕ FrameError → Type 0
 StopsFor count exchanges rest left (Ok sum) = GoesOn count exchanges rest left sum
-StopsFor count exchanges rest left (Err error.Length) = HasBadLength rest
-StopsFor count exchanges rest left (Err error.Kind) = HasBadKind rest
-StopsFor count exchanges rest left (Err error.NoMemory) = Unit {0}
-StopsFor count exchanges rest left (Err error.Write) = Unit {0}
-StopsFor count exchanges rest left (Err error.Read) = ⊥
-StopsFor count exchanges rest left (Err error.Turns) = ⊥
+StopsFor count exchanges rest left (Err e) = EndsEarly ⊥ ⊥ rest e
 
 -- Messages at the front of the bytes were answered, and this was written of their replies; the rest follows them, and is
 -- left where all went well.

@@ -4,7 +4,8 @@ use Rattle.session_core.specs.declared.error.FrameError.{FrameError}
 use Rattle.session_core.specs.declared.error.FrameError.TheVariants as error
 use Rattle.session_core.specs.declared.message.Message.{Message}
 use Rattle.session_core.specs.declared.message.Message.TheVariants.{Register, Lookup, Purge, Remove}
-use Rattle.session_core.specs.Frames.{MessageView, IsPartial, HasBadLength, HasBadKind, Ending, Rest, BadLength, BadKind, AreFrames}
+use Rattle.session_core.specs.Frames.{MessageView, IsPartial, Ending, Rest, BadLength, BadKind, AreFrames}
+use Rattle.session_core.specs.Front.{IsFaultAt}
 
 -- a message without how its body is kept
 abbrev pub message_view : {A : Type 0} → Message (Vec ℕ A) → MessageView
@@ -37,12 +38,7 @@ Continues old piece messages new =
 -- what is wrong with the bytes behind the last whole frame
 abbrev pub IsFaultOf : List ℕ → Option FrameError → Type 0
 IsFaultOf bytes None = IsPartial bytes
-IsFaultOf bytes (Some error.Length) = HasBadLength bytes
-IsFaultOf bytes (Some error.Kind) = HasBadKind bytes
-IsFaultOf bytes (Some error.NoMemory) = ⊥
-IsFaultOf bytes (Some error.Read) = ⊥
-IsFaultOf bytes (Some error.Write) = ⊥
-IsFaultOf bytes (Some error.Turns) = ⊥
+IsFaultOf bytes (Some e) = IsFaultAt bytes e
 
 -- the ending that the bytes and what is wrong with them are
 abbrev pub ending_of : List ℕ → Option FrameError → Ending

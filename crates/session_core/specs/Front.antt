@@ -20,13 +20,17 @@ pub record BeginsWithFrame (bytes : List ℕ) (message : MessageView) (len : ℕ
   pub sized : FitsFrame message
   pub len_is : len ≡ 5 + length (body_of message)
 
+-- what is wrong with the frame at the front
+abbrev pub IsFaultAt : List ℕ → FrameError → Type 0
+IsFaultAt bytes error.Length = HasBadLength bytes
+IsFaultAt bytes error.Kind = HasBadKind bytes
+IsFaultAt bytes error.NoMemory = ⊥
+IsFaultAt bytes error.Read = ⊥
+IsFaultAt bytes error.Write = ⊥
+IsFaultAt bytes error.Turns = ⊥
+
 -- A whole frame with its message, less than a frame, or what is wrong with the frame.
 abbrev pub IsFront : List ℕ → Result (Option (Message (Bor (List ℕ)) × ℕ)) FrameError → Type 0
 IsFront bytes (Ok None) = IsPartial bytes
 IsFront bytes (Ok (Some next)) = BeginsWithFrame bytes (message_at next.0) next.1
-IsFront bytes (Err error.Length) = HasBadLength bytes
-IsFront bytes (Err error.Kind) = HasBadKind bytes
-IsFront bytes (Err error.NoMemory) = ⊥
-IsFront bytes (Err error.Read) = ⊥
-IsFront bytes (Err error.Write) = ⊥
-IsFront bytes (Err error.Turns) = ⊥
+IsFront bytes (Err e) = IsFaultAt bytes e

@@ -3,28 +3,21 @@ use Rattle.std.specs.Prelude.{◌≡◌, ℕ, ◌-◌, ◌^◌, min, List, [], l
 use Rattle.std.specs.List.{AllByRecursion}
 use Rattle.std.specs.Io.KnownBytes.{Appends}
 use Rattle.session_core.specs.declared.error.FrameError.{FrameError}
-use Rattle.session_core.specs.declared.error.FrameError.TheVariants as error
 use Rattle.session_core.specs.declared.reply.Form.TheVariants.{Lines}
-use Rattle.session_core.specs.Frames.{MessageView, IsPartial, HasBadLength, HasBadKind, AreWholeFrames}
+use Rattle.session_core.specs.Frames.{MessageView, IsPartial, AreWholeFrames}
 use Rattle.session_core.specs.Reply.{ReplyView, HasReplySize}
 use Rattle.session_core.specs.Service.{Exchange, messages_of, replies_of, AreAnswered}
-use Rattle.session_core.specs.Session.{Tells}
+use Rattle.session_core.specs.Session.{Tells, EndsEarly}
 
 -- nothing is left over, and the count of replies stays at 2^64 - 1
 pub record IsWholeCount (exchanges : List Exchange) (rest : List ℕ) (count : ℕ) : Type 0 where
   pub whole : rest ≡ []
   pub counted : count ≡ min (length exchanges) (2 ^ 64 - 1)
 
--- Why it ends: with the bytes, at a fault of the frame that follows, within a frame, or at a failed write and for want of
--- memory anywhere.
+-- With the bytes, or early: within a frame.
 abbrev pub EndsInLines : List Exchange → List ℕ → Result ℕ FrameError → Type 0
 EndsInLines exchanges rest (Ok count) = IsWholeCount exchanges rest count
-EndsInLines exchanges rest (Err error.NoMemory) = Unit {0}
-EndsInLines exchanges rest (Err error.Length) = HasBadLength rest
-EndsInLines exchanges rest (Err error.Kind) = HasBadKind rest
-EndsInLines exchanges rest (Err error.Read) = IsPartial rest
-EndsInLines exchanges rest (Err error.Write) = Unit {0}
-EndsInLines exchanges rest (Err error.Turns) = ⊥
+EndsInLines exchanges rest (Err e) = EndsEarly (IsPartial rest) ⊥ rest e
 
 -- The bytes are the frames of the messages that were answered, and a rest; the service answered them in order; what was
 -- written are the lines of those replies.

@@ -58,16 +58,20 @@ pub record EndsWell (input_left : Option (List ℕ)) (exchanges : List Exchange)
   pub whole : rest ≡ []
   pub counted : count ≡ min (length exchanges) (2 ^ 64 - 1)
 
--- At a fault of the frame that follows; at a failed read or within a frame; when all reads are made; at a failed write
--- and for want of memory anywhere.
+-- At a fault of the frame that follows; at a failed write and for want of memory anywhere; at the end of the input, or of
+-- the reads, under these conditions.
+abbrev pub EndsEarly : Type 0 → Type 0 → List ℕ → FrameError → Type 0
+EndsEarly cut out_of_turns rest error.NoMemory = Unit {0}
+EndsEarly cut out_of_turns rest error.Length = HasBadLength rest
+EndsEarly cut out_of_turns rest error.Kind = HasBadKind rest
+EndsEarly cut out_of_turns rest error.Read = cut
+EndsEarly cut out_of_turns rest error.Write = Unit {0}
+EndsEarly cut out_of_turns rest error.Turns = out_of_turns
+
+-- At the end of the input, or early: at a failed read or within a frame, or when all reads are made.
 abbrev pub EndsFor : Option (List ℕ) → ℕ → List (List ℕ) → List Exchange → List ℕ → Result ℕ FrameError → Type 0
 EndsFor input_left turns pieces exchanges rest (Ok count) = EndsWell input_left exchanges rest count
-EndsFor input_left turns pieces exchanges rest (Err error.NoMemory) = Unit {0}
-EndsFor input_left turns pieces exchanges rest (Err error.Length) = HasBadLength rest
-EndsFor input_left turns pieces exchanges rest (Err error.Kind) = HasBadKind rest
-EndsFor input_left turns pieces exchanges rest (Err error.Read) = IsPartial rest
-EndsFor input_left turns pieces exchanges rest (Err error.Write) = Unit {0}
-EndsFor input_left turns pieces exchanges rest (Err error.Turns) = IsPartial rest × (length pieces ≡ turns)
+EndsFor input_left turns pieces exchanges rest (Err e) = EndsEarly (IsPartial rest) (IsPartial rest × (length pieces ≡ turns)) rest e
 
 -- ---- a session
 
