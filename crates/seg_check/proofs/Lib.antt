@@ -1,3 +1,4 @@
-pub mod Lists
-pub mod Facts
+pub mod Digests
+pub mod Expiries
 pub mod Checks
+pub mod Exports

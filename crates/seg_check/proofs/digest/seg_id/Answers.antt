@@ -1,12 +1,12 @@
-use Rattle.std.proofs.Common.{◌++◌, [], take, ap, subst, ◌∙◌, sym}
+use Rattle.std.proofs.Common.{◌++◌, ◌∷◌, [], take, ap, subst, ◌∙◌, sym}
 use Rattle.std.specs.List.{flat_map}
+use Rattle.std.proofs.lemmas.List.{take_all, take_more, flat_map_more}
 use Rattle.std.proofs.lemmas.List.Folds.{flat_map-map}
 use Rattle.sha2.specs.Sha256.{sha256}
 use Rattle.sha2.specs.Hashers.{Holds256}
 use Rattle.seg_core.specs.declared.entry.Entry.{Entry}
 use Rattle.seg_core.specs.EntryView.{entry_view}
 use Rattle.seg_check.specs.Digest.{hop_bytes, segment_digest}
-use Rattle.seg_check.proofs.Lists.{take_all, flat_map_step}
 use Rattle.seg_check.proofs.digest.seg_id.Goals as goal
 
 -- one hop more
@@ -14,8 +14,11 @@ pub loop-entry-preserved : goal.loop-entry-preserved
 loop-entry-preserved c =
     let hops = λ (e : Entry). hop_bytes (entry_view e) in
     let entries = c.entries-entries.result.now in
-    let step = flat_map_step hops [] entries c.loop-entry.entry-index c.entry-item.result c.loop-entry-test.true c.entry-item.is in
-    subst (Holds256 c.update.new.self) (ap (λ hop. flat_map hops (take c.loop-entry.entry-index entries) ++ hop) c.hop_bytes.ensures ∙ step) (c.update.ensures _ c.loop-entry.invariant)
+    let earlier = take c.loop-entry.entry-index entries in
+    let entry = c.entry-item.result in
+    let more = take_more entries c.loop-entry.entry-index entry c.loop-entry-test.true ∙ ap (λ e. earlier ++ e ∷ []) (sym c.entry-item.is) in
+    let step = flat_map_more hops [] earlier entry ∙ ap (flat_map hops) (sym more) in
+    subst (Holds256 c.update.new.self) (ap (λ hop. flat_map hops earlier ++ hop) c.hop_bytes.ensures ∙ step) (c.update.ensures _ c.loop-entry.invariant)
 
 -- all hops
 pub returns : goal.returns

@@ -6,7 +6,7 @@ use Rattle.std.proofs.lemmas.Iterator.{YieldsList-from_slice, YieldsList-from_ma
 use Rattle.std.proofs.lemmas.Iterator.Consumers.{YieldsList-at, min_from_yields_List}
 use Rattle.std.proofs.lemmas.Iterator.Adapters.{option_map_id}
 use Rattle.seg_core.specs.declared.entry.Entry.{Entry}
-use Rattle.seg_check.proofs.Facts.{exp_times-views}
+use Rattle.seg_check.proofs.Expiries.{exp_times-views}
 use Rattle.seg_check.proofs.expiring.least_exp_time.Goals as goal
 
 pub returns : goal.returns

@@ -4,7 +4,7 @@ use Rattle.std.specs.Borrow.{Bor}
 use Rattle.std.proofs.lemmas.List.Folds.{flat_map-map}
 use Rattle.sha2.specs.Sha256.{sha256}
 use Rattle.seg_check.specs.Keyed.{keyed_signature, piece_encoding}
-use Rattle.seg_check.proofs.Lists.{take_all}
+use Rattle.std.proofs.lemmas.List.{take_all}
 use Rattle.seg_check.proofs.keyed.keyed_signature.Goals as goal
 
 -- all pieces

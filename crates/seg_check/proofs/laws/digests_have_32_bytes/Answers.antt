@@ -1,4 +1,4 @@
-use Rattle.seg_check.proofs.Facts.{digest-length, digest-IsBytes}
+use Rattle.seg_check.proofs.Digests.{digest-length, digest-IsBytes}
 use Rattle.seg_check.proofs.laws.digests_have_32_bytes.Goals as goal
 
 pub returns-clause-digest : goal.returns-clause-digest

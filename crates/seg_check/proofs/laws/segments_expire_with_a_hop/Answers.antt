@@ -1,4 +1,4 @@
-use Rattle.seg_check.proofs.Facts.{expiry-le_hops, expiry-of_hop, expiry-fits}
+use Rattle.seg_check.proofs.Expiries.{expiry-le_hops, expiry-of_hop, expiry-fits}
 use Rattle.seg_check.proofs.laws.segments_expire_with_a_hop.Goals as goal
 
 pub returns-clause-none_before : goal.returns-clause-none_before

@@ -1,62 +1,14 @@
--- Facts of ids and expiries. Crates above cite this module, and no other one of `proofs/`.
-use Rattle.std.proofs.Common.{◌≡◌, ℕ, zero, suc, ◌*◌, List, length, refl, ◌∙◌, arith, length-append, ◌+◌, ◌<◌, ◌≤◌, ◌^◌, ◌⊎◌, [], ◌∷◌, map, slice_index_or, inl, inr, sym, ap}
-use Rattle.std.specs.Prelude.{slice_index, All, min}
-use Rattle.std.specs.Int.{w32, to_be_bytes}
+-- When segments expire.
+use Rattle.std.proofs.Common.{◌≡◌, ℕ, zero, suc, ◌*◌, List, length, refl, ◌∙◌, arith, ◌+◌, ◌<◌, ◌≤◌, ◌^◌, ◌⊎◌, [], ◌∷◌, map, slice_index_or, inl, inr, sym, ap}
+use Rattle.std.specs.Prelude.{All, min}
 use Rattle.std.specs.List.{fold, Any}
 use Rattle.std.proofs.Math.Nat.{min-le_left, min-le_right}
-use Rattle.sha2.specs.Sha256.{digest_bytes, sha256}
-use Rattle.pw_wire.specs.Decoding.{IsBytes}
 use Rattle.seg_core.specs.SegmentView.{EntryView, SegmentView}
 use Rattle.seg_core.specs.declared.entry.Entry.{Entry}
 use Rattle.seg_core.specs.EntryView.{entry_views}
 use Rattle.seg_core.specs.Encoding.{IsSegment}
-use Rattle.seg_core.proofs.Bytes.{bytes-nil, bytes-append}
 use Rattle.seg_core.proofs.Ranges.{IsSegment-IsWellFormed}
-use Rattle.seg_check.specs.Digest.{hop_bytes, segment_digest}
 use Rattle.seg_check.specs.Expiry.{hop_expiry, least_exp_time, expiry_of}
-
--- ---- how long hops and ids are
-
--- a hop has 12 bytes
-pub hop-length : (e : EntryView) → length (hop_bytes e) ≡ 12
-hop-length e = refl
-
-digest_bytes-length : (h : List ℕ) (n : ℕ) → length (digest_bytes h n) ≡ 4 * n
-unfolding digest_bytes
-digest_bytes-length h zero = refl
-digest_bytes-length h (suc n) = length-append (digest_bytes h n) _ ∙ omega (arith, digest_bytes-length h n)
-
-word-bytes : (n : ℕ) → IsBytes (to_be_bytes w32 n)
-word-bytes n zero = omega arith
-word-bytes n (suc zero) = omega arith
-word-bytes n (suc (suc zero)) = omega arith
-word-bytes n (suc (suc (suc zero))) = omega arith
-word-bytes n (suc (suc (suc (suc i)))) = omega arith
-
-digest_bytes-IsBytes : (h : List ℕ) (n : ℕ) → IsBytes (digest_bytes h n)
-unfolding digest_bytes
-digest_bytes-IsBytes h zero = bytes-nil
-digest_bytes-IsBytes h (suc n) = bytes-append (digest_bytes h n) _ (digest_bytes-IsBytes h n) (word-bytes (slice_index h n))
-
--- SHA-256 has 32 bytes
-pub sha256-length : (message : List ℕ) → length (sha256 message) ≡ 32
-unfolding sha256
-sha256-length message = digest_bytes-length _ 8
-
-pub sha256-IsBytes : (message : List ℕ) → IsBytes (sha256 message)
-unfolding sha256
-sha256-IsBytes message = digest_bytes-IsBytes _ 8
-
--- and so has the id of a segment
-pub digest-length : (s : SegmentView) → length (segment_digest s) ≡ 32
-unfolding segment_digest
-digest-length s = sha256-length _
-
-pub digest-IsBytes : (s : SegmentView) → IsBytes (segment_digest s)
-unfolding segment_digest
-digest-IsBytes s = sha256-IsBytes _
-
--- ---- the exp_times of entries
 
 abbrev exp_times : List EntryView → List ℕ
 exp_times entries = map (λ e. e.exp_time) entries
