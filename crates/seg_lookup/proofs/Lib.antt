@@ -1,1 +1,3 @@
 mod Rosters
+mod Sides
+mod Shown

@@ -1,5 +1,5 @@
 -- Sorted ISD-ASes and the set of them: for `Roster::new` and `Roster::contains`.
-use Rattle.std.proofs.Common.{◌≡◌, ℕ, ◌≤◌, Bool, false, ◌||◌, List, [], ◌∷◌, length, map, get_or, Result, Ok, Err, inl, inr, refl, sym, ap, ◌∙◌, arith}
+use Rattle.std.proofs.Common.{◌≡◌, ℕ, ◌≤◌, Bool, true, false, ◌||◌, List, [], ◌∷◌, length, map, get_or, Result, Ok, Err, inl, inr, refl, sym, ap, ◌∙◌, arith}
 use Rattle.std.specs.List.{list_any}
 use Rattle.std.specs.List.Sorted.{IsPermutation, IsNonDecreasingBy, IsSearchInRange, IsBinarySearchResult, IsPartitionPoint}
 use Rattle.std.specs.Ordering.{nat_cmp, is_eq, ordering_index, ordering_reverse}
@@ -8,7 +8,8 @@ use Rattle.std.specs.declared.cmp.Ordering.{Ordering}
 use Rattle.std.specs.declared.cmp.Ordering.TheVariants.{Less, Equal, Greater}
 use Rattle.std.specs.FinSet as set
 use Rattle.std.specs.FinSet.{nat_cmp-IsAntisymmetric, contains-from_list, same_set}
-use Rattle.std.proofs.lemmas.Cmp.{nat_cmp_total}
+use Rattle.std.proofs.lemmas.Cmp.{nat_cmp_total, eq_by_cmp_equiv}
+use Rattle.std.proofs.lemmas.Map.Views.{Contains-from_any, list_any-from_Contains}
 use Rattle.std.proofs.lemmas.Bool.{cases_lt}
 use Rattle.std.proofs.lemmas.Bool.Decides.{nat_tests}
 use Rattle.std.proofs.lemmas.List.Folds.{list_any_at, list_any_none}
@@ -16,6 +17,7 @@ use Rattle.std.proofs.lemmas.List.Sorted.{list_any-IsPermutation}
 use Rattle.isd_as.specs.declared.number.IsdAs.{IsdAs}
 use Rattle.isd_as.specs.IsdAs.{number_of}
 use Rattle.seg_lookup.specs.Roster.{roster_of}
+use Rattle.seg_lookup.specs.ClassificationLaws.{RostersHaveTheirCores}
 
 list_any-map : {X Y : Type 0} (p : Y → Bool) (f : X → Y) (xs : List X) → list_any p (map f xs) ≡ list_any (λ x. p (f x)) xs
 list_any-map p f [] = refl
@@ -62,3 +64,14 @@ search_tells cores n (Err at) rising in_range parted =
 
 pub found_in_roster : (cores : List IsdAs) (n : ℕ) (r : Result ℕ ℕ) → IsNonDecreasingBy number_of cores → IsSearchInRange r (length cores) → IsBinarySearchResult (λ core. nat_cmp (number_of core) n) cores r → is_ok r ≡ set.contains (roster_of cores) n
 found_in_roster cores n r rising in_range found = search_tells cores n r rising in_range found ∙ sym (contains-roster_of cores n)
+
+pub rosters_have_their_cores : RostersHaveTheirCores
+rosters_have_their_cores cores number =
+    let numbers = map number_of cores in
+    let same = contains-from_list nat_cmp_total numbers number in (
+      (λ has. Contains-from_any exact number numbers (sym same ∙ has)),
+      (λ there. same ∙ list_any-from_Contains (eq_by_cmp_equiv nat_cmp_total) number numbers there),
+    )
+  where
+    exact : (a b : ℕ) → is_eq (nat_cmp a b) ≡ true → a ≡ b
+    exact a b e = grind (arith, nat_tests)

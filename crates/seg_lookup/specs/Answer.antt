@@ -5,6 +5,10 @@ use Rattle.path_db.specs.Answer.{answer_of}
 use Rattle.seg_lookup.specs.declared.answers.TheConstants.{ANSWER_LIMIT}
 use Rattle.seg_lookup.specs.Query.{QueryView}
 
--- the first 64 rows by key that match the query and expire after this moment
+-- the first rows by key, at most so many, that match the query and expire after this moment
+abbrev pub answer_within : ℕ → List RowView → QueryView → ℕ → List RowView
+answer_within limit rows query now = answer_of limit rows query.kind query.start query.end now
+
+-- the first 64 of them
 abbrev pub answer_to : List RowView → QueryView → ℕ → List RowView
-answer_to rows query now = answer_of ANSWER_LIMIT rows query.kind query.start query.end now
+answer_to rows query now = answer_within ANSWER_LIMIT rows query now

@@ -7,11 +7,16 @@
 mod answers;
 mod classification;
 mod error;
+mod laws;
 mod query;
 mod roster;
 
 pub use answers::{ANSWER_LIMIT, answer};
 pub use classification::classify;
 pub use error::LookupError;
+pub use laws::{
+    answers_are_complete, answers_are_short, answers_are_wanted, answers_rise,
+    queries_start_at_a_core, rosters_have_their_cores,
+};
 pub use query::Query;
 pub use roster::Roster;

@@ -1,0 +1,12 @@
+//! Tests of `seg_lookup`, a module for each subject. They hold what no clause says: values from outside, and that calls
+//! succeed where memory suffices.
+#![tactic(auto)]
+
+#[cfg(test)]
+mod answers;
+#[cfg(test)]
+mod classes;
+#[cfg(test)]
+mod laws;
+#[cfg(test)]
+mod worked;

@@ -1,0 +1,126 @@
+-- What an answer shows: for `laws`.
+use Rattle.std.proofs.Common.{◌≡◌, ℕ, zero, suc, Bool, true, false, List, [], ◌∷◌, ◌&&◌, take, drop, cond, ◌⊎◌, inl, inr, refl, sym, ap, ◌∙◌, subst, ltb-true, arith}
+use Rattle.std.specs.List.{Contains, AllByRecursion, filter}
+use Rattle.std.specs.declared.cmp.Ordering.TheVariants.{Less}
+use Rattle.std.proofs.lemmas.Bool.{and_parts, lt-ltb}
+use Rattle.std.proofs.lemmas.List.{length-take, take-append-drop}
+use Rattle.std.proofs.lemmas.List.Elements.{Contains-append_left, All-from_recursion}
+use Rattle.seg_check.specs.Expiry.{expiry_of}
+use Rattle.path_db.specs.Database.{RowView, key_order, IsRising}
+use Rattle.path_db.specs.Command.{is_valid_beyond}
+use Rattle.path_db.specs.Answer.{matches, is_shown, answer_of}
+use Rattle.seg_lookup.specs.Query.{QueryView}
+use Rattle.seg_lookup.specs.AnswerLaws.{IsWanted, IsFullBelow, AnswersAreShort, AnswersAreWanted, AnswersRise, AnswersAreComplete}
+
+-- ---- membership, by recursion on the list
+
+Contains-head : {X : Type 0} (x : X) (xs : List X) → Contains (x ∷ xs) x
+Contains-head x xs = (0, omega arith, refl)
+
+Contains-later : {X : Type 0} (y x : X) (xs : List X) → Contains xs x → Contains (y ∷ xs) x
+Contains-later y x xs found = (suc found.0, omega (arith, found.1), found.2)
+
+Contains-from_take : {X : Type 0} (n : ℕ) (xs : List X) (x : X) → Contains (take n xs) x → Contains xs x
+Contains-from_take n xs x found = subst (λ l. Contains l x) (take-append-drop n xs) (Contains-append_left (take n xs) (drop n xs) x found)
+
+-- a kept element is one that passes
+module _ {X : Type 0} (p : X → Bool) where
+  kept_later : (b : Bool) (x y : X) (kept xs : List X) → p x ≡ b → ((found : Contains kept y) → Contains xs y × (p y ≡ true)) → Contains (cond b (x ∷ kept) kept) y → Contains (x ∷ xs) y × (p y ≡ true)
+  kept_later true x y kept xs e rest (zero, lt, same) = (subst (λ z. Contains (x ∷ xs) z) same (Contains-head x xs), ap p (sym same) ∙ e)
+  kept_later true x y kept xs e rest (suc k, lt, same) =
+      let found = rest (k, omega arith, same) in (Contains-later x y xs found.0, found.1)
+  kept_later false x y kept xs e rest found = let now = rest found in (Contains-later x y xs now.0, now.1)
+
+  kept_passes : (xs : List X) (y : X) → Contains (filter p xs) y → Contains xs y × (p y ≡ true)
+  kept_passes [] y found = absurd (omega (arith, found.1))
+  kept_passes (x ∷ xs) y found = kept_later (p x) x y (filter p xs) xs refl (kept_passes xs y) found
+
+  first_kept : (x y : X) (kept : List X) → x ≡ y → p y ≡ true → Contains (cond (p x) (x ∷ kept) kept) y
+  first_kept x y kept same passes = subst (λ b. Contains (cond b (x ∷ kept) kept) y) (sym (ap p same ∙ passes)) (subst (λ z. Contains (x ∷ kept) z) same (Contains-head x kept))
+
+  still_kept : (b : Bool) (x y : X) (kept : List X) → Contains kept y → Contains (cond b (x ∷ kept) kept) y
+  still_kept true x y kept found = Contains-later x y kept found
+  still_kept false x y kept found = found
+
+  passing_kept : (xs : List X) (y : X) → Contains xs y → p y ≡ true → Contains (filter p xs) y
+  passing_kept [] y found passes = absurd (omega (arith, found.1))
+  passing_kept (x ∷ xs) y (zero, lt, same) passes = first_kept x y (filter p xs) same passes
+  passing_kept (x ∷ xs) y (suc k, lt, same) passes = still_kept (p x) x y (filter p xs) (passing_kept xs y (k, omega arith, same) passes)
+
+-- ---- what holds of each element still does of those that are kept or taken
+
+module _ {X : Type 0} (P : X → Type 0) where
+  all_kept : (p : X → Bool) (xs : List X) → AllByRecursion P xs → AllByRecursion P (filter p xs)
+  all_kept p [] all = tt
+  all_kept p (x ∷ xs) all = with_first (p x) x (filter p xs) all.0 (all_kept p xs all.1)
+    where
+      with_first : (b : Bool) (x : X) (kept : List X) → P x → AllByRecursion P kept → AllByRecursion P (cond b (x ∷ kept) kept)
+      with_first true x kept first rest = (first, rest)
+      with_first false x kept first rest = rest
+
+  all_taken : (n : ℕ) (xs : List X) → AllByRecursion P xs → AllByRecursion P (take n xs)
+  all_taken zero xs all = tt
+  all_taken (suc n) [] all = tt
+  all_taken (suc n) (x ∷ xs) all = (all.0, all_taken n xs all.1)
+
+abbrev AllAbove : RowView → List RowView → Type 0
+AllAbove row rows = AllByRecursion (λ later. key_order row later ≡ Less) rows
+
+kept_rise : (p : RowView → Bool) (rows : List RowView) → IsRising rows → IsRising (filter p rows)
+kept_rise p [] rising = tt
+kept_rise p (row ∷ rows) rising = with_first (p row) row (filter p rows) (all_kept (λ later. key_order row later ≡ Less) p rows rising.0) (kept_rise p rows rising.1)
+  where
+    with_first : (b : Bool) (row : RowView) (kept : List RowView) → AllAbove row kept → IsRising kept → IsRising (cond b (row ∷ kept) kept)
+    with_first true row kept above rest = (above, rest)
+    with_first false row kept above rest = rest
+
+taken_rise : (n : ℕ) (rows : List RowView) → IsRising rows → IsRising (take n rows)
+taken_rise zero rows rising = tt
+taken_rise (suc n) [] rising = tt
+taken_rise (suc n) (row ∷ rows) rising = (all_taken (λ later. key_order row later ≡ Less) n rows rising.0, taken_rise n rows rising.1)
+
+-- ---- a row of a rising list is among the first, or behind as many as these are
+
+taken_or_behind : (n : ℕ) (rows : List RowView) (row : RowView) → IsRising rows → Contains rows row → Contains (take n rows) row ⊎ IsFullBelow n row (take n rows)
+taken_or_behind zero rows row rising found = inr (record { full = refl; below = tt })
+taken_or_behind (suc n) [] row rising found = absurd (omega (arith, found.1))
+taken_or_behind (suc n) (first ∷ rows) row rising (zero, lt, same) = inl (subst (λ z. Contains (first ∷ take n rows) z) same (Contains-head first (take n rows)))
+taken_or_behind (suc n) (first ∷ rows) row rising (suc k, lt, same) =
+    let first_below : key_order first row ≡ Less = subst (λ z. key_order first z ≡ Less) same (All-from_recursion _ rows rising.0 k row (omega arith)) in
+    elim (taken_or_behind n rows row rising.1 (k, omega arith, same)) [
+      | inl taken ↦ inl (Contains-later first row (take n rows) taken)
+      | inr behind ↦ inr (record { full = omega (arith, behind.full); below = (first_below, behind.below) })
+    ]
+
+-- ---- the laws
+
+abbrev wanted : QueryView → ℕ → RowView → Bool
+wanted query now = is_shown query.kind query.start query.end now
+
+from_shown : (query : QueryView) (now : ℕ) (row : RowView) → wanted query now row ≡ true → IsWanted query now row
+from_shown query now row shown =
+    let parts = and_parts (matches query.kind query.start query.end row) (is_valid_beyond now row) shown in
+    record { matching = parts.0; valid = ltb-true now (expiry_of row.1) parts.1 }
+
+to_shown : (query : QueryView) (now : ℕ) (row : RowView) → IsWanted query now row → wanted query now row ≡ true
+to_shown query now row is_wanted =
+    ap (λ b. b && is_valid_beyond now row) is_wanted.matching ∙ lt-ltb now (expiry_of row.1) is_wanted.valid
+
+pub answers_are_short : AnswersAreShort
+unfolding answer_of
+answers_are_short limit rows query now = omega (arith, length-take limit (filter (wanted query now) rows))
+
+pub answers_are_wanted : AnswersAreWanted
+unfolding answer_of
+answers_are_wanted limit rows query now row found =
+    let kept = kept_passes (wanted query now) rows row (Contains-from_take limit (filter (wanted query now) rows) row found) in
+    (kept.0, from_shown query now row kept.1)
+
+pub answers_rise : AnswersRise
+unfolding answer_of
+answers_rise limit rows query now rising = taken_rise limit (filter (wanted query now) rows) (kept_rise (wanted query now) rows rising)
+
+pub answers_are_complete : AnswersAreComplete
+unfolding answer_of
+answers_are_complete limit rows query now row rising found is_wanted =
+    taken_or_behind limit (filter (wanted query now) rows) row (kept_rise (wanted query now) rows rising) (passing_kept (wanted query now) rows row found (to_shown query now row is_wanted))

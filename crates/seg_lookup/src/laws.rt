@@ -1,0 +1,35 @@
+//! Laws of the definitions that the crate's contracts speak in. Each stands on a function that does nothing, so that it is
+//! proved with the crate.
+
+ghost use Rattle.seg_lookup.specs.AnswerLaws.{AnswersAreShort, AnswersAreWanted, AnswersRise, AnswersAreComplete};
+ghost use Rattle.seg_lookup.specs.ClassificationLaws.{RostersHaveTheirCores, QueriesStartAtACore};
+
+/// A roster has just the ASes that it was made of.
+pub fn rosters_have_their_cores()
+    ensures { RostersHaveTheirCores }
+{}
+
+/// A query goes from one side to the other, and starts at one that is core.
+pub fn queries_start_at_a_core()
+    ensures { QueriesStartAtACore }
+{}
+
+/// An answer has at most as many rows as its limit.
+pub fn answers_are_short()
+    ensures { AnswersAreShort }
+{}
+
+/// Each row of an answer is one of the database's, matches, and is valid.
+pub fn answers_are_wanted()
+    ensures { AnswersAreWanted }
+{}
+
+/// The keys of an answer rise.
+pub fn answers_rise()
+    ensures { AnswersRise }
+{}
+
+/// Each row that matches and is valid is in the answer, or comes behind as many as the limit.
+pub fn answers_are_complete()
+    ensures { AnswersAreComplete }
+{}
