@@ -5,3 +5,5 @@ pub mod Table
 pub mod Command
 pub mod Outcome
 pub mod Answer
+pub mod CommandLaws
+pub mod OutcomeLaws
