@@ -7,3 +7,4 @@ pub mod Outcome
 pub mod Answer
 pub mod CommandLaws
 pub mod OutcomeLaws
+pub mod Wanted
