@@ -1,5 +1,5 @@
--- What a test leaves of rows, and how many it drops: for `purge`.
-use Rattle.std.proofs.Common.{◌≡◌, ℕ, ◌+◌, ◌-◌, Bool, true, false, not, cond, List, [], ◌∷◌, length, map, refl, sym, ap, ◌∙◌, arith}
+-- What a test leaves of rows, and how many it drops: for `purge` and `outcome_laws`.
+use Rattle.std.proofs.Common.{◌≡◌, ℕ, ◌+◌, ◌-◌, Bool, true, false, not, cond, List, [], ◌∷◌, length, refl, ap, ◌∙◌, arith}
 use Rattle.std.specs.List.{filter, count_by}
 use Rattle.std.proofs.lemmas.List.Sums.{sum_by-cons}
 use Rattle.path_db.specs.declared.row.Row.{Row}
@@ -22,7 +22,7 @@ counts_tested row left true dropped dropped_more all more so = omega (arith, mor
 counts_tested row left false dropped dropped_more all more so = omega (arith, more, so)
 
 -- what is left and what is dropped are all
-left_and_dropped : (p : RowView → Bool) (rows : List RowView) → length (filter p rows) + count_by (λ row. not (p row)) rows ≡ length rows
+pub left_and_dropped : (p : RowView → Bool) (rows : List RowView) → length (filter p rows) + count_by (λ row. not (p row)) rows ≡ length rows
 left_and_dropped p [] = refl
 left_and_dropped p (row ∷ rows) =
     counts_tested row (filter p rows) (p row) (count_by (λ r. not (p r)) rows) (count_by (λ r. not (p r)) (row ∷ rows)) (length rows) (sum_by-cons (λ r. cond (not (p r)) 1 0) row rows) (left_and_dropped p rows)

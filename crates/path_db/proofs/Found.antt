@@ -1,6 +1,6 @@
 -- What stands under a key that a search found or did not find, and what a removal leaves: for `get` and `remove`.
-use Rattle.std.proofs.Common.{◌≡◌, ℕ, zero, suc, ◌<◌, ◌≤◌, Bool, true, false, not, cond, List, [], ◌∷◌, length, get_or, Option, Some, None, if◌then◌else◌, refl, sym, ap, ◌∙◌, subst, arith}
-use Rattle.std.specs.List.{AllByRecursion, filter, remove}
+use Rattle.std.proofs.Common.{◌≡◌, ℕ, zero, suc, ◌<◌, true, false, not, cond, List, [], ◌∷◌, length, get_or, Some, None, if◌then◌else◌, refl, sym, ap, ◌∙◌, subst, arith}
+use Rattle.std.specs.List.{AllByRecursion, remove}
 use Rattle.std.specs.Ordering.{nat_cmp, is_eq, ordering_reverse}
 use Rattle.std.specs.Cmp.Lexicographic.{slice_cmp}
 use Rattle.std.specs.declared.cmp.Ordering.{Ordering}
@@ -11,7 +11,7 @@ use Rattle.std.proofs.lemmas.List.Elements.{All-from_recursion}
 use Rattle.std.proofs.lemmas.Map.Lookups.{exact_bytes}
 use Rattle.std.proofs.lemmas.Bool.{false≢true}
 use Rattle.path_db.specs.declared.row.Row.{Row}
-use Rattle.path_db.specs.Database.{RowView, key_of, key_order, IsRising, is_under, row_under}
+use Rattle.path_db.specs.Database.{RowView, key_of, IsRising, is_under, row_under}
 use Rattle.path_db.specs.Command.{database_after_removal}
 use Rattle.path_db.specs.Row.{row_view, row_views, IsIndex, IsGap}
 use Rattle.path_db.proofs.Order.{AllAbove, turned_less}

@@ -8,3 +8,8 @@ mod Shown
 mod Ends
 mod Found
 mod Drops
+mod Keys
+mod Canon
+mod Newest
+mod Kept
+mod Counts

@@ -5,3 +5,6 @@ pub mod Table
 pub mod Command
 pub mod Outcome
 pub mod Answer
+pub mod CommandLaws
+pub mod OutcomeLaws
+pub mod Wanted

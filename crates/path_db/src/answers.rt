@@ -1,6 +1,6 @@
 //! What a lookup shows of a database.
 
-ghost use Rattle.std.specs.Prelude.{◌≡◌, ◌≤◌, length, IfOk};
+ghost use Rattle.std.specs.Prelude.{◌≡◌, ◌<◌, ◌≤◌, length, IfOk, OnErr};
 ghost use Rattle.std.specs.List.{AllByRecursion};
 ghost use Rattle.std.specs.Option.{option_map};
 ghost use Rattle.isd_as.specs.IsdAs.{number_of};
@@ -8,7 +8,8 @@ ghost use Rattle.seg_core.specs.Encoding.{IsSegment};
 ghost use Rattle.seg_core.specs.EntryView.{entry_view, entry_views};
 ghost use Rattle.seg_core.specs.Message.{last_of};
 ghost use Rattle.path_db.specs.Row.{row_view, row_views};
-ghost use Rattle.path_db.specs.Answer.{covers_entry, first_of, matches, is_shown, answer_of, segments_of};
+ghost use Rattle.path_db.specs.Answer.{covers_entry, first_of, matches, is_shown, segments_of};
+ghost use Rattle.path_db.specs.Wanted.{answer_to};
 
 use crate::row::Row;
 use isd_as::{IsdAs, covers};
@@ -76,7 +77,8 @@ pub(crate) fn first_shown(
     wanted: Wanted,
     limit: usize,
 ) -> Result<Vec<Segment>, AllocError>
-    ensures same { IfOk result (λ found. found.items ≡ segments_of (answer_of limit (row_views rows.now) wanted.kind (number_of wanted.start) (number_of wanted.end) wanted.moment)) }
+    ensures same { IfOk result (λ found. found.items ≡ segments_of (answer_to limit (row_views rows.now) wanted)) }
+    ensures memory { OnErr result (0 < length (answer_to limit (row_views rows.now) wanted)) }
     ensures few { IfOk result (λ found. length found.items ≤ limit) }
     ensures whole { IfOk result (λ found. AllByRecursion IsSegment found.items) }
 {

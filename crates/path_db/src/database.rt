@@ -136,7 +136,7 @@ impl PathDb {
 
     /// The segments of the first rows by key, at most `limit`, that are of this type, whose first entry `start` covers and
     /// whose last `end` covers (a part that is 0 covers all), and that expire after `now`, in half seconds since 1970. The
-    /// segments are shared, not copied.
+    /// segments are shared, not copied. An answer of none takes no memory.
     pub fn matching(
         &self,
         kind: SegType,
@@ -146,6 +146,7 @@ impl PathDb {
         limit: usize,
     ) -> Result<Vec<Segment>, AllocError>
         ensures same { IfOk result (λ found. found.items ≡ segments_of (answer_of limit self.now kind (number_of start) (number_of end) now)) }
+        ensures memory { OnErr result (0 < length (answer_of limit self.now kind (number_of start) (number_of end) now)) }
         ensures few { IfOk result (λ found. length found.items ≤ limit) }
         ensures whole { IfOk result (λ found. AllByRecursion IsSegment found.items) }
     {
@@ -166,9 +167,11 @@ impl PathDb {
         u64::try_from(self.bytes).unwrap_or(u64::MAX)
     }
 
-    /// An equal database, which shares the segments.
+    /// An equal database, which shares the segments. A copy of no rows takes no memory.
     pub fn try_clone(&self) -> Result<PathDb, AllocError>
-        ensures { IfOk result (λ copy. copy ≡ self.now) }
+        ensures same { IfOk result (λ copy. copy ≡ self.now) }
+        ensures memory { OnErr result (0 < length self.now) }
+        ensures whole { IfOk result (λ copy. IsDatabase copy) }
     {
         let mut rows = Vec::with_capacity(self.alloc, self.rows.len())?;
         for row in &self.rows {

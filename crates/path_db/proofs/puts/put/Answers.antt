@@ -1,10 +1,10 @@
-use Rattle.std.proofs.Common.{◌≡◌, ◌+◌, ◌*◌, ◌≤◌, if◌then◌else◌, length, subst, sym, ap, ◌∙◌, arith}
+use Rattle.std.proofs.Common.{◌≡◌, ◌+◌, if◌then◌else◌, subst, ◌∙◌, arith}
 use Rattle.std.proofs.lemmas.List.{get_or_default}
 use Rattle.path_db.specs.declared.row.Row.{Row}
 use Rattle.path_db.specs.declared.change.Change.TheVariants.{Updated, Kept}
-use Rattle.path_db.specs.Database.{row_len, rows_len}
+use Rattle.path_db.specs.Database.{row_len}
 use Rattle.path_db.specs.Put.{is_newer}
-use Rattle.path_db.specs.Row.{row_view, row_views, IsIndex, IsGap}
+use Rattle.path_db.specs.Row.{row_view, IsIndex, IsGap}
 use Rattle.path_db.proofs.Indices.{key_is, put_there, change_there, put_new, change_new}
 use Rattle.path_db.proofs.Lens.{rows_short, row_counted, set_counted, insert_counted}
 use Rattle.path_db.proofs.puts.put.Goals as goal

@@ -1,5 +1,4 @@
-use Rattle.std.proofs.Common.{sym, ap, ◌∙◌}
-use Rattle.std.proofs.lemmas.List.{get_or_default}
+use Rattle.std.proofs.Common.{sym, ap}
 use Rattle.std.specs.Option.{option_map}
 use Rattle.path_db.specs.Database.{RowView, key}
 use Rattle.path_db.specs.Row.{row_views}

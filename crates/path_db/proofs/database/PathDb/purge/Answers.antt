@@ -3,7 +3,6 @@ use Rattle.std.specs.List.{count_by}
 use Rattle.std.proofs.lemmas.Fn.{filter_same}
 use Rattle.std.proofs.lemmas.List.{length-map}
 use Rattle.path_db.specs.declared.row.Row.{Row}
-use Rattle.path_db.specs.Database.{IsDatabase}
 use Rattle.path_db.specs.Command.{is_valid_beyond}
 use Rattle.path_db.specs.Outcome.{outcome_of_drops}
 use Rattle.path_db.specs.Row.{row_view, row_views}

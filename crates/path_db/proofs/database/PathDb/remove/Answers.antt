@@ -1,11 +1,8 @@
-use Rattle.std.proofs.Common.{◌≡◌, ◌+◌, ◌≤◌, sym, ap, ◌∙◌, not, subst, if◌then◌else◌, arith}
-use Rattle.std.specs.List.{remove}
+use Rattle.std.proofs.Common.{sym, ap, ◌∙◌, not, subst, if◌then◌else◌, arith}
 use Rattle.std.specs.Option.{is_some}
-use Rattle.std.proofs.lemmas.List.{get_or_default}
-use Rattle.path_db.specs.declared.row.Row.{Row}
-use Rattle.path_db.specs.Database.{key, is_under, row_len, rows_len, IsDatabase}
+use Rattle.path_db.specs.Database.{key, is_under, IsDatabase}
 use Rattle.path_db.specs.Outcome.{outcome_of_drops}
-use Rattle.path_db.specs.Row.{row_view, row_views}
+use Rattle.path_db.specs.Row.{row_views}
 use Rattle.path_db.proofs.Lens.{row_counted, remove_counted}
 use Rattle.path_db.proofs.Rising.{database_filtered}
 use Rattle.path_db.proofs.Found.{gap_others, none_under, none_removed, found_under, found_removed}

@@ -1,0 +1,10 @@
+-- The answer to what is wanted.
+use Rattle.std.specs.Prelude.{ℕ, List}
+use Rattle.isd_as.specs.IsdAs.{number_of}
+use Rattle.path_db.specs.declared.answers.Wanted.{Wanted}
+use Rattle.path_db.specs.Database.{RowView}
+use Rattle.path_db.specs.Answer.{answer_of}
+
+-- the first rows by key that are wanted, at most so many
+abbrev pub answer_to : ℕ → List RowView → Wanted → List RowView
+answer_to limit rows wanted = answer_of limit rows wanted.kind (number_of wanted.start) (number_of wanted.end) wanted.moment
