@@ -26,3 +26,6 @@ invariant_of-result c = whole c
 
 pub returns-clause-whole : goal.returns-clause-whole
 returns-clause-whole c = whole c
+
+pub returns-in_err-outline-clause-memory : goal.returns-in_err-outline-clause-memory
+returns-in_err-outline-clause-memory c = search rules

@@ -1,5 +1,5 @@
 use Rattle.std.proofs.Common.{rules}
 use Rattle.seg_core.proofs.seg_type.SegType.number.Goals as goal
 
-pub returns-in-Up : goal.returns-in-Up
-returns-in-Up c = search rules
+pub returns-in-Core : goal.returns-in-Core
+returns-in-Core c = search rules
