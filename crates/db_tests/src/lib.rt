@@ -1,0 +1,14 @@
+//! Tests of `path_db`. They hold what no clause there says: values from outside, that calls succeed where memory suffices,
+//! and what stands where it is refused.
+#![tactic(auto)]
+
+#[cfg(test)]
+mod drops;
+#[cfg(test)]
+mod memory;
+#[cfg(test)]
+mod puts;
+#[cfg(test)]
+mod reads;
+#[cfg(test)]
+mod worked;
