@@ -3,6 +3,8 @@
 use crate::streams::{Narrow, Pieces, WhenFull, in_pieces};
 use crate::worked::*;
 use path_commands::{Fault, once_in_hex};
+use seg_check::TrustAll;
+use seg_lookup::Roster;
 use session_core::FrameError;
 use std::test::Fail;
 
@@ -31,7 +33,15 @@ fn hexadecimal_sessions(rt: HostRuntime) -> Result<(), Fail> {
         ("0000000201", Err(Fault::Frame(FrameError::Read)), ""),
     ] {
         let mut lines = Vec::new(alloc);
-        let result = once_in_hex(alloc, &mut text.as_bytes(), &mut lines, &cores, 1_000);
+        let result = once_in_hex(
+            alloc,
+            &mut text.as_bytes(),
+            &mut lines,
+            &cores,
+            &TrustAll,
+            0,
+            1_000,
+        );
         assert_eq!(rt; result, outcome, "{text}");
         assert_eq!(rt; lines.as_slice(), output.as_bytes(), "{text}");
     }
@@ -49,11 +59,27 @@ fn hexadecimal_streams(rt: HostRuntime) -> Result<(), Fail> {
         reads: 0,
         failing: 2,
     };
-    let failed = once_in_hex(alloc, &mut reader, &mut lines, &[], 1_000);
+    let failed = once_in_hex(
+        alloc,
+        &mut reader,
+        &mut lines,
+        &Roster::new(Vec::new(alloc)),
+        &TrustAll,
+        0,
+        1_000,
+    );
     assert_eq!(rt; failed, Err(Fault::Frame(FrameError::Read)));
 
     let mut reader = in_pieces(text.as_bytes(), 10);
-    let short = once_in_hex(alloc, &mut reader, &mut lines, &[], 3);
+    let short = once_in_hex(
+        alloc,
+        &mut reader,
+        &mut lines,
+        &Roster::new(Vec::new(alloc)),
+        &TrustAll,
+        0,
+        3,
+    );
     assert_eq!(rt; short, Err(Fault::Frame(FrameError::Turns)));
     assert_eq!(rt; lines.len(), 0);
 
@@ -62,7 +88,15 @@ fn hexadecimal_streams(rt: HostRuntime) -> Result<(), Fail> {
         room: 7,
         when_full: WhenFull::TakesNone,
     };
-    let full = once_in_hex(alloc, &mut text.as_bytes(), &mut writer, &[], 1_000);
+    let full = once_in_hex(
+        alloc,
+        &mut text.as_bytes(),
+        &mut writer,
+        &Roster::new(Vec::new(alloc)),
+        &TrustAll,
+        0,
+        1_000,
+    );
     assert_eq!(rt; full, Err(Fault::Frame(FrameError::Write)));
     assert_eq!(rt; writer.taken.as_slice(), b"0000001".as_slice());
     Ok(())

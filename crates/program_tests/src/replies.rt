@@ -2,6 +2,8 @@
 
 use crate::worked::*;
 use path_commands::{cores_of, once};
+use seg_check::TrustAll;
+use seg_lookup::Roster;
 use std::alloc::Global;
 use std::test::Fail;
 
@@ -49,7 +51,7 @@ fn frame_replies(rt: HostRuntime) -> Result<(), Fail> {
         ("no_entries", "00000009010a06080212020a00", "00000002ff28"),
         ("bad_type", "00000003010a00", "00000002ff29"),
         ("unknown_field_accepted", "00000003011000", NONE_INSERTED),
-        ("wildcards", WILDCARDS, WILDCARDS_REFUSED),
+        ("null_destination", NO_ENDS, NULL_DESTINATION),
     ] {
         let (outcome, output) = answer(alloc, &[frame])?;
         assert_eq!(rt; outcome, Ok(1), "{name}");
@@ -126,9 +128,17 @@ fn lookups_are_classified(rt: HostRuntime) -> Result<(), Fail> {
         ("1-ff00:0:110,1-ff00:0:111", NONE_FOUND),
         ("1-1", NO_CORE),
     ] {
-        let cores = cores_of(alloc, list)?;
+        let cores = Roster::new(cores_of(alloc, list)?);
         let mut output = Vec::new(alloc);
-        let outcome = once(alloc, &mut input.as_slice(), &mut output, &cores, 1_000);
+        let outcome = once(
+            alloc,
+            &mut input.as_slice(),
+            &mut output,
+            &cores,
+            &TrustAll,
+            0,
+            1_000,
+        );
         assert_eq!(rt; outcome, Ok(2), "{list}");
         let wanted = joined(alloc, &[INSERTED, reply])?;
         assert_eq!(rt; output.as_slice(), wanted.as_slice(), "{list}");

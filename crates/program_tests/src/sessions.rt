@@ -3,6 +3,8 @@
 use crate::streams::{FailsOnce, Holds, NEVER, Narrow, Pieces, WhenFull, in_pieces};
 use crate::worked::*;
 use path_commands::once;
+use seg_check::TrustAll;
+use seg_lookup::Roster;
 use session_core::FrameError;
 use std::alloc::Global;
 use std::test::Fail;
@@ -57,9 +59,12 @@ fn frame_faults(rt: HostRuntime) -> Result<(), Fail> {
         ("00020002", FrameError::Length),
         ("0002000201", FrameError::Length),
         ("ffffffff", FrameError::Length),
-        ("0000000104", FrameError::Kind),
-        ("0000000903", FrameError::Kind),
+        ("0000000105", FrameError::Kind),
         ("0000000500", FrameError::Kind),
+        ("0000000803", FrameError::Length),
+        ("0000000903", FrameError::Read),
+        ("0000000a03", FrameError::Length),
+        ("0000002104", FrameError::Length),
     ] {
         let (outcome, output) = answer(alloc, &[REGISTER, frame])?;
         assert_eq!(rt; outcome, Err(fault), "{frame}");
@@ -74,15 +79,15 @@ fn frame_faults(rt: HostRuntime) -> Result<(), Fail> {
         ("00000000", FrameError::Length, 4, 7),
         ("00000000", FrameError::Length, 5, 5),
         ("00000000", FrameError::Length, 100, 1),
-        ("0000000104", FrameError::Kind, 1, 26),
-        ("0000000104", FrameError::Kind, 4, 7),
-        ("0000000104", FrameError::Kind, 5, 6),
-        ("0000000104", FrameError::Kind, 100, 1),
+        ("0000000105", FrameError::Kind, 1, 26),
+        ("0000000105", FrameError::Kind, 4, 7),
+        ("0000000105", FrameError::Kind, 5, 6),
+        ("0000000105", FrameError::Kind, 100, 1),
     ] {
         let input = joined(alloc, &[LOOKUP, frame, REGISTER])?;
         let mut reader = in_pieces(input.as_slice(), size);
         let mut output = Vec::new(alloc);
-        let outcome = once(alloc, &mut reader, &mut output, &cores, 1_000);
+        let outcome = once(alloc, &mut reader, &mut output, &cores, &TrustAll, 0, 1_000);
         assert_eq!(rt; outcome, Err(fault), "{frame} in pieces of {size}");
         assert_eq!(rt; reader.reads, reads, "{frame} in pieces of {size}");
         let output = hex::encode(alloc, output.as_slice())?;
@@ -104,7 +109,7 @@ fn failing_reads(rt: HostRuntime) -> Result<(), Fail> {
             failing,
         };
         let mut output = Vec::new(alloc);
-        let outcome = once(alloc, &mut reader, &mut output, &cores, 1_000);
+        let outcome = once(alloc, &mut reader, &mut output, &cores, &TrustAll, 0, 1_000);
         assert_eq!(rt; outcome, Err(FrameError::Read), "read {failing}");
         assert_eq!(rt; reader.reads, failing + 1, "read {failing}");
         let output = hex::encode(alloc, output.as_slice())?;
@@ -131,7 +136,15 @@ fn failing_writes(rt: HostRuntime) -> Result<(), Fail> {
                 room,
                 when_full,
             };
-            let outcome = once(alloc, &mut input.as_slice(), &mut writer, &cores, 1_000);
+            let outcome = once(
+                alloc,
+                &mut input.as_slice(),
+                &mut writer,
+                &cores,
+                &TrustAll,
+                0,
+                1_000,
+            );
             let fits = room == wanted.len();
             let ends = if fits { Ok(2) } else { Err(FrameError::Write) };
             assert_eq!(rt; outcome, ends, "room for {room}, {when_full:?}");
@@ -149,18 +162,26 @@ fn failing_writes(rt: HostRuntime) -> Result<(), Fail> {
 #[test]
 fn one_failing_write(rt: HostRuntime) -> Result<(), Fail> {
     let alloc = rt.alloc();
-    let input = joined(alloc, &[REGISTER, LOOKUP, WILDCARDS])?;
+    let input = joined(alloc, &[REGISTER, LOOKUP, NO_ENDS])?;
     let cores = cores(alloc)?;
     // The length and the kind of a response are written before it.
     let (head, response) = FOUND.split_at(10);
-    let writes = [INSERTED, head, response, WILDCARDS_REFUSED];
+    let writes = [INSERTED, head, response, NULL_DESTINATION];
     for failing in 0..=writes.len() {
         let mut writer = FailsOnce {
             taken: Vec::new(alloc),
             writes: 0,
             failing,
         };
-        let outcome = once(alloc, &mut input.as_slice(), &mut writer, &cores, 1_000);
+        let outcome = once(
+            alloc,
+            &mut input.as_slice(),
+            &mut writer,
+            &cores,
+            &TrustAll,
+            0,
+            1_000,
+        );
         let (ends, calls) = if failing < writes.len() {
             (Err(FrameError::Write), failing + 1)
         } else {
@@ -187,11 +208,19 @@ fn held_until_flushed(rt: HostRuntime) -> Result<(), Fail> {
         ("", Ok(2)),
         ("00", Err(FrameError::Read)),
         ("00000000", Err(FrameError::Length)),
-        ("0000000104", Err(FrameError::Kind)),
+        ("0000000105", Err(FrameError::Kind)),
     ] {
         let input = joined(alloc, &[REGISTER, LOOKUP, last])?;
         let mut writer = Holds::new(alloc, NEVER);
-        let outcome = once(alloc, &mut input.as_slice(), &mut writer, &cores, 1_000);
+        let outcome = once(
+            alloc,
+            &mut input.as_slice(),
+            &mut writer,
+            &cores,
+            &TrustAll,
+            0,
+            1_000,
+        );
         assert_eq!(rt; outcome, ends, "{last}");
         assert_eq!(rt; writer.flushed.as_slice(), wanted.as_slice(), "{last}");
     }
@@ -203,7 +232,7 @@ fn held_until_flushed(rt: HostRuntime) -> Result<(), Fail> {
     for (failing, flushed, held) in [(0, "", INSERTED), (1, INSERTED, FOUND)] {
         let mut reader = in_pieces(input.as_slice(), size);
         let mut writer = Holds::new(alloc, failing);
-        let outcome = once(alloc, &mut reader, &mut writer, &cores, 1_000);
+        let outcome = once(alloc, &mut reader, &mut writer, &cores, &TrustAll, 0, 1_000);
         assert_eq!(rt; outcome, Err(FrameError::Write), "flush {failing}");
         assert_eq!(rt; reader.reads, failing + 1, "flush {failing}");
         let front = hex::encode(alloc, writer.flushed.as_slice())?;
@@ -220,7 +249,15 @@ fn too_many_reads(rt: HostRuntime) -> Result<(), Fail> {
     let input = joined(alloc, &["000000"])?;
     let mut output = Vec::new(alloc);
     let mut reader = in_pieces(input.as_slice(), 1);
-    let outcome = once(alloc, &mut reader, &mut output, &[], 3);
+    let outcome = once(
+        alloc,
+        &mut reader,
+        &mut output,
+        &Roster::new(Vec::new(alloc)),
+        &TrustAll,
+        0,
+        3,
+    );
     assert_eq!(rt; outcome, Err(FrameError::Turns));
 
     let input = joined(alloc, &[REGISTER, LOOKUP])?;
@@ -228,7 +265,7 @@ fn too_many_reads(rt: HostRuntime) -> Result<(), Fail> {
     for turns in 0..=15 {
         let mut reader = in_pieces(input.as_slice(), 10);
         let mut output = Vec::new(alloc);
-        let outcome = once(alloc, &mut reader, &mut output, &cores, turns);
+        let outcome = once(alloc, &mut reader, &mut output, &cores, &TrustAll, 0, turns);
         let ends = if turns < 14 {
             Err(FrameError::Turns)
         } else {

@@ -1,7 +1,7 @@
 //! Lists of core ASes, and the texts of faults.
 
 use isd_as::{IaError, IsdAs};
-use path_commands::{Fault, cores_of};
+use path_commands::{Fault, cores_of, key_of};
 use session_core::FrameError;
 use std::test::Fail;
 
@@ -48,6 +48,26 @@ fn texts_of_faults(rt: HostRuntime) -> Result<(), Fail> {
         (Fault::Output, "output"),
     ] {
         assert_eq!(rt; fault.to_string(alloc)?.as_str(), text);
+    }
+    Ok(())
+}
+
+#[test]
+fn keys(rt: HostRuntime) -> Result<(), Fail> {
+    let alloc = rt.alloc();
+    let longest = "00".repeat(alloc, 64)?;
+    let longer = "00".repeat(alloc, 65)?;
+    for (text, fault) in [
+        ("", None),
+        ("00", None),
+        ("FFff", None),
+        (longest.as_str(), None),
+        (longer.as_str(), Some(Fault::Hex)),
+        ("0", Some(Fault::Hex)),
+        ("0g", Some(Fault::Hex)),
+        ("00 00", Some(Fault::Hex)),
+    ] {
+        assert!(rt; key_of(alloc, text).err() == fault, "{text}");
     }
     Ok(())
 }

@@ -1,8 +1,9 @@
 //! The worked session, and sessions of frames that are written as hexadecimal digits.
 
 use crate::streams::in_pieces;
-use isd_as::IsdAs;
 use path_commands::{cores_of, once};
+use seg_check::TrustAll;
+use seg_lookup::Roster;
 use session_core::FrameError;
 use std::alloc::Global;
 use std::test::Fail;
@@ -28,11 +29,11 @@ pub const FOUND: &str =
 /// A response with no segments.
 pub const NONE_FOUND: &str = "0000000182";
 
-/// Looks up segments between any two ASes.
-pub const WILDCARDS: &str = "0000000102";
+/// Asks for segments from nowhere to nowhere.
+pub const NO_ENDS: &str = "0000000102";
 
 /// The refusal of that lookup.
-pub const WILDCARDS_REFUSED: &str = "00000002ff41";
+pub const NULL_DESTINATION: &str = "00000002ff41";
 
 /// The refusal of a lookup in which neither side is a core AS.
 pub const NO_CORE: &str = "00000002ff43";
@@ -41,8 +42,8 @@ pub const NO_CORE: &str = "00000002ff43";
 pub const NONE_INSERTED: &str = "0000001981000000000000000000000000000000000000000000000000";
 
 /// The one core AS of the worked session.
-pub fn cores(alloc: Global) -> Result<Vec<IsdAs>, Fail> {
-    Ok(cores_of(alloc, "1-ff00:0:110")?)
+pub fn cores(alloc: Global) -> Result<Roster, Fail> {
+    Ok(Roster::new(cores_of(alloc, "1-ff00:0:110")?))
 }
 
 /// What a session of these frames ends with, and what it writes, in hexadecimal digits.
@@ -50,7 +51,15 @@ pub fn answer(alloc: Global, frames: &[&str]) -> Result<(Result<u64, FrameError>
     let input = joined(alloc, frames)?;
     let mut output = Vec::new(alloc);
     let cores = cores(alloc)?;
-    let outcome = once(alloc, &mut input.as_slice(), &mut output, &cores, 1_000);
+    let outcome = once(
+        alloc,
+        &mut input.as_slice(),
+        &mut output,
+        &cores,
+        &TrustAll,
+        0,
+        1_000,
+    );
     Ok((outcome, hex::encode(alloc, output.as_slice())?))
 }
 
@@ -81,6 +90,6 @@ pub fn answer_in_pieces(
     let mut reader = in_pieces(input, size);
     let mut output = Vec::new(alloc);
     let cores = cores(alloc)?;
-    let outcome = once(alloc, &mut reader, &mut output, &cores, 1_000);
+    let outcome = once(alloc, &mut reader, &mut output, &cores, &TrustAll, 0, 1_000);
     Ok((outcome, hex::encode(alloc, output.as_slice())?))
 }
