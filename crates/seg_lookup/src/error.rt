@@ -4,10 +4,10 @@ use thiserror::Error;
 #[derive(Clone, Copy, Debug, PartialEq, Eq, Error)]
 pub enum LookupError {
     /// Source and destination are both 0-0.
-    #[error("source and destination are both empty")]
+    #[error("source and destination are both 0-0")]
     NullDestination = 1,
     /// A side has the ISD 0, and an AS other than 0.
-    #[error("a side has an AS, and no ISD")]
+    #[error("a side has the ISD 0, and an AS other than 0")]
     IsdOnlyWildcard = 2,
     /// Neither side is core.
     #[error("neither side is core")]
