@@ -1,15 +1,20 @@
 #!/usr/bin/env python3
 """Writes frames for the benchmarks to standard output, in binary.
 
-    frames.py pairs N           N times the worked segment's registration and its lookup
-    frames.py registrations N   N times one registration of 16 segments of 8 entries
-    frames.py segment N         one segment of N entries, without a frame
+    frames.py pairs N            N times the worked segment's registration and its lookup
+    frames.py registrations N    N times one registration of 16 segments of 8 entries
+    frames.py rows N FIRST A     N other segments of 8 entries, which are numbered from FIRST, A in a registration
+    frames.py leaf N LEAF        N other segments of 8 entries that end at the AS numbered LEAF, one in a registration
+    frames.py lookups N LEAF     N lookups from the first AS of all these segments to that AS
+    frames.py segment N          one segment of N entries, without a frame
 """
 import pathlib
 import sys
 
 ROOT = pathlib.Path(__file__).resolve().parent.parent
 CORE = 0x0001_FF00_0000_0100
+LEAVES = 0x0001_FF00_0001_0000
+DOWN = 2
 
 
 def varint(n):
@@ -35,12 +40,14 @@ def entry(ia, following, ingress, egress):
     return text(2, text(1, signed))
 
 
-def segment(which, entries):
-    out = text(1, number(1, 1_700_000_000) + number(2, which + 1))
-    for i in range(entries):
+def segment(which, entries, leaf=None):
+    path = [CORE + i for i in range(entries)]
+    if leaf is not None:
+        path[-1] = LEAVES + leaf
+    out = text(1, number(1, 1_700_000_000) + number(2, which % 65_535 + 1))
+    for i, ia in enumerate(path):
         last = i + 1 == entries
-        following = 0 if last else CORE + i + 1
-        out += entry(CORE + i, following, 0 if i == 0 else 2, 0 if last else which + 1)
+        out += entry(ia, 0 if last else path[i + 1], 0 if i == 0 else 2, 0 if last else which % 65_535 + 1)
     return out
 
 
@@ -49,18 +56,30 @@ def frame(kind, message):
     return len(content).to_bytes(4, "big") + content
 
 
+def registrations(kind, segments, at_once):
+    for at in range(0, len(segments), at_once):
+        some = b"".join(text(1, it) for it in segments[at : at + at_once])
+        yield frame(1, text(1, number(1, kind) + text(2, some)))
+
+
 def main():
     what, times = sys.argv[1], int(sys.argv[2])
+    more = [int(it) for it in sys.argv[3:]]
     if what == "segment":
-        sys.stdout.buffer.write(segment(0, times))
-        return
-    if what == "pairs":
-        once = bytes.fromhex("".join((ROOT / "crates/pathd/stdin").read_text().split()))
+        out = [segment(0, times)]
+    elif what == "pairs":
+        out = [bytes.fromhex("".join((ROOT / "crates/pathd/stdin").read_text().split()))] * times
+    elif what == "registrations":
+        out = list(registrations(DOWN, [segment(i, 8) for i in range(16)], 16)) * times
+    elif what == "rows":
+        first, at_once = more
+        out = registrations(DOWN, [segment(i, 8) for i in range(first, first + times)], at_once)
+    elif what == "leaf":
+        out = registrations(DOWN, [segment(i, 8, more[0]) for i in range(times)], 1)
     else:
-        segments = b"".join(text(1, segment(i, 8)) for i in range(16))
-        once = frame(1, text(1, number(1, 2) + text(2, segments)))
-    for _ in range(times):
-        sys.stdout.buffer.write(once)
+        out = [frame(2, number(1, CORE) + number(2, LEAVES + more[0]))] * times
+    for it in out:
+        sys.stdout.buffer.write(it)
 
 
 main()

@@ -1,23 +1,22 @@
 #!/usr/bin/env bash
 # Measures `pathd once` (docs/BENCHMARKS.md). It is no part of the gate. It needs Debian's g++, bc, time,
 # protobuf-compiler and libprotobuf-dev, and the program built: `rt run -- --help` in crates/pathd once.
+#
+#     bench/run.sh [PROGRAM [EARLIER]]
+#
+# Seconds are those that a program ran on a processor, from its start to its end; each figure is the median of nine
+# rounds, in brackets the least and the greatest. EARLIER is another build of the program, which is measured in the same
+# rounds.
 set -euo pipefail
 top=$(cd "$(dirname "${BASH_SOURCE[0]}")/.." && pwd)
-program=${1:-$top/crates/pathd/out/pathd}
+program=$(realpath "${1:-$top/crates/pathd/out/pathd}")
+earlier=${2:+$(realpath "$2")}
 work=$(mktemp -d)
 trap 'rm -rf "$work"' EXIT
 cd "$work"
 
-least() { # the least of the seconds that five runs of a command print
-  for _ in 1 2 3 4 5; do "$@"; done | sort -g | head -1
-}
-
-session() { # the seconds of a session over a file, from the start of the program to its end
-  local start end
-  start=$(date +%s.%N)
-  "$program" once --cores 1-ff00:0:110 <"$1" >/dev/null
-  end=$(date +%s.%N)
-  echo "$end - $start" | bc -l
+session() { # the seconds of a program's session over a file
+  /usr/bin/time -f "%U %S" "$1" once --cores 1-ff00:0:110 <"$2" 2>&1 >/dev/null | awk '{ print $1 + $2 }'
 }
 
 parse() { # the seconds of the other program's loop alone
@@ -28,25 +27,27 @@ memory() { # the largest resident memory of a session over a file, in KiB
   /usr/bin/time -f %M "$program" once --cores 1-ff00:0:110 <"$1" 2>&1 >/dev/null | tail -1
 }
 
-quotient() { # of two numbers
-  echo "$1 / $2" | bc -l | cut -c1-5
+rounds() { # the name of the frames, their file, the frame that protobuf parses, and how often
+  local name=$1 ours theirs before
+  for _ in 1 2 3 4 5 6 7 8 9; do
+    ours=$(session "$program" "$2")
+    theirs=$(parse "$3" "$4")
+    before=${earlier:+$(session "$earlier" "$2")}
+    echo "$ours $theirs $(echo "$ours / $theirs" | bc -l) ${before:+$before $(echo "$ours / $before" | bc -l)}"
+  done >figures
+  echo "$name, $(stat -c %s "$2") bytes: seconds of pathd, of protobuf, ratio${earlier:+, of the earlier program, ratio}"
+  python3 "$top/bench/median.py" <figures
 }
 
 protoc --cpp_out="$work" --proto_path="$top/docs" segments.proto
 g++ -O2 -std=c++17 -I"$work" "$top/bench/protobuf_parse.cc" segments.pb.cc -lprotobuf -lpthread -o protobuf_parse
 
-python3 "$top/bench/frames.py" pairs 100000 >pairs
+python3 "$top/bench/frames.py" pairs 200000 >pairs
 python3 "$top/bench/frames.py" pairs 1000 >few
 head -c 101 pairs >first # the registration of a pair
-ours=$(least session pairs)
-theirs=$(least parse first 100000)
-echo "pairs: 200000 replies in $ours s, $(echo "200000 / $ours" | bc -l | cut -d. -f1) a second"
-echo "ratio: $(quotient "$ours" "$theirs") times as long as protobuf takes to parse the registrations alone, $theirs s"
-echo "memory: $(memory few) KiB over 1,000 pairs, $(memory pairs) KiB over 100,000 pairs"
+rounds "200,000 pairs" pairs first 200000
+echo "memory: $(memory few) KiB over 1,000 pairs, $(memory pairs) KiB over 200,000 pairs"
 
 python3 "$top/bench/frames.py" registrations 1 >one
-python3 "$top/bench/frames.py" registrations 2000 >many
-ours=$(least session many)
-theirs=$(least parse one 2000)
-echo "registrations: $(stat -c %s many) bytes, pathd in $ours s, protobuf in $theirs s"
-echo "ratio: pathd takes in $(quotient "$theirs" "$ours") of protobuf's bytes a second"
+python3 "$top/bench/frames.py" registrations 4000 >many
+rounds "4,000 registrations of 16 segments" many one 4000

@@ -1,37 +1,39 @@
 #!/bin/bash
-# Runs each case of a folder against the built program, prints what differs, and counts it.
+# Runs each case of folders against the built program, prints what differs, and counts it.
 #
-#     tools/vectors.sh FOLDER [PROGRAM]
+#     tools/vectors.sh [-p PROGRAM] FOLDER..
 #
 # PROGRAM is crates/pathd/out/pathd if left out, which `rt run` builds. A case is the files NAME.args, the program's
 # words, one a line; NAME.in, hexadecimal text, which is standard input as it stands where --hex is among the words,
 # and else encodes it; NAME.out, standard output; NAME.err, the line of standard error that begins with `error:`, which
-# is not compared where the status is 2; and NAME.status, the exit status.
+# is not compared where the status is 2; and NAME.status, the exit status. A case may have NAME.note, which says what it
+# is about; where that begins with `full`, the case needs a store of limited size, and is left out.
 set -u
 
-folder=${1:?usage: tools/vectors.sh FOLDER [PROGRAM]}
-program=$(realpath "${2:-$(dirname "$0")/../crates/pathd/out/pathd}") || exit 2
+usage='usage: tools/vectors.sh [-p PROGRAM] FOLDER..'
+program=$(dirname "$0")/../crates/pathd/out/pathd
+if [ "${1:-}" = -p ]; then
+    program=${2:?$usage}
+    shift 2
+fi
+[ $# -gt 0 ] || { echo "$usage" >&2; exit 2; }
+program=$(realpath "$program") || exit 2
 [ -x "$program" ] || { echo "no program: $program" >&2; exit 2; }
 
 scratch=$(mktemp -d) || exit 2
 trap 'rm -rf "$scratch"' EXIT
 
-cases=0
 differences=0
 
 differs() {
     echo "$1: $2"
-    differences=$((differences + 1))
+    differs=1
 }
 
-for args in "$folder"/*.args; do
-    case=${args%.args}
-    name=$(basename "$case")
-    cases=$((cases + 1))
-    mapfile -t words < "$args"
-
-    input=$case.in
-    if ! grep -qx -- --hex "$args"; then
+run_case() { # the case's path with no ending
+    local case=$1 input=$1.in words wanted status
+    mapfile -t words < "$case.args"
+    if ! grep -qx -- --hex "$case.args"; then
         input=$scratch/in
         perl -0777 -ne 's/\s+//g; print pack("H*", $_)' "$case.in" > "$input"
     fi
@@ -39,12 +41,32 @@ for args in "$folder"/*.args; do
     status=$?
 
     wanted=$(tr -d '[:space:]' < "$case.status")
-    [ "$status" = "$wanted" ] || differs "$name" "status $status, not $wanted"
-    cmp -s "$scratch/out" "$case.out" || differs "$name" "standard output"
+    [ "$status" = "$wanted" ] || differs "$case" "status $status, not $wanted"
+    cmp -s "$scratch/out" "$case.out" || differs "$case" "standard output"
     if [ "$wanted" != 2 ]; then
-        cmp -s <(grep '^error:' "$scratch/err") <(cat "$case.err" 2> /dev/null) || differs "$name" "standard error"
+        cmp -s <(grep '^error:' "$scratch/err") <(cat "$case.err" 2> /dev/null) || differs "$case" "standard error"
     fi
-done
+}
 
-echo "$cases cases, $differences differences"
-[ "$cases" -gt 0 ] && [ "$differences" = 0 ]
+run_folder() {
+    local args case cases=0 left_out=0 wrong=0
+    for args in "$1"/*.args; do
+        case=${args%.args}
+        if [ "$(head -c 4 "$case.note" 2> /dev/null)" = full ]; then
+            left_out=$((left_out + 1))
+            continue
+        fi
+        cases=$((cases + 1))
+        differs=0
+        run_case "$case"
+        wrong=$((wrong + differs))
+    done
+    echo "$1: $cases cases, $wrong differ, $left_out left out"
+    [ "$cases" -gt 0 ] || wrong=$((wrong + 1))
+    differences=$((differences + wrong))
+}
+
+for folder in "$@"; do
+    run_folder "$folder"
+done
+[ "$differences" = 0 ]
