@@ -1,18 +1,17 @@
 -- What is spelled as a group or a seal is read as one. For this crate and those above it.
-use Rattle.std.proofs.Common.{◌≡◌, ℕ, zero, suc, ◌+◌, ◌-◌, ◌*◌, ◌/◌, ◌^◌, ◌<◌, ◌≤◌, Bool, true, false, cond, eqb, leb, ◌&&◌, List, [], ◌∷◌, ◌++◌, length, take, drop, get_or, replicate, Some, None, Option, Ok, Err, Result, refl, sym, ◌∙◌, ap, subst, arith, length-append, append_assoc, take-append-drop, eq-eqb, eqb-true, le-leb, leb-true}
+use Rattle.std.proofs.Common.{◌≡◌, ℕ, zero, suc, ◌+◌, ◌-◌, ◌*◌, ◌^◌, ◌<◌, ◌≤◌, Bool, true, cond, leb, List, [], ◌∷◌, ◌++◌, length, take, drop, replicate, Some, None, Option, Ok, refl, sym, ◌∙◌, ap, arith, length-append, append_assoc, take-append-drop, eq-eqb, eqb-true, le-leb, leb-true}
 use Rattle.std.proofs.lemmas.List.{drop_at, take_at, drop-drop, length-replicate}
 use Rattle.std.proofs.lemmas.Bool.{and_from, and_parts}
 use Rattle.std.proofs.lemmas.Nat.{from_be_bytes-to_be_bytes_4, from_be_bytes-to_be_bytes_8}
-use Rattle.std.specs.Int.{w32, w64, to_be_bytes, from_be_bytes}
-use Rattle.std.specs.List.{list_all, flat_map, AllByRecursion}
+use Rattle.std.specs.Int.{w32, to_be_bytes}
+use Rattle.std.specs.List.{AllByRecursion}
 use Rattle.byte_lists.specs.Content.{part}
-use Rattle.byte_lists.specs.Numbers.{four_at}
-use Rattle.byte_lists.specs.Sectors.{sectors_of, padded, whole_sectors, sector_at}
+use Rattle.byte_lists.specs.Sectors.{sectors_of, whole_sectors}
 use Rattle.byte_lists.proofs.BigEndian.{four_at-encoded}
 use Rattle.image_laws.specs.Limits.{Limits}
 use Rattle.image_laws.specs.CommandFormat.{CommandFormat, IsAllowed}
-use Rattle.image_laws.specs.Group.{most_record_bytes, last_place, record_encoding, records_of, with_header, group_encoding, seal_encoding, payload_sectors, group_sectors, HasRoom, CanBeGroup, IsGroup, IsSeal}
-use Rattle.image_laws.specs.GroupReading.{JournalRefusal, BadHeader, BadRecord, Gap, PastEnd, check, count_in, size_in, place_in, IsGroupHeader, IsSealHeader, is_group_header, is_seal_header, record_size, first_command, with_first, none_left, commands_in, are_zeros, Payload, Group, Seal, group_of, Kind, OfGroup, OfSeal, OfNone, kind_of, group_in, seal_in, by_kind, payload_at}
+use Rattle.image_laws.specs.Group.{records_of, with_header, group_encoding, seal_encoding, payload_sectors, group_sectors, HasRoom, CanBeGroup}
+use Rattle.image_laws.specs.GroupReading.{BadRecord, Gap, PastEnd, check, size_in, place_in, IsGroupHeader, IsSealHeader, is_group_header, is_seal_header, record_size, with_first, commands_in, are_zeros, Group, Seal, group_of, Kind, OfGroup, OfSeal, OfNone, kind_of, group_in, seal_in, by_kind, payload_at}
 use Rattle.image_laws.specs.Journal.{HasGroup, HasSeal}
 
 -- the header's tests
@@ -30,8 +29,13 @@ group_header_from limits payload is =
     let two = and_parts _ _ three.0 in
     let one = and_parts _ _ two.0 in
     record {
-      kind = eqb-true _ _ one.0; some = leb-true _ _ one.1; most = leb-true _ _ two.1; third = eqb-true _ _ three.1;
-      fourth = eqb-true _ _ four.1; short = leb-true _ _ five.1; last = leb-true _ _ six.1;
+      kind = eqb-true _ _ one.0;
+      some = leb-true _ _ one.1;
+      most = leb-true _ _ two.1;
+      third = eqb-true _ _ three.1;
+      fourth = eqb-true _ _ four.1;
+      short = leb-true _ _ five.1;
+      last = leb-true _ _ six.1;
     }
 
 pub seal_header_true : (payload : List ℕ) → IsSealHeader payload → is_seal_header payload ≡ true
@@ -47,8 +51,12 @@ seal_header_from payload is =
     let two = and_parts _ _ three.0 in
     let one = and_parts _ _ two.0 in
     record {
-      kind = eqb-true _ _ one.0; none = eqb-true _ _ one.1; third = eqb-true _ _ two.1; fourth = eqb-true _ _ three.1;
-      empty = eqb-true _ _ four.1; last = leb-true _ _ five.1;
+      kind = eqb-true _ _ one.0;
+      none = eqb-true _ _ one.1;
+      third = eqb-true _ _ two.1;
+      fourth = eqb-true _ _ three.1;
+      empty = eqb-true _ _ four.1;
+      last = leb-true _ _ five.1;
     }
 
 -- what a header was spelled with
@@ -116,8 +124,13 @@ module _ {C : Type 0} (format : CommandFormat C) (limits : Limits) (place : ℕ)
     where
       header : IsGroupHeader limits spelled
       header = record {
-        kind = refl; some = can.some; most = can.most; third = refl; fourth = refl;
-        short = omega (arith, size_is, can.short); last = omega (arith, place_is, can.last);
+        kind = refl;
+        some = can.some;
+        most = can.most;
+        third = refl;
+        fourth = refl;
+        short = omega (arith, size_is, can.short);
+        last = omega (arith, place_is, can.last);
       }
 
   group_is : group_in format limits spelled ≡ Ok (Group commands (length (records_of format commands)))
@@ -163,7 +176,7 @@ unfolding spelled
 payload_group format limits bytes gate place commands has =
     ap (λ (b : Bool). check b PastEnd (by_kind (kind_of limits payload) format limits payload gate place (whole_sectors bytes))) (le-leb _ _ inside)
     ∙ ap (λ (list : List ℕ). by_kind (kind_of limits list) format limits list gate place (whole_sectors bytes))
-      (begins_with (512 * group_sectors format commands) payload (group_encoding format place commands) has.group.spelled)
+    (begins_with (512 * group_sectors format commands) payload (group_encoding format place commands) has.group.spelled)
     ∙ by_group format limits place commands has.group.can (drop (512 * group_sectors format commands) payload) zeros (omega arith) gate (whole_sectors bytes) has.room
   where
     payload : List ℕ

@@ -48,3 +48,27 @@ pub record IsJournal {C : Type 0} (format : CommandFormat C) (limits : Limits) (
   pub commands : reading.commands ≡ all_of groups
   pub place : reading.place ≡ start + length reading.commands
   pub ends : EndsAs reading.sealed bytes reading.tail reading.place
+
+-- how many sectors count for a reading: those up to its last gate, and behind an open one the seal's
+abbrev pub sectors_to : Bool → ℕ → ℕ
+sectors_to false tail = tail + 1
+sectors_to true tail = tail + 2
+
+abbrev pub sectors_read : {C : Type 0} → Reading C → ℕ
+sectors_read reading = sectors_to reading.sealed reading.tail
+
+-- the gate behind the group at a gate
+abbrev pub gate_behind : {C : Type 0} → CommandFormat C → ℕ → List C → ℕ
+gate_behind format gate commands = gate + 1 + group_sectors format commands
+
+-- a reading with a group more, and one that a seal ends
+abbrev pub with_group : {C : Type 0} → CommandFormat C → Reading C → List C → Reading C
+with_group format reading commands = record {
+  commands = reading.commands ++ commands;
+  tail = gate_behind format reading.tail commands;
+  sealed = false;
+  place = reading.place + length commands;
+}
+
+abbrev pub with_seal : {C : Type 0} → Reading C → Reading C
+with_seal reading = record reading { sealed = true }

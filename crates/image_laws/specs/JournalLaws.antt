@@ -1,1 +1,43 @@
--- x
+-- What holds of journals in any format of commands. Each statement is the contract of a function.
+use Rattle.std.specs.Prelude.{◌≡◌, ℕ, ◌*◌, ◌≤◌, false, List, length, take, Ok}
+use Rattle.byte_lists.specs.Content.{overwrite}
+use Rattle.byte_lists.specs.Sectors.{whole_sectors, sector_at, IsOpenGate}
+use Rattle.image_laws.specs.Limits.{Limits, AreAsLarge}
+use Rattle.image_laws.specs.CommandFormat.{CommandFormat}
+use Rattle.image_laws.specs.Journal.{HasGroup, HasSeal, Reading, IsJournal, sectors_read, gate_behind, with_group, with_seal}
+use Rattle.image_laws.specs.JournalReading.{journal_scan}
+
+-- a journal is read as what it is, and so as one thing at most
+abbrev pub IsReadSo : Type 0 → Type 0
+IsReadSo C = (format : CommandFormat C) (limits : Limits) (bytes : List ℕ) (start : ℕ) (reading : Reading C) → 1 ≤ whole_sectors bytes
+    → IsJournal format limits bytes start reading → journal_scan format limits bytes start ≡ Ok reading
+
+-- a reading goes by the sectors that count for it, whatever stands behind them
+abbrev pub GoesByItsFront : Type 0 → Type 0
+GoesByItsFront C = (format : CommandFormat C) (limits : Limits) (xs ys : List ℕ) (start : ℕ) (reading : Reading C) → length xs ≡ length ys
+    → take (512 * sectors_read reading) xs ≡ take (512 * sectors_read reading) ys → IsJournal format limits xs start reading → IsJournal format limits ys start reading
+
+-- Behind the tail's gate stands a group, and behind that a closed gate.
+pub record IsReadyFor {C : Type 0} (format : CommandFormat C) (limits : Limits) (bytes : List ℕ) (reading : Reading C) (group : List C) : Type 0 where
+  pub unsealed : reading.sealed ≡ false
+  pub has : HasGroup format limits bytes reading.tail reading.place group
+  pub closed : ¬ IsOpenGate (sector_at (gate_behind format reading.tail group) bytes)
+
+-- The tail's gate is written with any bytes. Where that opens it, the journal has just that group more; else it is as it was.
+abbrev pub GrowsByItsGate : Type 0 → Type 0
+GrowsByItsGate C = (format : CommandFormat C) (limits : Limits) (bytes : List ℕ) (start : ℕ) (reading : Reading C) (group : List C) (gate : List ℕ)
+    → IsJournal format limits bytes start reading → IsReadyFor format limits bytes reading group → length gate ≡ 512
+    → (IsOpenGate gate → IsJournal format limits (overwrite (512 * reading.tail) gate bytes) start (with_group format reading group))
+    × (¬ IsOpenGate gate → IsJournal format limits (overwrite (512 * reading.tail) gate bytes) start reading)
+
+-- The same of a seal behind the tail's gate.
+abbrev pub IsSealedByItsGate : Type 0 → Type 0
+IsSealedByItsGate C = (format : CommandFormat C) (limits : Limits) (bytes : List ℕ) (start : ℕ) (reading : Reading C) (gate : List ℕ)
+    → IsJournal format limits bytes start reading → reading.sealed ≡ false → HasSeal bytes reading.tail reading.place → length gate ≡ 512
+    → (IsOpenGate gate → IsJournal format limits (overwrite (512 * reading.tail) gate bytes) start (with_seal reading))
+    × (¬ IsOpenGate gate → IsJournal format limits (overwrite (512 * reading.tail) gate bytes) start reading)
+
+-- what smaller limits allow larger ones allow
+abbrev pub IsReadUnderLargerLimits : Type 0 → Type 0
+IsReadUnderLargerLimits C = (format : CommandFormat C) (small large : Limits) (bytes : List ℕ) (start : ℕ) (reading : Reading C) → AreAsLarge small large
+    → IsJournal format small bytes start reading → IsJournal format large bytes start reading

@@ -1,12 +1,11 @@
 -- What a journal reads as, as a function: its reading or the first refusal, and what each refusal means.
-use Rattle.std.specs.Prelude.{◌≡◌, ℕ, zero, suc, ◌+◌, ◌*◌, ◌<◌, ◌≤◌, ◌≢◌, ◌⊎◌, Bool, true, false, List, [], ◌++◌, length, drop, Result, Ok, Err}
-use Rattle.byte_lists.specs.Content.{part}
-use Rattle.byte_lists.specs.Sectors.{whole_sectors, sector_at, IsOpenGate, is_open_gate}
+use Rattle.std.specs.Prelude.{ℕ, zero, suc, ◌+◌, Bool, true, false, List, [], ◌++◌, length, Result, Ok, Err}
+use Rattle.byte_lists.specs.Sectors.{whole_sectors, sector_at, is_open_gate}
 use Rattle.image_laws.specs.Limits.{Limits}
 use Rattle.image_laws.specs.CommandFormat.{CommandFormat}
-use Rattle.image_laws.specs.Group.{payload_sectors, HasRoom, IsGroup, IsSeal}
-use Rattle.image_laws.specs.GroupReading.{JournalRefusal, BadHeader, BadRecord, Gap, PastEnd, IsGroupHeader, IsSealHeader, size_in, place_in, Payload, Group, Seal, payload_at}
-use Rattle.image_laws.specs.Journal.{Reading, all_of, IsChain}
+use Rattle.image_laws.specs.Group.{payload_sectors}
+use Rattle.image_laws.specs.GroupReading.{JournalRefusal, PastEnd, Payload, Group, Seal, payload_at}
+use Rattle.image_laws.specs.Journal.{Reading}
 
 abbrev pub with_front : {C : Type 0} → List C → Result (Reading C) JournalRefusal → Result (Reading C) JournalRefusal
 with_front commands (Ok reading) = Ok (record reading { commands = commands ++ reading.commands })

@@ -1,9 +1,8 @@
 -- Worked values of the definitions, byte by byte.
-use Rattle.std.specs.Prelude.{◌≡◌, ℕ, ◌+◌, ◌*◌, ◌/◌, Bool, true, false, List, [], ◌∷◌, ◌++◌, length, replicate, Result, Ok, Err, Some, unwrap_or}
+use Rattle.std.specs.Prelude.{◌≡◌, ℕ, Bool, List, [], ◌∷◌, ◌++◌, replicate, Result, Ok, Some, unwrap_or}
 use Rattle.std.proofs.Common.{sym, ap}
-use Rattle.image_laws.specs.Limits.{Limits, limits_of}
+use Rattle.image_laws.specs.Limits.{limits_of}
 use Rattle.image_laws.specs.CommandFormat.{CommandFormat}
-use Rattle.image_laws.specs.Group.{group_encoding, seal_encoding}
 use Rattle.image_laws.specs.GroupReading.{JournalRefusal}
 use Rattle.image_laws.specs.Journal.{Reading}
 use Rattle.image_laws.specs.JournalReading.{journal_scan}

@@ -1,12 +1,29 @@
-//! Laws of journals. Each stands on a function that does nothing, so that it is proved with the crate.
+//! Laws of journals, in any format of commands of type `C`. Each stands on a function that does nothing, so that it is
+//! proved with the crate.
 
-ghost use Rattle.std.specs.Prelude.{◌≡◌, Ok};
-ghost use Rattle.image_laws.specs.Limits.{Limits};
-ghost use Rattle.image_laws.specs.JournalReading.{journal_scan};
+ghost use Rattle.image_laws.specs.JournalLaws.{IsReadSo, GoesByItsFront, GrowsByItsGate, IsSealedByItsGate, IsReadUnderLargerLimits};
 
-/// x
-pub fn one_reading() -> u8
-    ensures { result ≡ 1 }
-{
-    1
-}
+/// A journal is read as what it is, and so as one thing at most.
+pub fn journals_are_read<C>()
+    ensures { IsReadSo C }
+{}
+
+/// A journal's reading goes by the sectors up to its tail, and the seal's, whatever stands behind them.
+pub fn journals_go_by_their_front<C>()
+    ensures { GoesByItsFront C }
+{}
+
+/// Opening the tail's gate makes a journal longer by just the group behind it. Any other bytes leave it as it was.
+pub fn journals_grow_by_their_gate<C>()
+    ensures { GrowsByItsGate C }
+{}
+
+/// Opening the tail's gate ends a journal with just the seal behind it. Any other bytes leave it as it was.
+pub fn journals_are_sealed_by_their_gate<C>()
+    ensures { IsSealedByItsGate C }
+{}
+
+/// A journal that reads under smaller limits reads the same under larger ones.
+pub fn journals_read_under_larger_limits<C>()
+    ensures { IsReadUnderLargerLimits C }
+{}
