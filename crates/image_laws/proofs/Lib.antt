@@ -1,3 +1,6 @@
 pub mod Groups
 pub mod Chains
 pub mod Growth
+pub mod Inverse
+pub mod Refused
+pub mod Scans

@@ -1,16 +1,28 @@
 -- What holds of journals in any format of commands. Each statement is the contract of a function.
-use Rattle.std.specs.Prelude.{◌≡◌, ℕ, ◌*◌, ◌≤◌, false, List, length, take, Ok}
-use Rattle.byte_lists.specs.Content.{overwrite}
+use Rattle.std.specs.Prelude.{◌≡◌, ◌↔◌, ℕ, ◌*◌, ◌≤◌, false, List, length, take, Ok, Err}
+use Rattle.byte_lists.specs.Content.{AreBytes, overwrite}
 use Rattle.byte_lists.specs.Sectors.{whole_sectors, sector_at, IsOpenGate}
 use Rattle.image_laws.specs.Limits.{Limits, AreAsLarge}
 use Rattle.image_laws.specs.CommandFormat.{CommandFormat}
 use Rattle.image_laws.specs.Journal.{HasGroup, HasSeal, Reading, IsJournal, sectors_read, gate_behind, with_group, with_seal}
+use Rattle.image_laws.specs.GroupReading.{JournalRefusal}
 use Rattle.image_laws.specs.JournalReading.{journal_scan}
+use Rattle.image_laws.specs.JournalRefusals.{IsRefused}
 
--- a journal is read as what it is, and so as one thing at most
+-- bytes are read as a journal just where they are one
 abbrev pub IsReadSo : Type 0 → Type 0
-IsReadSo C = (format : CommandFormat C) (limits : Limits) (bytes : List ℕ) (start : ℕ) (reading : Reading C) → 1 ≤ whole_sectors bytes
-    → IsJournal format limits bytes start reading → journal_scan format limits bytes start ≡ Ok reading
+IsReadSo C = (format : CommandFormat C) (limits : Limits) (bytes : List ℕ) (start : ℕ) (reading : Reading C) → AreBytes bytes → 1 ≤ whole_sectors bytes
+    → (journal_scan format limits bytes start ≡ Ok reading) ↔ IsJournal format limits bytes start reading
+
+-- and they are refused just where the refusal means them
+abbrev pub IsRefusedSo : Type 0 → Type 0
+IsRefusedSo C = (format : CommandFormat C) (limits : Limits) (bytes : List ℕ) (start : ℕ) (refusal : JournalRefusal) → AreBytes bytes → 1 ≤ whole_sectors bytes
+    → (journal_scan format limits bytes start ≡ Err refusal) ↔ IsRefused format limits bytes start refusal
+
+-- a journal has one reading at most
+abbrev pub HasOneReading : Type 0 → Type 0
+HasOneReading C = (format : CommandFormat C) (limits : Limits) (bytes : List ℕ) (start : ℕ) (one other : Reading C) → 1 ≤ whole_sectors bytes
+    → IsJournal format limits bytes start one → IsJournal format limits bytes start other → one ≡ other
 
 -- a reading goes by the sectors that count for it, whatever stands behind them
 abbrev pub GoesByItsFront : Type 0 → Type 0

@@ -4,5 +4,6 @@ pub mod Group
 pub mod GroupReading
 pub mod Journal
 pub mod JournalReading
+pub mod JournalRefusals
 pub mod JournalLaws
 pub mod Worked

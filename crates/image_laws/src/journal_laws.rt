@@ -1,11 +1,14 @@
 //! Laws of journals, in any format of commands of type `C`. Each stands on a function that does nothing, so that it is
 //! proved with the crate.
 
-ghost use Rattle.image_laws.specs.JournalLaws.{IsReadSo, GoesByItsFront, GrowsByItsGate, IsSealedByItsGate, IsReadUnderLargerLimits};
+ghost use Rattle.image_laws.specs.JournalLaws.{IsReadSo, IsRefusedSo, HasOneReading, GoesByItsFront, GrowsByItsGate, IsSealedByItsGate, IsReadUnderLargerLimits};
 
-/// A journal is read as what it is, and so as one thing at most.
+/// Bytes are read as a journal just where they are one, and refused just where the refusal means them. A journal has one
+/// reading at most.
 pub fn journals_are_read<C>()
-    ensures { IsReadSo C }
+    ensures read { IsReadSo C }
+    ensures refused { IsRefusedSo C }
+    ensures one { HasOneReading C }
 {}
 
 /// A journal's reading goes by the sectors up to its tail, and the seal's, whatever stands behind them.
