@@ -10,18 +10,18 @@ use Rattle.byte_lists.specs.Sectors.{sectors_of, whole_sectors}
 use Rattle.byte_lists.proofs.BigEndian.{four_at-encoded}
 use Rattle.image_laws.specs.Limits.{Limits}
 use Rattle.image_laws.specs.CommandFormat.{CommandFormat, IsAllowed}
-use Rattle.image_laws.specs.Group.{records_of, with_header, group_encoding, seal_encoding, payload_sectors, group_sectors, HasRoom, CanBeGroup}
-use Rattle.image_laws.specs.GroupReading.{BadRecord, Gap, PastEnd, check, size_in, place_in, IsGroupHeader, IsSealHeader, is_group_header, is_seal_header, record_size, with_first, commands_in, are_zeros, Group, Seal, group_of, Kind, OfGroup, OfSeal, OfNone, kind_of, group_in, seal_in, by_kind, payload_at}
+use Rattle.image_laws.specs.Group.{most_record_bytes, records_of, with_header, group_encoding, seal_encoding, payload_sectors, group_sectors, HasRoom, CanBeGroup}
+use Rattle.image_laws.specs.GroupReading.{BadRecord, Gap, PastEnd, check, size_in, place_in, IsHeader, is_header, IsGroupHeader, IsSealHeader, is_group_header, is_seal_header, record_size, with_first, commands_in, are_zeros, Group, Seal, group_of, Kind, OfGroup, OfSeal, OfNone, kind_of, group_in, seal_in, by_kind, payload_at}
 use Rattle.image_laws.specs.Journal.{HasGroup, HasSeal}
 
--- the header's tests
-pub group_header_true : (limits : Limits) (payload : List ℕ) → IsGroupHeader limits payload → is_group_header limits payload ≡ true
-group_header_true limits payload is =
+-- the header's test
+pub header_true : (wanted few many longest : ℕ) (payload : List ℕ) → IsHeader wanted few many longest payload → is_header wanted few many longest payload ≡ true
+header_true wanted few many longest payload is =
     and_from _ _ (and_from _ _ (and_from _ _ (and_from _ _ (and_from _ _ (and_from _ _
     (eq-eqb _ _ is.kind) (le-leb _ _ is.some)) (le-leb _ _ is.most)) (eq-eqb _ _ is.third)) (eq-eqb _ _ is.fourth)) (le-leb _ _ is.short)) (le-leb _ _ is.last)
 
-pub group_header_from : (limits : Limits) (payload : List ℕ) → is_group_header limits payload ≡ true → IsGroupHeader limits payload
-group_header_from limits payload is =
+pub header_from : (wanted few many longest : ℕ) (payload : List ℕ) → is_header wanted few many longest payload ≡ true → IsHeader wanted few many longest payload
+header_from wanted few many longest payload is =
     let six = and_parts _ _ is in
     let five = and_parts _ _ six.0 in
     let four = and_parts _ _ five.0 in
@@ -29,35 +29,22 @@ group_header_from limits payload is =
     let two = and_parts _ _ three.0 in
     let one = and_parts _ _ two.0 in
     record {
-      kind = eqb-true _ _ one.0;
-      some = leb-true _ _ one.1;
-      most = leb-true _ _ two.1;
-      third = eqb-true _ _ three.1;
-      fourth = eqb-true _ _ four.1;
-      short = leb-true _ _ five.1;
-      last = leb-true _ _ six.1;
+      kind = eqb-true _ _ one.0; some = leb-true _ _ one.1; most = leb-true _ _ two.1; third = eqb-true _ _ three.1;
+      fourth = eqb-true _ _ four.1; short = leb-true _ _ five.1; last = leb-true _ _ six.1;
     }
+
+-- those of a group and of a seal
+pub group_header_true : (limits : Limits) (payload : List ℕ) → IsGroupHeader limits payload → is_group_header limits payload ≡ true
+group_header_true limits payload is = header_true 1 1 limits.most most_record_bytes payload is
+
+pub group_header_from : (limits : Limits) (payload : List ℕ) → is_group_header limits payload ≡ true → IsGroupHeader limits payload
+group_header_from limits payload is = header_from 1 1 limits.most most_record_bytes payload is
 
 pub seal_header_true : (payload : List ℕ) → IsSealHeader payload → is_seal_header payload ≡ true
-seal_header_true payload is =
-    and_from _ _ (and_from _ _ (and_from _ _ (and_from _ _ (and_from _ _
-    (eq-eqb _ _ is.kind) (eq-eqb _ _ is.none)) (eq-eqb _ _ is.third)) (eq-eqb _ _ is.fourth)) (eq-eqb _ _ is.empty)) (le-leb _ _ is.last)
+seal_header_true payload is = header_true 2 0 0 0 payload is
 
 pub seal_header_from : (payload : List ℕ) → is_seal_header payload ≡ true → IsSealHeader payload
-seal_header_from payload is =
-    let five = and_parts _ _ is in
-    let four = and_parts _ _ five.0 in
-    let three = and_parts _ _ four.0 in
-    let two = and_parts _ _ three.0 in
-    let one = and_parts _ _ two.0 in
-    record {
-      kind = eqb-true _ _ one.0;
-      none = eqb-true _ _ one.1;
-      third = eqb-true _ _ two.1;
-      fourth = eqb-true _ _ three.1;
-      empty = eqb-true _ _ four.1;
-      last = leb-true _ _ five.1;
-    }
+seal_header_from payload is = header_from 2 0 0 0 payload is
 
 -- what a header was spelled with
 size_read : (kind count size place : ℕ) (behind : List ℕ) → size < 2 ^ 32 → size_in (with_header kind count size place behind) ≡ size
@@ -207,4 +194,4 @@ payload_seal {C} format limits bytes gate place has =
     there = place_read 2 0 0 place (replicate 496 0 ++ drop 512 payload) (omega (arith, has.seal.last))
 
     kind : kind_of limits sealed ≡ OfSeal
-    kind = ap (λ (b : Bool). cond b OfSeal OfNone) (seal_header_true sealed (record { kind = refl; none = refl; third = refl; fourth = refl; empty = refl; last = omega (arith, there, has.seal.last) }))
+    kind = ap (λ (b : Bool). cond b OfSeal OfNone) (seal_header_true sealed (record { kind = refl; some = omega arith; most = omega arith; third = refl; fourth = refl; short = omega arith; last = omega (arith, there, has.seal.last) }))

@@ -16,7 +16,7 @@ pub agree_from_fronts : (xs ys : List ℕ) (sectors : ℕ) → take (512 * secto
 agree_from_fronts xs ys sectors same i below =
     sym (get_or-take (512 * sectors) xs i 0 below) ∙ ap (λ (list : List ℕ). get_or list i 0) same ∙ get_or-take (512 * sectors) ys i 0 below
 
-agree_fewer : (xs ys : List ℕ) (few many : ℕ) → few ≤ many → AgreeBefore xs ys many → AgreeBefore xs ys few
+pub agree_fewer : (xs ys : List ℕ) (few many : ℕ) → few ≤ many → AgreeBefore xs ys many → AgreeBefore xs ys few
 agree_fewer xs ys few many less agree i below = agree i (omega arith)
 
 -- how it ends goes by the last gate, and by the seal behind it

@@ -220,6 +220,12 @@ module _ {C : Type 0} (format : CommandFormat C) (limits : Limits) (place : ℕ)
 seal_from : (place : ℕ) (p : List ℕ) → AreBytes p → IsSealHeader p → place_in p ≡ place → 512 ≤ length p → are_zeros (part 16 496 p) ≡ true → IsSeal place (take 512 p)
 seal_from place p each header there inside is = record { last = omega (arith, header.last, there); spelled = ap (take 512) front ∙ take_at (seal_encoding place) (drop 512 p) 512 refl }
   where
+    none : count_in p ≡ 0
+    none = omega (arith, header.most)
+
+    empty : size_in p ≡ 0
+    empty = omega (arith, header.short)
+
     zeros : part 16 496 p ≡ replicate 496 0
     zeros = zeros_from (part 16 496 p) is ∙ ap (λ (k : ℕ). replicate k 0) (length-part 16 496 p (omega arith))
 
@@ -227,8 +233,8 @@ seal_from place p each header there inside is = record { last = omega (arith, he
     front =
         header_spelled p each (omega arith) header.third header.fourth
         ∙ ap (λ (kind : ℕ). with_header kind (count_in p) (size_in p) (place_in p) (drop 16 p)) header.kind
-        ∙ ap (λ (count : ℕ). with_header 2 count (size_in p) (place_in p) (drop 16 p)) header.none
-        ∙ ap (λ (m : ℕ). with_header 2 0 m (place_in p) (drop 16 p)) header.empty
+        ∙ ap (λ (count : ℕ). with_header 2 count (size_in p) (place_in p) (drop 16 p)) none
+        ∙ ap (λ (m : ℕ). with_header 2 0 m (place_in p) (drop 16 p)) empty
         ∙ ap (λ (m : ℕ). with_header 2 0 0 m (drop 16 p)) there
         ∙ ap (λ (list : List ℕ). with_header 2 0 0 place list) (sym (take-append-drop 496 (drop 16 p)) ∙ ap (λ (list : List ℕ). part 16 496 p ++ list) (drop-drop 496 16 p))
         ∙ ap (λ (list : List ℕ). with_header 2 0 0 place (list ++ drop 512 p)) zeros

@@ -4,3 +4,4 @@ pub mod Growth
 pub mod Inverse
 pub mod Refused
 pub mod Scans
+pub mod Staged

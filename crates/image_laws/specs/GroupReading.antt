@@ -30,36 +30,37 @@ size_in payload = four_at 4 payload
 abbrev pub place_in : List ℕ → ℕ
 place_in payload = eight_at 8 payload
 
--- kind 1, 1 command to as many as a group may have, two zeros, records that are not too long, and places for all of them
-pub record IsGroupHeader (limits : Limits) (payload : List ℕ) : Type 0 where
-  pub kind : slice_index payload 0 ≡ 1
-  pub some : 1 ≤ count_in payload
-  pub most : count_in payload ≤ limits.most
+-- a header of this kind, with `few` to `many` commands, two zeros, records of at most so many bytes, and places for all of
+-- the commands
+pub record IsHeader (wanted few many longest : ℕ) (payload : List ℕ) : Type 0 where
+  pub kind : slice_index payload 0 ≡ wanted
+  pub some : few ≤ count_in payload
+  pub most : count_in payload ≤ many
   pub third : slice_index payload 2 ≡ 0
   pub fourth : slice_index payload 3 ≡ 0
-  pub short : size_in payload ≤ most_record_bytes
+  pub short : size_in payload ≤ longest
   pub last : place_in payload + count_in payload ≤ last_place
 
--- kind 2, no commands, two zeros, no records, and a place
-pub record IsSealHeader (payload : List ℕ) : Type 0 where
-  pub kind : slice_index payload 0 ≡ 2
-  pub none : count_in payload ≡ 0
-  pub third : slice_index payload 2 ≡ 0
-  pub fourth : slice_index payload 3 ≡ 0
-  pub empty : size_in payload ≡ 0
-  pub last : place_in payload ≤ last_place
-
--- both as tests
-abbrev pub is_group_header : Limits → List ℕ → Bool
-is_group_header limits payload =
-    (slice_index payload 0 == 1) && nat_le 1 (count_in payload) && nat_le (count_in payload) limits.most
+-- the same as a test
+abbrev pub is_header : ℕ → ℕ → ℕ → ℕ → List ℕ → Bool
+is_header wanted few many longest payload =
+    (slice_index payload 0 == wanted) && nat_le few (count_in payload) && nat_le (count_in payload) many
     && (slice_index payload 2 == 0) && (slice_index payload 3 == 0)
-    && nat_le (size_in payload) most_record_bytes && nat_le (place_in payload + count_in payload) last_place
+    && nat_le (size_in payload) longest && nat_le (place_in payload + count_in payload) last_place
+
+-- a group has 1 command to as many as the limits say
+abbrev pub IsGroupHeader : Limits → List ℕ → Type 0
+IsGroupHeader limits payload = IsHeader 1 1 limits.most most_record_bytes payload
+
+abbrev pub is_group_header : Limits → List ℕ → Bool
+is_group_header limits payload = is_header 1 1 limits.most most_record_bytes payload
+
+-- a seal has none, and no records
+abbrev pub IsSealHeader : List ℕ → Type 0
+IsSealHeader payload = IsHeader 2 0 0 0 payload
 
 abbrev pub is_seal_header : List ℕ → Bool
-is_seal_header payload =
-    (slice_index payload 0 == 2) && (count_in payload == 0) && (slice_index payload 2 == 0) && (slice_index payload 3 == 0)
-    && (size_in payload == 0) && nat_le (place_in payload) last_place
+is_seal_header payload = is_header 2 0 0 0 payload
 
 -- the length that a record begins with
 abbrev pub record_size : List ℕ → ℕ

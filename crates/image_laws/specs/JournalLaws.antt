@@ -1,9 +1,10 @@
 -- What holds of journals in any format of commands. Each statement is the contract of a function.
-use Rattle.std.specs.Prelude.{◌≡◌, ◌↔◌, ℕ, ◌*◌, ◌≤◌, false, List, length, take, Ok, Err}
+use Rattle.std.specs.Prelude.{◌≡◌, ◌↔◌, ℕ, ◌+◌, ◌*◌, ◌≤◌, false, List, ◌++◌, length, take, Ok, Err}
 use Rattle.byte_lists.specs.Content.{AreBytes, overwrite}
 use Rattle.byte_lists.specs.Sectors.{whole_sectors, sector_at, IsOpenGate}
 use Rattle.image_laws.specs.Limits.{Limits, AreAsLarge}
 use Rattle.image_laws.specs.CommandFormat.{CommandFormat}
+use Rattle.image_laws.specs.Group.{last_place, group_encoding, seal_encoding, group_sectors, HasRoom, CanBeGroup}
 use Rattle.image_laws.specs.Journal.{HasGroup, HasSeal, Reading, IsJournal, sectors_read, gate_behind, with_group, with_seal}
 use Rattle.image_laws.specs.GroupReading.{JournalRefusal}
 use Rattle.image_laws.specs.JournalReading.{journal_scan}
@@ -35,6 +36,21 @@ pub record IsReadyFor {C : Type 0} (format : CommandFormat C) (limits : Limits) 
   pub has : HasGroup format limits bytes reading.tail reading.place group
   pub closed : ¬ IsOpenGate (sector_at (gate_behind format reading.tail group) bytes)
 
+-- A group, and a gate that isn't open, are written behind the tail's gate: the journal is as it was, and ready for the group.
+abbrev pub IsMadeReady : Type 0 → Type 0
+IsMadeReady C = (format : CommandFormat C) (limits : Limits) (bytes : List ℕ) (start : ℕ) (reading : Reading C) (group : List C) (gate : List ℕ)
+    → IsJournal format limits bytes start reading → reading.sealed ≡ false → CanBeGroup format limits reading.place group
+    → HasRoom reading.tail (group_sectors format group) (whole_sectors bytes) → length gate ≡ 512 → ¬ IsOpenGate gate
+    → let written = overwrite (512 * (reading.tail + 1)) (group_encoding format reading.place group ++ gate) bytes in
+    IsJournal format limits written start reading × IsReadyFor format limits written reading group
+
+-- A seal is written there.
+abbrev pub IsMadeReadyForSeal : Type 0 → Type 0
+IsMadeReadyForSeal C = (format : CommandFormat C) (limits : Limits) (bytes : List ℕ) (start : ℕ) (reading : Reading C) → IsJournal format limits bytes start reading
+    → reading.sealed ≡ false → reading.place ≤ last_place → reading.tail + 2 ≤ whole_sectors bytes
+    → let written = overwrite (512 * (reading.tail + 1)) (seal_encoding reading.place) bytes in
+    IsJournal format limits written start reading × HasSeal written reading.tail reading.place
+
 -- The tail's gate is written with any bytes. Where that opens it, the journal has just that group more; else it is as it was.
 abbrev pub GrowsByItsGate : Type 0 → Type 0
 GrowsByItsGate C = (format : CommandFormat C) (limits : Limits) (bytes : List ℕ) (start : ℕ) (reading : Reading C) (group : List C) (gate : List ℕ)
@@ -53,3 +69,7 @@ IsSealedByItsGate C = (format : CommandFormat C) (limits : Limits) (bytes : List
 abbrev pub IsReadUnderLargerLimits : Type 0 → Type 0
 IsReadUnderLargerLimits C = (format : CommandFormat C) (small large : Limits) (bytes : List ℕ) (start : ℕ) (reading : Reading C) → AreAsLarge small large
     → IsJournal format small bytes start reading → IsJournal format large bytes start reading
+
+-- payloads are whole sectors
+abbrev pub FillsSectors : Type 0 → Type 0
+FillsSectors C = (format : CommandFormat C) (place : ℕ) (commands : List C) → length (group_encoding format place commands) ≡ 512 * group_sectors format commands
