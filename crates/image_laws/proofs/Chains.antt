@@ -1,5 +1,4 @@
--- How a journal reads: it goes by the bytes up to its end, a group more makes it longer, and the scan answers it. For this
--- crate and those above it.
+-- How a journal reads: it goes by the bytes up to its end, a group more makes it longer, and the scan answers it.
 use Rattle.std.proofs.Common.{◌≡◌, ℕ, suc, ◌+◌, ◌-◌, ◌*◌, ◌<◌, ◌≤◌, Bool, true, false, List, [], ◌∷◌, ◌++◌, length, get_or, Ok, Err, Result, refl, sym, ◌∙◌, ap, subst, arith, length-append, append_assoc}
 use Rattle.std.proofs.lemmas.List.{append-nil}
 use Rattle.byte_lists.specs.Content.{part}
@@ -113,7 +112,7 @@ module _ {C : Type 0} (format : CommandFormat C) (limits : Limits) where
       ∙ sym (with_both first (all_of more) (scan_from rest format limits bytes tail (place + length (first ++ all_of more))))
 
   -- the end of a journal is read
-  end_scan : (bytes : List ℕ) (gate place steps : ℕ) (sealed : Bool) → EndsAs sealed bytes gate place → scan_from (suc steps) format limits bytes gate place ≡ ends gate place sealed
+  pub end_scan : (bytes : List ℕ) (gate place steps : ℕ) (sealed : Bool) → EndsAs sealed bytes gate place → scan_from (suc steps) format limits bytes gate place ≡ ends gate place sealed
   unfolding behind
   end_scan bytes gate place steps false closed =
       ap (λ (b : Bool). at_gate b (payload_at format limits bytes gate place) (behind steps bytes gate place) gate place) (open_false (sector_at gate bytes) closed)

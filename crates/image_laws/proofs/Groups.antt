@@ -1,4 +1,4 @@
--- What is spelled as a group or a seal is read as one. For this crate and those above it.
+-- What is spelled as a group or a seal is read as one.
 use Rattle.std.proofs.Common.{◌≡◌, ℕ, zero, suc, ◌+◌, ◌-◌, ◌*◌, ◌^◌, ◌<◌, ◌≤◌, Bool, true, cond, leb, List, [], ◌∷◌, ◌++◌, length, take, drop, replicate, Some, None, Option, Ok, refl, sym, ◌∙◌, ap, arith, length-append, append_assoc, take-append-drop, eq-eqb, eqb-true, le-leb, leb-true}
 use Rattle.std.proofs.lemmas.List.{drop_at, take_at, drop-drop, length-replicate}
 use Rattle.std.proofs.lemmas.Bool.{and_from, and_parts}
@@ -29,8 +29,13 @@ header_from wanted few many longest payload is =
     let two = and_parts _ _ three.0 in
     let one = and_parts _ _ two.0 in
     record {
-      kind = eqb-true _ _ one.0; some = leb-true _ _ one.1; most = leb-true _ _ two.1; third = eqb-true _ _ three.1;
-      fourth = eqb-true _ _ four.1; short = leb-true _ _ five.1; last = leb-true _ _ six.1;
+      kind = eqb-true _ _ one.0;
+      some = leb-true _ _ one.1;
+      most = leb-true _ _ two.1;
+      third = eqb-true _ _ three.1;
+      fourth = eqb-true _ _ four.1;
+      short = leb-true _ _ five.1;
+      last = leb-true _ _ six.1;
     }
 
 -- those of a group and of a seal

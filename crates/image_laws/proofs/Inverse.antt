@@ -1,4 +1,4 @@
--- What is read stands there: of bytes, what the scan answers is what the journal is. For this crate and those above it.
+-- What is read stands there: of bytes, what the scan answers is what the journal is.
 use Rattle.std.proofs.Common.{◌≡◌, ℕ, zero, suc, ◌+◌, ◌-◌, ◌*◌, ◌≤◌, Bool, true, false, cond, eqb, leb, List, [], ◌∷◌, ◌++◌, length, take, drop, get_or, replicate, Some, None, Option, Ok, Result, refl, sym, ◌∙◌, ap, subst, arith, length-drop, append_assoc, take-append-drop, get_or-drop, eqb-true, leb-true}
 use Rattle.std.proofs.lemmas.List.{take_at, drop-drop, drop_more}
 use Rattle.std.proofs.lemmas.Bool.{and_parts}

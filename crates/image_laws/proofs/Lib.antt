@@ -1,3 +1,4 @@
+pub mod Exports
 pub mod Groups
 pub mod Chains
 pub mod Growth

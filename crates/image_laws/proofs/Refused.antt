@@ -1,4 +1,4 @@
--- What a refusal means, and that it comes just there. For this crate and those above it.
+-- What a refusal means, and that it comes just there.
 use Rattle.std.proofs.Common.{◌≡◌, ◌⊎◌, inl, inr, ℕ, ◌+◌, ◌-◌, ◌*◌, Bool, true, false, cond, eqb, leb, List, Some, None, Option, Ok, Err, Result, refl, sym, ◌∙◌, ap, subst, arith, eq-eqb, ne_eqb, le-leb, leb-true, eqb-true}
 use Rattle.std.proofs.lemmas.Bool.{eqb-false}
 use Rattle.byte_lists.specs.Content.{AreBytes, part}

@@ -1,4 +1,4 @@
--- The scan answers just what a journal is, and refuses it just where it is none. For this crate and those above it.
+-- The scan answers just what a journal is, and refuses it just where it is none.
 use Rattle.std.proofs.Common.{◌≡◌, ℕ, zero, suc, ◌+◌, ◌-◌, ◌<◌, ◌≤◌, Bool, true, false, List, [], ◌∷◌, ◌++◌, length, Ok, Err, Result, refl, ◌∙◌, ap, subst, arith, length-append}
 use Rattle.byte_lists.specs.Content.{AreBytes}
 use Rattle.byte_lists.specs.Sectors.{whole_sectors, sector_at, IsOpenGate, is_open_gate}

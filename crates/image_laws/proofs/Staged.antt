@@ -1,5 +1,5 @@
--- What a journal is after a group or a seal was written behind its tail's gate. For this crate and those above it.
-use Rattle.std.proofs.Common.{◌≡◌, ℕ, ◌+◌, ◌-◌, ◌*◌, ◌/◌, ◌<◌, ◌≤◌, Bool, true, false, cond, leb, List, ◌++◌, length, take, drop, refl, sym, ◌∙◌, ap, subst, arith, length-append, le-leb, leb-true}
+-- What a journal is after a group or a seal was written behind its tail's gate.
+use Rattle.std.proofs.Common.{◌≡◌, ℕ, ◌+◌, ◌-◌, ◌*◌, ◌≤◌, Bool, true, false, cond, leb, List, ◌++◌, length, take, refl, sym, ◌∙◌, ap, subst, arith, length-append, le-leb, leb-true}
 use Rattle.std.proofs.lemmas.List.{take_at, take_all, drop_at}
 use Rattle.byte_lists.specs.Content.{part, overwrite}
 use Rattle.byte_lists.specs.Sectors.{whole_sectors, sector_at, IsOpenGate}
@@ -7,9 +7,9 @@ use Rattle.byte_lists.proofs.Contents.{length-overwrite, overwrite_before, part_
 use Rattle.byte_lists.proofs.Padding.{length-padded}
 use Rattle.image_laws.specs.Limits.{Limits, limits_of, AreAsLarge}
 use Rattle.image_laws.specs.CommandFormat.{CommandFormat}
-use Rattle.image_laws.specs.Group.{last_place, records_of, with_header, group_encoding, seal_encoding, group_sectors, HasRoom, CanBeGroup, IsSeal}
-use Rattle.image_laws.specs.Journal.{HasSeal, EndsAs, Reading, IsJournal, sectors_to, sectors_read, gate_behind}
-use Rattle.image_laws.specs.JournalLaws.{IsReadyFor, IsMadeReady, IsMadeReadyForSeal, FillsSectors}
+use Rattle.image_laws.specs.Group.{records_of, with_header, group_encoding, seal_encoding, group_sectors, HasRoom}
+use Rattle.image_laws.specs.Journal.{Reading, IsJournal, sectors_to, gate_behind}
+use Rattle.image_laws.specs.JournalLaws.{IsMadeReady, IsMadeReadyForSeal, FillsSectors}
 use Rattle.image_laws.proofs.Chains.{AgreeBefore, chain_agrees}
 use Rattle.image_laws.proofs.Growth.{ends_agree, agree_fewer}
 
@@ -92,11 +92,10 @@ made_ready C format limits bytes start reading group gate is unsealed can room s
     still opened = closed (subst IsOpenGate gate_is opened)
 
 pub made_ready_for_seal : (C : Type 0) → IsMadeReadyForSeal C
-made_ready_for_seal C format limits bytes start reading is unsealed last room =
-    (
-      as_it_was format limits bytes start reading is unsealed (seal_encoding reading.place) inside,
-      record { seal = record { last = last; spelled = part_new at (seal_encoding reading.place) bytes inside }; room = omega (arith, room, length-overwrite at (seal_encoding reading.place) bytes inside) },
-    )
+made_ready_for_seal C format limits bytes start reading is unsealed last room = (
+  as_it_was format limits bytes start reading is unsealed (seal_encoding reading.place) inside,
+  record { seal = record { last = last; spelled = part_new at (seal_encoding reading.place) bytes inside }; room = omega (arith, room, length-overwrite at (seal_encoding reading.place) bytes inside) },
+)
   where
     at : ℕ
     at = 512 * (reading.tail + 1)

@@ -8,8 +8,10 @@ use Rattle.image_laws.specs.Limits.{Limits, AreAsLarge}
 pub record CommandFormat (C : Type 0) : Type 0 where
   pub encoding : C → List ℕ
   pub decoding : Limits → List ℕ → Option C
-  pub spelled : (limits : Limits) (bytes : List ℕ) (command : C) → AreBytes bytes → decoding limits bytes ≡ Some command → encoding command ≡ bytes
-  pub grows : (small large : Limits) (bytes : List ℕ) (command : C) → AreAsLarge small large → decoding small bytes ≡ Some command → decoding large bytes ≡ Some command
+  pub spelled : (limits : Limits) (bytes : List ℕ) (command : C) → AreBytes bytes → decoding limits bytes ≡ Some command
+      → encoding command ≡ bytes
+  pub grows : (small large : Limits) (bytes : List ℕ) (command : C) → AreAsLarge small large → decoding small bytes ≡ Some command
+      → decoding large bytes ≡ Some command
 
 -- limits allow just the commands whose encoding is read under them as the command
 abbrev pub IsAllowed : {C : Type 0} → CommandFormat C → Limits → C → Type 0

@@ -12,64 +12,83 @@ use Rattle.image_laws.specs.JournalRefusals.{IsRefused}
 
 -- bytes are read as a journal just where they are one
 abbrev pub IsReadSo : Type 0 → Type 0
-IsReadSo C = (format : CommandFormat C) (limits : Limits) (bytes : List ℕ) (start : ℕ) (reading : Reading C) → AreBytes bytes → 1 ≤ whole_sectors bytes
+IsReadSo C =
+    (format : CommandFormat C) (limits : Limits) (bytes : List ℕ) (start : ℕ) (reading : Reading C)
+    → AreBytes bytes → 1 ≤ whole_sectors bytes
     → (journal_scan format limits bytes start ≡ Ok reading) ↔ IsJournal format limits bytes start reading
 
 -- and they are refused just where the refusal means them
 abbrev pub IsRefusedSo : Type 0 → Type 0
-IsRefusedSo C = (format : CommandFormat C) (limits : Limits) (bytes : List ℕ) (start : ℕ) (refusal : JournalRefusal) → AreBytes bytes → 1 ≤ whole_sectors bytes
+IsRefusedSo C =
+    (format : CommandFormat C) (limits : Limits) (bytes : List ℕ) (start : ℕ) (refusal : JournalRefusal)
+    → AreBytes bytes → 1 ≤ whole_sectors bytes
     → (journal_scan format limits bytes start ≡ Err refusal) ↔ IsRefused format limits bytes start refusal
 
 -- a journal has one reading at most
 abbrev pub HasOneReading : Type 0 → Type 0
-HasOneReading C = (format : CommandFormat C) (limits : Limits) (bytes : List ℕ) (start : ℕ) (one other : Reading C) → 1 ≤ whole_sectors bytes
+HasOneReading C =
+    (format : CommandFormat C) (limits : Limits) (bytes : List ℕ) (start : ℕ) (one other : Reading C) → 1 ≤ whole_sectors bytes
     → IsJournal format limits bytes start one → IsJournal format limits bytes start other → one ≡ other
 
 -- a reading goes by the sectors that count for it, whatever stands behind them
 abbrev pub GoesByItsFront : Type 0 → Type 0
-GoesByItsFront C = (format : CommandFormat C) (limits : Limits) (xs ys : List ℕ) (start : ℕ) (reading : Reading C) → length xs ≡ length ys
-    → take (512 * sectors_read reading) xs ≡ take (512 * sectors_read reading) ys → IsJournal format limits xs start reading → IsJournal format limits ys start reading
+GoesByItsFront C =
+    (format : CommandFormat C) (limits : Limits) (xs ys : List ℕ) (start : ℕ) (reading : Reading C) → length xs ≡ length ys
+    → take (512 * sectors_read reading) xs ≡ take (512 * sectors_read reading) ys
+    → IsJournal format limits xs start reading → IsJournal format limits ys start reading
 
--- Behind the tail's gate stands a group, and behind that a closed gate.
+-- payloads are whole sectors
+abbrev pub FillsSectors : Type 0 → Type 0
+FillsSectors C =
+    (format : CommandFormat C) (place : ℕ) (commands : List C)
+    → length (group_encoding format place commands) ≡ 512 * group_sectors format commands
+
+-- a journal without a seal, behind whose tail's gate stands a group, and behind that a closed gate
 pub record IsReadyFor {C : Type 0} (format : CommandFormat C) (limits : Limits) (bytes : List ℕ) (reading : Reading C) (group : List C) : Type 0 where
   pub unsealed : reading.sealed ≡ false
   pub has : HasGroup format limits bytes reading.tail reading.place group
   pub closed : ¬ IsOpenGate (sector_at (gate_behind format reading.tail group) bytes)
 
--- A group, and a gate that isn't open, are written behind the tail's gate: the journal is as it was, and ready for the group.
+-- a group, and a gate that isn't open, are written behind the tail's gate: the journal is as it was, and ready for the group
 abbrev pub IsMadeReady : Type 0 → Type 0
-IsMadeReady C = (format : CommandFormat C) (limits : Limits) (bytes : List ℕ) (start : ℕ) (reading : Reading C) (group : List C) (gate : List ℕ)
-    → IsJournal format limits bytes start reading → reading.sealed ≡ false → CanBeGroup format limits reading.place group
-    → HasRoom reading.tail (group_sectors format group) (whole_sectors bytes) → length gate ≡ 512 → ¬ IsOpenGate gate
+IsMadeReady C =
+    (format : CommandFormat C) (limits : Limits) (bytes : List ℕ) (start : ℕ) (reading : Reading C) (group : List C) (gate : List ℕ)
+    → IsJournal format limits bytes start reading → reading.sealed ≡ false
+    → CanBeGroup format limits reading.place group → HasRoom reading.tail (group_sectors format group) (whole_sectors bytes)
+    → length gate ≡ 512 → ¬ IsOpenGate gate
     → let written = overwrite (512 * (reading.tail + 1)) (group_encoding format reading.place group ++ gate) bytes in
     IsJournal format limits written start reading × IsReadyFor format limits written reading group
 
--- A seal is written there.
+-- a seal is written there
 abbrev pub IsMadeReadyForSeal : Type 0 → Type 0
-IsMadeReadyForSeal C = (format : CommandFormat C) (limits : Limits) (bytes : List ℕ) (start : ℕ) (reading : Reading C) → IsJournal format limits bytes start reading
-    → reading.sealed ≡ false → reading.place ≤ last_place → reading.tail + 2 ≤ whole_sectors bytes
+IsMadeReadyForSeal C =
+    (format : CommandFormat C) (limits : Limits) (bytes : List ℕ) (start : ℕ) (reading : Reading C)
+    → IsJournal format limits bytes start reading → reading.sealed ≡ false
+    → reading.place ≤ last_place → reading.tail + 2 ≤ whole_sectors bytes
     → let written = overwrite (512 * (reading.tail + 1)) (seal_encoding reading.place) bytes in
     IsJournal format limits written start reading × HasSeal written reading.tail reading.place
 
--- The tail's gate is written with any bytes. Where that opens it, the journal has just that group more; else it is as it was.
+-- The tail's gate is written with any bytes: where that opens it the journal has just that group more, and else it is as it
+-- was.
 abbrev pub GrowsByItsGate : Type 0 → Type 0
-GrowsByItsGate C = (format : CommandFormat C) (limits : Limits) (bytes : List ℕ) (start : ℕ) (reading : Reading C) (group : List C) (gate : List ℕ)
+GrowsByItsGate C =
+    (format : CommandFormat C) (limits : Limits) (bytes : List ℕ) (start : ℕ) (reading : Reading C) (group : List C) (gate : List ℕ)
     → IsJournal format limits bytes start reading → IsReadyFor format limits bytes reading group → length gate ≡ 512
-    → (IsOpenGate gate → IsJournal format limits (overwrite (512 * reading.tail) gate bytes) start (with_group format reading group))
-    × (¬ IsOpenGate gate → IsJournal format limits (overwrite (512 * reading.tail) gate bytes) start reading)
+    → let written = overwrite (512 * reading.tail) gate bytes in
+    (IsOpenGate gate → IsJournal format limits written start (with_group format reading group))
+    × (¬ IsOpenGate gate → IsJournal format limits written start reading)
 
--- The same of a seal behind the tail's gate.
+-- the same of a seal behind the tail's gate
 abbrev pub IsSealedByItsGate : Type 0 → Type 0
-IsSealedByItsGate C = (format : CommandFormat C) (limits : Limits) (bytes : List ℕ) (start : ℕ) (reading : Reading C) (gate : List ℕ)
+IsSealedByItsGate C =
+    (format : CommandFormat C) (limits : Limits) (bytes : List ℕ) (start : ℕ) (reading : Reading C) (gate : List ℕ)
     → IsJournal format limits bytes start reading → reading.sealed ≡ false → HasSeal bytes reading.tail reading.place → length gate ≡ 512
-    → (IsOpenGate gate → IsJournal format limits (overwrite (512 * reading.tail) gate bytes) start (with_seal reading))
-    × (¬ IsOpenGate gate → IsJournal format limits (overwrite (512 * reading.tail) gate bytes) start reading)
+    → let written = overwrite (512 * reading.tail) gate bytes in
+    (IsOpenGate gate → IsJournal format limits written start (with_seal reading))
+    × (¬ IsOpenGate gate → IsJournal format limits written start reading)
 
 -- what smaller limits allow larger ones allow
 abbrev pub IsReadUnderLargerLimits : Type 0 → Type 0
-IsReadUnderLargerLimits C = (format : CommandFormat C) (small large : Limits) (bytes : List ℕ) (start : ℕ) (reading : Reading C) → AreAsLarge small large
+IsReadUnderLargerLimits C =
+    (format : CommandFormat C) (small large : Limits) (bytes : List ℕ) (start : ℕ) (reading : Reading C) → AreAsLarge small large
     → IsJournal format small bytes start reading → IsJournal format large bytes start reading
-
--- payloads are whole sectors
-abbrev pub FillsSectors : Type 0 → Type 0
-FillsSectors C = (format : CommandFormat C) (place : ℕ) (commands : List C) → length (group_encoding format place commands) ≡ 512 * group_sectors format commands
