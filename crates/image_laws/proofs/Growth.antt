@@ -28,7 +28,7 @@ ends_agree xs ys gate place true size agree end =
       record { seal = subst (IsSeal place) (sector_agrees xs ys (gate + 2) (gate + 1) size agree (omega arith)) end.1.seal; room = omega arith },
     )
 
-before_ends : (sealed : Bool) (tail : ℕ) → tail ≤ sectors_to sealed tail
+pub before_ends : (sealed : Bool) (tail : ℕ) → tail ≤ sectors_to sealed tail
 before_ends false tail = omega arith
 before_ends true tail = omega arith
 

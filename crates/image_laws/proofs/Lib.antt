@@ -6,3 +6,4 @@ pub mod Inverse
 pub mod Refused
 pub mod Scans
 pub mod Staged
+pub mod Bounds

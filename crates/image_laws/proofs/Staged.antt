@@ -6,41 +6,41 @@ use Rattle.byte_lists.specs.Sectors.{whole_sectors, sector_at, IsOpenGate}
 use Rattle.byte_lists.proofs.Contents.{length-overwrite, overwrite_before, part_within, part_new}
 use Rattle.byte_lists.proofs.Padding.{length-padded}
 use Rattle.image_laws.specs.Limits.{Limits, limits_of, AreAsLarge}
-use Rattle.image_laws.specs.CommandFormat.{CommandFormat}
 use Rattle.image_laws.specs.Group.{records_of, with_header, group_encoding, seal_encoding, group_sectors, HasRoom}
-use Rattle.image_laws.specs.Journal.{Reading, IsJournal, sectors_to, gate_behind}
-use Rattle.image_laws.specs.JournalLaws.{IsMadeReady, IsMadeReadyForSeal, FillsSectors}
+use Rattle.image_laws.specs.Journal.{Reading, sectors_to, sectors_read, gate_behind}
+use Rattle.image_laws.specs.JournalLaws.{IsKeptByWritesBehind, IsMadeReady, IsMadeReadyForSeal, FillsSectors}
 use Rattle.image_laws.proofs.Chains.{AgreeBefore, chain_agrees}
-use Rattle.image_laws.proofs.Growth.{ends_agree, agree_fewer}
+use Rattle.image_laws.proofs.Growth.{ends_agree, agree_fewer, before_ends}
 
 pub length-group_encoding : (C : Type 0) → FillsSectors C
 length-group_encoding C format place commands = length-padded (with_header 1 (length commands) (length (records_of format commands)) place (records_of format commands)) ∙ omega arith
 
--- bytes are written behind the tail's gate
-module _ {C : Type 0} (format : CommandFormat C) (limits : Limits) (bytes : List ℕ) (start : ℕ) (reading : Reading C) (is : IsJournal format limits bytes start reading)
-    (unsealed : reading.sealed ≡ false) (behind : List ℕ) (inside : 512 * (reading.tail + 1) + length behind ≤ length bytes) where
-  size_as_it_was : length bytes ≡ length (overwrite (512 * (reading.tail + 1)) behind bytes)
-  size_as_it_was = sym (length-overwrite (512 * (reading.tail + 1)) behind bytes inside)
+pub kept_by_writes_behind : (C : Type 0) → IsKeptByWritesBehind C
+kept_by_writes_behind C format limits bytes start reading at behind is above inside = record {
+  groups = is.groups;
+  chain = chain_agrees format limits bytes written 0 start is.groups reading.tail size
+      (agree_fewer bytes written reading.tail (sectors_read reading) (before_ends reading.sealed reading.tail) agree) is.chain;
+  commands = is.commands;
+  place = is.place;
+  ends = ends_agree bytes written reading.tail reading.place reading.sealed size agree is.ends;
+}
+  where
+    written : List ℕ
+    written = overwrite at behind bytes
 
-  agree : AgreeBefore bytes (overwrite (512 * (reading.tail + 1)) behind bytes) (reading.tail + 1)
-  agree i below = sym (overwrite_before (512 * (reading.tail + 1)) behind bytes i (omega arith) below)
+    size : length bytes ≡ length written
+    size = sym (length-overwrite at behind bytes inside)
 
-  as_it_was : IsJournal format limits (overwrite (512 * (reading.tail + 1)) behind bytes) start reading
-  as_it_was = record {
-    groups = is.groups;
-    chain = chain_agrees format limits bytes written 0 start is.groups reading.tail size_as_it_was (agree_fewer bytes written reading.tail (reading.tail + 1) (omega arith) agree) is.chain;
-    commands = is.commands;
-    place = is.place;
-    ends = ends_agree bytes written reading.tail reading.place reading.sealed size_as_it_was
-        (subst (λ (sealed : Bool). AgreeBefore bytes written (sectors_to sealed reading.tail)) (sym unsealed) agree) is.ends;
-  }
-    where
-      written : List ℕ
-      written = overwrite (512 * (reading.tail + 1)) behind bytes
+    agree : AgreeBefore bytes written (sectors_read reading)
+    agree i below = sym (overwrite_before at behind bytes i (omega arith) (omega (arith, above)))
+
+-- an open journal's sectors are those up to its tail
+unsealed_sectors : {C : Type 0} (reading : Reading C) → reading.sealed ≡ false → sectors_read reading ≡ reading.tail + 1
+unsealed_sectors reading unsealed = ap (λ (sealed : Bool). sectors_to sealed reading.tail) unsealed
 
 pub made_ready : (C : Type 0) → IsMadeReady C
 made_ready C format limits bytes start reading group gate is unsealed can room size closed =
-    (as_it_was format limits bytes start reading is unsealed both inside, record { unsealed = unsealed; has = record { group = record { can = can; spelled = spelled }; room = room_still }; closed = still })
+    (kept_by_writes_behind C format limits bytes start reading at both is (omega (arith, unsealed_sectors reading unsealed)) inside, record { unsealed = unsealed; has = record { group = record { can = can; spelled = spelled }; room = room_still }; closed = still })
   where
     encoding : List ℕ
     encoding = group_encoding format reading.place group
@@ -93,7 +93,7 @@ made_ready C format limits bytes start reading group gate is unsealed can room s
 
 pub made_ready_for_seal : (C : Type 0) → IsMadeReadyForSeal C
 made_ready_for_seal C format limits bytes start reading is unsealed last room = (
-  as_it_was format limits bytes start reading is unsealed (seal_encoding reading.place) inside,
+  kept_by_writes_behind C format limits bytes start reading at (seal_encoding reading.place) is (omega (arith, unsealed_sectors reading unsealed)) inside,
   record { seal = record { last = last; spelled = part_new at (seal_encoding reading.place) bytes inside }; room = omega (arith, room, length-overwrite at (seal_encoding reading.place) bytes inside) },
 )
   where

@@ -1,9 +1,10 @@
 -- What holds of journals in any format of commands. Each statement is the contract of a function.
-use Rattle.std.specs.Prelude.{◌≡◌, ◌↔◌, ℕ, ◌+◌, ◌*◌, ◌≤◌, false, List, ◌++◌, length, take, Ok, Err}
+use Rattle.std.specs.Prelude.{◌≡◌, ◌↔◌, ℕ, ◌+◌, ◌*◌, ◌<◌, ◌≤◌, false, List, ◌++◌, length, take, Ok, Err}
+use Rattle.std.specs.List.{AllByRecursion}
 use Rattle.byte_lists.specs.Content.{AreBytes, overwrite}
 use Rattle.byte_lists.specs.Sectors.{whole_sectors, sector_at, IsOpenGate}
 use Rattle.image_laws.specs.Limits.{Limits, AreAsLarge}
-use Rattle.image_laws.specs.CommandFormat.{CommandFormat}
+use Rattle.image_laws.specs.CommandFormat.{CommandFormat, IsAllowed}
 use Rattle.image_laws.specs.Group.{last_place, group_encoding, seal_encoding, group_sectors, HasRoom, CanBeGroup}
 use Rattle.image_laws.specs.Journal.{HasGroup, HasSeal, Reading, IsJournal, sectors_read, gate_behind, with_group, with_seal}
 use Rattle.image_laws.specs.GroupReading.{JournalRefusal}
@@ -36,6 +37,26 @@ GoesByItsFront C =
     (format : CommandFormat C) (limits : Limits) (xs ys : List ℕ) (start : ℕ) (reading : Reading C) → length xs ≡ length ys
     → take (512 * sectors_read reading) xs ≡ take (512 * sectors_read reading) ys
     → IsJournal format limits xs start reading → IsJournal format limits ys start reading
+
+-- whatever is written behind the sectors that count leaves the journal as it was
+abbrev pub IsKeptByWritesBehind : Type 0 → Type 0
+IsKeptByWritesBehind C =
+    (format : CommandFormat C) (limits : Limits) (bytes : List ℕ) (start : ℕ) (reading : Reading C) (at : ℕ) (behind : List ℕ)
+    → IsJournal format limits bytes start reading → 512 * sectors_read reading ≤ at → at + length behind ≤ length bytes
+    → IsJournal format limits (overwrite at behind bytes) start reading
+
+-- A journal's last gate is a sector of it, and one more has room for a seal, if it has two sectors at all. Its place is a
+-- place, if its first one was, and all its commands are allowed.
+pub record IsWithinBounds {C : Type 0} (format : CommandFormat C) (limits : Limits) (bytes : List ℕ) (start : ℕ) (reading : Reading C) : Type 0 where
+  pub tail : reading.tail < whole_sectors bytes
+  pub seal : 2 ≤ whole_sectors bytes → reading.tail + 2 ≤ whole_sectors bytes
+  pub place : start ≤ last_place → reading.place ≤ last_place
+  pub allowed : AllByRecursion (IsAllowed format limits) reading.commands
+
+abbrev pub StaysWithinBounds : Type 0 → Type 0
+StaysWithinBounds C =
+    (format : CommandFormat C) (limits : Limits) (bytes : List ℕ) (start : ℕ) (reading : Reading C) → 1 ≤ whole_sectors bytes
+    → IsJournal format limits bytes start reading → IsWithinBounds format limits bytes start reading
 
 -- payloads are whole sectors
 abbrev pub FillsSectors : Type 0 → Type 0

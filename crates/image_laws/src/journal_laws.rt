@@ -4,7 +4,7 @@
 ghost use Rattle.std.specs.Prelude.{◌≡◌, ℕ, ◌≤◌, length};
 ghost use Rattle.image_laws.specs.Limits.{AreAsLarge, limits_of};
 ghost use Rattle.image_laws.specs.Group.{seal_encoding};
-ghost use Rattle.image_laws.specs.JournalLaws.{IsReadSo, IsRefusedSo, HasOneReading, GoesByItsFront, FillsSectors, IsMadeReady, IsMadeReadyForSeal, GrowsByItsGate, IsSealedByItsGate, IsReadUnderLargerLimits};
+ghost use Rattle.image_laws.specs.JournalLaws.{IsReadSo, IsRefusedSo, HasOneReading, GoesByItsFront, StaysWithinBounds, FillsSectors, IsKeptByWritesBehind, IsMadeReady, IsMadeReadyForSeal, GrowsByItsGate, IsSealedByItsGate, IsReadUnderLargerLimits};
 
 /// Bytes are read as a journal just where they are one, and refused just where the refusal means them. A journal has one
 /// reading at most.
@@ -19,6 +19,11 @@ pub fn journals_go_by_their_front<C>()
     ensures { GoesByItsFront C }
 {}
 
+/// A journal's tail is one of its sectors and has room for a seal, its place is one, and its commands are allowed.
+pub fn journals_stay_within_bounds<C>()
+    ensures { StaysWithinBounds C }
+{}
+
 /// Payloads are whole sectors: those of groups as many as they take, those of seals one.
 pub fn payloads_fill_sectors<C>()
     ensures group { FillsSectors C }
@@ -27,6 +32,7 @@ pub fn payloads_fill_sectors<C>()
 
 /// What is written behind the tail's gate leaves a journal as it was, and makes it ready for that group, or for a seal.
 pub fn journals_are_made_ready<C>()
+    ensures kept { IsKeptByWritesBehind C }
     ensures group { IsMadeReady C }
     ensures seal { IsMadeReadyForSeal C }
 {}

@@ -9,6 +9,6 @@ mod worked;
 pub use journal_laws::{
     journals_are_made_ready, journals_are_read, journals_are_sealed_by_their_gate,
     journals_go_by_their_front, journals_grow_by_their_gate, journals_read_under_larger_limits,
-    later_versions_allow_more, payloads_fill_sectors,
+    journals_stay_within_bounds, later_versions_allow_more, payloads_fill_sectors,
 };
 pub use worked::{worked_journals, worked_payloads, worked_sizes};
