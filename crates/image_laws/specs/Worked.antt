@@ -1,8 +1,9 @@
 -- Worked values of the definitions, byte by byte.
-use Rattle.std.specs.Prelude.{◌≡◌, ℕ, Bool, List, [], ◌∷◌, ◌++◌, replicate, Result, Ok, Some, unwrap_or}
+use Rattle.std.specs.Prelude.{◌≡◌, ℕ, Bool, List, [], ◌∷◌, ◌++◌, replicate, take, Result, Ok, Some, unwrap_or}
 use Rattle.std.proofs.Common.{sym, ap}
 use Rattle.image_laws.specs.Limits.{limits_of}
 use Rattle.image_laws.specs.CommandFormat.{CommandFormat}
+use Rattle.image_laws.specs.Group.{group_encoding}
 use Rattle.image_laws.specs.GroupReading.{JournalRefusal}
 use Rattle.image_laws.specs.Journal.{Reading}
 use Rattle.image_laws.specs.JournalReading.{journal_scan}
@@ -35,9 +36,17 @@ open_sector = 0xA7 ∷ replicate 511 0
 abbrev pub closed_sector : List ℕ
 closed_sector = replicate 512 0
 
--- what a journal of these sectors reads as from a place on, under version 1
-abbrev pub reads_as : ℕ → List ℕ → Result (Reading (List ℕ)) JournalRefusal → Type 0
-reads_as place bytes result = journal_scan raw_format (limits_of 1) bytes place ≡ result
+-- that payload with another last byte
+abbrev pub marked_payload : List ℕ
+marked_payload = take 511 purge_payload ++ 1 ∷ []
+
+-- a group of nine commands at place 0
+abbrev pub nine_payload : List ℕ
+nine_payload = group_encoding raw_format 0 (replicate 9 purge_command)
+
+-- what a journal of these sectors reads as under a version, from a place on
+abbrev pub reads_as : ℕ → ℕ → List ℕ → Result (Reading (List ℕ)) JournalRefusal → Type 0
+reads_as version place bytes result = journal_scan raw_format (limits_of version) bytes place ≡ result
 
 abbrev pub reading : List (List ℕ) → ℕ → Bool → ℕ → Result (Reading (List ℕ)) JournalRefusal
 reading commands tail sealed place = Ok (record { commands = commands; tail = tail; sealed = sealed; place = place })

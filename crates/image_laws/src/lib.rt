@@ -11,4 +11,4 @@ pub use journal_laws::{
     journals_go_by_their_front, journals_grow_by_their_gate, journals_read_under_larger_limits,
     journals_stay_within_bounds, later_versions_allow_more, payloads_fill_sectors,
 };
-pub use worked::{worked_journals, worked_payloads, worked_sizes};
+pub use worked::{worked_journals, worked_payloads, worked_sizes, worked_versions};
