@@ -1,5 +1,5 @@
 -- A service in memory: what it holds, and what it answers to a message.
-use Rattle.std.specs.Prelude.{◌≡◌, ℕ, ◌+◌, ◌-◌, ◌^◌, ◌⊎◌, List, [], ◌∷◌, ◌==◌, if◌then◌else◌, Option, Some, None, Result, Ok, Err, IsOk}
+use Rattle.std.specs.Prelude.{◌≡◌, ℕ, ◌+◌, ◌-◌, ◌^◌, ◌<◌, ◌⊎◌, length, List, [], ◌∷◌, ◌==◌, if◌then◌else◌, Option, Some, None, Result, Ok, Err, IsOk}
 use Rattle.std.specs.Option.{option_or}
 use Rattle.seg_core.specs.declared.error.SegError.{SegError}
 use Rattle.seg_core.specs.declared.seg_type.SegType.{SegType}
@@ -94,18 +94,19 @@ message_step served (Remove kind id) = removal_step served id (type_of kind)
 
 -- ---- want of memory
 
-abbrev pub IsFound : ReplyView → Type 0
-IsFound (Registered ack) = ⊥
-IsFound (Found kind segments) = Unit {0}
-IsFound (Purged ack) = ⊥
-IsFound (Removed ack) = ⊥
-IsFound (Refused code) = ⊥
+-- a reply that shows a segment
+abbrev pub ShowsSome : ReplyView → Type 0
+ShowsSome (Registered ack) = ⊥
+ShowsSome (Found kind segments) = 0 < length segments
+ShowsSome (Purged ack) = ⊥
+ShowsSome (Removed ack) = ⊥
+ShowsSome (Refused code) = ⊥
 
--- Whether memory may run out for a message: a registration is refused without memory where its outline is, a lookup
--- wherever it is refused; a purge and a removal take none.
+-- Whether memory may run out for a message: a registration is refused without memory where its outline is; a lookup takes
+-- memory just where it shows a segment; a purge and a removal take none.
 abbrev pub MayRunOut : Served → MessageView → Type 0
 MayRunOut served (Register body) = IsOk (registration_outline body)
-MayRunOut served (Lookup body) = IsFound (message_step served (Lookup body)).0
+MayRunOut served (Lookup body) = ShowsSome (message_step served (Lookup body)).0
 MayRunOut served (Purge moment) = ⊥
 MayRunOut served (Remove kind id) = ⊥
 

@@ -1,6 +1,6 @@
 //! What a query shows of a database.
 
-ghost use Rattle.std.specs.Prelude.{◌≡◌, ◌≤◌, length, IfOk};
+ghost use Rattle.std.specs.Prelude.{◌≡◌, ◌<◌, ◌≤◌, length, IfOk, OnErr};
 ghost use Rattle.std.specs.List.{AllByRecursion};
 ghost use Rattle.seg_core.specs.Encoding.{IsSegment};
 ghost use Rattle.path_db.specs.Answer.{segments_of};
@@ -16,9 +16,10 @@ use std::alloc::AllocError;
 pub const ANSWER_LIMIT: usize = 64;
 
 /// The segments of the first 64 rows by key that match the query and expire after `now`, in half seconds since 1970. The
-/// segments are shared, not copied.
+/// segments are shared, not copied. An answer of none takes no memory.
 pub fn answer(db: &PathDb, query: &Query, now: u64) -> Result<Vec<Segment>, AllocError>
     ensures same { IfOk result (λ found. found.items ≡ segments_of (answer_to db.now (query_view query.now) now)) }
+    ensures memory { OnErr result (0 < length (answer_to db.now (query_view query.now) now)) }
     ensures few { IfOk result (λ found. length found.items ≤ ANSWER_LIMIT) }
     ensures whole { IfOk result (λ found. AllByRecursion IsSegment found.items) }
 {
