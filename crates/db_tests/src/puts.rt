@@ -43,8 +43,9 @@ fn puts_are_in_order(rt: HostRuntime) -> Result<(), Fail> {
     }
     let registration = Registration::new(rows);
     assert_eq!(rt; registration.as_slice().len(), 4);
+    let again = Registration::new(registration.into_vec());
     let mut database = PathDb::new(rt.alloc());
-    let outcome = database.apply(&Command::Register(registration))?;
+    let outcome = database.apply(&Command::Register(again))?;
     assert_eq!(rt; outcome, done(1, 1, 2));
     let stands = database.get(SegType::Down, &ID).map(Segment::segment_id);
     assert_eq!(rt; stands, Some(2));

@@ -62,6 +62,17 @@ fn rows_are_in_the_order_of_their_keys(rt: HostRuntime) -> Result<(), Fail> {
     Ok(())
 }
 
+// A row of the worked segment has its id, and so has a copy.
+#[test]
+fn rows_have_ids(rt: HostRuntime) -> Result<(), Fail> {
+    let row = Row::new(SegType::Down, segment(rt.alloc())?);
+    let copy = row.try_clone()?;
+    for row in [&row, &copy] {
+        assert_eq!(rt; (row.kind, row.id), (SegType::Down, ID));
+    }
+    Ok(())
+}
+
 // The worked segment is found under its type and its id alone, and in a copy too.
 #[test]
 fn segments_are_found(rt: HostRuntime) -> Result<(), Fail> {
