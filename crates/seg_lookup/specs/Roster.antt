@@ -1,6 +1,7 @@
 -- The core ASes of a network, and which sides of a lookup are core.
 use Rattle.std.specs.Prelude.{ℕ, ◌%◌, ◌^◌, List, Bool, ◌==◌, ◌||◌, map}
 use Rattle.std.specs.Ordering.{nat_cmp}
+use Rattle.std.specs.Coded.{Coded, coded_ℕ}
 use Rattle.std.specs.FinSet as set
 use Rattle.isd_as.specs.declared.number.IsdAs.{IsdAs}
 use Rattle.isd_as.specs.IsdAs.{number_of}
@@ -8,6 +9,10 @@ use Rattle.isd_as.specs.IsdAs.{number_of}
 -- a finite set of ISD-ASes, by their numbers
 abbrev pub RosterView : Type 0
 RosterView = set.FinSet nat_cmp
+
+-- how a roster is stored as data, for a `Value` that has one
+abbrev pub roster_code : Coded RosterView
+roster_code = set.code coded_ℕ
 
 -- the set of these
 abbrev pub roster_of : List IsdAs → RosterView

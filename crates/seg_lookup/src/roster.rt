@@ -16,15 +16,13 @@ pub struct Roster {
 }
 
 impl Model for Roster {
-    ghost use Rattle.std.specs.Coded.{coded_ℕ};
-    ghost use Rattle.std.specs.FinSet as set;
     ghost use Rattle.std.specs.List.Sorted.{IsNonDecreasingBy};
     ghost use Rattle.isd_as.specs.IsdAs.{number_of};
-    ghost use Rattle.seg_lookup.specs.Roster.{RosterView, roster_of};
+    ghost use Rattle.seg_lookup.specs.Roster.{RosterView, roster_code, roster_of};
 
     ghost Value = { RosterView };
 
-    ghost coded = { set.code coded_ℕ };
+    ghost coded = { roster_code };
 
     ghost view = { λ s. roster_of s.cores.items };
 
