@@ -1,8 +1,9 @@
 #!/usr/bin/env bash
-# Where the program's instructions go (valgrind --tool=callgrind), with all that it calls and without: 1,000
-# registrations of one segment of 8 entries each, and 1,000 lookups that show 1 or 64 such segments of 1,000 rows.
-# The instructions of the start and of filling the database are taken off: of each session another is run without the
-# part that is asked for, and the difference is told. It needs Debian's valgrind, Python 3 and the program built.
+# Where the program's instructions go (valgrind --tool=callgrind), with all that a function calls and without: 1,000 pairs
+# of the worked segment's registration and its lookup; 1,000 registrations of one segment of 8 entries each, and as many
+# lookups that show 1 or 64 such segments, of 1,000 rows. The instructions of the start and of filling the database are
+# taken off: of each session another is run without the part that is asked for, and the difference is told. It needs
+# Debian's valgrind, Python 3 and the program built.
 #
 #     bench/profile.sh [PROGRAM]
 set -euo pipefail
@@ -14,7 +15,7 @@ frames() { python3 "$top/bench/frames.py" "$@"; }
 
 profile() { # the name of its figures, and the frames
   cat "${@:2}" >"$work/in"
-  valgrind --tool=callgrind --callgrind-out-file="$work/$1.out" "$program" once --cores 1-ff00:0:100 \
+  valgrind --tool=callgrind --callgrind-out-file="$work/$1.out" "$program" once --cores 1-ff00:0:100,1-ff00:0:110 \
     <"$work/in" >/dev/null 2>"$work/log" || { cat "$work/log"; exit 1; }
   for how in yes no; do
     callgrind_annotate --inclusive=$how --threshold=100 --auto=no --show-percs=no "$work/$1.out" >"$work/$1.$how"
@@ -52,6 +53,11 @@ PYTHON
 frames rows 1000 50000 1 >"$work/new"
 frames lookups 1000 1 >"$work/one"
 frames lookups 1000 3 >"$work/all"
+frames pairs 1 >"$work/pair"
+frames pairs 1000 >"$work/pairs"
+profile pair "$work/pair"
+profile pairs "$work/pair" "$work/pairs"
+tell "a registration of the worked segment and its lookup" pairs pair
 profile base "$work/base"
 profile new "$work/base" "$work/new"
 profile one "$work/base" "$work/one"
