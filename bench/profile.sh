@@ -1,0 +1,67 @@
+#!/usr/bin/env bash
+# Where the program's instructions go (valgrind --tool=callgrind), with all that a function calls and without: 1,000 pairs
+# of the worked segment's registration and its lookup; 1,000 registrations of one segment of 8 entries each, and as many
+# lookups that show 1 or 64 such segments, of 1,000 rows. The instructions of the start and of filling the database are
+# taken off: of each session another is run without the part that is asked for, and the difference is told. It needs
+# Debian's valgrind, Python 3 and the program built.
+#
+#     bench/profile.sh [PROGRAM]
+set -euo pipefail
+top=$(cd "$(dirname "${BASH_SOURCE[0]}")/.." && pwd)
+program=$(realpath "${1:-$top/crates/pathd/out/pathd}")
+work=$(mktemp -d)
+trap 'rm -rf "$work"' EXIT
+frames() { python3 "$top/bench/frames.py" "$@"; }
+
+profile() { # the name of its figures, and the frames
+  cat "${@:2}" >"$work/in"
+  valgrind --tool=callgrind --callgrind-out-file="$work/$1.out" "$program" once --cores 1-ff00:0:100,1-ff00:0:110 \
+    <"$work/in" >/dev/null 2>"$work/log" || { cat "$work/log"; exit 1; }
+  for how in yes no; do
+    callgrind_annotate --inclusive=$how --threshold=100 --auto=no --show-percs=no "$work/$1.out" >"$work/$1.$how"
+  done
+}
+
+tell() { # the title, the name of the figures of the whole, and of the base
+  echo "== $1"
+  for how in yes no; do
+    python3 - "$work/$2.$how" "$work/$3.$how" "$how" <<'PYTHON'
+import re
+import sys
+
+def counts(name):
+    found = {}
+    for line in open(name, errors="replace"):
+        it = re.match(r"\s*([\d,]+)\s+(?:PROGRAM TOTALS|\S*?:(.*?)(?: \[.*\])?$)", line)
+        if it:
+            what = (it[2] or "total").strip()
+            found[what] = found.get(what, 0) + int(it[1].replace(",", ""))
+    return found
+
+whole, base = counts(sys.argv[1]), counts(sys.argv[2])
+left = {it: whole[it] - base.get(it, 0) for it in whole}
+total = left.pop("total")
+print(f"{total / 1000:,.0f} instructions each, " + ("with callees:" if sys.argv[3] == "yes" else "without callees:"))
+below_main = [it for it in left if left[it] < 0.995 * total]
+for it in sorted(below_main, key=left.get, reverse=True)[:16]:
+    print(f"  {100 * left[it] / total:5.1f} %  {it[:110]}")
+PYTHON
+  done
+}
+
+{ frames leaf 1 1 && frames leaf 64 3 && frames rows 935 0 16; } >"$work/base"
+frames rows 1000 50000 1 >"$work/new"
+frames lookups 1000 1 >"$work/one"
+frames lookups 1000 3 >"$work/all"
+frames pairs 1 >"$work/pair"
+frames pairs 1000 >"$work/pairs"
+profile pair "$work/pair"
+profile pairs "$work/pair" "$work/pairs"
+tell "a registration of the worked segment and its lookup" pairs pair
+profile base "$work/base"
+profile new "$work/base" "$work/new"
+profile one "$work/base" "$work/one"
+profile all "$work/base" "$work/all"
+tell "a registration of one segment" new base
+tell "a lookup that shows 1 segment" one base
+tell "a lookup that shows 64 segments" all base
