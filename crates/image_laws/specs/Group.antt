@@ -10,7 +10,7 @@ use Rattle.image_laws.specs.CommandFormat.{CommandFormat, IsAllowed}
 abbrev pub most_record_bytes : ℕ
 most_record_bytes = 262144
 
--- the last place of a command
+-- the greatest place that a journal reaches
 abbrev pub last_place : ℕ
 last_place = 2 ^ 64 - 1
 
@@ -42,7 +42,7 @@ payload_sectors size = sectors_of (16 + size)
 abbrev pub group_sectors : {C : Type 0} → CommandFormat C → List C → ℕ
 group_sectors format commands = payload_sectors (length (records_of format commands))
 
--- whether a journal has room for so many sectors behind the gate, and for two more: the gate behind them, and a seal's
+-- a journal has room for so many sectors behind the gate, and for two more: the gate behind them, and a seal's
 abbrev pub HasRoom : ℕ → ℕ → ℕ → Type 0
 HasRoom gate payload journal = gate + 1 + payload + 2 ≤ journal
 

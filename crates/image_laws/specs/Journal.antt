@@ -21,13 +21,17 @@ pub record HasSeal (bytes : List ℕ) (gate place : ℕ) : Type 0 where
   pub seal : IsSeal place (sector_at (gate + 1) bytes)
   pub room : gate + 2 ≤ whole_sectors bytes
 
+-- the gate behind the group at a gate
+abbrev pub gate_behind : {C : Type 0} → CommandFormat C → ℕ → List C → ℕ
+gate_behind format gate commands = gate + 1 + group_sectors format commands
+
 -- from a gate to a later one: open gates, each with its group at the place reached
 abbrev pub IsChain : {C : Type 0} → CommandFormat C → Limits → List ℕ → ℕ → ℕ → List (List C) → ℕ → Type 0
 IsChain format limits bytes gate place [] tail = gate ≡ tail
 IsChain format limits bytes gate place (commands ∷ more) tail =
     IsOpenGate (sector_at gate bytes)
     × HasGroup format limits bytes gate place commands
-    × IsChain format limits bytes (gate + 1 + group_sectors format commands) (place + length commands) more tail
+    × IsChain format limits bytes (gate_behind format gate commands) (place + length commands) more tail
 
 -- how a journal ends: at a closed gate, or at an open one with a seal
 abbrev pub EndsAs : Bool → List ℕ → ℕ → ℕ → Type 0
@@ -56,10 +60,6 @@ sectors_to true tail = tail + 2
 
 abbrev pub sectors_read : {C : Type 0} → Reading C → ℕ
 sectors_read reading = sectors_to reading.sealed reading.tail
-
--- the gate behind the group at a gate
-abbrev pub gate_behind : {C : Type 0} → CommandFormat C → ℕ → List C → ℕ
-gate_behind format gate commands = gate + 1 + group_sectors format commands
 
 -- a reading with a group more, and one that a seal ends
 abbrev pub with_group : {C : Type 0} → CommandFormat C → Reading C → List C → Reading C
