@@ -1,10 +1,11 @@
 -- What a stop leaves while `recover` copies a payload, call by call.
 use Rattle.std.proofs.Common.{◌≡◌, ℕ, ◌+◌, ◌*◌, ◌<◌, ◌≤◌, List, length, get_or, Some, None, Result, Ok, Err, OnOk, cond, eqb, refl, ◌∙◌, ap, subst, arith}
-use Rattle.sector_dev.specs.Disk.{History, Disk, IsHonest, IsWhole, reads_of, part, overwrite, after_write, after_sync}
+use Rattle.byte_lists.specs.Content.{part, overwrite}
+use Rattle.sector_dev.specs.Disk.{History, Disk, IsHonest, IsWhole, reads_of, after_write, after_sync}
 use Rattle.sector_dev.specs.Image.{IsImage, EveryImage}
 use Rattle.sector_dev.specs.Calls.{ReadCall, WriteCall, SyncCall}
 use Rattle.sector_dev.specs.Stretch.{Stretch}
-use Rattle.sector_dev.proofs.Contents.{overwrite_before, part_below}
+use Rattle.byte_lists.proofs.Contents.{overwrite_before, part_below}
 use Rattle.sector_dev.proofs.Images.{image_after_sync}
 use Rattle.sector_dev.proofs.Results.{success}
 use Rattle.sector_dev.proofs.Parts.{history_written, history_synced}

@@ -1,10 +1,11 @@
 -- What the loop of `fill` has done so far, and what a stop leaves of it.
 use Rattle.std.proofs.Common.{◌≡◌, ℕ, ◌+◌, ◌*◌, ◌<◌, ◌≤◌, inl, inr, List, length, Result, refl, sym, ◌∙◌, ap, subst, arith}
 use Rattle.std.proofs.lemmas.Bool.{cases_lt}
-use Rattle.sector_dev.specs.Disk.{History, Disk, IsHonest, IsWhole, reads_of, part, overwrite}
+use Rattle.byte_lists.specs.Content.{part, overwrite}
+use Rattle.sector_dev.specs.Disk.{History, Disk, IsHonest, IsWhole, reads_of}
 use Rattle.sector_dev.specs.Calls.{WriteCall}
 use Rattle.sector_dev.specs.Stretch.{Stretch}
-use Rattle.sector_dev.proofs.Contents.{length-overwrite, overwrite_before, overwrite_behind, part_below, part_new}
+use Rattle.byte_lists.proofs.Contents.{length-overwrite, overwrite_before, overwrite_behind, part_below, part_new}
 use Rattle.sector_dev.proofs.Results.{success}
 use Rattle.sector_dev.proofs.Parts.{history_written}
 use Rattle.sector_dev.proofs.Stretches.{honest_after, from_here, from_write}

@@ -2,11 +2,12 @@
 use Rattle.std.proofs.Common.{◌≡◌, inl, inr, ℕ, ◌+◌, ◌-◌, ◌*◌, ◌<◌, ◌≤◌, List, [], length, get_or, Some, None, Result, Ok, Err, OnOk, sym, ◌∙◌, ap, subst, arith}
 use Rattle.std.proofs.lemmas.Bool.{cases_eq}
 use Rattle.std.proofs.lemmas.Bool.Decides.{nat_tests}
-use Rattle.sector_dev.specs.Disk.{Span, History, Disk, IsHonest, IsWhole, AreBytes, part, overwrite, after_write, after_sync}
+use Rattle.byte_lists.specs.Content.{AreBytes, part, overwrite}
+use Rattle.sector_dev.specs.Disk.{Span, History, Disk, IsHonest, IsWhole, after_write, after_sync}
 use Rattle.sector_dev.specs.Image.{IsCleanPart, IsImage, EveryImage}
 use Rattle.sector_dev.specs.Calls.{WriteCall, SyncCall}
 use Rattle.sector_dev.specs.Stretch.{Stretch}
-use Rattle.sector_dev.proofs.Contents.{length-overwrite, overwrite_before, overwrite_within, part_above, part_new}
+use Rattle.byte_lists.proofs.Contents.{length-overwrite, overwrite_before, overwrite_within, part_above, part_new}
 use Rattle.sector_dev.proofs.Images.{clean_part_none, clean_part_beside, image_part, every_written, image_after_sync}
 use Rattle.sector_dev.proofs.Results.{success}
 use Rattle.sector_dev.proofs.Parts.{history_written, history_synced}

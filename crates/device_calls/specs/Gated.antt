@@ -1,6 +1,7 @@
 -- A payload behind a gate: it counts where the first byte of the gate's sector is 0xA7.
 use Rattle.std.specs.Prelude.{◌≡◌, ◌≢◌, ◌⊎◌, ℕ, ◌*◌, List, Option, Some, None, slice_index, if◌then◌else◌, ◌==◌}
-use Rattle.sector_dev.specs.Disk.{Moment, part}
+use Rattle.byte_lists.specs.Content.{part}
+use Rattle.sector_dev.specs.Disk.{Moment}
 use Rattle.sector_dev.specs.Image.{IsFromImage}
 
 -- the gate in this sector is not open

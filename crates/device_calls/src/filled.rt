@@ -1,6 +1,7 @@
 //! A range of sectors, written one after another.
 ghost use Rattle.std.specs.Prelude.{◌≡◌, ℕ, ◌+◌, ◌*◌, ◌<◌, ◌≤◌, length, OnOk};
-ghost use Rattle.sector_dev.specs.Disk.{IsHonest, reads_of, part};
+ghost use Rattle.byte_lists.specs.Content.{part};
+ghost use Rattle.sector_dev.specs.Disk.{IsHonest, reads_of};
 ghost use Rattle.sector_dev.specs.Calls.{count_after};
 ghost use Rattle.sector_dev.specs.Stretch.{Stretch};
 ghost use Rattle.device_calls.specs.Filled.{IsSameOutside, IsKeptOutside};

@@ -1,6 +1,7 @@
 //! A payload that counts from one moment on.
 ghost use Rattle.std.specs.Prelude.{◌≡◌, ◌+◌, ◌*◌, ◌%◌, ◌<◌, ◌≤◌, Some, length, slice_index, OnOk};
-ghost use Rattle.sector_dev.specs.Disk.{IsHonest, reads_of, part};
+ghost use Rattle.byte_lists.specs.Content.{part};
+ghost use Rattle.sector_dev.specs.Disk.{IsHonest, reads_of};
 ghost use Rattle.sector_dev.specs.Image.{EveryImage};
 ghost use Rattle.sector_dev.specs.Calls.{count_after};
 ghost use Rattle.sector_dev.specs.Stretch.{Stretch};

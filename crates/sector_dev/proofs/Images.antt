@@ -3,9 +3,10 @@
 use Rattle.std.proofs.Common.{◌≡◌, ◌⊎◌, inl, inr, ℕ, ◌+◌, ◌-◌, ◌≤◌, List, [], ◌∷◌, length, get_or, refl, sym, ◌∙◌, ap, subst, arith}
 use Rattle.std.proofs.lemmas.Bool.{cases_lt}
 use Rattle.std.proofs.lemmas.List.Elements.{All-nil, All-cons, All-head, All-tail}
-use Rattle.sector_dev.specs.Disk.{Span, Moment, History, AreBytes, part, overwrite, after_write, after_sync}
+use Rattle.byte_lists.specs.Content.{AreBytes, part, overwrite}
+use Rattle.sector_dev.specs.Disk.{Span, Moment, History, after_write, after_sync}
 use Rattle.sector_dev.specs.Image.{IsClean, IsCleanPart, IsImage, EveryImage}
-use Rattle.sector_dev.proofs.Contents.{length-overwrite, overwrite_before, overwrite_within, overwrite_behind, length-part, get_or-part, same_part, same_content, overwrite_same, overwrite_twice, bytes_overwrite, bytes-part}
+use Rattle.byte_lists.proofs.Contents.{length-overwrite, overwrite_before, overwrite_within, overwrite_behind, length-part, get_or-part, same_part, same_content, overwrite_same, overwrite_twice, bytes_overwrite, bytes-part}
 
 -- a range leaves this byte alone
 abbrev pub IsBeside : ℕ → Span → Type 0

@@ -5,14 +5,15 @@ use Rattle.std.proofs.lemmas.Bool.{cases_lt}
 use Rattle.std.proofs.lemmas.Bool.Decides.{nat_tests}
 use Rattle.std.proofs.lemmas.List.{take_at, drop_at, drop-drop, drop-take, take-take, take-append-drop, take-append-le, length-take-le, get_or_append_left, get_or-append_right}
 use borrow.Rule.Slice.PartMut.{put_mid, post_of}
-use Rattle.sector_dev.specs.Disk.{Span, Moment, History, part, overwrite}
+use Rattle.byte_lists.specs.Content.{part, overwrite}
+use Rattle.sector_dev.specs.Disk.{Span, Moment, History}
 use Rattle.sector_dev.specs.Calls.{Lands, one_more}
 use Rattle.sector_dev.specs.PositionedFile.{FileState, IsHonestFile, DirtiesOnly, CoversDirty, TransfersIn, failures_after_transfer}
 use Rattle.sector_dev.specs.FileDevice.{LandsWhole, WritesWhole, front}
 use Rattle.sector_dev.specs.Image.{IsClean}
 use Rattle.sector_dev.proofs.Images.{clean_before}
 use Rattle.sector_dev.proofs.Results.{success, failure}
-use Rattle.sector_dev.proofs.Contents.{length-overwrite, overwrite_before, overwrite_within, overwrite_behind, length-part, part_above, same_content, overwrite_same}
+use Rattle.byte_lists.proofs.Contents.{length-overwrite, overwrite_before, overwrite_within, overwrite_behind, length-part, part_above, same_content, overwrite_same}
 
 -- the first m, and then the next n
 pub take_join : (m n : ℕ) (bytes : List ℕ) → take m bytes ++ take n (drop m bytes) ≡ take (m + n) bytes

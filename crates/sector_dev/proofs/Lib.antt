@@ -1,5 +1,4 @@
 pub mod Results
-pub mod Contents
 pub mod Images
 pub mod Parts
 pub mod Stretches

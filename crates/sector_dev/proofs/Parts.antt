@@ -1,11 +1,12 @@
 -- What one call of an honest device leaves, and what it leaves of a part that it doesn't meet, whatever it answered. For
 -- the crates above, `device_calls` among them.
 use Rattle.std.proofs.Common.{◌≡◌, ◌⊎◌, inl, inr, ℕ, ◌+◌, ◌*◌, ◌≤◌, List, length, sym, ◌∙◌, ap, subst, arith, Result, Ok, Err}
-use Rattle.sector_dev.specs.Disk.{History, Disk, IsHonest, reads_of, part, after_write, after_sync}
+use Rattle.byte_lists.specs.Content.{part}
+use Rattle.sector_dev.specs.Disk.{History, Disk, IsHonest, reads_of, after_write, after_sync}
 use Rattle.sector_dev.specs.Image.{IsCleanPart}
 use Rattle.sector_dev.specs.Calls.{ReadCall, WriteCall, SyncCall}
 use Rattle.sector_dev.proofs.Results.{success}
-use Rattle.sector_dev.proofs.Contents.{part_below, part_above}
+use Rattle.byte_lists.proofs.Contents.{part_below, part_above}
 use Rattle.sector_dev.proofs.Images.{clean_part_none, clean_part_beside}
 
 -- A write that succeeded: these bytes landed.

@@ -2,7 +2,8 @@
 use Rattle.std.proofs.Common.{◌≡◌, ℕ, ◌+◌, ◌*◌, ◌≤◌, ◌^◌, ◌-◌, List, [], ◌∷◌, ◌++◌, length, drop, Bool, IsTrue, refl, sym, ◌∙◌, ap, subst, arith, append_assoc, Result, Ok, Err, OnOk, OnErr, All}
 use Rattle.std.proofs.lemmas.List.{drop_at, append-nil, same_from_push}
 use Rattle.std.proofs.lemmas.List.Elements.{All-nil, All-cons, All-head, All-tail, All-append, All-same, All-weaker}
-use Rattle.sector_dev.specs.Disk.{Moment, History, Disk, IsHonest, IsWhole, reads_of, moments, overwrite, after_write, after_sync}
+use Rattle.byte_lists.specs.Content.{overwrite}
+use Rattle.sector_dev.specs.Disk.{Moment, History, Disk, IsHonest, IsWhole, reads_of, moments, after_write, after_sync}
 use Rattle.sector_dev.specs.Image.{EveryImage, IsFromImage}
 use Rattle.sector_dev.specs.Calls.{count_after, Keeps, ReadCall, WriteCall, SyncCall}
 use Rattle.sector_dev.specs.Stretch.{Leaves, Stretch}

@@ -1,6 +1,7 @@
 -- What each call of a device does, one record a call. What an honest device does is said under that premise alone.
 use Rattle.std.specs.Prelude.{◌≡◌, ℕ, ◌+◌, ◌-◌, ◌*◌, ◌^◌, min, List, length, Result, Ok, Err, OnOk, OnErr}
-use Rattle.sector_dev.specs.Disk.{Disk, IsHonest, History, reads_of, part, after_write, after_sync}
+use Rattle.byte_lists.specs.Content.{part}
+use Rattle.sector_dev.specs.Disk.{Disk, IsHonest, History, reads_of, after_write, after_sync}
 
 -- a count of what failed, with one more; 2^64 - 1 stays
 abbrev pub one_more : ℕ → ℕ

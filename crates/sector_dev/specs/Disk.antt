@@ -1,5 +1,6 @@
 -- What contracts see of a device of 512-byte sectors, and how its calls change it. Offsets and lengths count bytes.
-use Rattle.std.specs.Prelude.{◌≡◌, ℕ, ◌+◌, ◌*◌, ◌<◌, Bool, IsTrue, List, [], ◌∷◌, ◌++◌, length, take, drop, slice_index}
+use Rattle.std.specs.Prelude.{◌≡◌, ℕ, ◌*◌, Bool, IsTrue, List, [], ◌∷◌, ◌++◌, length}
+use Rattle.byte_lists.specs.Content.{AreBytes, overwrite}
 
 -- a range of bytes
 pub record Span : Type 0 where
@@ -35,22 +36,10 @@ reads_of disk = disk.history.now.reads
 abbrev pub moments : History → List Moment
 moments history = history.past ++ history.now ∷ []
 
--- each number is a byte
-abbrev pub AreBytes : List ℕ → Type 0
-AreBytes numbers = (i : ℕ) → slice_index numbers i < 256
-
 -- what reads give is bytes, 512 for each sector
 pub record IsWhole (disk : Disk) : Type 0 where
   pub size : length (reads_of disk) ≡ 512 * disk.sectors
   pub bytes : AreBytes (reads_of disk)
-
--- the n bytes at an offset
-abbrev pub part : ℕ → ℕ → List ℕ → List ℕ
-part at n content = take n (drop at content)
-
--- the content with these bytes at an offset, instead of as many
-abbrev pub overwrite : ℕ → List ℕ → List ℕ → List ℕ
-overwrite at bytes content = take at content ++ bytes ++ drop (at + length bytes) content
 
 -- the history after a write that left these bytes at an offset
 abbrev pub after_write : ℕ → List ℕ → History → History

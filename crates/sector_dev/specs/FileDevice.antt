@@ -1,6 +1,7 @@
 -- What clauses see of a device over a file.
 use Rattle.std.specs.Prelude.{◌≡◌, ℕ, ◌+◌, ◌*◌, ◌/◌, ◌≤◌, List, [], length, take, Result, OnOk}
-use Rattle.sector_dev.specs.Disk.{Disk, overwrite}
+use Rattle.byte_lists.specs.Content.{overwrite}
+use Rattle.sector_dev.specs.Disk.{Disk}
 use Rattle.sector_dev.specs.Calls.{count_after}
 use Rattle.sector_dev.specs.PositionedFile.{FileState, IsHonestFile, DirtiesOnly}
 use Rattle.sector_dev.specs.declared.positioned_file.PositionedFile.{Ghosts}

@@ -3,7 +3,7 @@ use Rattle.std.specs.Prelude.{◌≡◌, ℕ, ◌*◌, ◌<◌, ◌≤◌, List,
 use Rattle.std.proofs.Common.{arith, get_or, get_or-take, inl, inr}
 use Rattle.std.proofs.lemmas.Bool.{cases_lt}
 use Rattle.std.proofs.lemmas.List.{length-take-le, get_or_past}
-use Rattle.sector_dev.specs.Disk.{AreBytes}
+use Rattle.byte_lists.specs.Content.{AreBytes}
 
 -- bytes, 512 for each sector
 pub whole_front : (sectors : ℕ) (bytes : List ℕ) → 512 * sectors ≤ length bytes → AreBytes bytes → (length (take (512 * sectors) bytes) ≡ 512 * sectors) × AreBytes (take (512 * sectors) bytes)

@@ -1,6 +1,7 @@
 -- What clauses see of a device that stops for good after some calls.
 use Rattle.std.specs.Prelude.{◌≡◌, ◌↔◌, ℕ, ◌-◌, ◌*◌, ◌<◌, List, ◌++◌, length, take, replicate, Result, IsOk, if◌then◌else◌, ◌==◌}
-use Rattle.sector_dev.specs.Disk.{Disk, History, part, after_write}
+use Rattle.byte_lists.specs.Content.{part}
+use Rattle.sector_dev.specs.Disk.{Disk, History, after_write}
 use Rattle.sector_dev.specs.declared.fuse_device.FuseDevice.{FuseDevice}
 use Rattle.sector_dev.specs.declared.fuse_device.Tear.{Tear}
 use Rattle.sector_dev.specs.declared.mem_device.MemDevice.{MemDevice}

@@ -1,7 +1,8 @@
 -- What a device may hold after a stop. A stop within a call is covered too: in the middle of a write what is there is an
 -- image of the moment after it, and in the middle of a sync one of the moment before.
 use Rattle.std.specs.Prelude.{◌≡◌, ℕ, ◌+◌, ◌<◌, ◌≤◌, List, length, drop, slice_index, All}
-use Rattle.sector_dev.specs.Disk.{Span, Moment, History, moments, AreBytes}
+use Rattle.byte_lists.specs.Content.{AreBytes}
+use Rattle.sector_dev.specs.Disk.{Span, Moment, History, moments}
 
 -- no range has the byte at this offset
 abbrev pub IsClean : List Span → ℕ → Type 0

@@ -1,6 +1,7 @@
 -- What the calls of a file do that is read and written at offsets. What an honest file does is said under that premise.
 use Rattle.std.specs.Prelude.{◌≡◌, ℕ, ◌+◌, ◌≤◌, Bool, IsTrue, List, [], length, take, Result, Ok, Err, IfOk, OnOk, OnErr, if◌then◌else◌, ◌==◌, ◌&&◌, nat_lt}
-use Rattle.sector_dev.specs.Disk.{Span, part, overwrite}
+use Rattle.byte_lists.specs.Content.{part, overwrite}
+use Rattle.sector_dev.specs.Disk.{Span}
 use Rattle.sector_dev.specs.Image.{IsClean}
 use Rattle.sector_dev.specs.Calls.{count_after, one_more}
 

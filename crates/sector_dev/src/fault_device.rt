@@ -56,7 +56,8 @@ impl FaultDevice {
 impl Device for FaultDevice {
     ghost use Rattle.std.specs.Prelude.{◌≡◌, ◌+◌, ◌-◌, ◌*◌, ◌%◌, ◌<◌, ◌≤◌, length, OnErr};
     ghost use Rattle.std.proofs.Common.{arith};
-    ghost use Rattle.sector_dev.specs.Disk.{part, after_write, reads_of};
+    ghost use Rattle.byte_lists.specs.Content.{part};
+    ghost use Rattle.sector_dev.specs.Disk.{after_write, reads_of};
     ghost use Rattle.sector_dev.specs.Calls.{ReadCall, WriteCall, SyncCall};
     ghost use Rattle.sector_dev.specs.FaultDevice.{fault_disk, CountsDown};
 

@@ -1,7 +1,7 @@
 //! A device in memory.
 ghost use Rattle.std.specs.Prelude.{◌≡◌, ℕ, ◌+◌, ◌*◌, ◌%◌, ◌^◌, ◌<◌, ◌≤◌, length, IfOk};
 ghost use Rattle.std.proofs.Common.{arith};
-ghost use Rattle.sector_dev.specs.Disk.{AreBytes};
+ghost use Rattle.byte_lists.specs.Content.{AreBytes};
 
 use crate::fuse_device::Tear;
 use crate::trail::Trail;
@@ -20,7 +20,8 @@ pub struct MemDevice {
 }
 
 impl MemDevice {
-    ghost use Rattle.sector_dev.specs.Disk.{part, after_write, reads_of};
+    ghost use Rattle.byte_lists.specs.Content.{part};
+    ghost use Rattle.sector_dev.specs.Disk.{after_write, reads_of};
     ghost use Rattle.sector_dev.specs.MemDevice.{memory_disk, zeroed_disk};
     ghost use Rattle.sector_dev.specs.FuseDevice.{torn_bytes};
 

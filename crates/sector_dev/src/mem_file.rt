@@ -1,6 +1,6 @@
 //! A file in memory.
 ghost use Rattle.std.specs.Prelude.{◌≡◌, true, []};
-ghost use Rattle.sector_dev.specs.Disk.{AreBytes};
+ghost use Rattle.byte_lists.specs.Content.{AreBytes};
 
 use crate::PositionedFile;
 use crate::positioned_file::failures_after;

@@ -1,6 +1,6 @@
 //! A file that is read and written at offsets.
 ghost use Rattle.std.specs.Prelude.{◌≡◌, ◌+◌, ◌<◌, ◌^◌, length, IfOk, IsTrue};
-ghost use Rattle.sector_dev.specs.Disk.{AreBytes};
+ghost use Rattle.byte_lists.specs.Content.{AreBytes};
 ghost use Rattle.sector_dev.specs.PositionedFile.{FileState, IsHonestFile, LeavesFile, SyncsFile, TransfersOut, TransfersIn, failures_after_transfer};
 
 use std::io;

@@ -1,6 +1,6 @@
 //! Whole reads and writes of a file whose transfers may be short.
 ghost use Rattle.std.specs.Prelude.{◌≡◌, ◌+◌, ◌<◌, ◌^◌, length, OnOk};
-ghost use Rattle.sector_dev.specs.Disk.{part};
+ghost use Rattle.byte_lists.specs.Content.{part};
 ghost use Rattle.sector_dev.specs.PositionedFile.{IsHonestFile, LeavesFile};
 ghost use Rattle.sector_dev.specs.FileDevice.{WritesWhole, FailsWithFile};
 

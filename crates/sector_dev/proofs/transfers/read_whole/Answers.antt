@@ -1,7 +1,7 @@
 -- A transfer more of a read.
 use Rattle.std.proofs.Common.{◌+◌, arith, ◌∙◌, ap}
 use Rattle.std.proofs.lemmas.Grind.{common_steps}
-use Rattle.sector_dev.specs.Disk.{part}
+use Rattle.byte_lists.specs.Content.{part}
 use Rattle.sector_dev.proofs.Joined.{honest_file, failures_moved, read_more}
 use Rattle.sector_dev.proofs.transfers.read_whole.Goals as goal
 

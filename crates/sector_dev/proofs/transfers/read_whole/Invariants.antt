@@ -1,6 +1,6 @@
 -- The first bytes are read, and no transfer has failed.
 use Rattle.std.proofs.Common.{◌≡◌, ◌-◌, ◌≤◌, length, take}
-use Rattle.sector_dev.specs.Disk.{part}
+use Rattle.byte_lists.specs.Content.{part}
 use Rattle.sector_dev.specs.PositionedFile.{IsHonestFile, LeavesFile}
 use Rattle.sector_dev.proofs.transfers.read_whole.Given as goal
 

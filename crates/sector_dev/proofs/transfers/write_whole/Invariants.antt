@@ -1,6 +1,6 @@
 -- The first bytes have landed, and no transfer has failed.
 use Rattle.std.proofs.Common.{◌≡◌, ◌+◌, ◌-◌, ◌≤◌, length, take}
-use Rattle.sector_dev.specs.Disk.{overwrite}
+use Rattle.byte_lists.specs.Content.{overwrite}
 use Rattle.sector_dev.specs.PositionedFile.{IsHonestFile, DirtiesOnly}
 use Rattle.sector_dev.proofs.transfers.write_whole.Given as goal
 

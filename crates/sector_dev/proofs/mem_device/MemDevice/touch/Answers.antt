@@ -1,7 +1,8 @@
 -- Nothing lands: what is there, written again, is the same content.
 use Rattle.std.proofs.Common.{◌≡◌, ◌∷◌, ◌∙◌, ap, true, ◌+◌, ◌*◌, ◌≤◌, ℕ, length, arith, sym}
-use Rattle.sector_dev.specs.Disk.{Span, part, overwrite}
-use Rattle.sector_dev.proofs.Contents.{length-part, overwrite_same}
+use Rattle.byte_lists.specs.Content.{part, overwrite}
+use Rattle.sector_dev.specs.Disk.{Span}
+use Rattle.byte_lists.proofs.Contents.{length-part, overwrite_same}
 use Rattle.sector_dev.proofs.mem_device.MemDevice.touch.Goals as goal
 
 pub returns : goal.returns

@@ -1,8 +1,8 @@
--- A content of which a part is overwritten. Cited by this crate and by those above it, `device_calls` among them.
+-- A content of which a part is overwritten. For this crate and those above it.
 use Rattle.std.proofs.Common.{◌≡◌, inl, inr, ℕ, ◌+◌, ◌-◌, ◌<◌, ◌≤◌, List, length, get_or, drop, sym, ◌∙◌, ap, arith, rules, length-append, length-take, length-drop, get_or-take, get_or-drop}
 use Rattle.std.proofs.lemmas.List.{places, same_lists, get_or_past, get_or_default, take_all}
 use Rattle.std.proofs.lemmas.Bool.{cases_lt}
-use Rattle.sector_dev.specs.Disk.{part, overwrite, AreBytes}
+use Rattle.byte_lists.specs.Content.{part, overwrite, AreBytes, AreOverwritten}
 
 pub length-overwrite : (at : ℕ) (bytes content : List ℕ) → at + length bytes ≤ length content → length (overwrite at bytes content) ≡ length content
 length-overwrite at bytes content inside = simp (length-append, length-take, length-drop) (omega arith)
@@ -147,3 +147,14 @@ bytes-part at n content bytes i = elim (cases_lt i n) [
       omega arith
   | inl below ↦ omega (arith, get_or-part at n content i below, bytes (at + i))
 ]
+
+-- all of these in one
+pub overwritten : (at : ℕ) (bytes content : List ℕ) → at + length bytes ≤ length content → AreOverwritten at bytes content
+overwritten at bytes content inside = record {
+  size = length-overwrite at bytes content inside;
+  before = λ from n below. part_below at bytes content from n inside below;
+  within = λ from n low high. part_within at bytes content from n inside low high;
+  behind = λ from n above. part_above at bytes content from n inside above;
+  twice = λ last same. overwrite_twice at bytes last content inside same;
+  are_bytes = bytes_overwrite at bytes content inside;
+}

@@ -1,0 +1,3 @@
+pub mod Contents
+pub mod BigEndian
+pub mod Padding

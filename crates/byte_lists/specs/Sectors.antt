@@ -1,0 +1,32 @@
+-- Sectors of 512 bytes, and the gates that some of them are.
+use Rattle.std.specs.Prelude.{◌≡◌, ℕ, ◌+◌, ◌-◌, ◌*◌, ◌/◌, ◌≤◌, List, ◌++◌, length, replicate, slice_index, Bool, ◌==◌}
+use Rattle.byte_lists.specs.Content.{part}
+
+-- how many sectors n bytes take
+abbrev pub sectors_of : ℕ → ℕ
+sectors_of n = (n + 511) / 512
+
+-- how many whole sectors a content has
+abbrev pub whole_sectors : List ℕ → ℕ
+whole_sectors content = length content / 512
+
+-- a sector of a content
+abbrev pub sector_at : ℕ → List ℕ → List ℕ
+sector_at sector content = part (512 * sector) 512 content
+
+-- the bytes, and zeros up to a whole sector
+abbrev pub padded : List ℕ → List ℕ
+padded bytes = bytes ++ replicate (512 * sectors_of (length bytes) - length bytes) 0
+
+-- a gate is open just where its first byte is this one, whatever the others are
+abbrev pub IsOpenGate : List ℕ → Type 0
+IsOpenGate sector = slice_index sector 0 ≡ 0xA7
+
+-- whether a gate is open, as a test
+abbrev pub is_open_gate : List ℕ → Bool
+is_open_gate sector = slice_index sector 0 == 0xA7
+
+-- rounding up to sectors: the least number of sectors that have room for so many bytes
+pub record IsLeastRoom (n : ℕ) : Type 0 where
+  pub enough : n ≤ 512 * sectors_of n
+  pub least : (sectors : ℕ) → n ≤ 512 * sectors → sectors_of n ≤ sectors

@@ -1,0 +1,13 @@
+//! Lists of bytes as a device of 512-byte sectors holds them: parts, big-endian numbers, padding and gates.
+//!
+//! To the layers above: the words in which the contracts of devices, journals and checkpoints speak of bytes, and the few
+//! calls that read or write such bytes. The lemmas of `proofs/` are for these layers.
+#![tactic(auto)]
+
+mod content_laws;
+mod numbers;
+mod sectors;
+
+pub use content_laws::{encoded_numbers, gate_test_is_exact, overwritten_parts, padded_sectors};
+pub use numbers::{read_u32, read_u64};
+pub use sectors::{is_open, pad, sector_count};

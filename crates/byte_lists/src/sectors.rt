@@ -1,0 +1,39 @@
+//! Sectors of 512 bytes, padding and gates.
+
+ghost use Rattle.std.specs.Prelude.{◌≡◌, ◌↔◌, ◌+◌, ◌*◌, ◌<◌, ◌^◌, IsTrue, OnOk, OnErr, vec_len};
+ghost use Rattle.byte_lists.specs.Sectors.{sectors_of, padded, IsOpenGate};
+
+use std::alloc::AllocError;
+
+const SECTOR: usize = 512;
+
+const OPEN: u8 = 0xa7;
+
+/// How many sectors so many bytes take.
+pub fn sector_count(bytes: usize) -> usize
+    ensures { result ≡ sectors_of bytes }
+{
+    let whole = bytes / SECTOR;
+    if bytes % SECTOR == 0 {
+        whole
+    } else {
+        whole + 1
+    }
+}
+
+/// Appends zeros up to a whole sector. An error leaves the bytes as they were.
+pub fn pad(bytes: &mut Vec<u8>) -> Result<(), AllocError>
+    requires { vec_len bytes.old + 512 < 2 ^ 64 }
+    ensures ok { OnOk result (bytes.new.items ≡ padded bytes.old.items) }
+    ensures err { OnErr result (bytes.new.items ≡ bytes.old.items) }
+{
+    let sectors = sector_count(bytes.len());
+    bytes.resize(SECTOR * sectors, 0)
+}
+
+/// Whether this sector is an open gate: it goes by its first byte alone.
+pub fn is_open(sector: &[u8]) -> bool
+    ensures { IsTrue result ↔ IsOpenGate sector.now }
+{
+    sector.first() == Some(&OPEN)
+}

@@ -1,0 +1,9 @@
+pub mod Limits
+pub mod CommandFormat
+pub mod Group
+pub mod GroupReading
+pub mod Journal
+pub mod JournalReading
+pub mod JournalRefusals
+pub mod JournalLaws
+pub mod Worked

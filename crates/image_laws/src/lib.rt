@@ -1,0 +1,14 @@
+//! What the regions of a store's image are, as relations and as functions, with the laws that hold of them.
+//!
+//! A journal is told for any format of commands (`CommandFormat`): the crate that has the commands gives theirs.
+#![tactic(auto)]
+
+mod journal_laws;
+mod worked;
+
+pub use journal_laws::{
+    journals_are_made_ready, journals_are_read, journals_are_sealed_by_their_gate,
+    journals_go_by_their_front, journals_grow_by_their_gate, journals_read_under_larger_limits,
+    journals_stay_within_bounds, later_versions_allow_more, payloads_fill_sectors,
+};
+pub use worked::{worked_journals, worked_payloads, worked_sizes, worked_versions};
