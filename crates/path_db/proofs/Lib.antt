@@ -13,3 +13,4 @@ mod Canon
 mod Newest
 mod Kept
 mod Counts
+mod Records
