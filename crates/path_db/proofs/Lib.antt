@@ -14,3 +14,4 @@ mod Newest
 mod Kept
 mod Counts
 mod Records
+mod Spelled

@@ -11,3 +11,4 @@ pub mod Wanted
 pub mod RecordSteps
 pub mod RowRecord
 pub mod CommandRecord
+pub mod RecordLaws
