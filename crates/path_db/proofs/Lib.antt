@@ -13,3 +13,5 @@ mod Canon
 mod Newest
 mod Kept
 mod Counts
+mod Records
+mod Spelled

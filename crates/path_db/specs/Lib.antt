@@ -8,3 +8,7 @@ pub mod Answer
 pub mod CommandLaws
 pub mod OutcomeLaws
 pub mod Wanted
+pub mod RecordSteps
+pub mod RowRecord
+pub mod CommandRecord
+pub mod RecordLaws

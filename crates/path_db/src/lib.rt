@@ -9,20 +9,28 @@ mod answers;
 mod change;
 mod command;
 mod command_laws;
+mod command_records;
 mod database;
+mod error;
 mod outcome;
 mod outcome_laws;
 mod puts;
+mod record_laws;
 mod row;
 mod row_list;
+mod row_records;
 
 pub use command::{Command, Registration};
 pub use command_laws::{
     commands_append, commands_keep_database, database_is_canonical, keys_are_separate,
     purge_leaves_valid, register_leaves_newest, remove_leaves_others,
 };
+pub use command_records::{read_command, write_command};
 pub use database::PathDb;
+pub use error::DbError;
 pub use outcome::Outcome;
 pub use outcome_laws::{each_put_is_counted, rows_are_counted};
+pub use record_laws::{commands_are_read_on, read_commands_are_spelled};
 pub use row::Row;
 pub use row_list::Rows;
+pub use row_records::write_rows;

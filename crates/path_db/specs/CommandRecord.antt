@@ -1,0 +1,80 @@
+-- Commands as records.
+use Rattle.std.specs.Prelude.{◌≡◌, ℕ, zero, suc, ◌+◌, ◌*◌, ◌≤◌, List, [], ◌∷◌, length, drop, slice_index, Bool, ◌==◌, nat_le, if◌then◌else◌, Result, Ok, Err}
+use Rattle.std.specs.List.{sum_by}
+use Rattle.std.specs.Int.{w64, to_be_bytes}
+use Rattle.byte_lists.specs.Numbers.{eight_at}
+use Rattle.seg_core.specs.Registration.{type_number, type_of}
+use Rattle.seg_core.specs.Encoding.{segment_encoding}
+use Rattle.path_db.specs.declared.command.Command.{Command}
+use Rattle.path_db.specs.declared.command.Command.TheVariants.{Register, Purge, Remove}
+use Rattle.path_db.specs.declared.error.DbError.{DbError}
+use Rattle.path_db.specs.declared.error.DbError.TheVariants.{BadRecord}
+use Rattle.path_db.specs.Database.{RowView}
+use Rattle.path_db.specs.RecordSteps.{◌>>=◌, check}
+use Rattle.path_db.specs.RowRecord.{rows_encoding, row_decoding, row_size, record_of, HasOutline}
+
+-- the bytes of the segments alone
+abbrev pub segments_len : List RowView → ℕ
+segments_len rows = sum_by (λ row. length (segment_encoding row.1)) rows
+
+-- A command's limits: at most 16 segments, of at most 131,072 bytes together.
+abbrev pub IsWithinLimits : Command → Type 0
+IsWithinLimits (Register rows) = (length rows ≤ 16) × (segments_len rows ≤ 131072)
+IsWithinLimits (Purge moment) = Unit {0}
+IsWithinLimits (Remove kind id) = Unit {0}
+
+-- the record of a command: its kind in one byte; behind it a count in one and rows, or a moment in eight, or a type in one and
+-- an id in 32
+unfoldable pub command_encoding : Command → List ℕ
+command_encoding (Register rows) = 1 ∷ length rows ∷ rows_encoding rows
+command_encoding (Purge moment) = 2 ∷ to_be_bytes w64 moment
+command_encoding (Remove kind id) = 3 ∷ type_number kind ∷ id
+
+-- so many rows, in any order, that are all of the bytes
+unfoldable pub items_decoding : ℕ → List ℕ → Result (List RowView) DbError
+items_decoding zero [] = Ok []
+items_decoding zero (b ∷ bytes) = Err BadRecord
+items_decoding (suc count) bytes = do
+  row ← row_decoding bytes
+  rows ← items_decoding count (drop (row_size bytes) bytes)
+  Ok (row ∷ rows)
+
+-- a count of at most 16, and so many rows: each takes five bytes beside its segment's, which are at most 131,072 together
+unfoldable pub registration_decoding : List ℕ → Result Command DbError
+registration_decoding [] = Err BadRecord
+registration_decoding (count ∷ items) = do
+  _ ← check (nat_le count 16) BadRecord
+  _ ← check (nat_le (length items) (131072 + 5 * count)) BadRecord
+  rows ← items_decoding count items
+  Ok (Register rows)
+
+-- a moment
+unfoldable pub purge_decoding : List ℕ → Result Command DbError
+purge_decoding body = do
+  _ ← check (length body == 8) BadRecord
+  Ok (Purge (eight_at 0 body))
+
+-- a type and an id
+unfoldable pub removal_decoding : List ℕ → Result Command DbError
+removal_decoding [] = Err BadRecord
+removal_decoding (kind ∷ id) = do
+  kind ← record_of (type_of kind)
+  _ ← check (length id == 32) BadRecord
+  Ok (Remove kind id)
+
+-- the command of all bytes; a removal only where these are allowed
+unfoldable pub command_decoding : Bool → List ℕ → Result Command DbError
+command_decoding removals [] = Err BadRecord
+command_decoding removals (kind ∷ body) =
+    if kind == 1 then registration_decoding body
+    else if kind == 2 then purge_decoding body
+    else if kind == 3 then (if removals then removal_decoding body else Err BadRecord)
+    else Err BadRecord
+
+-- To read the command takes memory: it registers, and its first row's segment has an outline.
+abbrev pub WantsMemory : List ℕ → Type 0
+WantsMemory bytes = (slice_index bytes 0 ≡ 1) × HasOutline (drop 2 bytes)
+
+-- removals are allowed from version 2 on
+abbrev pub allows_removals : ℕ → Bool
+allows_removals version = nat_le 2 version

@@ -1,0 +1,184 @@
+//! Commands as records.
+
+ghost use Rattle.std.specs.Prelude.{◌≡◌, ◌≤◌, ◌++◌, ◌∷◌, length, take, drop, IfOk, IfErr, OnOk, OnErr, ◌≢◌};
+ghost use Rattle.std.specs.Int.{w64, to_be_bytes};
+ghost use Rattle.seg_core.specs.Encoding.{IsSegment};
+ghost use Rattle.seg_core.specs.Registration.{type_number};
+ghost use Rattle.path_db.specs.declared.error.DbError.TheVariants.{NoMemory};
+ghost use Rattle.path_db.specs.RecordSteps.{Gives, Reads};
+ghost use Rattle.path_db.specs.Database.{AreWhole};
+ghost use Rattle.path_db.specs.Command.{HasWholeSegments};
+ghost use Rattle.path_db.specs.RowRecord.{rows_encoding, HasOutline};
+ghost use Rattle.path_db.specs.CommandRecord.{IsWithinLimits, command_encoding, items_decoding, registration_decoding, purge_decoding, removal_decoding, command_decoding, allows_removals, WantsMemory};
+
+use crate::command::{Command, Registration};
+use crate::error::DbError;
+use crate::row_records::{ROW_HEAD, put_row, read_row, type_byte, type_from};
+use byte_lists::read_u64;
+use seg_core::{SegType, Segment};
+use std::alloc::{AllocError, Global};
+
+/// The kind of a record that registers segments.
+const REGISTER: u8 = 1;
+/// The kind of a record that purges.
+const PURGE: u8 = 2;
+/// The kind of a record that removes.
+const REMOVE: u8 = 3;
+
+/// The most segments of a command.
+const MOST_SEGMENTS: u8 = 16;
+/// The most bytes of a command's segments.
+const MOST_BYTES: usize = 131_072;
+
+/// Appends the record of a command: its kind in one byte; behind it the count of its segments in one and each as a row's record,
+/// or a moment in eight big-endian bytes, or a type in one and an id in 32. Where memory is refused, the vector has the items that
+/// it had.
+pub fn write_command(command: &Command, out: &mut Vec<u8>) -> Result<(), AllocError>
+    requires { IsWithinLimits command.now }
+    ensures ok { OnOk result (out.new.items ≡ out.old.items ++ command_encoding command.now) }
+    ensures err { OnErr result (out.new.items ≡ out.old.items) }
+{
+    let before = out.len();
+    let put = put_command(command, out);
+    if put.is_err() {
+        out.truncate(before);
+    }
+    put
+}
+
+/// Appends the record of a command, or a part of it where memory is refused.
+#[tactic(auto, unfolding(crate::specs::CommandRecord::command_encoding))]
+fn put_command(command: &Command, out: &mut Vec<u8>) -> Result<(), AllocError>
+    requires { IsWithinLimits command.now }
+    ensures ok { OnOk result (out.new.items ≡ out.old.items ++ command_encoding command.now) }
+    ensures kept { take (length out.old.items) out.new.items ≡ out.old.items }
+{
+    match command {
+        Command::Register(registration) => put_registration(registration.as_slice(), out),
+        Command::Purge(moment) => put_purge(*moment, out),
+        Command::Remove(kind, id) => put_removal(*kind, id, out),
+    }
+}
+
+/// Appends a kind, a count and the segments.
+fn put_registration(rows: &[(SegType, Segment)], out: &mut Vec<u8>) -> Result<(), AllocError>
+    requires { length rows.now ≤ 16 }
+    ensures ok { OnOk result (out.new.items ≡ out.old.items ++ (1 ∷ length rows.now ∷ rows_encoding rows.now)) }
+    ensures kept { take (length out.old.items) out.new.items ≡ out.old.items }
+{
+    out.extend_from_slice(&[REGISTER, rows.len() as u8])?;
+    put_items(rows, out)
+}
+
+/// Appends segments as the records of rows.
+fn put_items(rows: &[(SegType, Segment)], out: &mut Vec<u8>) -> Result<(), AllocError>
+    ensures ok { OnOk result (out.new.items ≡ out.old.items ++ rows_encoding rows.now) }
+    ensures kept { take (length out.old.items) out.new.items ≡ out.old.items }
+{
+    for (kind, segment) in rows {
+        put_row(*kind, segment, out)?;
+    }
+    Ok(())
+}
+
+/// Appends a kind and a moment.
+fn put_purge(moment: u64, out: &mut Vec<u8>) -> Result<(), AllocError>
+    ensures ok { OnOk result (out.new.items ≡ out.old.items ++ (2 ∷ to_be_bytes w64 moment)) }
+    ensures kept { take (length out.old.items) out.new.items ≡ out.old.items }
+{
+    out.push(PURGE)?;
+    out.extend_from_slice(&moment.to_be_bytes())
+}
+
+/// Appends a kind, a type and an id.
+fn put_removal(kind: SegType, id: &[u8; 32], out: &mut Vec<u8>) -> Result<(), AllocError>
+    ensures ok { OnOk result (out.new.items ≡ out.old.items ++ (3 ∷ type_number kind ∷ id.now)) }
+    ensures kept { take (length out.old.items) out.new.items ≡ out.old.items }
+{
+    out.extend_from_slice(&[REMOVE, type_byte(kind)])?;
+    out.extend_from_slice(id)
+}
+
+/// Reads a command's record, all of its bytes. Under version 1 a removal is refused. To read a purge or a removal takes no memory.
+#[tactic(auto, unfolding(crate::specs::CommandRecord::command_decoding))]
+pub fn read_command(alloc: Global, bytes: &[u8], version: u32) -> Result<Command, DbError>
+    ensures decoding { Gives (λ command. command) result (command_decoding (allows_removals version) bytes.now) }
+    ensures whole { IfOk result HasWholeSegments }
+    ensures memory { IfErr result (λ e. e ≡ NoMemory → WantsMemory bytes.now) }
+{
+    let [kind, body @ ..] = bytes else {
+        return Err(DbError::BadRecord);
+    };
+    match *kind {
+        REGISTER => read_registration(alloc, body),
+        PURGE => read_purge(body),
+        REMOVE if version >= 2 => read_removal(body),
+        _ => Err(DbError::BadRecord),
+    }
+}
+
+/// Reads a count and so many segments.
+#[tactic(auto, unfolding(crate::specs::CommandRecord::registration_decoding))]
+fn read_registration(alloc: Global, body: &[u8]) -> Result<Command, DbError>
+    ensures decoding { Gives (λ command. command) result (registration_decoding body.now) }
+    ensures whole { IfOk result HasWholeSegments }
+    ensures memory { IfErr result (λ e. e ≡ NoMemory → HasOutline (drop 1 body.now)) }
+{
+    let [count, items @ ..] = body else {
+        return Err(DbError::BadRecord);
+    };
+    if *count > MOST_SEGMENTS || items.len() > MOST_BYTES + ROW_HEAD * usize::from(*count) {
+        return Err(DbError::BadRecord);
+    }
+    let rows = read_items(alloc, usize::from(*count), items)?;
+    Ok(Command::Register(Registration::new(rows)))
+}
+
+/// Reads so many segments, each with its type, which have to be all of the bytes.
+fn read_items(alloc: Global, count: usize, bytes: &[u8]) -> Result<Vec<(SegType, Segment)>, DbError>
+    ensures decoding { Gives (λ rows. rows.items) result (items_decoding count bytes.now) }
+    ensures whole { IfOk result (λ rows. AreWhole rows.items) }
+    ensures memory { IfErr result (λ e. e ≡ NoMemory → HasOutline bytes.now) }
+{
+    let mut rows = Vec::new(alloc);
+    let mut rest = bytes;
+    for _ in 0..count {
+        let (row, behind) = read_row(alloc, rest)?;
+        rows.push(row)?;
+        rest = behind;
+    }
+    if !rest.is_empty() {
+        return Err(DbError::BadRecord);
+    }
+    Ok(rows)
+}
+
+/// Reads a moment.
+#[tactic(auto, unfolding(crate::specs::CommandRecord::purge_decoding))]
+fn read_purge(body: &[u8]) -> Result<Command, DbError>
+    ensures decoding { Reads (λ command. command) result (purge_decoding body.now) }
+    ensures whole { IfOk result HasWholeSegments }
+    ensures memory { IfErr result (λ e. e ≢ NoMemory) }
+{
+    if body.len() != 8 {
+        return Err(DbError::BadRecord);
+    }
+    Ok(Command::Purge(read_u64(body, 0)))
+}
+
+/// Reads a type and an id.
+#[tactic(auto, unfolding(crate::specs::CommandRecord::removal_decoding))]
+fn read_removal(body: &[u8]) -> Result<Command, DbError>
+    ensures decoding { Reads (λ command. command) result (removal_decoding body.now) }
+    ensures whole { IfOk result HasWholeSegments }
+    ensures memory { IfErr result (λ e. e ≢ NoMemory) }
+{
+    let [kind, id @ ..] = body else {
+        return Err(DbError::BadRecord);
+    };
+    let kind = type_from(*kind)?;
+    match <[u8; 32]>::try_from(id) {
+        Ok(id) => Ok(Command::Remove(kind, id)),
+        Err(_) => Err(DbError::BadRecord),
+    }
+}

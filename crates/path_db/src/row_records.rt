@@ -1,0 +1,139 @@
+//! Rows as records.
+
+ghost use Rattle.std.specs.Prelude.{◌≡◌, ◌≤◌, ◌++◌, length, take, drop, IfOk, IfErr, OnOk, OnErr, IsOk, is_ok};
+ghost use Rattle.std.specs.Int.{w32, to_be_bytes};
+ghost use Rattle.seg_core.specs.Encoding.{IsSegment, segment_encoding};
+ghost use Rattle.seg_core.specs.Registration.{type_number, type_of};
+ghost use Rattle.seg_core.specs.Segment.{segment_outline};
+ghost use Rattle.path_db.specs.declared.error.DbError.TheVariants.{NoMemory, BadRecord};
+ghost use Rattle.path_db.specs.RecordSteps.{Gives, Reads};
+ghost use Rattle.path_db.specs.RowRecord.{row_record, rows_encoding, row_size, has_row, record_of, row_decoding, spelled_segment, HasOutline};
+
+use crate::database::PathDb;
+use crate::error::DbError;
+use crate::row_list::Rows;
+use byte_lists::read_u32;
+use seg_core::{
+    SegError, SegType, Segment, encoded_len, is_encoding_of, put_segment, read_segment,
+};
+use std::alloc::{AllocError, Global};
+
+/// The bytes of a row before its segment: a type in one, a length in four.
+pub(crate) const ROW_HEAD: usize = 5;
+
+/// Appends the records of all rows, in the order of their keys. A record is the type in one byte, the length of the segment's
+/// encoding in four big-endian bytes, and the encoding. Where memory is refused, the vector has the items that it had.
+pub fn write_rows(db: &PathDb, out: &mut Vec<u8>) -> Result<(), AllocError>
+    ensures ok { OnOk result (out.new.items ≡ out.old.items ++ rows_encoding db.now) }
+    ensures err { OnErr result (out.new.items ≡ out.old.items) }
+{
+    let before = out.len();
+    let put = put_rows(db.rows(), out);
+    if put.is_err() {
+        out.truncate(before);
+    }
+    put
+}
+
+/// Appends the records of rows, or a part of them where memory is refused.
+fn put_rows(rows: Rows<'_>, out: &mut Vec<u8>) -> Result<(), AllocError>
+    ensures ok { OnOk result (out.new.items ≡ out.old.items ++ rows_encoding rows.entry) }
+    ensures kept { take (length out.old.items) out.new.items ≡ out.old.items }
+{
+    for row in rows {
+        put_row(row.kind, &row.segment, out)?;
+    }
+    Ok(())
+}
+
+/// Appends the record of a row, or a part of it where memory is refused.
+#[tactic(auto, unfolding(crate::specs::RowRecord::row_record))]
+pub(crate) fn put_row(kind: SegType, segment: &Segment, out: &mut Vec<u8>) -> Result<(), AllocError>
+    ensures ok { OnOk result (out.new.items ≡ out.old.items ++ row_record (kind, segment.now)) }
+    ensures kept { take (length out.old.items) out.new.items ≡ out.old.items }
+{
+    out.push(type_byte(kind))?;
+    put_size(segment, out)?;
+    put_segment(segment, out)
+}
+
+/// Appends the length of a segment's encoding in four big-endian bytes.
+fn put_size(segment: &Segment, out: &mut Vec<u8>) -> Result<(), AllocError>
+    ensures ok { OnOk result (out.new.items ≡ out.old.items ++ to_be_bytes w32 (length (segment_encoding segment.now))) }
+    ensures err { OnErr result (out.new.items ≡ out.old.items) }
+{
+    let size = encoded_len(segment) as u32;
+    out.extend_from_slice(&size.to_be_bytes())
+}
+
+/// The number of a type in one byte.
+pub(crate) fn type_byte(kind: SegType) -> u8
+    ensures { result ≡ type_number kind }
+{
+    match kind {
+        SegType::Up => 1,
+        SegType::Down => 2,
+        SegType::Core => 3,
+    }
+}
+
+/// The type of the number in a byte.
+pub(crate) fn type_from(byte: u8) -> Result<SegType, DbError>
+    ensures { Reads (λ kind. kind) result (record_of (type_of byte)) }
+{
+    match SegType::from_number(u64::from(byte)) {
+        Ok(kind) => Ok(kind),
+        Err(_) => Err(DbError::BadRecord),
+    }
+}
+
+/// How many bytes the row at the front has, where all of them are there.
+pub(crate) fn size_of_row(bytes: &[u8]) -> Result<usize, DbError>
+    ensures size { IfOk result (λ size. size ≡ row_size bytes.now) }
+    ensures exact { is_ok result ≡ has_row bytes.now }
+    ensures within { IfOk result (λ size. size ≤ length bytes.now) }
+    ensures refused { IfErr result (λ e. e ≡ BadRecord) }
+{
+    if bytes.len() < ROW_HEAD {
+        return Err(DbError::BadRecord);
+    }
+    let size = read_u32(bytes, 1) as usize;
+    if bytes.len() - ROW_HEAD < size {
+        return Err(DbError::BadRecord);
+    }
+    Ok(ROW_HEAD + size)
+}
+
+/// The segment of a message, which has to be its one encoding.
+#[tactic(auto, unfolding(crate::specs::RowRecord::spelled_segment))]
+fn read_spelled(alloc: Global, message: &[u8]) -> Result<Segment, DbError>
+    ensures decoding { Gives (λ segment. segment) result (spelled_segment message.now) }
+    ensures whole { IfOk result IsSegment }
+    ensures outline { OnOk result (IsOk (segment_outline message.now)) }
+    ensures memory { IfErr result (λ e. e ≡ NoMemory → IsOk (segment_outline message.now)) }
+{
+    let segment = match read_segment(alloc, message) {
+        Ok(segment) => segment,
+        Err(SegError::NoMemory) => return Err(DbError::NoMemory),
+        Err(_) => return Err(DbError::BadRecord),
+    };
+    if !is_encoding_of(message, &segment) {
+        return Err(DbError::BadRecord);
+    }
+    Ok(segment)
+}
+
+/// The row at the front of bytes, and the bytes behind it.
+#[tactic(auto, unfolding(crate::specs::RowRecord::row_decoding))]
+pub(crate) fn read_row(alloc: Global, bytes: &[u8]) -> Result<((SegType, Segment), &[u8]), DbError>
+    ensures decoding { Gives (λ read. read.0) result (row_decoding bytes.now) }
+    ensures behind { IfOk result (λ read. read.1.now ≡ drop (row_size bytes.now) bytes.now) }
+    ensures whole { IfOk result (λ read. IsSegment read.0.1) }
+    ensures outline { OnOk result (HasOutline bytes.now) }
+    ensures memory { IfErr result (λ e. e ≡ NoMemory → HasOutline bytes.now) }
+{
+    let size = size_of_row(bytes)?;
+    let kind = type_from(bytes[0])?;
+    let segment = read_spelled(alloc, &bytes[ROW_HEAD..size])?;
+    Ok(((kind, segment), &bytes[size..]))
+}
