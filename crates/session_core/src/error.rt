@@ -9,7 +9,7 @@ pub enum FrameError {
     /// Memory for a frame ran out.
     #[error("out of memory")]
     NoMemory = 0,
-    /// The length of a frame is 0 or above 131,073.
+    /// The length of a frame is 0 or above 131,073, or none of a purge's or a removal's.
     #[error("the length of a frame is out of range")]
     Length = 1,
     /// The kind of a frame is unknown.
