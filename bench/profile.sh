@@ -1,9 +1,9 @@
 #!/usr/bin/env bash
 # Where the program's instructions go (valgrind --tool=callgrind), with all that a function calls and without: 1,000 pairs
-# of the worked segment's registration and its lookup; 1,000 registrations of one segment of 8 entries each, and as many
-# lookups that show 1 or 64 such segments, of 1,000 rows. The instructions of the start and of filling the database are
-# taken off: of each session another is run without the part that is asked for, and the difference is told. It needs
-# Debian's valgrind, Python 3 and the program built.
+# of the worked segment's registration and its lookup; 1,000 registrations of one segment of 8 entries each, into 1,000
+# rows and into 10,000; as many lookups that show 1 or 64 such segments, of 1,000 rows. The instructions of the start and
+# of filling the database are taken off: of each session another is run without the part that is asked for, and the
+# difference is told. It needs Debian's valgrind, Python 3 and the program built.
 #
 #     bench/profile.sh [PROGRAM]
 set -euo pipefail
@@ -62,6 +62,10 @@ profile base "$work/base"
 profile new "$work/base" "$work/new"
 profile one "$work/base" "$work/one"
 profile all "$work/base" "$work/all"
-tell "a registration of one segment" new base
+tell "a registration of one segment into 1,000 rows" new base
+frames rows 10000 0 16 >"$work/rows"
+profile rows "$work/rows"
+profile more "$work/rows" "$work/new"
+tell "a registration of one segment into 10,000 rows" more rows
 tell "a lookup that shows 1 segment" one base
 tell "a lookup that shows 64 segments" all base

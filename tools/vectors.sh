@@ -51,6 +51,7 @@ run_case() { # the case's path with no ending
 run_folder() {
     local args case cases=0 left_out=0 wrong=0
     for args in "$1"/*.args; do
+        [ -e "$args" ] || continue # a folder with no case
         case=${args%.args}
         if [ "$(head -c 4 "$case.note" 2> /dev/null)" = full ]; then
             left_out=$((left_out + 1))
