@@ -15,3 +15,4 @@ mod Kept
 mod Counts
 mod Records
 mod Spelled
+mod ReadBack
