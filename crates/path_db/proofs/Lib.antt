@@ -16,3 +16,4 @@ mod Counts
 mod Records
 mod Spelled
 mod ReadBack
+mod RowsBack

@@ -78,7 +78,7 @@ row_read first encoding after short =
           ∙ ap (drop n) (drop_at head (encoding ++ after) 5 refl) ∙ drop_at encoding after n refl;
     }
 
-row_back : (row : RowView) (after : List ℕ) → IsSegment row.1
+pub row_back : (row : RowView) (after : List ℕ) → IsSegment row.1
     → (row_decoding (row_record row ++ after) ≡ Ok row) × (drop (row_size (row_record row ++ after)) (row_record row ++ after) ≡ after)
 unfolding row_record
 row_back row after is =
@@ -97,7 +97,7 @@ items_back (row ∷ rows) whole =
     ∙ ap (λ (t : List ℕ). items_decoding (length rows) t >>= λ others. Ok (row ∷ others)) one.1
     ∙ ap (λ r. r >>= λ others. Ok (row ∷ others)) (items_back rows whole.1)
 
-record_len : (row : RowView) → length (row_record row) ≡ 5 + length (segment_encoding row.1)
+pub record_len : (row : RowView) → length (row_record row) ≡ 5 + length (segment_encoding row.1)
 unfolding row_record
 record_len row = ap suc (length-append (to_be_bytes w32 (length (segment_encoding row.1))) (segment_encoding row.1)) ∙ omega arith
 

@@ -1,9 +1,11 @@
--- Laws of commands as records.
+-- Laws of commands and rows as records.
 use Rattle.std.specs.Prelude.{◌≡◌, ℕ, ◌<◌, ◌^◌, Bool, true, List, length, Ok}
 use Rattle.byte_lists.specs.Content.{AreBytes}
 use Rattle.path_db.specs.declared.command.Command.{Command}
 use Rattle.path_db.specs.declared.command.Command.TheVariants.{Register, Purge, Remove}
 use Rattle.path_db.specs.Command.{HasWholeSegments}
+use Rattle.path_db.specs.Database.{RowView, IsRising, IsDatabase}
+use Rattle.path_db.specs.RowRecord.{rows_encoding, rows_decoding}
 use Rattle.path_db.specs.CommandRecord.{IsWithinLimits, command_encoding, command_decoding}
 
 -- The bytes that are read as a command are its record.
@@ -35,3 +37,13 @@ abbrev pub WrittenCommandsAreRead : Type 0
 WrittenCommandsAreRead =
     (removals : Bool) (command : Command) → IsWithinLimits command → HasWholeSegments command → HasWidths command → IsAllowedBy removals command
     → command_decoding removals (command_encoding command) ≡ Ok command
+
+-- What is written of a database is read as its rows.
+abbrev pub WrittenRowsAreRead : Type 0
+WrittenRowsAreRead = (rows : List RowView) → IsDatabase rows → rows_decoding (rows_encoding rows) ≡ Ok rows
+
+-- The bytes that are read as rows are their records, and the keys rise.
+abbrev pub ReadRowsAreSpelled : Type 0
+ReadRowsAreSpelled =
+    (bytes : List ℕ) (rows : List RowView) → AreBytes bytes → rows_decoding bytes ≡ Ok rows
+    → (rows_encoding rows ≡ bytes) × IsRising rows

@@ -1,6 +1,6 @@
-//! Laws of commands as records: the functions do nothing, and their contracts say them.
+//! Laws of commands and rows as records: the functions do nothing, and their contracts say them.
 
-ghost use Rattle.path_db.specs.RecordLaws.{ReadCommandsAreSpelled, CommandsAreReadOn, WrittenCommandsAreRead};
+ghost use Rattle.path_db.specs.RecordLaws.{ReadCommandsAreSpelled, CommandsAreReadOn, WrittenCommandsAreRead, WrittenRowsAreRead, ReadRowsAreSpelled};
 
 /// The bytes that are read as a command are its record.
 pub fn read_commands_are_spelled()
@@ -16,4 +16,14 @@ pub fn commands_are_read_on()
 /// removals are allowed.
 pub fn written_commands_are_read()
     ensures { WrittenCommandsAreRead }
+{}
+
+/// What is written of a database is read as its rows.
+pub fn written_rows_are_read()
+    ensures { WrittenRowsAreRead }
+{}
+
+/// The bytes that are read as rows are their records, and the keys rise.
+pub fn read_rows_are_spelled()
+    ensures { ReadRowsAreSpelled }
 {}
