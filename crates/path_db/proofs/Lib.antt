@@ -15,3 +15,5 @@ mod Kept
 mod Counts
 mod Records
 mod Spelled
+mod ReadBack
+mod RowsBack

@@ -32,12 +32,12 @@ use Rattle.path_db.specs.RecordLaws.{ReadCommandsAreSpelled, CommandsAreReadOn}
 -- ---- steps
 
 -- a step that went on, and what followed it
-record Went {A B : Type 0} (r : Result A DbError) (rest : A → Result B DbError) (b : B) : Type 0 where
-  value : A
-  first : r ≡ Ok value
-  others : rest value ≡ Ok b
+pub record Went {A B : Type 0} (r : Result A DbError) (rest : A → Result B DbError) (b : B) : Type 0 where
+  pub value : A
+  pub first : r ≡ Ok value
+  pub others : rest value ≡ Ok b
 
-went : {A B : Type 0} (r : Result A DbError) (rest : A → Result B DbError) (b : B) → (r >>= rest) ≡ Ok b → Went r rest b
+pub went : {A B : Type 0} (r : Result A DbError) (rest : A → Result B DbError) (b : B) → (r >>= rest) ≡ Ok b → Went r rest b
 went (Ok x) rest b e = record { value = x; first = refl; others = e }
 went (Err x) rest b e = absurd cc
 
@@ -66,7 +66,7 @@ has_room_by : (b : Bool) (bytes : List ℕ) → (if b then nat_le (row_size byte
 has_room_by true bytes e = leb-true (row_size bytes) (length bytes) e
 has_room_by false bytes e = absurd cc
 
-has_room : (bytes : List ℕ) → has_row bytes ≡ true → row_size bytes ≤ length bytes
+pub has_room : (bytes : List ℕ) → has_row bytes ≡ true → row_size bytes ≤ length bytes
 has_room bytes there = has_room_by (nat_le 5 (length bytes)) bytes there
 
 -- a row at the front, by its pieces
@@ -89,7 +89,7 @@ row_of_pieces first tail encoding each inside is =
     ∙ ap (λ (t : List ℕ). t ++ drop 4 tail) head
     ∙ take-append-drop 4 tail)
 
-row_spelled : (bytes : List ℕ) (row : RowView) → AreBytes bytes → row_decoding bytes ≡ Ok row → row_record row ++ drop (row_size bytes) bytes ≡ bytes
+pub row_spelled : (bytes : List ℕ) (row : RowView) → AreBytes bytes → row_decoding bytes ≡ Ok row → row_record row ++ drop (row_size bytes) bytes ≡ bytes
 unfolding row_decoding row_record
 row_spelled [] row each read =
     let a = checked (has_row []) (record_of (type_of 0) >>= λ kind. spelled_segment (part 5 (four_at 1 []) []) >>= λ segment. Ok (kind, segment)) row read in
@@ -105,7 +105,7 @@ row_spelled (first ∷ tail) row each read =
     ∙ ap (λ (n : ℕ). (n ∷ (to_be_bytes w32 (length (segment_encoding s.value)) ++ segment_encoding s.value)) ++ drop (row_size bytes) bytes) (type_back first k.value k.first)
     ∙ pieces
 
-bytes_drop : (n : ℕ) (bytes : List ℕ) → AreBytes bytes → AreBytes (drop n bytes)
+pub bytes_drop : (n : ℕ) (bytes : List ℕ) → AreBytes bytes → AreBytes (drop n bytes)
 bytes_drop zero bytes each i = each i
 bytes_drop (suc n) [] each i = each i
 bytes_drop (suc n) (b ∷ bytes) each i = bytes_drop n bytes (λ j. each (suc j)) i

@@ -1,8 +1,12 @@
--- Laws of commands as records.
-use Rattle.std.specs.Prelude.{◌≡◌, ℕ, Bool, true, List, Ok}
+-- Laws of commands and rows as records.
+use Rattle.std.specs.Prelude.{◌≡◌, ℕ, ◌<◌, ◌^◌, Bool, true, List, length, Ok}
 use Rattle.byte_lists.specs.Content.{AreBytes}
 use Rattle.path_db.specs.declared.command.Command.{Command}
-use Rattle.path_db.specs.CommandRecord.{command_encoding, command_decoding}
+use Rattle.path_db.specs.declared.command.Command.TheVariants.{Register, Purge, Remove}
+use Rattle.path_db.specs.Command.{HasWholeSegments}
+use Rattle.path_db.specs.Database.{RowView, IsRising, IsDatabase}
+use Rattle.path_db.specs.RowRecord.{rows_encoding, rows_decoding}
+use Rattle.path_db.specs.CommandRecord.{IsWithinLimits, command_encoding, command_decoding}
 
 -- The bytes that are read as a command are its record.
 abbrev pub ReadCommandsAreSpelled : Type 0
@@ -15,3 +19,31 @@ abbrev pub CommandsAreReadOn : Type 0
 CommandsAreReadOn =
     (small large : Bool) (bytes : List ℕ) (command : Command) → (small ≡ true → large ≡ true)
     → command_decoding small bytes ≡ Ok command → command_decoding large bytes ≡ Ok command
+
+-- the numbers and the id of a command have their widths
+abbrev pub HasWidths : Command → Type 0
+HasWidths (Register rows) = Unit {0}
+HasWidths (Purge moment) = moment < 2 ^ 64
+HasWidths (Remove kind id) = length id ≡ 32
+
+-- the command is no removal, or removals are allowed
+abbrev pub IsAllowedBy : Bool → Command → Type 0
+IsAllowedBy removals (Register rows) = Unit {0}
+IsAllowedBy removals (Purge moment) = Unit {0}
+IsAllowedBy removals (Remove kind id) = removals ≡ true
+
+-- What is written of a command within its limits is read as that command, where it is allowed.
+abbrev pub WrittenCommandsAreRead : Type 0
+WrittenCommandsAreRead =
+    (removals : Bool) (command : Command) → IsWithinLimits command → HasWholeSegments command → HasWidths command → IsAllowedBy removals command
+    → command_decoding removals (command_encoding command) ≡ Ok command
+
+-- What is written of a database is read as its rows.
+abbrev pub WrittenRowsAreRead : Type 0
+WrittenRowsAreRead = (rows : List RowView) → IsDatabase rows → rows_decoding (rows_encoding rows) ≡ Ok rows
+
+-- The bytes that are read as rows are their records, and the keys rise.
+abbrev pub ReadRowsAreSpelled : Type 0
+ReadRowsAreSpelled =
+    (bytes : List ℕ) (rows : List RowView) → AreBytes bytes → rows_decoding bytes ≡ Ok rows
+    → (rows_encoding rows ≡ bytes) × IsRising rows

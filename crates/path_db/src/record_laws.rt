@@ -1,6 +1,6 @@
-//! Laws of commands as records: the functions do nothing, and their contracts say them.
+//! Laws of commands and rows as records: the functions do nothing, and their contracts say them.
 
-ghost use Rattle.path_db.specs.RecordLaws.{ReadCommandsAreSpelled, CommandsAreReadOn};
+ghost use Rattle.path_db.specs.RecordLaws.{ReadCommandsAreSpelled, CommandsAreReadOn, WrittenCommandsAreRead, WrittenRowsAreRead, ReadRowsAreSpelled};
 
 /// The bytes that are read as a command are its record.
 pub fn read_commands_are_spelled()
@@ -10,4 +10,20 @@ pub fn read_commands_are_spelled()
 /// What is read without removals is read as the same command where removals are allowed.
 pub fn commands_are_read_on()
     ensures { CommandsAreReadOn }
+{}
+
+/// What is written of a command within its limits, whose segments are whole, is read as that command; of a removal where
+/// removals are allowed.
+pub fn written_commands_are_read()
+    ensures { WrittenCommandsAreRead }
+{}
+
+/// What is written of a database is read as its rows.
+pub fn written_rows_are_read()
+    ensures { WrittenRowsAreRead }
+{}
+
+/// The bytes that are read as rows are their records, and the keys rise.
+pub fn read_rows_are_spelled()
+    ensures { ReadRowsAreSpelled }
 {}

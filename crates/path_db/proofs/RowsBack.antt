@@ -1,0 +1,119 @@
+-- Rows there and back, with rising keys: for `record_laws`.
+use Rattle.std.proofs.Common.{◌≡◌, ℕ, zero, suc, ◌≤◌, Bool, true, false, List, [], ◌∷◌, ◌++◌, length, drop, refl, sym, ap, subst, ◌∙◌, arith, Ok, Some, None}
+use Rattle.std.specs.Prelude.{Result, Option}
+use Rattle.std.specs.Ordering.{is_lt}
+use Rattle.std.specs.declared.cmp.Ordering.{Ordering}
+use Rattle.std.specs.declared.cmp.Ordering.TheVariants.{Less, Equal, Greater}
+use Rattle.std.proofs.lemmas.List.{length-drop, length-append}
+use Rattle.std.proofs.lemmas.List.Concat.{flat_map-cons}
+use Rattle.byte_lists.specs.Content.{AreBytes}
+use Rattle.path_db.specs.declared.error.DbError.{DbError}
+use Rattle.path_db.specs.declared.error.DbError.TheVariants.{Order}
+use Rattle.path_db.specs.Database.{RowView, key_order, IsRising, AreWhole}
+use Rattle.path_db.specs.RecordSteps.{◌>>=◌, check}
+use Rattle.path_db.specs.RowRecord.{row_record, rows_encoding, row_size, row_decoding, is_above, rows_within, rows_decoding}
+use Rattle.path_db.specs.RecordLaws.{WrittenRowsAreRead, ReadRowsAreSpelled}
+use Rattle.path_db.proofs.Order.{AllAbove, above_less}
+use Rattle.path_db.proofs.Spelled.{went, row_spelled, bytes_drop}
+use Rattle.path_db.proofs.ReadBack.{row_back, record_len}
+
+-- ---- rising keys, one after the other
+
+-- each key is strictly above the one before
+abbrev Rises : Option RowView → List RowView → Type 0
+Rises before [] = Unit {0}
+Rises before (row ∷ rows) = (is_above before row ≡ true) × Rises (Some row) rows
+
+same_rise : (a b : RowView) (xs ys : List RowView) → a ≡ b → xs ≡ ys → Rises (Some a) xs → Rises (Some b) ys
+same_rise a b xs ys one others all = subst (λ (l : List RowView). Rises (Some b) l) others (subst (λ (r : RowView). Rises (Some r) xs) one all)
+
+rises_behind : (row : RowView) (rows : List RowView) → AllAbove row rows → IsRising rows → Rises (Some row) rows
+rises_behind row [] all rising = tt
+rises_behind row (next ∷ rows) all rising = (ap is_lt all.0, rises_behind next rows rising.0 rising.1)
+
+rises : (rows : List RowView) → IsRising rows → Rises None rows
+rises [] rising = tt
+rises (row ∷ rows) rising = (refl, rises_behind row rows rising.0 rising.1)
+
+less_from : (o : Ordering) → is_lt o ≡ true → o ≡ Less
+less_from Less e = refl
+less_from Equal e = absurd cc
+less_from Greater e = absurd cc
+
+rising_behind : (row : RowView) (rows : List RowView) → Rises (Some row) rows → AllAbove row rows × IsRising rows
+rising_behind row [] all = (tt, tt)
+rising_behind row (next ∷ rows) all =
+    let later = rising_behind next rows all.1 in
+    let below = less_from (key_order row next) all.0 in
+    ((below, above_less row next rows below later.0), later)
+
+rising : (rows : List RowView) → Rises None rows → IsRising rows
+rising [] all = tt
+rising (row ∷ rows) all = rising_behind row rows all.1
+
+-- ---- written, then read
+
+within_back : (n : ℕ) (before : Option RowView) (rows : List RowView) → length (rows_encoding rows) ≤ n → Rises before rows → AreWhole rows
+    → rows_within n before (rows_encoding rows) ≡ Ok rows
+unfolding rows_within row_record
+within_back zero before [] le all whole = refl
+within_back (suc n) before [] le all whole = refl
+within_back zero before (row ∷ rows) le all whole =
+    absurd (omega (arith, ap length (flat_map-cons row_record row rows), length-append (row_record row) (rows_encoding rows), record_len row))
+within_back (suc n) before (row ∷ rows) le all whole =
+    let bytes = row_record row ++ rows_encoding rows in
+    let one = row_back row (rows_encoding rows) whole.0 in
+    let short : length (rows_encoding rows) ≤ n =
+    omega (arith, ap length (flat_map-cons row_record row rows), length-append (row_record row) (rows_encoding rows), record_len row) in
+    ap (λ (t : List ℕ). rows_within (suc n) before t) (flat_map-cons row_record row rows)
+    ∙ ap (λ r. r >>= λ first. check (is_above before first) Order >>= λ _. rows_within n (Some first) (drop (row_size bytes) bytes) >>= λ others. Ok (first ∷ others)) one.0
+    ∙ ap (λ h. check h Order >>= λ _. rows_within n (Some row) (drop (row_size bytes) bytes) >>= λ others. Ok (row ∷ others)) all.0
+    ∙ ap (λ (t : List ℕ). rows_within n (Some row) t >>= λ others. Ok (row ∷ others)) one.1
+    ∙ ap (λ r. r >>= λ others. Ok (row ∷ others)) (within_back n (Some row) rows short all.1 whole.1)
+
+pub rows_back : WrittenRowsAreRead
+unfolding rows_decoding
+rows_back rows is = within_back (length (rows_encoding rows)) None rows (omega arith) (rises rows is.rising) is.whole
+
+-- ---- read, then written
+
+in_order : {B : Type 0} (holds : Bool) (rest : Result B DbError) (b : B) → (check holds Order >>= λ _. rest) ≡ Ok b → (holds ≡ true) × (rest ≡ Ok b)
+in_order true rest b e = (refl, e)
+in_order false rest b e = absurd cc
+
+within_spelled : (n : ℕ) (before : Option RowView) (bytes : List ℕ) (rows : List RowView) → AreBytes bytes → length bytes ≤ n
+    → rows_within n before bytes ≡ Ok rows → (rows_encoding rows ≡ bytes) × Rises before rows
+unfolding rows_within
+within_spelled zero before [] [] each le read = (refl, tt)
+within_spelled zero before [] (row ∷ rows) each le read = absurd cc
+within_spelled zero before (b ∷ bytes) rows each le read = absurd (omega (arith, le))
+within_spelled (suc n) before [] [] each le read = (refl, tt)
+within_spelled (suc n) before [] (row ∷ rows) each le read = absurd cc
+within_spelled (suc n) before (b ∷ tail) [] each le read =
+    let bytes = b ∷ tail in
+    let behind = drop (row_size bytes) bytes in
+    let a = went (row_decoding bytes) (λ row. check (is_above before row) Order >>= λ _. rows_within n (Some row) behind >>= λ rows. Ok (row ∷ rows)) [] read in
+    let o = in_order (is_above before a.value) (rows_within n (Some a.value) behind >>= λ rows. Ok (a.value ∷ rows)) [] a.others in
+    let r = went (rows_within n (Some a.value) behind) (λ rows. Ok (a.value ∷ rows)) [] o.1 in
+    absurd (cc (r.others))
+within_spelled (suc n) before (b ∷ tail) (row ∷ rows) each le read =
+    let bytes = b ∷ tail in
+    let behind = drop (row_size bytes) bytes in
+    let a = went (row_decoding bytes) (λ row. check (is_above before row) Order >>= λ _. rows_within n (Some row) behind >>= λ rows. Ok (row ∷ rows)) (row ∷ rows) read in
+    let o = in_order (is_above before a.value) (rows_within n (Some a.value) behind >>= λ rows. Ok (a.value ∷ rows)) (row ∷ rows) a.others in
+    let r = went (rows_within n (Some a.value) behind) (λ rows. Ok (a.value ∷ rows)) (row ∷ rows) o.1 in
+    let same_row : a.value ≡ row = cc (r.others) in
+    let same_rows : r.value ≡ rows = cc (r.others) in
+    let short : length behind ≤ n = omega (arith, le, length-drop (row_size bytes) bytes) in
+    let later = within_spelled n (Some a.value) behind r.value (bytes_drop (row_size bytes) bytes each) short r.first in
+    let record_of_row : row_record row ++ behind ≡ bytes = row_spelled bytes row each (a.first ∙ ap (λ (x : RowView). Ok x) same_row) in
+    let encoded : rows_encoding rows ≡ behind = ap rows_encoding (sym same_rows) ∙ later.0 in
+    let above : is_above before row ≡ true = ap (is_above before) (sym same_row) ∙ o.0 in
+    let risen : Rises (Some row) rows = same_rise a.value row r.value rows same_row same_rows later.1 in
+    (flat_map-cons row_record row rows ∙ ap (λ (t : List ℕ). row_record row ++ t) encoded ∙ record_of_row, (above, risen))
+
+pub rows_spelled : ReadRowsAreSpelled
+unfolding rows_decoding
+rows_spelled bytes rows each read =
+    let so = within_spelled (length bytes) None bytes rows each (omega arith) read in
+    (so.0, rising rows so.1)
