@@ -1,5 +1,5 @@
 -- What is known of a registration that was decoded and checked: for `Memory::accept`, `check_all`.
-use Rattle.std.proofs.Common.{◌≡◌, ◌≢◌, ℕ, zero, suc, ◌+◌, ◌-◌, ◌^◌, ◌<◌, Bool, true, false, ◌==◌, if◌then◌else◌, List, [], ◌∷◌, length, take, get_or, Option, Some, None, Result, Ok, Err, inl, inr, refl, sym, ap, ◌∙◌, subst, arith}
+use Rattle.std.proofs.Common.{◌≡◌, ℕ, zero, suc, ◌+◌, ◌-◌, ◌^◌, ◌<◌, Bool, if◌then◌else◌, List, [], ◌∷◌, length, take, get_or, Option, Some, None, Result, Ok, Err, inl, inr, refl, sym, ap, ◌∙◌, subst, arith}
 use Rattle.std.specs.Option.{option_or}
 use Rattle.std.specs.Result.{IsOk}
 use Rattle.std.proofs.lemmas.Bool.{ne_eqb, eq-eqb}
@@ -14,7 +14,7 @@ use Rattle.path_db.specs.declared.command.Command.TheVariants as command
 use Rattle.path_db.specs.Database.{RowView}
 use Rattle.session_core.specs.declared.message.Message.TheVariants.{Register}
 use Rattle.session_core.specs.declared.service.Ack.{Ack}
-use Rattle.session_core.specs.Reply.{ReplyView, Registered}
+use Rattle.session_core.specs.Reply.{Registered}
 use Rattle.path_commands.specs.declared.codes.Refusal.{Refusal}
 use Rattle.path_commands.specs.declared.codes.Refusal.TheVariants.{NoMemory, Message, Check, Lookup, Exhausted}
 use Rattle.path_commands.specs.Codes.{exhausted_code}

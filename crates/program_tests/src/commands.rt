@@ -54,67 +54,53 @@ fn replies<V: Verifier>(
 #[test]
 fn purges_and_removals(rt: HostRuntime) -> Result<(), Fail> {
     let alloc = rt.alloc();
-    let removed = "0000001984000000000000000100000000000000000000000000000001";
-    for (name, frames, wanted) in [
-        (
-            "removal_of_nothing",
-            [NO_ENDS, REMOVE, LOOKUP],
-            [
-                NULL_DESTINATION,
-                "0000001984000000000000000000000000000000000000000000000000",
-                NONE_FOUND,
-            ],
-        ),
+    for (name, command, reply, found) in [
         (
             "removal",
-            [REGISTER, REMOVE, LOOKUP],
-            [INSERTED, removed, NONE_FOUND],
+            REMOVE,
+            "0000001984000000000000000100000000000000000000000000000001",
+            NONE_FOUND,
         ),
         (
             "removal_of_another_type",
-            [
-                REGISTER,
-                "0000002204018adcea68dc57cbbe68da7142af88b68a9d27a590e1d5157c53c2bb2c762345ff",
-                LOOKUP,
-            ],
-            [
-                INSERTED,
-                "0000001984000000000000000100000000000000000000000000000000",
-                FOUND,
-            ],
+            "0000002204018adcea68dc57cbbe68da7142af88b68a9d27a590e1d5157c53c2bb2c762345ff",
+            "0000001984000000000000000100000000000000000000000000000000",
+            FOUND,
         ),
         (
             "removal_of_no_type",
-            [
-                REGISTER,
-                "0000002204048adcea68dc57cbbe68da7142af88b68a9d27a590e1d5157c53c2bb2c762345ff",
-                LOOKUP,
-            ],
-            [INSERTED, "00000002ff29", FOUND],
+            "0000002204048adcea68dc57cbbe68da7142af88b68a9d27a590e1d5157c53c2bb2c762345ff",
+            "00000002ff29",
+            FOUND,
         ),
         (
             "purge_at_the_expiry",
-            [REGISTER, "000000090300000000caa88ac0", LOOKUP],
-            [
-                INSERTED,
-                "0000001983000000000000000100000000000000000000000000000001",
-                NONE_FOUND,
-            ],
+            "000000090300000000caa88ac0",
+            "0000001983000000000000000100000000000000000000000000000001",
+            NONE_FOUND,
         ),
         (
             "purge_before_the_expiry",
-            [REGISTER, "000000090300000000caa88abf", LOOKUP],
-            [
-                INSERTED,
-                "0000001983000000000000000100000000000000000000000000000000",
-                FOUND,
-            ],
+            "000000090300000000caa88abf",
+            "0000001983000000000000000100000000000000000000000000000000",
+            FOUND,
         ),
     ] {
-        let output = replies(alloc, &TrustAll, 0, &frames)?;
-        let wanted = text_of(alloc, &wanted)?;
+        let output = replies(alloc, &TrustAll, 0, &[REGISTER, command, LOOKUP])?;
+        let wanted = text_of(alloc, &[INSERTED, reply, found])?;
         assert_eq!(rt; output.as_str(), wanted.as_str(), "{name}");
     }
+    Ok(())
+}
+
+#[test]
+fn removal_of_nothing(rt: HostRuntime) -> Result<(), Fail> {
+    let alloc = rt.alloc();
+    let output = replies(alloc, &TrustAll, 0, &[REMOVE])?;
+    assert_eq!(rt;
+        output.as_str(),
+        "0000001984000000000000000000000000000000000000000000000000"
+    );
     Ok(())
 }
 
