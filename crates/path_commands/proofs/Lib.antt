@@ -1,4 +1,5 @@
 mod CoreLemmas
+mod Digits
 mod MemoryLemmas
 mod SessionLemmas
 mod Kept

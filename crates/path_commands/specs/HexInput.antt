@@ -1,5 +1,5 @@
 -- Hexadecimal text.
-use Rattle.std.specs.Prelude.{ℕ, List, Bool, ◌==◌, ◌||◌, not, filter, IsErr}
+use Rattle.std.specs.Prelude.{ℕ, List, Bool, ◌==◌, ◌||◌, not, filter, IsOk, IsErr}
 use Rattle.hex.specs.Hex.{decode_of}
 use Rattle.path_commands.specs.declared.error.Fault.{Fault}
 use Rattle.path_commands.specs.declared.error.Fault.TheVariants as fault
@@ -12,10 +12,14 @@ is_blank byte = (byte == 0x20) || ((byte == 0x0a) || (byte == 0x0d))
 abbrev pub without_blanks : List ℕ → List ℕ
 without_blanks text = filter (λ byte. not (is_blank byte)) text
 
--- why a text is refused, unless memory ran out
+-- why digits are refused: they encode no bytes, which is found without memory, or memory ran out for the bytes
+abbrev pub RefusesDigits : List ℕ → Fault → Type 0
+RefusesDigits digits fault.Hex = IsErr (decode_of digits)
+RefusesDigits digits fault.Memory = IsOk (decode_of digits)
+RefusesDigits digits (fault.Text e) = ⊥
+RefusesDigits digits (fault.Frame e) = ⊥
+RefusesDigits digits fault.Output = ⊥
+
+-- why a text is refused, whose blanks count for nothing
 abbrev pub RefusesHex : List ℕ → Fault → Type 0
-RefusesHex text fault.Hex = IsErr (decode_of (without_blanks text))
-RefusesHex text fault.Memory = Unit {0}
-RefusesHex text (fault.Text e) = ⊥
-RefusesHex text (fault.Frame e) = ⊥
-RefusesHex text fault.Output = ⊥
+RefusesHex text e = RefusesDigits (without_blanks text) e

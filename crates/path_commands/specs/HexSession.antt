@@ -1,5 +1,5 @@
 -- A session whose input is hexadecimal text, and whose replies are lines of it.
-use Rattle.std.specs.Prelude.{◌≡◌, ℕ, ◌⊎◌, List, [], length, Option, Result, Ok, Err, IsErr}
+use Rattle.std.specs.Prelude.{◌≡◌, ℕ, ◌⊎◌, List, [], length, Option, Result, Ok, Err}
 use Rattle.std.specs.List.{concat}
 use Rattle.std.specs.Io.KnownBytes.{Appends, IsAtEnd}
 use Rattle.hex.specs.Hex.{decode_of}
@@ -8,9 +8,8 @@ use Rattle.session_core.specs.declared.error.FrameError.TheVariants as error
 use Rattle.session_core.specs.Source.{AreReads}
 use Rattle.session_core.specs.Lines.{IsServedInLines}
 use Rattle.path_commands.specs.declared.error.Fault.{Fault}
-use Rattle.path_commands.specs.declared.error.Fault.TheVariants as fault
 use Rattle.path_commands.specs.Fault.{fault_of}
-use Rattle.path_commands.specs.HexInput.{without_blanks}
+use Rattle.path_commands.specs.HexInput.{without_blanks, RefusesHex}
 use Rattle.path_commands.specs.Memory.{Served, Answers}
 
 -- why reading stops before the end of the input
@@ -29,10 +28,12 @@ pub record IsUnread (turns : ℕ) (pieces : List (List ℕ)) (output output_left
   pub kept : Appends output output_left []
   pub said : result ≡ Err (fault_of error)
 
--- The input is no hexadecimal text, or memory ran out for its bytes, and nothing was written.
+-- The input is refused as a text, and nothing was written.
 pub record IsNoText (text : List ℕ) (output output_left : Option (List ℕ)) (result : Result ℕ Fault) : Type 0 where
   pub kept : Appends output output_left []
-  pub said : (result ≡ Err fault.Memory) ⊎ ((result ≡ Err fault.Hex) × IsErr (decode_of (without_blanks text)))
+  pub refusal : Fault
+  pub refused : RefusesHex text refusal
+  pub said : result ≡ Err refusal
 
 -- the program's answer for what a session ended with
 abbrev pub answer_for : Result ℕ FrameError → Result ℕ Fault

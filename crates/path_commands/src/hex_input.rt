@@ -1,29 +1,39 @@
 //! Input as hexadecimal text.
 
-ghost use Rattle.std.specs.Prelude.{◌≡◌, Ok, IfOk, IfErr};
+ghost use Rattle.std.specs.Prelude.{◌≡◌, ◌↔◌, Ok, IfOk, IfErr, IsOk, IsTrue};
 ghost use Rattle.hex.specs.Hex.{decode_of};
-ghost use Rattle.path_commands.specs.HexInput.{is_blank, without_blanks, RefusesHex};
+ghost use Rattle.path_commands.specs.HexInput.{is_blank, without_blanks, RefusesDigits, RefusesHex};
 
 use crate::error::Fault;
-use hex::FromHexError;
 use std::alloc::Global;
 
-/// The bytes of a hexadecimal text, whose spaces and ends of lines count for nothing, even between two digits.
-pub fn bytes_of(alloc: Global, text: &[u8]) -> Result<Vec<u8>, Fault>
-    ensures ok { IfOk result (λ bytes. decode_of (without_blanks text.now) ≡ Ok bytes.items) }
-    ensures err { IfErr result (RefusesHex text.now) }
+/// The bytes of a hexadecimal text, whose spaces and ends of lines count for nothing, even between two digits. A text that is
+/// none is found without memory.
+pub fn bytes_of(alloc: Global, text: Vec<u8>) -> Result<Vec<u8>, Fault>
+    ensures ok { IfOk result (λ bytes. decode_of (without_blanks text.items) ≡ Ok bytes.items) }
+    ensures err { IfErr result (RefusesHex text.items) }
 {
-    let digits: Vec<u8> = text
-        .iter()
-        .copied()
-        .filter(|byte| !is_blank(*byte))
-        .collect(alloc)
-        .map_err(|_| Fault::Memory)?;
-    match hex::decode(alloc, digits.as_slice()) {
-        Ok(bytes) => Ok(bytes),
-        Err(FromHexError::OutOfMemory) => Err(Fault::Memory),
-        Err(_) => Err(Fault::Hex),
+    let mut digits = text;
+    digits.retain(|byte| !is_blank(*byte));
+    bytes_of_digits(alloc, digits.as_slice())
+}
+
+/// The bytes that digits encode.
+pub(crate) fn bytes_of_digits(alloc: Global, digits: &[u8]) -> Result<Vec<u8>, Fault>
+    ensures ok { IfOk result (λ bytes. decode_of digits.now ≡ Ok bytes.items) }
+    ensures err { IfErr result (RefusesDigits digits.now) }
+{
+    if !encode_bytes(digits) {
+        return Err(Fault::Hex);
     }
+    hex::decode(alloc, digits).map_err(|_| Fault::Memory)
+}
+
+/// Whether these are digits, and of an even number.
+fn encode_bytes(digits: &[u8]) -> bool
+    ensures { IsTrue result ↔ IsOk (decode_of digits.now) }
+{
+    digits.len() % 2 == 0 && digits.iter().all(|digit| digit.is_ascii_hexdigit())
 }
 
 /// A space or the end of a line.

@@ -27,7 +27,7 @@ pub fn once_in_hex<R: Source, W: Write, V: Verifier>(
         (R.remaining reader.new) (W.contents writer.old) (W.contents writer.new) result }
 {
     let text = read_all(alloc, reader, turns)?;
-    let input = bytes_of(alloc, text.as_slice())?;
+    let input = bytes_of(alloc, text)?;
     let count = answer_in_lines(alloc, input, writer, cores, checker, now)?;
     Ok(count)
 }
