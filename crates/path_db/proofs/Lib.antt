@@ -17,3 +17,4 @@ mod Records
 mod Spelled
 mod ReadBack
 mod RowsBack
+mod RowsRead

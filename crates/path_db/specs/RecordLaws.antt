@@ -4,7 +4,7 @@ use Rattle.byte_lists.specs.Content.{AreBytes}
 use Rattle.path_db.specs.declared.command.Command.{Command}
 use Rattle.path_db.specs.declared.command.Command.TheVariants.{Register, Purge, Remove}
 use Rattle.path_db.specs.Command.{HasWholeSegments}
-use Rattle.path_db.specs.Database.{RowView, IsRising, IsDatabase}
+use Rattle.path_db.specs.Database.{RowView, IsDatabase}
 use Rattle.path_db.specs.RowRecord.{rows_encoding, rows_decoding}
 use Rattle.path_db.specs.CommandRecord.{IsWithinLimits, command_encoding, command_decoding}
 
@@ -42,8 +42,8 @@ WrittenCommandsAreRead =
 abbrev pub WrittenRowsAreRead : Type 0
 WrittenRowsAreRead = (rows : List RowView) → IsDatabase rows → rows_decoding (rows_encoding rows) ≡ Ok rows
 
--- The bytes that are read as rows are their records, and the keys rise.
+-- The bytes that are read as rows are their records, and the rows are a database.
 abbrev pub ReadRowsAreSpelled : Type 0
 ReadRowsAreSpelled =
     (bytes : List ℕ) (rows : List RowView) → AreBytes bytes → rows_decoding bytes ≡ Ok rows
-    → (rows_encoding rows ≡ bytes) × IsRising rows
+    → (rows_encoding rows ≡ bytes) × IsDatabase rows

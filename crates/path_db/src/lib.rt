@@ -36,4 +36,4 @@ pub use record_laws::{
 };
 pub use row::Row;
 pub use row_list::Rows;
-pub use row_records::write_rows;
+pub use row_records::{read_rows, write_rows};

@@ -23,7 +23,7 @@ pub fn written_rows_are_read()
     ensures { WrittenRowsAreRead }
 {}
 
-/// The bytes that are read as rows are their records, and the keys rise.
+/// The bytes that are read as rows are their records, and the rows are a database.
 pub fn read_rows_are_spelled()
     ensures { ReadRowsAreSpelled }
 {}
