@@ -18,3 +18,4 @@ mod Spelled
 mod ReadBack
 mod RowsBack
 mod RowsRead
+mod Writable

@@ -38,6 +38,19 @@ WrittenCommandsAreRead =
     (removals : Bool) (command : Command) → IsWithinLimits command → HasWholeSegments command → HasWidths command → IsAllowedBy removals command
     → command_decoding removals (command_encoding command) ≡ Ok command
 
+-- The command has a record that is read as it.
+pub record CanBeWritten (removals : Bool) (command : Command) : Type 0 where
+  pub limits : IsWithinLimits command
+  pub whole : HasWholeSegments command
+  pub widths : HasWidths command
+  pub allowed : IsAllowedBy removals command
+
+-- What is read as a command can be written: just these commands have records.
+abbrev pub ReadCommandsCanBeWritten : Type 0
+ReadCommandsCanBeWritten =
+    (removals : Bool) (bytes : List ℕ) (command : Command) → AreBytes bytes
+    → command_decoding removals bytes ≡ Ok command → CanBeWritten removals command
+
 -- What is written of a database is read as its rows.
 abbrev pub WrittenRowsAreRead : Type 0
 WrittenRowsAreRead = (rows : List RowView) → IsDatabase rows → rows_decoding (rows_encoding rows) ≡ Ok rows
