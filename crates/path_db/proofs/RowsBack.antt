@@ -58,7 +58,7 @@ in_order true rest b e = (refl, e)
 in_order false rest b e = absurd cc
 
 -- a row that is read takes the bytes that are told of it
-row_takes : (bytes : List ℕ) (row : RowView) → row_decoding bytes ≡ Ok row → (row_size bytes ≡ row_len row) × (row_size bytes ≤ length bytes)
+pub row_takes : (bytes : List ℕ) (row : RowView) → row_decoding bytes ≡ Ok row → (row_size bytes ≡ row_len row) × (row_size bytes ≤ length bytes)
 row_takes bytes row read =
     let so = row_steps bytes row read in
     let inside = has_room bytes so.there in

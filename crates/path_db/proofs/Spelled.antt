@@ -140,7 +140,7 @@ bytes_drop zero bytes each i = each i
 bytes_drop (suc n) [] each i = each i
 bytes_drop (suc n) (b ∷ bytes) each i = bytes_drop n bytes (λ j. each (suc j)) i
 
-pub items_spelled : (count : ℕ) (bytes : List ℕ) (rows : List RowView) → AreBytes bytes → items_decoding count bytes ≡ Ok rows → (rows_encoding rows ≡ bytes) × (length rows ≡ count)
+items_spelled : (count : ℕ) (bytes : List ℕ) (rows : List RowView) → AreBytes bytes → items_decoding count bytes ≡ Ok rows → (rows_encoding rows ≡ bytes) × (length rows ≡ count)
 unfolding items_decoding
 items_spelled zero [] rows each read = let none : [] ≡ rows = cc in (ap rows_encoding (sym none), ap length (sym none))
 items_spelled zero (b ∷ bytes) rows each read = absurd cc
