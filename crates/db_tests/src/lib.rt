@@ -11,4 +11,6 @@ mod puts;
 #[cfg(test)]
 mod reads;
 #[cfg(test)]
+mod records;
+#[cfg(test)]
 mod worked;

@@ -1,5 +1,5 @@
--- The first and the last entry of a segment: for `Wanted::is_shown`.
-use Rattle.std.proofs.Common.{◌≡◌, ℕ, ◌-◌, List, [], ◌∷◌, length, Option, Some, None, Bor, refl, sym, ap, ◌∙◌, arith}
+-- The first and the last entry of a segment, and the last row: for `Wanted::is_shown` and `is_above_last`.
+use Rattle.std.proofs.Common.{◌≡◌, ℕ, ◌-◌, List, [], ◌∷◌, length, map, Option, Some, None, Bor, refl, sym, ap, ◌∙◌, arith}
 use Rattle.std.specs.List.{slice_get}
 use Rattle.std.specs.Option.{option_map, option_copied, option_or}
 use Rattle.std.proofs.lemmas.Option.{slice_get-get_or}
@@ -34,17 +34,18 @@ last_get x (y ∷ xs) = ap (λ o. option_or o (Some x)) (last_get y xs) ∙ some
         let there = slice_get-get_or (y ∷ xs) (length xs) y (omega arith) in
         ap (λ o. option_or o (Some x)) there ∙ sym there
 
-last_seen : (entries : List Entry) → option_map entry_view (slice_get entries (length entries - 1)) ≡ last_of (entry_views entries)
-last_seen [] = refl
-last_seen (e ∷ entries) = ap (λ n. option_map entry_view (slice_get (e ∷ entries) n)) (omega arith) ∙ sym (last_of-map e entries ∙ ap (option_map entry_view) (last_get e entries))
-  where
-    last_of-map : (e : Entry) (entries : List Entry) → last_of (entry_views (e ∷ entries)) ≡ option_map entry_view (last_of (e ∷ entries))
-    last_of-map e [] = refl
-    last_of-map e (f ∷ entries) = ap (λ o. option_or o (Some (entry_view e))) (last_of-map f entries) ∙ or_map (last_of (f ∷ entries)) e
-      where
-        or_map : (o : Option Entry) (e : Entry) → option_or (option_map entry_view o) (Some (entry_view e)) ≡ option_map entry_view (option_or o (Some e))
-        or_map None e = refl
-        or_map (Some x) e = refl
+or_map : {X Y : Type 0} (view : X → Y) (o : Option X) (x : X) → option_or (option_map view o) (Some (view x)) ≡ option_map view (option_or o (Some x))
+or_map view None x = refl
+or_map view (Some y) x = refl
+
+last_of-map : {X Y : Type 0} (view : X → Y) (x : X) (xs : List X) → last_of (map view (x ∷ xs)) ≡ option_map view (last_of (x ∷ xs))
+last_of-map view x [] = refl
+last_of-map view x (y ∷ xs) = ap (λ o. option_or o (Some (view x))) (last_of-map view y xs) ∙ or_map view (last_of (y ∷ xs)) x
+
+-- the last of a list, as its elements are seen
+pub last_seen : {X Y : Type 0} (view : X → Y) (xs : List X) → option_map view (slice_get xs (length xs - 1)) ≡ last_of (map view xs)
+last_seen view [] = refl
+last_seen view (x ∷ xs) = ap (λ n. option_map view (slice_get (x ∷ xs) n)) (omega arith) ∙ sym (last_of-map view x xs ∙ ap (option_map view) (last_get x xs))
 
 pub ends_is : (ia : ℕ) (entries : List Entry) (found : Option (Bor Entry)) → option_copied found ≡ slice_get entries (length entries - 1) → covers_entry ia (seen found) ≡ covers_entry ia (last_of (entry_views entries))
-ends_is ia entries found e = ap (covers_entry ia) (seen_copied found (slice_get entries (length entries - 1)) e ∙ last_seen entries)
+ends_is ia entries found e = ap (covers_entry ia) (seen_copied found (slice_get entries (length entries - 1)) e ∙ last_seen entry_view entries)

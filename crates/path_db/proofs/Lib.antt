@@ -17,3 +17,5 @@ mod Records
 mod Spelled
 mod ReadBack
 mod RowsBack
+mod RowsRead
+mod Writable

@@ -28,7 +28,8 @@ outlined message s read = bound_ok (segment_outline message) _ s read
 abbrev pub items_behind : List RowView → ℕ → List ℕ → Result (List RowView) DbError
 items_behind so_far count bytes = items_decoding count bytes >>= λ others. Ok (so_far ++ others)
 
-one_more : (so_far : List RowView) (row : RowView) (r : Result (List RowView) DbError)
+-- a row more in front of the others, or behind what was read so far
+pub one_more : (so_far : List RowView) (row : RowView) (r : Result (List RowView) DbError)
     → ((r >>= λ rows. Ok (row ∷ rows)) >>= λ others. Ok (so_far ++ others)) ≡ (r >>= λ others. Ok ((so_far ++ row ∷ []) ++ others))
 one_more so_far row (Ok others) = ap (λ l. Ok l) (sym (append_assoc so_far (row ∷ []) others))
 one_more so_far row (Err e) = refl

@@ -1,20 +1,23 @@
--- Rows there and back, with rising keys: for `record_laws`.
-use Rattle.std.proofs.Common.{◌≡◌, ℕ, zero, suc, ◌≤◌, Bool, true, false, List, [], ◌∷◌, ◌++◌, length, drop, refl, sym, ap, subst, ◌∙◌, arith, Ok, Some, None}
+-- Rows there and back, with rising keys: for `record_laws` and `read_rows`.
+use Rattle.std.proofs.Common.{◌≡◌, ℕ, zero, suc, ◌≤◌, Bool, true, false, List, [], ◌∷◌, ◌++◌, length, drop, refl, ap, subst, ◌∙◌, arith, Ok, Some, None}
 use Rattle.std.specs.Prelude.{Result, Option}
 use Rattle.std.specs.Ordering.{is_lt}
 use Rattle.std.specs.declared.cmp.Ordering.{Ordering}
 use Rattle.std.specs.declared.cmp.Ordering.TheVariants.{Less, Equal, Greater}
 use Rattle.std.proofs.lemmas.List.{length-drop, length-append}
 use Rattle.std.proofs.lemmas.List.Concat.{flat_map-cons}
-use Rattle.byte_lists.specs.Content.{AreBytes}
+use Rattle.std.proofs.lemmas.List.Sums.{sum_by-cons}
+use Rattle.byte_lists.specs.Content.{AreBytes, part}
+use Rattle.byte_lists.specs.Numbers.{four_at}
+use Rattle.byte_lists.proofs.Contents.{length-part}
 use Rattle.path_db.specs.declared.error.DbError.{DbError}
 use Rattle.path_db.specs.declared.error.DbError.TheVariants.{Order}
-use Rattle.path_db.specs.Database.{RowView, key_order, IsRising, AreWhole}
+use Rattle.path_db.specs.Database.{RowView, key_order, IsRising, AreWhole, row_len, rows_len}
 use Rattle.path_db.specs.RecordSteps.{◌>>=◌, check}
 use Rattle.path_db.specs.RowRecord.{row_record, rows_encoding, row_size, row_decoding, is_above, rows_within, rows_decoding}
 use Rattle.path_db.specs.RecordLaws.{WrittenRowsAreRead, ReadRowsAreSpelled}
 use Rattle.path_db.proofs.Order.{AllAbove, above_less}
-use Rattle.path_db.proofs.Spelled.{went, row_spelled, bytes_drop}
+use Rattle.path_db.proofs.Spelled.{went, segment_back, has_room, row_steps, row_spelled, row_whole, bytes_drop}
 use Rattle.path_db.proofs.ReadBack.{row_back, record_len}
 
 -- ---- rising keys, one after the other
@@ -23,9 +26,6 @@ use Rattle.path_db.proofs.ReadBack.{row_back, record_len}
 abbrev Rises : Option RowView → List RowView → Type 0
 Rises before [] = Unit {0}
 Rises before (row ∷ rows) = (is_above before row ≡ true) × Rises (Some row) rows
-
-same_rise : (a b : RowView) (xs ys : List RowView) → a ≡ b → xs ≡ ys → Rises (Some a) xs → Rises (Some b) ys
-same_rise a b xs ys one others all = subst (λ (l : List RowView). Rises (Some b) l) others (subst (λ (r : RowView). Rises (Some r) xs) one all)
 
 rises_behind : (row : RowView) (rows : List RowView) → AllAbove row rows → IsRising rows → Rises (Some row) rows
 rises_behind row [] all rising = tt
@@ -50,6 +50,49 @@ rising_behind row (next ∷ rows) all =
 rising : (rows : List RowView) → Rises None rows → IsRising rows
 rising [] all = tt
 rising (row ∷ rows) all = rising_behind row rows all.1
+
+-- ---- read
+
+in_order : {B : Type 0} (holds : Bool) (rest : Result B DbError) (b : B) → (check holds Order >>= λ _. rest) ≡ Ok b → (holds ≡ true) × (rest ≡ Ok b)
+in_order true rest b e = (refl, e)
+in_order false rest b e = absurd cc
+
+-- a row that is read takes the bytes that are told of it
+pub row_takes : (bytes : List ℕ) (row : RowView) → row_decoding bytes ≡ Ok row → (row_size bytes ≡ row_len row) × (row_size bytes ≤ length bytes)
+row_takes bytes row read =
+    let so = row_steps bytes row read in
+    let inside = has_room bytes so.there in
+    let len = ap length (segment_back (part 5 (four_at 1 bytes) bytes) row.1 so.segment) in
+    (omega (arith, len, length-part 5 (four_at 1 bytes) bytes inside), inside)
+
+within_read : (n : ℕ) (before : Option RowView) (bytes : List ℕ) (rows : List RowView) → length bytes ≤ n
+    → rows_within n before bytes ≡ Ok rows → Rises before rows × (rows_len rows ≡ length bytes)
+unfolding rows_within
+within_read zero before [] [] le read = (tt, refl)
+within_read zero before [] (row ∷ rows) le read = absurd cc
+within_read zero before (b ∷ bytes) rows le read = absurd (omega (arith, le))
+within_read (suc n) before [] [] le read = (tt, refl)
+within_read (suc n) before [] (row ∷ rows) le read = absurd cc
+within_read (suc n) before (b ∷ tail) rows le read =
+    let bytes = b ∷ tail in
+    let behind = drop (row_size bytes) bytes in
+    let a = went (row_decoding bytes) (λ row. check (is_above before row) Order >>= λ _. rows_within n (Some row) behind >>= λ rows. Ok (row ∷ rows)) rows read in
+    let o = in_order (is_above before a.value) (rows_within n (Some a.value) behind >>= λ rows. Ok (a.value ∷ rows)) rows a.others in
+    let r = went (rows_within n (Some a.value) behind) (λ rows. Ok (a.value ∷ rows)) rows o.1 in
+    let same : (a.value ∷ r.value) ≡ rows = cc (r.others) in
+    let takes = row_takes bytes a.value a.first in
+    let fewer = length-drop (row_size bytes) bytes in
+    let later = within_read n (Some a.value) behind r.value (omega (arith, le, fewer)) r.first in
+    let sum = sum_by-cons row_len a.value r.value in
+    let counted : rows_len (a.value ∷ r.value) ≡ length bytes = omega (arith, sum, takes.0, takes.1, fewer, later.1) in
+    subst (λ (l : List RowView). Rises before l × (rows_len l ≡ length bytes)) same ((o.0, later.0), counted)
+
+-- rows that are read rise, and take all of the bytes
+pub rows_read : (bytes : List ℕ) (rows : List RowView) → rows_decoding bytes ≡ Ok rows → IsRising rows × (rows_len rows ≡ length bytes)
+unfolding rows_decoding
+rows_read bytes rows read =
+    let so = within_read (length bytes) None bytes rows (omega arith) read in
+    (rising rows so.0, so.1)
 
 -- ---- written, then read
 
@@ -77,43 +120,29 @@ rows_back rows is = within_back (length (rows_encoding rows)) None rows (omega a
 
 -- ---- read, then written
 
-in_order : {B : Type 0} (holds : Bool) (rest : Result B DbError) (b : B) → (check holds Order >>= λ _. rest) ≡ Ok b → (holds ≡ true) × (rest ≡ Ok b)
-in_order true rest b e = (refl, e)
-in_order false rest b e = absurd cc
-
 within_spelled : (n : ℕ) (before : Option RowView) (bytes : List ℕ) (rows : List RowView) → AreBytes bytes → length bytes ≤ n
-    → rows_within n before bytes ≡ Ok rows → (rows_encoding rows ≡ bytes) × Rises before rows
+    → rows_within n before bytes ≡ Ok rows → (rows_encoding rows ≡ bytes) × AreWhole rows
 unfolding rows_within
 within_spelled zero before [] [] each le read = (refl, tt)
 within_spelled zero before [] (row ∷ rows) each le read = absurd cc
 within_spelled zero before (b ∷ bytes) rows each le read = absurd (omega (arith, le))
 within_spelled (suc n) before [] [] each le read = (refl, tt)
 within_spelled (suc n) before [] (row ∷ rows) each le read = absurd cc
-within_spelled (suc n) before (b ∷ tail) [] each le read =
+within_spelled (suc n) before (b ∷ tail) rows each le read =
     let bytes = b ∷ tail in
     let behind = drop (row_size bytes) bytes in
-    let a = went (row_decoding bytes) (λ row. check (is_above before row) Order >>= λ _. rows_within n (Some row) behind >>= λ rows. Ok (row ∷ rows)) [] read in
-    let o = in_order (is_above before a.value) (rows_within n (Some a.value) behind >>= λ rows. Ok (a.value ∷ rows)) [] a.others in
-    let r = went (rows_within n (Some a.value) behind) (λ rows. Ok (a.value ∷ rows)) [] o.1 in
-    absurd (cc (r.others))
-within_spelled (suc n) before (b ∷ tail) (row ∷ rows) each le read =
-    let bytes = b ∷ tail in
-    let behind = drop (row_size bytes) bytes in
-    let a = went (row_decoding bytes) (λ row. check (is_above before row) Order >>= λ _. rows_within n (Some row) behind >>= λ rows. Ok (row ∷ rows)) (row ∷ rows) read in
-    let o = in_order (is_above before a.value) (rows_within n (Some a.value) behind >>= λ rows. Ok (a.value ∷ rows)) (row ∷ rows) a.others in
-    let r = went (rows_within n (Some a.value) behind) (λ rows. Ok (a.value ∷ rows)) (row ∷ rows) o.1 in
-    let same_row : a.value ≡ row = cc (r.others) in
-    let same_rows : r.value ≡ rows = cc (r.others) in
+    let a = went (row_decoding bytes) (λ row. check (is_above before row) Order >>= λ _. rows_within n (Some row) behind >>= λ rows. Ok (row ∷ rows)) rows read in
+    let o = in_order (is_above before a.value) (rows_within n (Some a.value) behind >>= λ rows. Ok (a.value ∷ rows)) rows a.others in
+    let r = went (rows_within n (Some a.value) behind) (λ rows. Ok (a.value ∷ rows)) rows o.1 in
+    let same : (a.value ∷ r.value) ≡ rows = cc (r.others) in
     let short : length behind ≤ n = omega (arith, le, length-drop (row_size bytes) bytes) in
     let later = within_spelled n (Some a.value) behind r.value (bytes_drop (row_size bytes) bytes each) short r.first in
-    let record_of_row : row_record row ++ behind ≡ bytes = row_spelled bytes row each (a.first ∙ ap (λ (x : RowView). Ok x) same_row) in
-    let encoded : rows_encoding rows ≡ behind = ap rows_encoding (sym same_rows) ∙ later.0 in
-    let above : is_above before row ≡ true = ap (is_above before) (sym same_row) ∙ o.0 in
-    let risen : Rises (Some row) rows = same_rise a.value row r.value rows same_row same_rows later.1 in
-    (flat_map-cons row_record row rows ∙ ap (λ (t : List ℕ). row_record row ++ t) encoded ∙ record_of_row, (above, risen))
+    let encoded : rows_encoding (a.value ∷ r.value) ≡ bytes =
+    flat_map-cons row_record a.value r.value ∙ ap (λ (t : List ℕ). row_record a.value ++ t) later.0 ∙ row_spelled bytes a.value each a.first in
+    subst (λ (l : List RowView). (rows_encoding l ≡ bytes) × AreWhole l) same (encoded, (row_whole bytes a.value each a.first, later.1))
 
 pub rows_spelled : ReadRowsAreSpelled
 unfolding rows_decoding
 rows_spelled bytes rows each read =
     let so = within_spelled (length bytes) None bytes rows each (omega arith) read in
-    (so.0, rising rows so.1)
+    (so.0, record { rising = (rows_read bytes rows read).0; whole = so.1 })

@@ -1,6 +1,7 @@
 -- What is read is spelled so: for `record_laws`.
-use Rattle.std.proofs.Common.{◌≡◌, ℕ, zero, suc, ◌+◌, ◌*◌, ◌≤◌, Bool, true, false, List, [], ◌∷◌, ◌++◌, length, drop, take, refl, sym, ap, ◌∙◌, arith, append_assoc, take-append-drop, Ok, Err, if◌then◌else◌}
+use Rattle.std.proofs.Common.{◌≡◌, ℕ, zero, suc, ◌+◌, ◌*◌, ◌≤◌, Bool, true, false, List, [], ◌∷◌, ◌++◌, length, drop, take, refl, sym, ap, subst, ◌∙◌, arith, append_assoc, take-append-drop, Ok, Err, if◌then◌else◌}
 use Rattle.std.specs.Prelude.{Result, nat_le, ◌==◌}
+use Rattle.std.specs.List.{slice_index}
 use Rattle.std.specs.Int.{w32, to_be_bytes}
 use Rattle.std.specs.Cmp.Lexicographic.{pointwise_decides}
 use Rattle.std.proofs.lemmas.Bool.{eqb-true, leb-true}
@@ -9,15 +10,17 @@ use Rattle.std.proofs.lemmas.List.{drop-drop}
 use Rattle.std.proofs.lemmas.List.Concat.{flat_map-cons}
 use Rattle.byte_lists.specs.Content.{AreBytes, part}
 use Rattle.byte_lists.specs.Numbers.{four_at, eight_at}
-use Rattle.byte_lists.proofs.Contents.{length-part}
+use Rattle.byte_lists.proofs.Contents.{length-part, bytes-part}
 use Rattle.byte_lists.proofs.BigEndian.{encoded-four_at, encoded-eight_at}
+use Rattle.seg_core.specs.declared.error.SegError.{SegError}
 use Rattle.seg_core.specs.declared.seg_type.SegType.{SegType}
 use Rattle.seg_core.specs.declared.seg_type.SegType.TheVariants.{Up, Down, Core}
 use Rattle.seg_core.specs.SegmentView.{SegmentView}
 use Rattle.seg_core.specs.Equality.{same_bytes}
 use Rattle.seg_core.specs.Registration.{type_number, type_of}
 use Rattle.seg_core.specs.Segment.{segment_decoding}
-use Rattle.seg_core.specs.Encoding.{segment_encoding}
+use Rattle.seg_core.specs.Encoding.{IsSegment, segment_encoding}
+use Rattle.seg_core.proofs.Whole.{decoding-IsSegment}
 use Rattle.path_db.specs.declared.error.DbError.{DbError}
 use Rattle.path_db.specs.declared.error.DbError.TheVariants.{BadRecord}
 use Rattle.path_db.specs.declared.command.Command.{Command}
@@ -41,7 +44,7 @@ pub went : {A B : Type 0} (r : Result A DbError) (rest : A → Result B DbError)
 went (Ok x) rest b e = record { value = x; first = refl; others = e }
 went (Err x) rest b e = absurd cc
 
-checked : {B : Type 0} (holds : Bool) (rest : Result B DbError) (b : B) → (check holds BadRecord >>= λ _. rest) ≡ Ok b → (holds ≡ true) × (rest ≡ Ok b)
+pub checked : {B : Type 0} (holds : Bool) (rest : Result B DbError) (b : B) → (check holds BadRecord >>= λ _. rest) ≡ Ok b → (holds ≡ true) × (rest ≡ Ok b)
 checked true rest b e = (refl, e)
 checked false rest b e = absurd cc
 
@@ -54,7 +57,7 @@ type_back (suc (suc zero)) kind e = let same : Down ≡ kind = cc in sym (ap typ
 type_back (suc (suc (suc zero))) kind e = let same : Core ≡ kind = cc in sym (ap type_number same)
 type_back (suc (suc (suc (suc n)))) kind e = absurd cc
 
-segment_back : (message : List ℕ) (s : SegmentView) → spelled_segment message ≡ Ok s → message ≡ segment_encoding s
+pub segment_back : (message : List ℕ) (s : SegmentView) → spelled_segment message ≡ Ok s → message ≡ segment_encoding s
 unfolding spelled_segment
 segment_back message s read =
     let a = went (record_of (segment_decoding message)) (λ segment. check (same_bytes message (segment_encoding segment)) BadRecord >>= λ _. Ok segment) s read in
@@ -89,21 +92,48 @@ row_of_pieces first tail encoding each inside is =
     ∙ ap (λ (t : List ℕ). t ++ drop 4 tail) head
     ∙ take-append-drop 4 tail)
 
+-- what a row that is read went through
+pub record RowSteps (bytes : List ℕ) (row : RowView) : Type 0 where
+  pub there : has_row bytes ≡ true
+  pub kind : record_of (type_of (slice_index bytes 0)) ≡ Ok row.0
+  pub segment : spelled_segment (part 5 (four_at 1 bytes) bytes) ≡ Ok row.1
+
+pub row_steps : (bytes : List ℕ) (row : RowView) → row_decoding bytes ≡ Ok row → RowSteps bytes row
+unfolding row_decoding
+row_steps bytes row read =
+    let message = part 5 (four_at 1 bytes) bytes in
+    let a = checked (has_row bytes) (record_of (type_of (slice_index bytes 0)) >>= λ kind. spelled_segment message >>= λ segment. Ok (kind, segment)) row read in
+    let k = went (record_of (type_of (slice_index bytes 0))) (λ kind. spelled_segment message >>= λ segment. Ok (kind, segment)) row a.1 in
+    let s = went (spelled_segment message) (λ segment. Ok (k.value, segment)) row k.others in
+    let same : (k.value, s.value) ≡ row = cc (s.others) in
+    subst (RowSteps bytes) same (record { there = a.0; kind = k.first; segment = s.first })
+
 pub row_spelled : (bytes : List ℕ) (row : RowView) → AreBytes bytes → row_decoding bytes ≡ Ok row → row_record row ++ drop (row_size bytes) bytes ≡ bytes
-unfolding row_decoding row_record
-row_spelled [] row each read =
-    let a = checked (has_row []) (record_of (type_of 0) >>= λ kind. spelled_segment (part 5 (four_at 1 []) []) >>= λ segment. Ok (kind, segment)) row read in
-    absurd (omega (arith, has_room [] a.0))
+unfolding row_record
+row_spelled [] row each read = let so = row_steps [] row read in absurd (omega (arith, has_room [] so.there))
 row_spelled (first ∷ tail) row each read =
     let bytes = first ∷ tail in
-    let a = checked (has_row bytes) (record_of (type_of first) >>= λ kind. spelled_segment (part 5 (four_at 1 bytes) bytes) >>= λ segment. Ok (kind, segment)) row read in
-    let k = went (record_of (type_of first)) (λ kind. spelled_segment (part 5 (four_at 1 bytes) bytes) >>= λ segment. Ok (kind, segment)) row a.1 in
-    let s = went (spelled_segment (part 5 (four_at 1 bytes) bytes)) (λ segment. Ok (k.value, segment)) row k.others in
-    let same : (k.value, s.value) ≡ row = cc (s.others) in
-    let pieces = row_of_pieces first tail (segment_encoding s.value) each (has_room bytes a.0) (segment_back (part 5 (four_at 1 bytes) bytes) s.value s.first) in
-    ap (λ (r : RowView). (type_number r.0 ∷ (to_be_bytes w32 (length (segment_encoding r.1)) ++ segment_encoding r.1)) ++ drop (row_size bytes) bytes) (sym same)
-    ∙ ap (λ (n : ℕ). (n ∷ (to_be_bytes w32 (length (segment_encoding s.value)) ++ segment_encoding s.value)) ++ drop (row_size bytes) bytes) (type_back first k.value k.first)
-    ∙ pieces
+    let so = row_steps bytes row read in
+    ap (λ (n : ℕ). (n ∷ (to_be_bytes w32 (length (segment_encoding row.1)) ++ segment_encoding row.1)) ++ drop (row_size bytes) bytes) (type_back first row.0 so.kind)
+    ∙ row_of_pieces first tail (segment_encoding row.1) each (has_room bytes so.there) (segment_back (part 5 (four_at 1 bytes) bytes) row.1 so.segment)
+
+is_of : (r : Result SegmentView SegError) (s : SegmentView) → record_of r ≡ Ok s → r ≡ Ok s
+is_of (Ok x) s e = let same : x ≡ s = cc in ap (λ (x : SegmentView). Ok x) same
+is_of (Err x) s e = absurd cc
+
+-- a segment that is read is whole
+spelled_whole : (message : List ℕ) (s : SegmentView) → AreBytes message → spelled_segment message ≡ Ok s → IsSegment s
+unfolding spelled_segment
+spelled_whole message s each read =
+    let a = went (record_of (segment_decoding message)) (λ segment. check (same_bytes message (segment_encoding segment)) BadRecord >>= λ _. Ok segment) s read in
+    let b = checked (same_bytes message (segment_encoding a.value)) (Ok a.value) s a.others in
+    let same : a.value ≡ s = cc (b.1) in
+    subst IsSegment same (decoding-IsSegment message a.value each (is_of (segment_decoding message) a.value a.first))
+
+pub row_whole : (bytes : List ℕ) (row : RowView) → AreBytes bytes → row_decoding bytes ≡ Ok row → IsSegment row.1
+row_whole bytes row each read =
+    let so = row_steps bytes row read in
+    spelled_whole (part 5 (four_at 1 bytes) bytes) row.1 (bytes-part 5 (four_at 1 bytes) bytes each) so.segment
 
 pub bytes_drop : (n : ℕ) (bytes : List ℕ) → AreBytes bytes → AreBytes (drop n bytes)
 bytes_drop zero bytes each i = each i
@@ -126,7 +156,7 @@ items_spelled (suc count) bytes rows each read =
 
 -- ---- commands
 
-tail_bytes : (b : ℕ) (bytes : List ℕ) → AreBytes (b ∷ bytes) → AreBytes bytes
+pub tail_bytes : (b : ℕ) (bytes : List ℕ) → AreBytes (b ∷ bytes) → AreBytes bytes
 tail_bytes b bytes each i = each (suc i)
 
 registration_spelled : (body : List ℕ) (command : Command) → AreBytes body → registration_decoding body ≡ Ok command → command_encoding command ≡ 1 ∷ body

@@ -4,7 +4,7 @@ use Rattle.byte_lists.specs.Content.{AreBytes}
 use Rattle.path_db.specs.declared.command.Command.{Command}
 use Rattle.path_db.specs.declared.command.Command.TheVariants.{Register, Purge, Remove}
 use Rattle.path_db.specs.Command.{HasWholeSegments}
-use Rattle.path_db.specs.Database.{RowView, IsRising, IsDatabase}
+use Rattle.path_db.specs.Database.{RowView, IsDatabase}
 use Rattle.path_db.specs.RowRecord.{rows_encoding, rows_decoding}
 use Rattle.path_db.specs.CommandRecord.{IsWithinLimits, command_encoding, command_decoding}
 
@@ -38,12 +38,25 @@ WrittenCommandsAreRead =
     (removals : Bool) (command : Command) → IsWithinLimits command → HasWholeSegments command → HasWidths command → IsAllowedBy removals command
     → command_decoding removals (command_encoding command) ≡ Ok command
 
+-- The command has a record that is read as it.
+pub record CanBeWritten (removals : Bool) (command : Command) : Type 0 where
+  pub limits : IsWithinLimits command
+  pub whole : HasWholeSegments command
+  pub widths : HasWidths command
+  pub allowed : IsAllowedBy removals command
+
+-- What is read as a command can be written: just these commands have records.
+abbrev pub ReadCommandsCanBeWritten : Type 0
+ReadCommandsCanBeWritten =
+    (removals : Bool) (bytes : List ℕ) (command : Command) → AreBytes bytes
+    → command_decoding removals bytes ≡ Ok command → CanBeWritten removals command
+
 -- What is written of a database is read as its rows.
 abbrev pub WrittenRowsAreRead : Type 0
 WrittenRowsAreRead = (rows : List RowView) → IsDatabase rows → rows_decoding (rows_encoding rows) ≡ Ok rows
 
--- The bytes that are read as rows are their records, and the keys rise.
+-- The bytes that are read as rows are their records, and the rows are a database.
 abbrev pub ReadRowsAreSpelled : Type 0
 ReadRowsAreSpelled =
     (bytes : List ℕ) (rows : List RowView) → AreBytes bytes → rows_decoding bytes ≡ Ok rows
-    → (rows_encoding rows ≡ bytes) × IsRising rows
+    → (rows_encoding rows ≡ bytes) × IsDatabase rows

@@ -100,10 +100,12 @@ fn put_removal(kind: SegType, id: &[u8; 32], out: &mut Vec<u8>) -> Result<(), Al
 }
 
 /// Reads a command's record, all of its bytes. Under version 1 a removal is refused. To read a purge or a removal takes no memory.
+/// A command that is read can be written.
 #[tactic(auto, unfolding(crate::specs::CommandRecord::command_decoding))]
 pub fn read_command(alloc: Global, bytes: &[u8], version: u32) -> Result<Command, DbError>
     ensures decoding { Gives (λ command. command) result (command_decoding (allows_removals version) bytes.now) }
     ensures whole { IfOk result HasWholeSegments }
+    ensures limits { IfOk result IsWithinLimits }
     ensures memory { IfErr result (λ e. e ≡ NoMemory → WantsMemory bytes.now) }
 {
     let [kind, body @ ..] = bytes else {
@@ -122,6 +124,7 @@ pub fn read_command(alloc: Global, bytes: &[u8], version: u32) -> Result<Command
 fn read_registration(alloc: Global, body: &[u8]) -> Result<Command, DbError>
     ensures decoding { Gives (λ command. command) result (registration_decoding body.now) }
     ensures whole { IfOk result HasWholeSegments }
+    ensures limits { IfOk result IsWithinLimits }
     ensures memory { IfErr result (λ e. e ≡ NoMemory → HasOutline (drop 1 body.now)) }
 {
     let [count, items @ ..] = body else {
@@ -158,6 +161,7 @@ fn read_items(alloc: Global, count: usize, bytes: &[u8]) -> Result<Vec<(SegType,
 fn read_purge(body: &[u8]) -> Result<Command, DbError>
     ensures decoding { Reads (λ command. command) result (purge_decoding body.now) }
     ensures whole { IfOk result HasWholeSegments }
+    ensures limits { IfOk result IsWithinLimits }
     ensures memory { IfErr result (λ e. e ≢ NoMemory) }
 {
     if body.len() != 8 {
@@ -171,6 +175,7 @@ fn read_purge(body: &[u8]) -> Result<Command, DbError>
 fn read_removal(body: &[u8]) -> Result<Command, DbError>
     ensures decoding { Reads (λ command. command) result (removal_decoding body.now) }
     ensures whole { IfOk result HasWholeSegments }
+    ensures limits { IfOk result IsWithinLimits }
     ensures memory { IfErr result (λ e. e ≢ NoMemory) }
 {
     let [kind, id @ ..] = body else {

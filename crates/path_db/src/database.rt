@@ -57,6 +57,15 @@ impl PathDb {
         }
     }
 
+    /// The database of rows that take so many bytes.
+    pub(crate) fn of_rows(alloc: Global, rows: Vec<Row>, bytes: u128) -> PathDb
+        requires database { IsDatabase (row_views rows.items) }
+        requires counted { bytes ≡ rows_len (row_views rows.items) }
+        ensures { result ≡ row_views rows.items }
+    {
+        PathDb { alloc, rows, bytes }
+    }
+
     /// Applies a command, whole or, where memory runs out, not at all. A purge, a removal and a registration of nothing take
     /// no memory. A segment that is registered is shared with its row.
     #[tactic(auto, unfolding(crate::specs::Command::database_after, crate::specs::Command::outcome_of))]

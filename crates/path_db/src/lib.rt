@@ -31,9 +31,9 @@ pub use error::DbError;
 pub use outcome::Outcome;
 pub use outcome_laws::{each_put_is_counted, rows_are_counted};
 pub use record_laws::{
-    commands_are_read_on, read_commands_are_spelled, read_rows_are_spelled,
-    written_commands_are_read, written_rows_are_read,
+    commands_are_read_on, read_commands_are_spelled, read_commands_can_be_written,
+    read_rows_are_spelled, written_commands_are_read, written_rows_are_read,
 };
 pub use row::Row;
 pub use row_list::Rows;
-pub use row_records::write_rows;
+pub use row_records::{read_rows, write_rows};

@@ -1,6 +1,6 @@
 //! Laws of commands and rows as records: the functions do nothing, and their contracts say them.
 
-ghost use Rattle.path_db.specs.RecordLaws.{ReadCommandsAreSpelled, CommandsAreReadOn, WrittenCommandsAreRead, WrittenRowsAreRead, ReadRowsAreSpelled};
+ghost use Rattle.path_db.specs.RecordLaws.{ReadCommandsAreSpelled, CommandsAreReadOn, WrittenCommandsAreRead, ReadCommandsCanBeWritten, WrittenRowsAreRead, ReadRowsAreSpelled};
 
 /// The bytes that are read as a command are its record.
 pub fn read_commands_are_spelled()
@@ -18,12 +18,18 @@ pub fn written_commands_are_read()
     ensures { WrittenCommandsAreRead }
 {}
 
+/// What is read as a command can be written: it is within the limits, its segments are whole, its numbers have their widths, and
+/// it is a removal only where removals are allowed.
+pub fn read_commands_can_be_written()
+    ensures { ReadCommandsCanBeWritten }
+{}
+
 /// What is written of a database is read as its rows.
 pub fn written_rows_are_read()
     ensures { WrittenRowsAreRead }
 {}
 
-/// The bytes that are read as rows are their records, and the keys rise.
+/// The bytes that are read as rows are their records, and the rows are a database.
 pub fn read_rows_are_spelled()
     ensures { ReadRowsAreSpelled }
 {}

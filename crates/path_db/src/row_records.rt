@@ -7,10 +7,14 @@ ghost use Rattle.seg_core.specs.Registration.{type_number, type_of};
 ghost use Rattle.seg_core.specs.Segment.{segment_outline};
 ghost use Rattle.path_db.specs.declared.error.DbError.TheVariants.{NoMemory, BadRecord};
 ghost use Rattle.path_db.specs.RecordSteps.{Gives, Reads};
-ghost use Rattle.path_db.specs.RowRecord.{row_record, rows_encoding, row_size, has_row, record_of, row_decoding, spelled_segment, HasOutline};
+ghost use Rattle.path_db.specs.Database.{IsDatabase, AreWhole};
+ghost use Rattle.path_db.specs.Row.{row_view, row_views};
+ghost use Rattle.path_db.specs.RowRecord.{row_record, rows_encoding, row_size, has_row, record_of, row_decoding, spelled_segment, HasOutline, is_above, rows_decoding};
+ghost use Rattle.seg_core.specs.Message.{last_of};
 
 use crate::database::PathDb;
 use crate::error::DbError;
+use crate::row::Row;
 use crate::row_list::Rows;
 use byte_lists::read_u32;
 use seg_core::{
@@ -136,4 +140,46 @@ pub(crate) fn read_row(alloc: Global, bytes: &[u8]) -> Result<((SegType, Segment
     let kind = type_from(bytes[0])?;
     let segment = read_spelled(alloc, &bytes[ROW_HEAD..size])?;
     Ok(((kind, segment), &bytes[size..]))
+}
+
+/// Reads the records of rows, all of the bytes, one after the other; their ids are computed again. Bytes that are no row are
+/// `BadRecord`, and a row whose key isn't strictly above that of the row before is `Order`: what is met first is told. No bytes
+/// are no rows. To read rows takes memory, from the first whose segment has an outline on.
+pub fn read_rows(alloc: Global, bytes: &[u8]) -> Result<PathDb, DbError>
+    ensures decoding { Gives (λ rows. rows) result (rows_decoding bytes.now) }
+    ensures whole { IfOk result IsDatabase }
+    ensures memory { IfErr result (λ e. e ≡ NoMemory → HasOutline bytes.now) }
+{
+    let rows = read_rising(alloc, bytes)?;
+    Ok(PathDb::of_rows(alloc, rows, bytes.len() as u128))
+}
+
+/// Reads rows whose keys rise.
+fn read_rising(alloc: Global, bytes: &[u8]) -> Result<Vec<Row>, DbError>
+    ensures decoding { Gives (λ rows. row_views rows.items) result (rows_decoding bytes.now) }
+    ensures whole { IfOk result (λ rows. AreWhole (row_views rows.items)) }
+    ensures memory { IfErr result (λ e. e ≡ NoMemory → HasOutline bytes.now) }
+{
+    let mut rows = Vec::new(alloc);
+    let mut rest = bytes;
+    while !rest.is_empty() {
+        let ((kind, segment), behind) = read_row(alloc, rest)?;
+        let row = Row::new(kind, segment);
+        if !is_above_last(&rows, &row) {
+            return Err(DbError::Order);
+        }
+        rows.push(row)?;
+        rest = behind;
+    }
+    Ok(rows)
+}
+
+/// Whether there is no row, or the key is strictly above that of the last.
+fn is_above_last(rows: &[Row], row: &Row) -> bool
+    ensures { result ≡ is_above (last_of (row_views rows.now)) (row_view row.now) }
+{
+    match rows.last() {
+        Some(before) => before.cmp_key(row.kind, &row.id).is_lt(),
+        None => true,
+    }
 }

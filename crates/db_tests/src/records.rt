@@ -1,0 +1,282 @@
+//! Rows and commands as records: the worked row and others like it, and each refusal by a byte changed.
+
+use crate::worked::{ID, SEGMENT};
+use path_db::{Command, DbError, read_command, read_rows, write_command, write_rows};
+use seg_core::SegType;
+use std::alloc::Global;
+use std::test::Fail;
+
+/// A record that is none.
+const BAD: DbError = DbError::BadRecord;
+
+/// Appends the row of the worked segment under the type of this number. It is left by the interface, below 128.
+fn put_row(bytes: &mut Vec<u8>, kind: u8, egress: u8) -> Result<(), Fail> {
+    let mut segment = SEGMENT;
+    segment[39] = egress;
+    bytes.extend_from_slice(&[kind, 0, 0, 0, 88])?;
+    bytes.extend_from_slice(&segment)?;
+    Ok(())
+}
+
+/// Rows of the worked segment under the types of these numbers.
+fn rows_of(alloc: Global, kinds: &[u8]) -> Result<Vec<u8>, Fail> {
+    let mut bytes = Vec::new(alloc);
+    for kind in kinds {
+        put_row(&mut bytes, *kind, 1)?;
+    }
+    Ok(bytes)
+}
+
+/// The bytes with another one at its place.
+fn changed(alloc: Global, bytes: &[u8], at: usize, byte: u8) -> Result<Vec<u8>, Fail> {
+    let mut changed = Vec::from_slice(alloc, bytes)?;
+    if let Some(old) = changed.get_mut(at) {
+        *old = byte;
+    }
+    Ok(changed)
+}
+
+/// How many rows are read. Where memory is refused, it is tried once more.
+fn count_of(alloc: Global, bytes: &[u8]) -> Result<usize, DbError> {
+    let read = match read_rows(alloc, bytes) {
+        Err(DbError::NoMemory) => read_rows(alloc, bytes),
+        read => read,
+    };
+    Ok(read?.rows().count())
+}
+
+// The worked row under each type: it is read, its id is computed again, and it is written as it was.
+#[test]
+fn rows_are_read_and_written(rt: HostRuntime) -> Result<(), Fail> {
+    let bytes = rows_of(rt.alloc(), &[1, 2, 3])?;
+    let database = match read_rows(rt.alloc(), &bytes) {
+        Err(DbError::NoMemory) => read_rows(rt.alloc(), &bytes)?,
+        read => read?,
+    };
+    assert_eq!(rt; (database.rows().count(), database.encoded_len()), (3, 279));
+    for kind in [SegType::Up, SegType::Down, SegType::Core] {
+        assert!(rt; database.get(kind, &ID).is_some());
+    }
+    let mut written = Vec::new(rt.alloc());
+    write_rows(&database, &mut written)?;
+    assert_eq!(rt; written.as_slice(), bytes.as_slice());
+    Ok(())
+}
+
+// What is met first is told: the second row's want of order before the third's type.
+#[test]
+fn keys_rise(rt: HostRuntime) -> Result<(), Fail> {
+    for (kinds, expected) in [
+        ([1, 2, 3], Ok(3)),
+        ([1, 1, 2], Err(DbError::Order)),
+        ([2, 1, 3], Err(DbError::Order)),
+        ([2, 3, 3], Err(DbError::Order)),
+        ([2, 3, 1], Err(DbError::Order)),
+        ([3, 2, 0], Err(DbError::Order)),
+        ([3, 4, 2], Err(BAD)),
+        ([0, 1, 1], Err(BAD)),
+    ] {
+        let bytes = rows_of(rt.alloc(), &kinds)?;
+        assert_eq!(rt; count_of(rt.alloc(), &bytes), expected, "{kinds:?}");
+    }
+    // The ids of the worked segment left by 2, 1 and 3 begin with 19, 8a and be.
+    for (first, second, expected) in [
+        (2, 1, Ok(2)),
+        (1, 3, Ok(2)),
+        (1, 1, Err(DbError::Order)),
+        (1, 2, Err(DbError::Order)),
+    ] {
+        let mut bytes = Vec::new(rt.alloc());
+        put_row(&mut bytes, 2, first)?;
+        put_row(&mut bytes, 2, second)?;
+        assert_eq!(rt; count_of(rt.alloc(), &bytes), expected, "{first} {second}");
+    }
+    Ok(())
+}
+
+// Rows of 93 bytes each: a part of one is none.
+#[test]
+fn rows_are_whole(rt: HostRuntime) -> Result<(), Fail> {
+    let bytes = rows_of(rt.alloc(), &[1, 2, 3])?;
+    for len in 0..=bytes.len() {
+        let expected = if len % 93 == 0 { Ok(len / 93) } else { Err(BAD) };
+        assert_eq!(rt; count_of(rt.alloc(), &bytes[..len]), expected, "{len}");
+    }
+    Ok(())
+}
+
+// Three rows with one byte changed: each begins 93 bytes behind the one before, its segment 5 bytes later.
+#[test]
+fn changed_rows(rt: HostRuntime) -> Result<(), Fail> {
+    let bytes = rows_of(rt.alloc(), &[1, 2, 3])?;
+    for (at, byte, expected) in [
+        (0, 4, Err(BAD)),             // the type
+        (93, 0, Err(BAD)),            // the second row's
+        (93, 3, Err(DbError::Order)), // the same as the third's
+        (1, 1, Err(BAD)),             // the length: far more than there are
+        (4, 87, Err(BAD)),            // a byte less than the segment
+        (4, 89, Err(BAD)),            // a byte of the next row
+        (190, 89, Err(BAD)),          // a byte more than there are
+        (5, 0x0b, Err(BAD)),          // a field's wire type
+        (5, 0x1a, Err(BAD)), // a field that is skipped: a segment is read, but it is spelled otherwise
+        (12, 0x16, Err(BAD)), // the timestamp, past 2^32 - 1
+        (14, 8, Ok(3)),      // the segment id
+        (32, 0x92, Err(BAD)), // the next AS isn't the next entry's
+        (44, 0, Err(BAD)),   // no way out of the first AS
+        (44, 2, Ok(3)),      // another way out
+        (49, 0xff, Ok(3)),   // a MAC
+        (92, 0x8b, Err(BAD)), // the MTU, which goes on past the end
+        (278, 0x0c, Ok(3)),  // the last row's
+    ] {
+        let changed = changed(rt.alloc(), &bytes, at, byte)?;
+        assert_eq!(rt; count_of(rt.alloc(), &changed), expected, "{at} {byte}");
+    }
+    Ok(())
+}
+
+// ---- commands
+
+/// A record that registers the worked segment so many times, as down segments.
+fn registration(alloc: Global, count: u8) -> Result<Vec<u8>, Fail> {
+    let mut bytes = Vec::from_slice(alloc, &[1, count])?;
+    for _ in 0..count {
+        put_row(&mut bytes, 2, 1)?;
+    }
+    Ok(bytes)
+}
+
+/// A record that registers sixteen segments: the worked one with a signature, so that each has 8,192 bytes, and the last as
+/// many more, fewer than 10.
+fn long_registration(alloc: Global, more: u8) -> Result<Vec<u8>, Fail> {
+    let mut bytes = Vec::from_slice(alloc, &[1, 16])?;
+    for item in 1..=16 {
+        let more = if item == 16 { more } else { 0 };
+        bytes.extend_from_slice(&[2, 0, 0, 0x20, more])?;
+        bytes.extend_from_slice(&SEGMENT[..10])?;
+        // The first entry has 8,144 bytes, its signed message 8,141, and the signature 8,099.
+        bytes.extend_from_slice(&[0x12, 0xd0 + more, 0x3f, 0x0a, 0xcd + more, 0x3f])?;
+        bytes.extend_from_slice(&SEGMENT[14..53])?;
+        bytes.extend_from_slice(&[0x12, 0xa3 + more, 0x3f])?;
+        bytes.extend_from_slice(&[0; 8_099])?;
+        for _ in 0..more {
+            bytes.push(0)?;
+        }
+        bytes.extend_from_slice(&SEGMENT[53..])?;
+    }
+    Ok(bytes)
+}
+
+/// A command's kind, and how many segments it registers, its moment, or its type's number.
+fn told(command: &Command) -> (u8, u64) {
+    match command {
+        Command::Register(registration) => (1, registration.as_slice().len() as u64),
+        Command::Purge(moment) => (2, *moment),
+        Command::Remove(kind, _) => (3, kind.number()),
+    }
+}
+
+/// What is told of the command that is read, of kind 0 where it isn't written as it was read. Where memory is refused, it is
+/// tried once more.
+fn command_of(alloc: Global, bytes: &[u8], version: u32) -> Result<(u8, u64), DbError> {
+    let command = match read_command(alloc, bytes, version) {
+        Err(DbError::NoMemory) => read_command(alloc, bytes, version)?,
+        read => read?,
+    };
+    let mut written = Vec::new(alloc);
+    if write_command(&command, &mut written).is_err() {
+        write_command(&command, &mut written)?;
+    }
+    let is_same = written.as_slice() == bytes;
+    Ok(if is_same { told(&command) } else { (0, 0) })
+}
+
+/// The purge of a moment, and a byte behind it.
+const PURGE: [u8; 10] = [2, 0, 0, 0, 0, 0, 0, 1, 2, 0];
+
+// A front of a purge's bytes, under either version: it has nine.
+#[test]
+fn purges(rt: HostRuntime) {
+    for version in [1, 2] {
+        for len in 0..=PURGE.len() {
+            let expected = if len == 9 { Ok((2, 258)) } else { Err(BAD) };
+            let read = command_of(rt.alloc(), &PURGE[..len], version);
+            assert_eq!(rt; read, expected, "{len}");
+        }
+    }
+}
+
+// A removal has 34 bytes, the third kind, and a type from 1 to 3; version 1 has none.
+#[test]
+fn removals(rt: HostRuntime) -> Result<(), Fail> {
+    for (kind, number, ids, version, expected) in [
+        (3, 1, 32, 2, Ok((3, 1))),
+        (3, 2, 32, 2, Ok((3, 2))),
+        (3, 3, 32, 3, Ok((3, 3))),
+        (3, 2, 32, 1, Err(BAD)),
+        (3, 2, 32, 0, Err(BAD)),
+        (3, 0, 32, 2, Err(BAD)),
+        (3, 4, 32, 2, Err(BAD)),
+        (3, 2, 31, 2, Err(BAD)),
+        (3, 2, 33, 2, Err(BAD)),
+        (4, 2, 32, 2, Err(BAD)),
+        (0, 2, 32, 2, Err(BAD)),
+    ] {
+        let mut bytes = Vec::from_slice(rt.alloc(), &[kind, number])?;
+        for byte in 0..ids {
+            bytes.push(byte)?;
+        }
+        let read = command_of(rt.alloc(), &bytes, version);
+        assert_eq!(rt; read, expected, "{kind} {number} {ids} {version}");
+    }
+    Ok(())
+}
+
+// Two segments with one byte changed: their rows begin at 2 and at 95, their segments 5 bytes later.
+#[test]
+fn changed_registrations(rt: HostRuntime) -> Result<(), Fail> {
+    let bytes = registration(rt.alloc(), 2)?;
+    for (at, byte, expected) in [
+        (0, 2, Err(BAD)),     // a purge of many bytes
+        (0, 3, Err(BAD)),     // a removal of many bytes
+        (0, 4, Err(BAD)),     // another kind
+        (1, 0, Err(BAD)),     // the count: bytes are left over
+        (1, 1, Err(BAD)),     // a row is left over
+        (1, 3, Err(BAD)),     // a row is missing
+        (2, 0, Err(BAD)),     // the type
+        (2, 3, Ok((1, 2))),   // rows in any order
+        (95, 2, Ok((1, 2))),  // equal rows, as they are
+        (95, 4, Err(BAD)),    // the second row's type
+        (3, 1, Err(BAD)),     // the length: far more than there are
+        (6, 87, Err(BAD)),    // a byte less than the segment
+        (99, 89, Err(BAD)),   // a byte more than there are
+        (7, 0x0b, Err(BAD)),  // a field's wire type
+        (7, 0x1a, Err(BAD)), // a field that is skipped: a segment is read, but it is spelled otherwise
+        (46, 0, Err(BAD)),   // no way out of the first AS
+        (46, 9, Ok((1, 2))), // another way out
+        (187, 0x8b, Err(BAD)), // the last MTU, which goes on past the end
+    ] {
+        let changed = changed(rt.alloc(), &bytes, at, byte)?;
+        let read = command_of(rt.alloc(), &changed, 1);
+        assert_eq!(rt; read, expected, "{at} {byte}");
+    }
+    Ok(())
+}
+
+// At most 16 segments, and at most 131,072 bytes of them.
+#[test]
+fn registrations_are_limited(rt: HostRuntime) -> Result<(), Fail> {
+    for (count, expected) in [
+        (0, Ok((1, 0))),
+        (1, Ok((1, 1))),
+        (16, Ok((1, 16))),
+        (17, Err(BAD)),
+    ] {
+        let bytes = registration(rt.alloc(), count)?;
+        assert_eq!(rt; command_of(rt.alloc(), &bytes, 1), expected, "{count}");
+    }
+    for (more, expected) in [(0, Ok((1, 16))), (1, Err(BAD))] {
+        let bytes = long_registration(rt.alloc(), more)?;
+        assert_eq!(rt; command_of(rt.alloc(), &bytes, 1), expected, "{more}");
+    }
+    Ok(())
+}
