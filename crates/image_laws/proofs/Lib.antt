@@ -7,3 +7,8 @@ pub mod Refused
 pub mod Scans
 pub mod Staged
 pub mod Bounds
+pub mod Titles
+pub mod Heads
+pub mod Regions
+pub mod Openings
+pub mod Opened

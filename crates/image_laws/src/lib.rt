@@ -3,12 +3,20 @@
 //! A journal is told for any format of commands (`CommandFormat`): the crate that has the commands gives theirs.
 #![tactic(auto)]
 
+mod checkpoint_laws;
+mod half;
 mod journal_laws;
+mod opening_laws;
 mod worked;
 
+pub use checkpoint_laws::{
+    checkpoints_are_read, first_sectors_are_read, heads_are_read, written_checkpoints_are_read,
+};
+pub use half::Half;
 pub use journal_laws::{
     journals_are_made_ready, journals_are_read, journals_are_sealed_by_their_gate,
     journals_go_by_their_front, journals_grow_by_their_gate, journals_read_under_larger_limits,
     journals_stay_within_bounds, later_versions_allow_more, payloads_fill_sectors,
 };
+pub use opening_laws::{openings_are_read, openings_stay_under_later_versions};
 pub use worked::{worked_journals, worked_payloads, worked_sizes, worked_versions};

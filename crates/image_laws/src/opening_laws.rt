@@ -1,0 +1,15 @@
+//! Laws of what an image opens to, in any format of databases of type `Db` and commands of type `C`.
+
+ghost use Rattle.image_laws.specs.OpeningLaws.{IsOpenedSo, HasValueJustWhere, HasOneValue, OpensUnderLaterVersions};
+
+/// An image is read as opening just where it opens, to the value for which it stands; and it stands for one value at most.
+pub fn openings_are_read<Db, C>()
+    ensures read { IsOpenedSo Db C }
+    ensures value { HasValueJustWhere Db C }
+    ensures one { HasOneValue Db C }
+{}
+
+/// What opens where fewer versions are known opens to the same value where more are.
+pub fn openings_stay_under_later_versions<Db, C>()
+    ensures { OpensUnderLaterVersions Db C }
+{}
