@@ -19,7 +19,7 @@ use Rattle.image_laws.specs.OpeningLaws.{IsOpenedSo, HasValueJustWhere, HasOneVa
 use Rattle.image_laws.proofs.Scans.{read_journal}
 use Rattle.image_laws.proofs.Titles.{store_from}
 use Rattle.image_laws.proofs.Heads.{head_from, checkpoint_from, head_read, begins_with_its_head}
-use Rattle.image_laws.proofs.Regions.{store_area, store_journal, area_bytes, journal_bytes}
+use Rattle.image_laws.proofs.Places.{store_area, store_journal, area_bytes, journal_bytes}
 use Rattle.image_laws.proofs.Openings.{IsBehind, opening_read}
 
 -- a half was chosen: its head, and that of the other one

@@ -16,7 +16,7 @@ use Rattle.image_laws.specs.OpeningReading.{head_behind, head_of, by_epochs, cho
 use Rattle.image_laws.proofs.Chains.{journal_read}
 use Rattle.image_laws.proofs.Titles.{store_read}
 use Rattle.image_laws.proofs.Heads.{head_read, checkpoint_read, begins_with_its_head}
-use Rattle.image_laws.proofs.Regions.{store_journal}
+use Rattle.image_laws.proofs.Places.{store_journal}
 
 -- the head of the half that isn't chosen, if it is open, has an earlier epoch
 abbrev pub IsBehind : ℕ → Option Head → Type 0

@@ -51,23 +51,30 @@ abbrev pub journal_of : Geometry → Half → List ℕ → List ℕ
 journal_of geometry half image = part (512 * journal_at geometry half) (512 * geometry.journal) image
 
 -- the regions of an image, and where each begins and how many sectors it has
+pub data Piece : Type 0 where
+  Area : Piece
+  Gate : Piece
+  Journal : Piece
+
 pub data Region : Type 0 where
   FirstSector : Region
-  Area : (half : Half) → Region
-  Gate : (half : Half) → Region
-  Journal : (half : Half) → Region
+  InHalf : (half : Half) (piece : Piece) → Region
 
 abbrev pub region_at : Geometry → Region → ℕ
 region_at geometry FirstSector = 0
-region_at geometry (Area half) = area_at geometry half
-region_at geometry (Gate half) = gate_at geometry half
-region_at geometry (Journal half) = journal_at geometry half
+region_at geometry (InHalf half Area) = area_at geometry half
+region_at geometry (InHalf half Gate) = gate_at geometry half
+region_at geometry (InHalf half Journal) = journal_at geometry half
 
 abbrev pub region_sectors : Geometry → Region → ℕ
 region_sectors geometry FirstSector = 1
-region_sectors geometry (Area half) = geometry.checkpoint
-region_sectors geometry (Gate half) = 1
-region_sectors geometry (Journal half) = geometry.journal
+region_sectors geometry (InHalf half Area) = geometry.checkpoint
+region_sectors geometry (InHalf half Gate) = 1
+region_sectors geometry (InHalf half Journal) = geometry.journal
+
+-- the sector behind a region
+abbrev pub region_end : Geometry → Region → ℕ
+region_end geometry region = region_at geometry region + region_sectors geometry region
 
 abbrev pub region_of : Geometry → Region → List ℕ → List ℕ
 region_of geometry region image = part (512 * region_at geometry region) (512 * region_sectors geometry region) image

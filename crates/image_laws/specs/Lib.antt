@@ -16,3 +16,5 @@ pub mod Opening
 pub mod OpeningReading
 pub mod CheckpointLaws
 pub mod OpeningLaws
+pub mod WhatCounts
+pub mod ImageLaws
