@@ -7,3 +7,11 @@ pub mod Refused
 pub mod Scans
 pub mod Staged
 pub mod Bounds
+pub mod Titles
+pub mod Heads
+pub mod Places
+pub mod Openings
+pub mod Opened
+pub mod Writes
+pub mod Counts
+pub mod TakeOver

@@ -16,7 +16,7 @@ pub data JournalRefusal : Type 0 where
   PastEnd : JournalRefusal
 
 -- one check: where it fails the refusal stands, and else what follows
-abbrev pub check : {X : Type 0} → Bool → JournalRefusal → Result X JournalRefusal → Result X JournalRefusal
+abbrev pub check : {X E : Type 0} → Bool → E → Result X E → Result X E
 check true refusal behind = behind
 check false refusal behind = Err refusal
 

@@ -7,3 +7,14 @@ pub mod JournalReading
 pub mod JournalRefusals
 pub mod JournalLaws
 pub mod Worked
+pub mod Layout
+pub mod FirstSector
+pub mod StoreFormat
+pub mod Checkpoint
+pub mod CheckpointReading
+pub mod Opening
+pub mod OpeningReading
+pub mod CheckpointLaws
+pub mod OpeningLaws
+pub mod WhatCounts
+pub mod ImageLaws

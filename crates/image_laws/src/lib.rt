@@ -3,12 +3,25 @@
 //! A journal is told for any format of commands (`CommandFormat`): the crate that has the commands gives theirs.
 #![tactic(auto)]
 
+mod checkpoint_laws;
+mod half;
 mod journal_laws;
+mod opening_laws;
+mod regions;
 mod worked;
 
+pub use checkpoint_laws::{
+    checkpoints_are_read, first_sectors_are_read, heads_are_read, written_checkpoints_are_read,
+};
+pub use half::Half;
 pub use journal_laws::{
     journals_are_made_ready, journals_are_read, journals_are_sealed_by_their_gate,
     journals_go_by_their_front, journals_grow_by_their_gate, journals_read_under_larger_limits,
     journals_stay_within_bounds, later_versions_allow_more, payloads_fill_sectors,
 };
+pub use opening_laws::{
+    halves_take_over_the_same, openings_are_read, openings_go_by_what_counts,
+    openings_stay_under_later_versions,
+};
+pub use regions::{regions_are_apart, writes_leave_other_regions};
 pub use worked::{worked_journals, worked_payloads, worked_sizes, worked_versions};

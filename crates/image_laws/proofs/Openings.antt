@@ -1,0 +1,103 @@
+-- What opens is read so.
+use Rattle.std.proofs.Common.{◌≡◌, ℕ, ◌<◌, Bool, true, false, ltb, List, Some, None, Option, Ok, Result, refl, ◌∙◌, ap, arith, ne_eqb}
+use Rattle.std.proofs.lemmas.Bool.{lt-ltb, le-ltb}
+use Rattle.byte_lists.specs.Sectors.{is_open_gate}
+use Rattle.byte_lists.proofs.Padding.{open_true, open_false, true_open}
+use Rattle.image_laws.specs.declared.half.Half.{Half}
+use Rattle.image_laws.specs.declared.half.Half.TheVariants.{First, Second}
+use Rattle.image_laws.specs.GroupReading.{JournalRefusal}
+use Rattle.image_laws.specs.Journal.{Reading}
+use Rattle.image_laws.specs.Layout.{Geometry, other, area_of, gate_of, journal_of}
+use Rattle.image_laws.specs.StoreFormat.{StoreFormat}
+use Rattle.image_laws.specs.Checkpoint.{Head}
+use Rattle.image_laws.specs.CheckpointReading.{head_in}
+use Rattle.image_laws.specs.Opening.{Opening, limits_in, IsTail, IsOpening}
+use Rattle.image_laws.specs.OpeningReading.{head_behind, head_of, by_epochs, choice, choice_of, behind_journal, read_tail, with_tail, by_journal, journal_from, by_checkpoint, by_choice, by_geometry, opening_of}
+use Rattle.image_laws.proofs.Chains.{journal_read}
+use Rattle.image_laws.proofs.Titles.{store_read}
+use Rattle.image_laws.proofs.Heads.{head_read, checkpoint_read, begins_with_its_head}
+use Rattle.image_laws.proofs.Places.{store_journal}
+
+-- the head of the half that isn't chosen, if it is open, has an earlier epoch
+abbrev pub IsBehind : ℕ → Option Head → Type 0
+IsBehind epoch None = Unit {0}
+IsBehind epoch (Some head) = head.epoch < epoch
+
+pub choice_first : (head : Head) (others : Option Head) → IsBehind head.epoch others → choice (Some head) others ≡ Ok First
+choice_first head None behind = refl
+choice_first head (Some older) behind =
+    ap (λ (b : Bool). by_epochs b (ltb head.epoch older.epoch)) (ne_eqb _ _ (λ same. omega arith))
+    ∙ ap (λ (b : Bool). by_epochs false b) (le-ltb head.epoch older.epoch (omega arith))
+
+pub choice_second : (head : Head) (others : Option Head) → IsBehind head.epoch others → choice others (Some head) ≡ Ok Second
+choice_second head None behind = refl
+choice_second head (Some older) behind =
+    ap (λ (b : Bool). by_epochs b (ltb older.epoch head.epoch)) (ne_eqb _ _ (λ same. omega arith))
+    ∙ ap (λ (b : Bool). by_epochs false b) (lt-ltb older.epoch head.epoch behind)
+
+-- what the other half's head is read as
+record OtherHead (latest : ℕ) (geometry : Geometry) (half : Half) (image : List ℕ) (epoch : ℕ) : Type 0 where
+  head : Option Head
+  read : head_of latest geometry half image ≡ Ok head
+  behind : IsBehind epoch head
+
+module _ {Db C : Type 0} (format : StoreFormat Db C) (latest : ℕ) (image : List ℕ) (opening : Opening Db C) (is : IsOpening format latest image opening) where
+  geometry : Geometry
+  geometry = opening.geometry
+
+  mine : head_of latest opening.geometry opening.chosen image ≡ Ok (Some opening.checkpoint.head)
+  mine =
+      ap (λ (b : Bool). head_behind b (head_in latest (area_of opening.geometry opening.chosen image))) (open_true (gate_of opening.geometry opening.chosen image) is.gate)
+      ∙ ap (head_behind true) (head_read (area_of opening.geometry opening.chosen image) opening.checkpoint.head
+      (begins_with_its_head format.rows (area_of opening.geometry opening.chosen image) opening.checkpoint is.checkpoint) latest is.known)
+
+  others_by : (b : Bool) → is_open_gate (gate_of opening.geometry (other opening.chosen) image) ≡ b → OtherHead latest opening.geometry (other opening.chosen) image opening.checkpoint.head.epoch
+  others_by false closed = record { head = None; read = ap (λ (b : Bool). head_behind b (head_in latest (area_of opening.geometry (other opening.chosen) image))) closed; behind = tt }
+  others_by true opened =
+      let older = is.older (true_open (gate_of opening.geometry (other opening.chosen) image) opened) in
+      record {
+        head = Some older.head;
+        read = ap (λ (b : Bool). head_behind b (head_in latest (area_of opening.geometry (other opening.chosen) image))) opened
+            ∙ ap (head_behind true) (head_read (area_of opening.geometry (other opening.chosen) image) older.head older.is latest older.known);
+        behind = older.older;
+      }
+
+  others : OtherHead latest opening.geometry (other opening.chosen) image opening.checkpoint.head.epoch
+  others = others_by (is_open_gate (gate_of opening.geometry (other opening.chosen) image)) refl
+
+  chosen_so : (half : Half) → head_of latest opening.geometry half image ≡ Ok (Some opening.checkpoint.head)
+      → OtherHead latest opening.geometry (other half) image opening.checkpoint.head.epoch
+      → choice_of (head_of latest opening.geometry First image) (head_of latest opening.geometry Second image) ≡ Ok half
+  chosen_so First own its = (λ i. choice_of (own i) (its.read i)) ∙ choice_first opening.checkpoint.head its.head its.behind
+  chosen_so Second own its = (λ i. choice_of (its.read i) (own i)) ∙ choice_second opening.checkpoint.head its.head its.behind
+
+  abbrev behind : ℕ → Result (Reading C) JournalRefusal
+  behind place = journal_from format opening.checkpoint opening.geometry (other opening.chosen) image place
+
+  tail_so : (tail : Option (Reading C)) → IsTail format.commands (limits_in opening.checkpoint) opening.geometry (other opening.chosen) image opening.journal tail
+      → behind_journal opening.journal.sealed (is_open_gate (gate_of opening.geometry (other opening.chosen) image))
+      (record { geometry = opening.geometry; chosen = opening.chosen; checkpoint = opening.checkpoint; journal = opening.journal; tail = None }) (behind opening.journal.place)
+      ≡ Ok (record { geometry = opening.geometry; chosen = opening.chosen; checkpoint = opening.checkpoint; journal = opening.journal; tail = tail })
+  tail_so None unsealed = ap (λ (b : Bool). behind_journal b (is_open_gate (gate_of opening.geometry (other opening.chosen) image)) alone (behind opening.journal.place)) unsealed
+    where
+      alone : Opening Db C
+      alone = record { geometry = opening.geometry; chosen = opening.chosen; checkpoint = opening.checkpoint; journal = opening.journal; tail = None }
+  tail_so (Some last) goes_on =
+      ap (λ (b : Bool). behind_journal b (is_open_gate (gate_of opening.geometry (other opening.chosen) image)) alone (behind opening.journal.place)) goes_on.1.sealed
+      ∙ ap (λ (b : Bool). behind_journal true b alone (behind opening.journal.place)) (open_false (gate_of opening.geometry (other opening.chosen) image) goes_on.0)
+      ∙ ap (read_tail alone) (journal_read format.commands (limits_in opening.checkpoint) (journal_of opening.geometry (other opening.chosen) image) opening.journal.place last
+      (store_journal opening.geometry image is.store (other opening.chosen)) goes_on.1.journal)
+      ∙ ap (λ (b : Bool). with_tail alone b last) goes_on.1.unsealed
+    where
+      alone : Opening Db C
+      alone = record { geometry = opening.geometry; chosen = opening.chosen; checkpoint = opening.checkpoint; journal = opening.journal; tail = None }
+
+  pub opening_read : opening_of format latest image ≡ Ok opening
+  opening_read =
+      ap (by_geometry format latest image) (store_read image opening.geometry is.store)
+      ∙ ap (by_choice format latest opening.geometry image) (chosen_so opening.chosen mine others)
+      ∙ ap (by_checkpoint format opening.geometry opening.chosen image) (checkpoint_read format.rows latest (area_of opening.geometry opening.chosen image) opening.checkpoint is.checkpoint is.known)
+      ∙ ap (λ (r : Result (Reading C) JournalRefusal). by_journal opening.geometry opening.chosen opening.checkpoint (is_open_gate (gate_of opening.geometry (other opening.chosen) image)) r behind)
+      (journal_read format.commands (limits_in opening.checkpoint) (journal_of opening.geometry opening.chosen image) opening.checkpoint.head.place opening.journal
+      (store_journal opening.geometry image is.store opening.chosen) is.journal)
+      ∙ tail_so opening.tail is.tail

@@ -1,0 +1,8 @@
+use Rattle.image_laws.proofs.Heads.{is_head_read_so, is_head_refused_so}
+use Rattle.image_laws.proofs.checkpoint_laws.heads_are_read.Goals as goal
+
+pub returns-clause-read : goal.returns-clause-read
+returns-clause-read c = is_head_read_so
+
+pub returns-clause-refused : goal.returns-clause-refused
+returns-clause-refused c = is_head_refused_so

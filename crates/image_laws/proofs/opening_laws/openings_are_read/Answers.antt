@@ -1,0 +1,11 @@
+use Rattle.image_laws.proofs.Opened.{is_opened_so, has_value_just_where, has_one_value}
+use Rattle.image_laws.proofs.opening_laws.openings_are_read.Goals as goal
+
+pub returns-clause-read : goal.returns-clause-read
+returns-clause-read g c = is_opened_so _ _
+
+pub returns-clause-value : goal.returns-clause-value
+returns-clause-value g c = has_value_just_where _ _
+
+pub returns-clause-one : goal.returns-clause-one
+returns-clause-one g c = has_one_value _ _

@@ -1,0 +1,8 @@
+use Rattle.image_laws.proofs.Counts.{goes_by_what_counts, kept_by_writes_elsewhere}
+use Rattle.image_laws.proofs.opening_laws.openings_go_by_what_counts.Goals as goal
+
+pub returns-clause-same : goal.returns-clause-same
+returns-clause-same g c = goes_by_what_counts _ _
+
+pub returns-clause-kept : goal.returns-clause-kept
+returns-clause-kept g c = kept_by_writes_elsewhere _ _

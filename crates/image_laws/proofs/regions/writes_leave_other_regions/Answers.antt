@@ -1,0 +1,8 @@
+use Rattle.image_laws.proofs.Writes.{writes_leave_apart, writes_leave_others}
+use Rattle.image_laws.proofs.regions.writes_leave_other_regions.Goals as goal
+
+pub returns-clause-beside : goal.returns-clause-beside
+returns-clause-beside c = writes_leave_apart
+
+pub returns-clause-others : goal.returns-clause-others
+returns-clause-others c = writes_leave_others

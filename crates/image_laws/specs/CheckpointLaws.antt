@@ -1,0 +1,46 @@
+-- What holds of first sectors, heads and checkpoints. Each statement is the contract of a function.
+use Rattle.std.specs.Prelude.{◌≡◌, ◌↔◌, ℕ, ◌≤◌, List, length, Some, Ok, Err}
+use Rattle.byte_lists.specs.Content.{AreBytes, overwrite}
+use Rattle.byte_lists.specs.Sectors.{whole_sectors}
+use Rattle.image_laws.specs.Layout.{Geometry, IsGeometry, image_sectors}
+use Rattle.image_laws.specs.FirstSector.{first_sector, IsStore, geometry_in}
+use Rattle.image_laws.specs.StoreFormat.{RowsFormat}
+use Rattle.image_laws.specs.Checkpoint.{Head, Checkpoint, checkpoint_encoding, CanBeCheckpoint, IsHead, IsCheckpoint}
+use Rattle.image_laws.specs.CheckpointReading.{PairRefusal, head_in, IsHeadRefusal, checkpoint_in}
+
+-- an image is read as a store's just where it is one, with these sizes
+abbrev pub IsStoreReadSo : Type 0
+IsStoreReadSo = (image : List ℕ) (geometry : Geometry) → AreBytes image → (geometry_in image ≡ Some geometry) ↔ IsStore geometry image
+
+-- sector 0 written makes it one
+abbrev pub FirstSectorMakesStore : Type 0
+FirstSectorMakesStore =
+    (image : List ℕ) (geometry : Geometry) → IsGeometry geometry → image_sectors geometry ≤ whole_sectors image
+    → IsStore geometry (overwrite 0 (first_sector geometry) image)
+
+-- an area is read as beginning with a head just where it does, and the head's version is known
+abbrev pub IsHeadReadSo : Type 0
+IsHeadReadSo =
+    (latest : ℕ) (area : List ℕ) (head : Head) → AreBytes area → 24 ≤ length area
+    → (head_in latest area ≡ Ok head) ↔ (IsHead area head × (head.version ≤ latest))
+
+-- and its head is refused just where the refusal means it
+abbrev pub IsHeadRefusedSo : Type 0
+IsHeadRefusedSo = (latest : ℕ) (area : List ℕ) (refusal : PairRefusal) → (head_in latest area ≡ Err refusal) ↔ IsHeadRefusal refusal latest area
+
+-- the same of a whole checkpoint
+abbrev pub IsCheckpointReadSo : Type 0 → Type 0
+IsCheckpointReadSo Db =
+    (rows : RowsFormat Db) (latest : ℕ) (area : List ℕ) (checkpoint : Checkpoint Db) → AreBytes area → 24 ≤ length area
+    → (checkpoint_in rows latest area ≡ Ok checkpoint) ↔ (IsCheckpoint rows area checkpoint × (checkpoint.head.version ≤ latest))
+
+-- a checkpoint begins with its head
+abbrev pub BeginsWithItsHead : Type 0 → Type 0
+BeginsWithItsHead Db = (rows : RowsFormat Db) (area : List ℕ) (checkpoint : Checkpoint Db) → IsCheckpoint rows area checkpoint → IsHead area checkpoint.head
+
+-- a checkpoint that is written to the front of an area, where it fits, is the one that the area begins with
+abbrev pub WrittenCheckpointIsThere : Type 0 → Type 0
+WrittenCheckpointIsThere Db =
+    (rows : RowsFormat Db) (area : List ℕ) (checkpoint : Checkpoint Db) → CanBeCheckpoint rows checkpoint
+    → length (checkpoint_encoding rows checkpoint) ≤ length area
+    → IsCheckpoint rows (overwrite 0 (checkpoint_encoding rows checkpoint) area) checkpoint

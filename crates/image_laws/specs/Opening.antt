@@ -1,0 +1,87 @@
+-- What an image stands for: the database of the open half of greater epoch, with the commands of its journal; and where that
+-- journal is sealed, with those of the other half's journal too.
+use Rattle.std.specs.Prelude.{◌≡◌, ℕ, ◌<◌, ◌≤◌, true, false, List, [], Option, Some, None}
+use Rattle.byte_lists.specs.Sectors.{IsOpenGate}
+use Rattle.image_laws.specs.declared.half.Half.{Half}
+use Rattle.image_laws.specs.Limits.{Limits, limits_of}
+use Rattle.image_laws.specs.CommandFormat.{CommandFormat}
+use Rattle.image_laws.specs.Journal.{Reading, IsJournal}
+use Rattle.image_laws.specs.Layout.{Geometry, other, area_of, gate_of, journal_of}
+use Rattle.image_laws.specs.FirstSector.{IsStore}
+use Rattle.image_laws.specs.StoreFormat.{StoreFormat, db_after}
+use Rattle.image_laws.specs.Checkpoint.{Head, Checkpoint, IsHead, IsCheckpoint}
+
+-- What an image that opens is read as: the sizes, the half that is chosen, its checkpoint and its journal, and where that
+-- journal is sealed the one that goes on behind it, in the other half.
+pub record Opening (Db C : Type 0) : Type 0 where
+  pub geometry : Geometry
+  pub chosen : Half
+  pub checkpoint : Checkpoint Db
+  pub journal : Reading C
+  pub tail : Option (Reading C)
+
+-- the limits of both journals: those of the chosen half's version
+abbrev pub limits_in : {Db : Type 0} → Checkpoint Db → Limits
+limits_in checkpoint = limits_of checkpoint.head.version
+
+-- a head of a known version, and of an earlier epoch than this one
+pub record HasOlderHead (latest : ℕ) (area : List ℕ) (epoch : ℕ) : Type 0 where
+  pub head : Head
+  pub is : IsHead area head
+  pub known : head.version ≤ latest
+  pub older : head.epoch < epoch
+
+-- the other half's journal goes on behind a seal, and isn't sealed itself
+pub record GoesOn {C : Type 0} (format : CommandFormat C) (limits : Limits) (bytes : List ℕ) (front behind : Reading C) : Type 0 where
+  pub sealed : front.sealed ≡ true
+  pub journal : IsJournal format limits bytes front.place behind
+  pub unsealed : behind.sealed ≡ false
+
+-- what stands behind the chosen half's journal: nothing if it isn't sealed, and else, in the other half, which is closed, the
+-- journal that goes on behind the seal
+abbrev pub IsTail : {C : Type 0} → CommandFormat C → Limits → Geometry → Half → List ℕ → Reading C → Option (Reading C) → Type 0
+IsTail format limits geometry half image journal None = journal.sealed ≡ false
+IsTail format limits geometry half image journal (Some behind) =
+    (¬ IsOpenGate (gate_of geometry half image)) × GoesOn format limits (journal_of geometry half image) journal behind
+
+-- the image opens with this reading
+pub record IsOpening {Db C : Type 0} (format : StoreFormat Db C) (latest : ℕ) (image : List ℕ) (opening : Opening Db C) : Type 0 where
+  pub store : IsStore opening.geometry image
+  pub gate : IsOpenGate (gate_of opening.geometry opening.chosen image)
+  pub checkpoint : IsCheckpoint format.rows (area_of opening.geometry opening.chosen image) opening.checkpoint
+  pub known : opening.checkpoint.head.version ≤ latest
+  pub older : IsOpenGate (gate_of opening.geometry (other opening.chosen) image)
+      → HasOlderHead latest (area_of opening.geometry (other opening.chosen) image) opening.checkpoint.head.epoch
+  pub journal : IsJournal format.commands (limits_in opening.checkpoint) (journal_of opening.geometry opening.chosen image)
+      opening.checkpoint.head.place opening.journal
+  pub tail : IsTail format.commands (limits_in opening.checkpoint) opening.geometry (other opening.chosen) image opening.journal opening.tail
+
+-- the commands of a tail, and the place that is reached with it
+abbrev pub tail_commands : {C : Type 0} → Option (Reading C) → List C
+tail_commands None = []
+tail_commands (Some behind) = behind.commands
+
+abbrev pub tail_place : {C : Type 0} → Reading C → Option (Reading C) → ℕ
+tail_place journal None = journal.place
+tail_place journal (Some behind) = behind.place
+
+-- what a store stands for: its database, and the place reached, which is the number of commands that made it
+pub record StoreValue (Db : Type 0) : Type 0 where
+  pub db : Db
+  pub place : ℕ
+
+-- the chosen half's database with the commands of its journal
+abbrev pub db_at_seal : {Db C : Type 0} → StoreFormat Db C → Opening Db C → Db
+db_at_seal format opening = db_after format opening.checkpoint.db opening.journal.commands
+
+abbrev pub value_of : {Db C : Type 0} → StoreFormat Db C → Opening Db C → StoreValue Db
+value_of format opening = record {
+  db = db_after format (db_at_seal format opening) (tail_commands opening.tail);
+  place = tail_place opening.journal opening.tail;
+}
+
+-- the image opens to this database at this place
+pub record OpensTo {Db C : Type 0} (format : StoreFormat Db C) (latest : ℕ) (image : List ℕ) (value : StoreValue Db) : Type 0 where
+  pub opening : Opening Db C
+  pub is : IsOpening format latest image opening
+  pub stands_for : value_of format opening ≡ value

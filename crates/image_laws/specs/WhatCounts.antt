@@ -1,0 +1,50 @@
+-- What counts of an image that opens, in spans of bytes: all else may be anything.
+use Rattle.std.specs.Prelude.{◌≡◌, ◌⊎◌, ℕ, ◌+◌, ◌*◌, ◌≤◌, Bool, true, false, List, [], ◌∷◌, Option, Some, None}
+use Rattle.byte_lists.specs.Content.{part}
+use Rattle.byte_lists.specs.Sectors.{is_open_gate}
+use Rattle.image_laws.specs.declared.half.Half.{Half}
+use Rattle.image_laws.specs.Journal.{Reading, sectors_read}
+use Rattle.image_laws.specs.Layout.{Geometry, other, area_at, gate_at, journal_at, gate_of}
+use Rattle.image_laws.specs.StoreFormat.{StoreFormat}
+use Rattle.image_laws.specs.Checkpoint.{checkpoint_size}
+use Rattle.image_laws.specs.Opening.{Opening}
+
+-- so many bytes at an offset
+pub record Span : Type 0 where
+  pub at : ℕ
+  pub size : ℕ
+
+abbrev pub span : ℕ → ℕ → Span
+span at size = record { at = at; size = size }
+
+-- of the half that isn't chosen: its head where it is open, and its journal where that goes on behind a seal
+abbrev pub head_spans : Geometry → Half → Bool → List Span → List Span
+head_spans geometry half false more = more
+head_spans geometry half true more = span (512 * area_at geometry half) 24 ∷ more
+
+abbrev pub tail_spans : {C : Type 0} → Geometry → Half → Option (Reading C) → List Span
+tail_spans geometry half None = []
+tail_spans geometry half (Some behind) = span (512 * journal_at geometry half) (512 * sectors_read behind) ∷ []
+
+-- The title in sector 0; of the chosen half byte 0 of its gate, its checkpoint, and its journal as far as it is read; and of
+-- the other half byte 0 of its gate, and then its head or its journal.
+abbrev pub spans_of : {Db C : Type 0} → StoreFormat Db C → Opening Db C → Bool → List Span
+spans_of format opening other_is_open =
+    span 0 20
+    ∷ span (512 * gate_at opening.geometry opening.chosen) 1
+    ∷ span (512 * area_at opening.geometry opening.chosen) (checkpoint_size format.rows opening.checkpoint)
+    ∷ span (512 * journal_at opening.geometry opening.chosen) (512 * sectors_read opening.journal)
+    ∷ span (512 * gate_at opening.geometry (other opening.chosen)) 1
+    ∷ head_spans opening.geometry (other opening.chosen) other_is_open (tail_spans opening.geometry (other opening.chosen) opening.tail)
+
+-- those of an image that opens so
+abbrev pub spans_in : {Db C : Type 0} → StoreFormat Db C → List ℕ → Opening Db C → List Span
+spans_in format image opening = spans_of format opening (is_open_gate (gate_of opening.geometry (other opening.chosen) image))
+
+-- two images are the same there
+abbrev pub IsSameSpan : List ℕ → List ℕ → Span → Type 0
+IsSameSpan one two place = part place.at place.size two ≡ part place.at place.size one
+
+-- so many bytes at an offset are before it or behind it
+abbrev pub IsApart : ℕ → ℕ → Span → Type 0
+IsApart at size place = (at + size ≤ place.at) ⊎ (place.at + place.size ≤ at)

@@ -1,0 +1,28 @@
+//! Laws of what an image opens to, in any format of databases of type `Db` and commands of type `C`.
+
+ghost use Rattle.image_laws.specs.OpeningLaws.{IsOpenedSo, HasValueJustWhere, HasOneValue, OpensUnderLaterVersions};
+ghost use Rattle.image_laws.specs.ImageLaws.{GoesByWhatCounts, IsKeptByWritesElsewhere, TakesOverTheSame};
+
+/// An image is read as opening just where it opens, to the value for which it stands; and it stands for one value at most.
+pub fn openings_are_read<Db, C>()
+    ensures read { IsOpenedSo Db C }
+    ensures value { HasValueJustWhere Db C }
+    ensures one { HasOneValue Db C }
+{}
+
+/// What opens where fewer versions are known opens to the same value where more are.
+pub fn openings_stay_under_later_versions<Db, C>()
+    ensures { OpensUnderLaterVersions Db C }
+{}
+
+/// An opening goes by what counts of the image: one of that size that is the same there opens so too. What is written
+/// elsewhere leaves it as it was.
+pub fn openings_go_by_what_counts<Db, C>()
+    ensures same { GoesByWhatCounts Db C }
+    ensures kept { IsKeptByWritesElsewhere Db C }
+{}
+
+/// A half that takes over from a sealed one stands for the same.
+pub fn halves_take_over_the_same<Db, C>()
+    ensures { TakesOverTheSame Db C }
+{}
