@@ -11,7 +11,7 @@ use std::test::Fail;
 fn frame_replies(rt: HostRuntime) -> Result<(), Fail> {
     let alloc = rt.alloc();
     for (name, frame, reply) in [
-        ("no_message", "0000000101", NONE_INSERTED),
+        ("empty_registration", "0000000101", NONE_INSERTED),
         ("truncated", "00000002010a", "00000002ff11"),
         (
             "long_varint",
@@ -51,7 +51,7 @@ fn frame_replies(rt: HostRuntime) -> Result<(), Fail> {
         ("no_entries", "00000009010a06080212020a00", "00000002ff28"),
         ("bad_type", "00000003010a00", "00000002ff29"),
         ("unknown_field_accepted", "00000003011000", NONE_INSERTED),
-        ("null_destination", NO_ENDS, NULL_DESTINATION),
+        ("empty_request", NO_ENDS, NULL_DESTINATION),
     ] {
         let (outcome, output) = answer(alloc, &[frame])?;
         assert_eq!(rt; outcome, Ok(1), "{name}");
