@@ -71,9 +71,16 @@ command_decoding removals (kind ∷ body) =
     else if kind == 3 then (if removals then removal_decoding body else Err BadRecord)
     else Err BadRecord
 
--- To read the command takes memory: it registers, and its first row's segment has an outline.
+-- To read a registration takes memory: it has 1 to 16 segments, in no more bytes than may be, and the first has an outline.
+pub record WantsItems (body : List ℕ) : Type 0 where
+  pub some : 1 ≤ slice_index body 0
+  pub most : slice_index body 0 ≤ 16
+  pub short : length (drop 1 body) ≤ 131072 + 5 * slice_index body 0
+  pub outline : HasOutline (drop 1 body)
+
+-- To read the command takes memory: it registers, and to read that takes memory.
 abbrev pub WantsMemory : List ℕ → Type 0
-WantsMemory bytes = (slice_index bytes 0 ≡ 1) × HasOutline (drop 2 bytes)
+WantsMemory bytes = (slice_index bytes 0 ≡ 1) × WantsItems (drop 1 bytes)
 
 -- removals are allowed from version 2 on
 abbrev pub allows_removals : ℕ → Bool

@@ -1,6 +1,6 @@
 //! Commands as records.
 
-ghost use Rattle.std.specs.Prelude.{◌≡◌, ◌≤◌, ◌++◌, ◌∷◌, length, take, drop, IfOk, IfErr, OnOk, OnErr, ◌≢◌};
+ghost use Rattle.std.specs.Prelude.{◌≡◌, ◌≤◌, ◌++◌, ◌∷◌, length, take, IfOk, IfErr, OnOk, OnErr, ◌≢◌};
 ghost use Rattle.std.specs.Int.{w64, to_be_bytes};
 ghost use Rattle.seg_core.specs.Encoding.{IsSegment};
 ghost use Rattle.seg_core.specs.Registration.{type_number};
@@ -9,7 +9,7 @@ ghost use Rattle.path_db.specs.RecordSteps.{Gives, Reads};
 ghost use Rattle.path_db.specs.Database.{AreWhole};
 ghost use Rattle.path_db.specs.Command.{HasWholeSegments};
 ghost use Rattle.path_db.specs.RowRecord.{rows_encoding, HasOutline};
-ghost use Rattle.path_db.specs.CommandRecord.{IsWithinLimits, command_encoding, items_decoding, registration_decoding, purge_decoding, removal_decoding, command_decoding, allows_removals, WantsMemory};
+ghost use Rattle.path_db.specs.CommandRecord.{IsWithinLimits, command_encoding, items_decoding, registration_decoding, purge_decoding, removal_decoding, command_decoding, allows_removals, WantsItems, WantsMemory};
 
 use crate::command::{Command, Registration};
 use crate::error::DbError;
@@ -99,8 +99,8 @@ fn put_removal(kind: SegType, id: &[u8; 32], out: &mut Vec<u8>) -> Result<(), Al
     out.extend_from_slice(id)
 }
 
-/// Reads a command's record, all of its bytes. Under version 1 a removal is refused. To read a purge or a removal takes no memory.
-/// A command that is read can be written.
+/// Reads a command's record, all of its bytes. Under version 1 a removal is refused. To read a purge or a removal takes no memory,
+/// nor does a registration of too many segments or bytes. A command that is read can be written.
 #[tactic(auto, unfolding(crate::specs::CommandRecord::command_decoding))]
 pub fn read_command(alloc: Global, bytes: &[u8], version: u32) -> Result<Command, DbError>
     ensures decoding { Gives (λ command. command) result (command_decoding (allows_removals version) bytes.now) }
@@ -125,7 +125,7 @@ fn read_registration(alloc: Global, body: &[u8]) -> Result<Command, DbError>
     ensures decoding { Gives (λ command. command) result (registration_decoding body.now) }
     ensures whole { IfOk result HasWholeSegments }
     ensures limits { IfOk result IsWithinLimits }
-    ensures memory { IfErr result (λ e. e ≡ NoMemory → HasOutline (drop 1 body.now)) }
+    ensures memory { IfErr result (λ e. e ≡ NoMemory → WantsItems body.now) }
 {
     let [count, items @ ..] = body else {
         return Err(DbError::BadRecord);
@@ -141,7 +141,7 @@ fn read_registration(alloc: Global, body: &[u8]) -> Result<Command, DbError>
 fn read_items(alloc: Global, count: usize, bytes: &[u8]) -> Result<Vec<(SegType, Segment)>, DbError>
     ensures decoding { Gives (λ rows. rows.items) result (items_decoding count bytes.now) }
     ensures whole { IfOk result (λ rows. AreWhole rows.items) }
-    ensures memory { IfErr result (λ e. e ≡ NoMemory → HasOutline bytes.now) }
+    ensures memory { IfErr result (λ e. e ≡ NoMemory → (1 ≤ count) × HasOutline bytes.now) }
 {
     let mut rows = Vec::new(alloc);
     let mut rest = bytes;
