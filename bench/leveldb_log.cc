@@ -1,0 +1,48 @@
+// What LevelDB's write-ahead log takes for as many groups of records: each group is one batch of 8 puts, none synced. Then the
+// store is opened again, which reads the log back. It prints the bytes of the values and the seconds of processor time of both.
+#include <leveldb/db.h>
+#include <leveldb/write_batch.h>
+
+#include <cstdio>
+#include <cstdlib>
+#include <ctime>
+#include <fstream>
+#include <iterator>
+#include <string>
+
+static double seconds() {
+  return static_cast<double>(clock()) / CLOCKS_PER_SEC;
+}
+
+int main(int argc, char **argv) {
+  if (argc != 4) return 2;
+  std::ifstream input(argv[1], std::ios::binary);
+  const std::string value((std::istreambuf_iterator<char>(input)), std::istreambuf_iterator<char>());
+  const std::string folder = argv[2];
+  const int groups = atoi(argv[3]);
+  leveldb::Options options;
+  options.create_if_missing = true;
+  options.write_buffer_size = 1 << 30;  // all stays in the log, and nothing is compacted
+  options.compression = leveldb::kNoCompression;
+  leveldb::DB *db = nullptr;
+  if (!leveldb::DB::Open(options, folder, &db).ok()) return 1;
+  double start = seconds();
+  for (int group = 0; group < groups; group++) {
+    leveldb::WriteBatch batch;
+    for (int command = 0; command < 8; command++) {
+      std::string key(33, '\0');
+      const int number = group * 8 + command;
+      for (int i = 0; i < 4; i++) key[i] = static_cast<char>(number >> (8 * i));
+      batch.Put(key, value);
+    }
+    if (!db->Write(leveldb::WriteOptions(), &batch).ok()) return 1;
+  }
+  const double written = seconds() - start;
+  delete db;
+  start = seconds();
+  if (!leveldb::DB::Open(options, folder, &db).ok()) return 1;
+  const double read = seconds() - start;
+  delete db;
+  printf("%zu %.6f %.6f\n", value.size() * 8 * groups, written, read);
+  return 0;
+}
