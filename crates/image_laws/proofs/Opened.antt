@@ -18,7 +18,8 @@ use Rattle.image_laws.specs.OpeningReading.{OpenRefusal, head_behind, head_of, b
 use Rattle.image_laws.specs.OpeningLaws.{IsOpenedSo, HasValueJustWhere, HasOneValue, OpensUnderLaterVersions}
 use Rattle.image_laws.proofs.Scans.{read_journal}
 use Rattle.image_laws.proofs.Titles.{store_from}
-use Rattle.image_laws.proofs.Heads.{head_from, checkpoint_from, head_read, begins_with_its_head}
+use Rattle.image_laws.proofs.Heads.{head_from, head_read}
+use Rattle.image_laws.proofs.Checkpoints.{checkpoint_from, begins_with_its_head}
 use Rattle.image_laws.proofs.Places.{store_area, store_journal, area_bytes, journal_bytes}
 use Rattle.image_laws.proofs.Openings.{IsBehind, opening_read}
 

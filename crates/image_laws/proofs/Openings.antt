@@ -15,7 +15,8 @@ use Rattle.image_laws.specs.Opening.{Opening, limits_in, IsTail, IsOpening}
 use Rattle.image_laws.specs.OpeningReading.{head_behind, head_of, by_epochs, choice, choice_of, behind_journal, read_tail, with_tail, by_journal, journal_from, by_checkpoint, by_choice, by_geometry, opening_of}
 use Rattle.image_laws.proofs.Chains.{journal_read}
 use Rattle.image_laws.proofs.Titles.{store_read}
-use Rattle.image_laws.proofs.Heads.{head_read, checkpoint_read, begins_with_its_head}
+use Rattle.image_laws.proofs.Heads.{head_read}
+use Rattle.image_laws.proofs.Checkpoints.{checkpoint_read, begins_with_its_head}
 use Rattle.image_laws.proofs.Places.{store_journal}
 
 -- the head of the half that isn't chosen, if it is open, has an earlier epoch

@@ -20,3 +20,4 @@ pub mod WhatCounts
 pub mod RegionLaws
 pub mod WhatCountsLaws
 pub mod TakeOver
+pub mod WorkedImages
