@@ -17,3 +17,4 @@ pub mod Writes
 pub mod Counts
 pub mod TakeOver
 pub mod SmallImage
+pub mod Refusals

@@ -67,12 +67,12 @@ chosen_pair latest geometry image First is = choice_from _ _ First is
 chosen_pair latest geometry image Second is = choice_from _ _ Second is
 
 -- a head that was read stands behind an open gate
-head_open : (b : Bool) (read : Result Head PairRefusal) (head : Head) → head_behind b read ≡ Ok (Some head) → (b ≡ true) × (read ≡ Ok head)
+pub head_open : (b : Bool) (read : Result Head PairRefusal) (head : Head) → head_behind b read ≡ Ok (Some head) → (b ≡ true) × (read ≡ Ok head)
 head_open false read head is = cc
 head_open true (Err e) head is = cc
 head_open true (Ok found) head is = (refl, cc)
 
-head_closed : (b : Bool) (read : Result Head PairRefusal) → head_behind b read ≡ Ok None → b ≡ false
+pub head_closed : (b : Bool) (read : Result Head PairRefusal) → head_behind b read ≡ Ok None → b ≡ false
 head_closed false read is = refl
 head_closed true (Err e) is = cc
 head_closed true (Ok found) is = cc

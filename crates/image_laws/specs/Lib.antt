@@ -21,3 +21,4 @@ pub mod RegionLaws
 pub mod WhatCountsLaws
 pub mod TakeOver
 pub mod WorkedImages
+pub mod OpeningRefusals

@@ -1,12 +1,14 @@
 //! Laws of what an image opens to, in any format of databases of type `Db` and commands of type `C`.
 
-ghost use Rattle.image_laws.specs.OpeningLaws.{IsOpenedSo, HasValueJustWhere, HasOneValue, OpensUnderLaterVersions};
+ghost use Rattle.image_laws.specs.OpeningLaws.{IsOpenedSo, IsOpenRefusedSo, HasValueJustWhere, HasOneValue, OpensUnderLaterVersions};
 ghost use Rattle.image_laws.specs.WhatCountsLaws.{GoesByWhatCounts, IsKeptByWritesElsewhere, GoesByTheChosenHalf};
 ghost use Rattle.image_laws.specs.TakeOver.{TakesOverTheSame, TakesOverTheSameAtRest, OpensEmpty};
 
-/// An image is read as opening just where it opens, to the value for which it stands; and it stands for one value at most.
+/// An image is read as opening just where it opens, to the value for which it stands; it stands for one value at most. And it
+/// is refused just where the refusal means it.
 pub fn openings_are_read<Db, C>()
     ensures read { IsOpenedSo Db C }
+    ensures refused { IsOpenRefusedSo Db C }
     ensures value { HasValueJustWhere Db C }
     ensures one { HasOneValue Db C }
 {}
