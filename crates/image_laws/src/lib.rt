@@ -9,9 +9,11 @@ mod journal_laws;
 mod opening_laws;
 mod regions;
 mod worked;
+mod worked_images;
 
 pub use checkpoint_laws::{
-    checkpoints_are_read, first_sectors_are_read, heads_are_read, written_checkpoints_are_read,
+    checkpoints_are_read, checkpoints_are_written, first_checkpoints_can_be,
+    first_sectors_are_read, heads_are_read,
 };
 pub use half::Half;
 pub use journal_laws::{
@@ -20,8 +22,11 @@ pub use journal_laws::{
     journals_stay_within_bounds, later_versions_allow_more, payloads_fill_sectors,
 };
 pub use opening_laws::{
-    halves_take_over_the_same, openings_are_read, openings_go_by_what_counts,
-    openings_stay_under_later_versions,
+    halves_take_over_the_same, new_stores_open_empty, openings_are_read,
+    openings_go_by_what_counts, openings_stay_under_later_versions,
 };
 pub use regions::{regions_are_apart, writes_leave_other_regions};
 pub use worked::{worked_journals, worked_payloads, worked_sizes, worked_versions};
+pub use worked_images::{
+    worked_checkpoints, worked_choices, worked_opening, worked_regions, worked_titles,
+};
