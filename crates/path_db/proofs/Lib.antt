@@ -17,3 +17,4 @@ mod Records
 mod Spelled
 mod ReadBack
 mod RowsBack
+pub mod Exports

@@ -1,0 +1,4 @@
+mod Found
+mod Payloads
+mod Pieces
+mod Ends
