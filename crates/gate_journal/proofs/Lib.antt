@@ -2,3 +2,4 @@ mod Found
 mod Payloads
 mod Pieces
 mod Ends
+mod Needed

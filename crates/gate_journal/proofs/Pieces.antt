@@ -1,13 +1,13 @@
 -- What a piece of a journal leads to: for `scanner`.
-use Rattle.std.proofs.Common.{◌≡◌, ◌≢◌, ℕ, ◌+◌, ◌-◌, ◌*◌, ◌≤◌, true, List, [], ◌∷◌, ◌++◌, length, take, drop, Ok, Err, Result, refl, sym, ◌∙◌, ap, subst, arith, length-append}
+use Rattle.std.proofs.Common.{◌≡◌, ◌≢◌, ℕ, ◌+◌, ◌*◌, ◌≤◌, true, List, [], ◌∷◌, ◌++◌, length, drop, Ok, Err, Result, refl, sym, ◌∙◌, ap, subst, arith, length-append}
 use Rattle.byte_lists.specs.Content.{AreBytes, part}
 use Rattle.byte_lists.specs.Sectors.{whole_sectors, sector_at, IsOpenGate}
 use Rattle.path_db.specs.declared.command.Command.{Command}
 use Rattle.image_laws.specs.Limits.{Limits, limits_of}
-use Rattle.image_laws.specs.Group.{payload_sectors, last_place, group_sectors}
+use Rattle.image_laws.specs.Group.{payload_sectors, group_sectors}
 use Rattle.image_laws.specs.GroupReading.{JournalRefusal, are_zeros, Payload, payload_at}
 use Rattle.image_laws.specs.GroupReading.{Group as IsGroupOf, Seal as IsSealOf}
-use Rattle.image_laws.specs.Journal.{IsChain, IsJournal, HasGroup, EndsAs, Reading, all_of}
+use Rattle.image_laws.specs.Journal.{IsChain, IsJournal, HasGroup, all_of}
 use Rattle.image_laws.specs.JournalRefusals.{IsRefused, IsRefusedAt}
 use Rattle.image_laws.proofs.Exports.{payload_from, payload_refused, chain_more, all_of_more}
 use Rattle.gate_journal.specs.declared.error.JournalError.{JournalError}

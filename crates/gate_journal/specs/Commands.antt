@@ -1,5 +1,5 @@
 -- The commands of a journal are those of the database, each spelled as its record.
-use Rattle.std.specs.Prelude.{◌≡◌, ℕ, Result, Ok, Err, Option, Some}
+use Rattle.std.specs.Prelude.{◌≡◌, Result, Ok, Err, Some}
 use Rattle.std.specs.Result.{result_ok}
 use Rattle.std.proofs.Common.{ap}
 use Rattle.path_db.specs.declared.command.Command.{Command}

@@ -4,3 +4,4 @@ pub mod RecordError
 pub mod Reading
 pub mod ScannerView
 pub mod Scanning
+pub mod ErrorNumber

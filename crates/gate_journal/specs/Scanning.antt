@@ -7,7 +7,7 @@ use Rattle.image_laws.specs.Limits.{Limits, limits_of}
 use Rattle.image_laws.specs.Group.{payload_sectors}
 use Rattle.image_laws.specs.GroupReading.{are_zeros}
 use Rattle.image_laws.specs.GroupReading.{BadHeader as IsBadHeader, BadRecord as IsBadRecord, Gap as IsGap, PastEnd as IsPastEnd}
-use Rattle.image_laws.specs.Journal.{Reading, IsChain, IsJournal, all_of}
+use Rattle.image_laws.specs.Journal.{Reading, IsChain, IsJournal, all_of, sectors_read}
 use Rattle.image_laws.specs.JournalRefusals.{IsRefused}
 use Rattle.gate_journal.specs.declared.error.JournalError.{JournalError}
 use Rattle.gate_journal.specs.declared.error.JournalError.TheVariants.{NoMemory, BadHeader, BadRecord, Gap, PastEnd}
@@ -75,6 +75,12 @@ pub record IsReadUpTo (scanner : ScannerView) (bytes : List ℕ) (start : ℕ) :
   pub commands : scanner.commands ≡ all_of groups
   pub place : scanner.place ≡ start + length (all_of groups)
   pub known : IsKnown scanner.stage (limits_of scanner.version) bytes scanner.gate scanner.place
+
+-- each journal that the scanner has read up to its gate is read by so many sectors at least, if it has a reading
+abbrev pub CountsForReading : ScannerView → ℕ → Type 0
+CountsForReading scanner sectors =
+    (bytes : List ℕ) (start : ℕ) (reading : Reading Command) → IsReadUpTo scanner bytes start
+    → IsJournal command_format (limits_of scanner.version) bytes start reading → sectors ≤ sectors_read reading
 
 -- Reading may want memory: groups stand up to an open gate, and behind that a header of a group that is in order, at the
 -- place reached and with room, and zeros behind its records.

@@ -1,13 +1,14 @@
 //! Groups and seals as payloads of whole sectors.
 
-ghost use Rattle.std.specs.Prelude.{◌≡◌, ◌+◌, ◌*◌, ◌≤◌, ◌++◌, [], length, IfOk, OnOk};
+ghost use Rattle.std.specs.Prelude.{◌≡◌, ◌↔◌, ◌≤◌, ◌++◌, [], length, IfOk, IsTrue, OnOk};
 ghost use Rattle.std.specs.List.{All};
 ghost use Rattle.path_db.specs.CommandRecord.{IsWithinLimits};
 ghost use Rattle.image_laws.specs.Group.{record_encoding, records_of, with_header, group_encoding, seal_encoding};
 ghost use Rattle.gate_journal.specs.Commands.{command_format};
 ghost use Rattle.gate_journal.specs.Payload.{IsWithinGroupLimits};
 
-use crate::sizes::record_len;
+use crate::header::MOST_RECORD_BYTES;
+use crate::sizes::{is_within_limits, record_len};
 use byte_lists::pad;
 use path_db::{Command, write_command};
 use std::alloc::{AllocError, Global};
@@ -20,6 +21,19 @@ pub(crate) const SEAL: u8 = 2;
 pub(crate) const HEADER: usize = 16;
 /// The bytes of a sector.
 pub(crate) const SECTOR: usize = 512;
+
+/// Whether these commands may be written as one group, whose first command has this place: there are 1 to 32, each within its
+/// limits, their records have at most 262,144 bytes, and no place is above 2^64 - 1.
+pub fn can_be_group(commands: &[Command], place: u64) -> bool
+    ensures { IsTrue result ↔ IsWithinGroupLimits commands.now place }
+{
+    let count = commands.len();
+    1 <= count
+        && count <= 32
+        && place <= u64::MAX - count as u64
+        && commands.iter().all(|command| is_within_limits(command))
+        && records_len(commands) <= MOST_RECORD_BYTES as usize
+}
 
 /// The payload of a group whose first command has this place: a header, each command's record behind its length, and zeros up
 /// to a whole sector.

@@ -27,6 +27,23 @@ pub enum JournalError {
     PastEnd,
 }
 
+impl JournalError {
+    ghost use Rattle.gate_journal.specs.ErrorNumber.{number_of};
+
+    /// Its number.
+    pub fn number(self) -> u8
+        ensures { result ≡ number_of self }
+    {
+        match self {
+            JournalError::NoMemory => 0,
+            JournalError::BadHeader => 1,
+            JournalError::BadRecord => 2,
+            JournalError::Gap(_) => 3,
+            JournalError::PastEnd => 4,
+        }
+    }
+}
+
 impl From<AllocError> for JournalError {
     ghost from_gives = { λ _ e. e ≡ NoMemory };
 

@@ -12,7 +12,7 @@ use crate::sizes::{fits, payload_sectors};
 use byte_lists::{read_u32, read_u64};
 
 /// The most bytes that the records of a group have together.
-const MOST_RECORD_BYTES: u32 = 262_144;
+pub(crate) const MOST_RECORD_BYTES: u32 = 262_144;
 
 /// What the header of a payload is of: a group of so many commands, whose records have so many bytes, or a seal.
 #[derive(Clone, Copy)]

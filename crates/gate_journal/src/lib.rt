@@ -14,7 +14,7 @@ mod sizes;
 mod whole;
 
 pub use command_laws::commands_are_allowed;
-pub use encoding::{encode_group, encode_seal};
+pub use encoding::{can_be_group, encode_group, encode_seal};
 pub use error::JournalError;
 pub use scanner::{Piece, Progress, Scan, Scanner, Stage};
 pub use sizes::{fits, payload_sectors, record_len};

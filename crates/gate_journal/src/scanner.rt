@@ -3,7 +3,7 @@
 ghost use Rattle.std.specs.Prelude.{◌≡◌, ℕ, ◌+◌, ◌*◌, ◌≤◌, List, length};
 ghost use Rattle.byte_lists.specs.Sectors.{whole_sectors};
 ghost use Rattle.gate_journal.specs.ScannerView.{ScannerView};
-ghost use Rattle.gate_journal.specs.Scanning.{first_wanted, count_wanted, IsReadUpTo, TakesPiece};
+ghost use Rattle.gate_journal.specs.Scanning.{first_wanted, count_wanted, IsReadUpTo, TakesPiece, CountsForReading};
 
 use crate::error::JournalError;
 use crate::header::{Header, read_header};
@@ -107,12 +107,14 @@ impl Scanner {
         }
     }
 
-    /// The piece that it reads next: a gate, the sector behind it, or a whole payload.
+    /// The piece that it reads next: a gate, the sector behind it, or a whole payload. It is one of those sectors that count for
+    /// the reading.
     pub fn wanted(&self) -> Piece
         ensures first { result.first ≡ first_wanted self.now }
         ensures count { result.count ≡ count_wanted self.now }
         ensures some { 1 ≤ result.count }
         ensures inside { result.first + result.count ≤ self.now.sectors }
+        ensures needed { CountsForReading self.now (result.first + result.count) }
     {
         match self.stage {
             Stage::AtGate => Piece {

@@ -1,6 +1,7 @@
 //! How many sectors payloads take, and how many bytes records.
 
 ghost use Rattle.std.specs.Prelude.{◌≡◌, ◌↔◌, ◌+◌, ◌*◌, ◌≤◌, length, IsTrue};
+ghost use Rattle.path_db.specs.declared.command.Command.TheVariants.{Register};
 ghost use Rattle.path_db.specs.CommandRecord.{IsWithinLimits, segments_len};
 ghost use Rattle.image_laws.specs.Group.{HasRoom, record_encoding, payload_sectors as sectors_of_payload};
 ghost use Rattle.gate_journal.specs.Commands.{command_format};
@@ -52,8 +53,7 @@ fn removal_len(id: &[u8; 32]) -> usize
 
 /// How many bytes the records of rows take.
 fn rows_len(rows: &[(SegType, Segment)]) -> usize
-    requires few { length rows.now ≤ 16 }
-    requires short { segments_len rows.now ≤ 131072 }
+    requires { length rows.now ≤ 16 }
     ensures { result ≡ segments_len rows.now + 5 * length rows.now }
 {
     let mut len = 0;
@@ -61,4 +61,21 @@ fn rows_len(rows: &[(SegType, Segment)]) -> usize
         len += 5 + encoded_len(segment);
     }
     len
+}
+
+/// Whether a command is within its limits: at most 16 segments, which have at most 131,072 bytes together.
+pub(crate) fn is_within_limits(command: &Command) -> bool
+    ensures { IsTrue result ↔ IsWithinLimits command.now }
+{
+    match command {
+        Command::Register(registration) => are_within_limits(registration.as_slice()),
+        Command::Purge(_) | Command::Remove(_, _) => true,
+    }
+}
+
+/// Whether segments may be registered by one command.
+fn are_within_limits(rows: &[(SegType, Segment)]) -> bool
+    ensures { IsTrue result ↔ IsWithinLimits (Register rows.now) }
+{
+    rows.len() <= 16 && rows_len(rows) - 5 * rows.len() <= 131_072
 }

@@ -1,14 +1,12 @@
-use Rattle.std.proofs.Common.{arith, ◌≡◌, ◌≤◌, ◌+◌, ◌∙◌, ap, subst, sym, refl, Ok, Err, Result}
+use Rattle.std.proofs.Common.{◌≡◌, ◌≤◌, ◌+◌, ◌∙◌, ap, subst, sym, refl, Ok, Err, Result}
 use Rattle.std.proofs.lemmas.Result.{err_from_is_err_and}
 use Rattle.image_laws.specs.Limits.{limits_of}
 use Rattle.gate_journal.specs.declared.error.JournalError.{JournalError}
 use Rattle.gate_journal.specs.declared.header.Header.{Header}
-use Rattle.gate_journal.specs.declared.header.Header.TheVariants.{Group, Seal}
 use Rattle.gate_journal.specs.declared.scanner.Progress.{Progress}
 use Rattle.gate_journal.specs.declared.scanner.Progress.TheVariants.{More, Done}
 use Rattle.gate_journal.specs.declared.scanner.Stage.{Stage}
 use Rattle.gate_journal.specs.declared.scanner.Stage.TheVariants.{AtHeader, AtPayload}
-use Rattle.gate_journal.specs.Reading.{header_reading}
 use Rattle.gate_journal.specs.ScannerView.{ScannerView, IsInside}
 use Rattle.gate_journal.specs.Scanning.{TakesPiece}
 use Rattle.gate_journal.proofs.Payloads.{group_in_order}
