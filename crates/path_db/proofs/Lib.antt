@@ -20,3 +20,4 @@ mod RowsBack
 mod RowsRead
 mod Writable
 mod Refused
+pub mod Exports
