@@ -1,0 +1,98 @@
+#!/usr/bin/env bash
+# A journal of 1,000 groups of 8 registrations of a segment of 4 entries: bytes of journal a second, written and scanned, beside
+# memcpy of the same bytes, and bytes of segments a second beside LevelDB's log over as many batches of as many of the same
+# segments, written and read back. Medians of nine rounds of processor time. It needs g++, bc and Debian's libleveldb-dev. It
+# proves and builds a program in a temporary folder, and leaves no file behind.
+set -euo pipefail
+root=$(cd "$(dirname "$0")/.." && pwd)
+work=$(mktemp -d)
+trap 'rm -rf "$work"' EXIT
+mkdir -p "$work/crates/journals/src"
+for crate in isd_as byte_lists pw_wire seg_core seg_check path_db image_laws gate_journal; do
+  cp -r "$root/crates/$crate" "$work/crates/" # with what was proved of it, if it was
+done
+grep -E '^(isd_as|byte_lists|pw_wire|seg_core|seg_check|path_db|image_laws|gate_journal):' "$root/crates.txt" > "$work/crates.txt"
+echo 'journals: gate_journal path_db seg_core' >> "$work/crates.txt"
+cat > "$work/crates/journals/src/main.rt" <<'SOURCE'
+#![tactic(auto)]
+
+use gate_journal::{can_be_group, encode_group, scan};
+use path_db::{Command, Registration};
+use seg_core::{SegType, Segment, read_segment};
+use std::alloc::{AllocError, Global};
+use std::io;
+use std::io::Read;
+use std::time::Instant;
+
+// Eight registrations of one segment each.
+fn eight(alloc: Global, segment: &Segment) -> Result<Vec<Command>, AllocError> {
+    let mut commands = Vec::new(alloc);
+    for _ in 0..8u8 {
+        let mut rows = Vec::new(alloc);
+        rows.push((SegType::Down, segment.try_clone()?))?;
+        commands.push(Command::Register(Registration::new(rows)))?;
+    }
+    Ok(commands)
+}
+
+// A thousand groups of these commands, each behind an open gate, and a closed gate.
+fn write_groups(alloc: Global, commands: &[Command], out: &mut Vec<u8>) -> Result<(), AllocError> {
+    out.clear();
+    let mut gate = [0u8; 512];
+    gate[0] = 0xA7;
+    let mut place = 0u64;
+    for _ in 0..1_000u32 {
+        if can_be_group(commands, place) {
+            out.extend_from_slice(&gate)?;
+            let payload = encode_group(alloc, commands, place)?;
+            out.extend_from_slice(payload.as_slice())?;
+            place = place.saturating_add(8);
+        }
+    }
+    out.extend_from_slice(&[0u8; 1024])
+}
+
+fn main(rt: HostRuntime) -> io::Result<()> {
+    let alloc = rt.alloc();
+    let mut message = Vec::new(alloc);
+    let mut input = rt.stdin();
+    input.read_to_end(&mut message)?;
+    let Ok(segment) = read_segment(alloc, message.as_slice()) else {
+        return Ok(());
+    };
+    let commands = eight(alloc, &segment)?;
+    let mut journal = Vec::new(alloc);
+    write_groups(alloc, commands.as_slice(), &mut journal)?;
+    let size = journal.len();
+    let start = Instant::now(&rt)?;
+    write_groups(alloc, commands.as_slice(), &mut journal)?;
+    let written = start.elapsed(&rt)?.as_secs_f64();
+    let start = Instant::now(&rt)?;
+    let mut read = 0usize;
+    if journal.len() >= 512 && journal.len() % 512 == 0 {
+        if let Ok(found) = scan(alloc, journal.as_slice(), 0, 2) {
+            read = found.commands.len();
+        }
+    }
+    let scanned = start.elapsed(&rt)?.as_secs_f64();
+    let mut copy = vec![in alloc; 0u8; journal.len()]?;
+    let start = Instant::now(&rt)?;
+    copy.as_mut_slice().copy_from_slice(journal.as_slice());
+    let copied = start.elapsed(&rt)?.as_secs_f64();
+    println!(rt; "{size} {read} {written} {scanned} {copied}")?;
+    Ok(())
+}
+SOURCE
+git init -q "$work"
+python3 "$root/bench/frames.py" segment 4 > "$work/segment"
+g++ -O2 "$root/bench/leveldb_log.cc" -o "$work/leveldb_log" -lleveldb
+cd "$work/crates/journals"
+rt run < "$work/segment" > "$work/log" 2>&1 || { cat "$work/log"; exit 1; }
+for _ in 1 2 3 4 5 6 7 8 9; do
+  ours=$(out/journals < "$work/segment")
+  rm -rf "$work/store"
+  theirs=$("$work/leveldb_log" "$work/segment" "$work/store" 1000)
+  echo "$ours $theirs"
+done > "$work/rounds"
+echo "bytes of journal, commands, seconds to write, to scan, to copy; bytes of segments, seconds of LevelDB to write, to read"
+python3 "$root/bench/median.py" < "$work/rounds"
