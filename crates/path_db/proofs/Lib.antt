@@ -13,10 +13,10 @@ mod Canon
 mod Newest
 mod Kept
 mod Counts
+mod RowsRead
+mod Writable
+mod Refused
 mod Records
 mod Spelled
 mod ReadBack
 mod RowsBack
-mod RowsRead
-mod Writable
-mod Refused
