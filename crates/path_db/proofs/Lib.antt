@@ -13,6 +13,10 @@ mod Canon
 mod Newest
 mod Kept
 mod Counts
+mod RowsRead
+mod Writable
+mod Refused
+mod RefusedCommands
 mod Records
 mod Spelled
 mod ReadBack
