@@ -18,3 +18,4 @@ pub mod Counts
 pub mod TakeOver
 pub mod SmallImage
 pub mod Refusals
+pub mod StoreGrowth
