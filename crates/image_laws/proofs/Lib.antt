@@ -19,3 +19,4 @@ pub mod TakeOver
 pub mod SmallImage
 pub mod Refusals
 pub mod StoreGrowth
+pub mod Seals

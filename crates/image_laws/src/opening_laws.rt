@@ -2,8 +2,7 @@
 
 ghost use Rattle.image_laws.specs.OpeningLaws.{IsOpenedSo, IsOpenRefusedSo, HasValueJustWhere, HasOneValue, OpensUnderLaterVersions};
 ghost use Rattle.image_laws.specs.WhatCountsLaws.{GoesByWhatCounts, IsKeptByWritesElsewhere, GoesByTheChosenHalf};
-ghost use Rattle.image_laws.specs.StoreGrowth.{FoldsInParts, StoreGrowsByItsGate, StoreIsSealedByItsGate};
-ghost use Rattle.image_laws.specs.TakeOver.{TakesOverTheSame, TakesOverTheSameAtRest, OpensEmpty};
+ghost use Rattle.image_laws.specs.TakeOver.{OpensEmpty};
 
 /// An image is read as opening just where it opens, to the value for which it stands; it stands for one value at most. And it
 /// is refused just where the refusal means it.
@@ -27,25 +26,7 @@ pub fn openings_go_by_what_counts<Db, C>()
     ensures chosen { GoesByTheChosenHalf Db C }
 {}
 
-/// A half that takes over from a sealed one, or from one at rest, stands for the same.
-pub fn halves_take_over_the_same<Db, C>()
-    ensures sealed { TakesOverTheSame Db C }
-    ensures rest { TakesOverTheSameAtRest Db C }
-{}
-
 /// A store that was formatted opens to the empty database, at place 0.
 pub fn new_stores_open_empty<Db, C>()
     ensures { OpensEmpty Db C }
-{}
-
-/// What an image stands for grows by just the group behind the last gate, where that gate is opened. Commands in two parts are
-/// folded one part after the other.
-pub fn stores_grow_by_their_gate<Db, C>()
-    ensures parts { FoldsInParts Db C }
-    ensures grown { StoreGrowsByItsGate Db C }
-{}
-
-/// A seal leaves what an image stands for.
-pub fn stores_are_sealed_by_their_gate<Db, C>()
-    ensures { StoreIsSealedByItsGate Db C }
 {}
