@@ -16,6 +16,6 @@ mod Counts
 mod Records
 mod Spelled
 mod ReadBack
-mod RowsBack
+pub mod RowsBack
 mod RowsRead
 mod Writable
