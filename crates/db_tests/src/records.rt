@@ -99,7 +99,11 @@ fn keys_rise(rt: HostRuntime) -> Result<(), Fail> {
 fn rows_are_whole(rt: HostRuntime) -> Result<(), Fail> {
     let bytes = rows_of(rt.alloc(), &[1, 2, 3])?;
     for len in 0..=bytes.len() {
-        let expected = if len % 93 == 0 { Ok(len / 93) } else { Err(BAD) };
+        let expected = if len % 93 == 0 {
+            Ok(len / 93)
+        } else {
+            Err(BAD)
+        };
         assert_eq!(rt; count_of(rt.alloc(), &bytes[..len]), expected, "{len}");
     }
     Ok(())
@@ -110,23 +114,23 @@ fn rows_are_whole(rt: HostRuntime) -> Result<(), Fail> {
 fn changed_rows(rt: HostRuntime) -> Result<(), Fail> {
     let bytes = rows_of(rt.alloc(), &[1, 2, 3])?;
     for (at, byte, expected) in [
-        (0, 4, Err(BAD)),             // the type
-        (93, 0, Err(BAD)),            // the second row's
+        (0, 4, Err(BAD)), // the type
+        (93, 0, Err(BAD)), // the second row's
         (93, 3, Err(DbError::Order)), // the same as the third's
-        (1, 1, Err(BAD)),             // the length: far more than there are
-        (4, 87, Err(BAD)),            // a byte less than the segment
-        (4, 89, Err(BAD)),            // a byte of the next row
-        (190, 89, Err(BAD)),          // a byte more than there are
-        (5, 0x0b, Err(BAD)),          // a field's wire type
+        (1, 1, Err(BAD)), // the length: far more than there are
+        (4, 87, Err(BAD)), // a byte less than the segment
+        (4, 89, Err(BAD)), // a byte of the next row
+        (190, 89, Err(BAD)), // a byte more than there are
+        (5, 0x0b, Err(BAD)), // a field's wire type
         (5, 0x1a, Err(BAD)), // a field that is skipped: a segment is read, but it is spelled otherwise
         (12, 0x16, Err(BAD)), // the timestamp, past 2^32 - 1
-        (14, 8, Ok(3)),      // the segment id
+        (14, 8, Ok(3)), // the segment id
         (32, 0x92, Err(BAD)), // the next AS isn't the next entry's
-        (44, 0, Err(BAD)),   // no way out of the first AS
-        (44, 2, Ok(3)),      // another way out
-        (49, 0xff, Ok(3)),   // a MAC
+        (44, 0, Err(BAD)), // no way out of the first AS
+        (44, 2, Ok(3)), // another way out
+        (49, 0xff, Ok(3)), // a MAC
         (92, 0x8b, Err(BAD)), // the MTU, which goes on past the end
-        (278, 0x0c, Ok(3)),  // the last row's
+        (278, 0x0c, Ok(3)), // the last row's
     ] {
         let changed = changed(rt.alloc(), &bytes, at, byte)?;
         assert_eq!(rt; count_of(rt.alloc(), &changed), expected, "{at} {byte}");
@@ -145,24 +149,34 @@ fn registration(alloc: Global, count: u8) -> Result<Vec<u8>, Fail> {
     Ok(bytes)
 }
 
-/// A record that registers sixteen segments: the worked one with a signature, so that each has 8,192 bytes, and the last as
-/// many more, fewer than 10.
-fn long_registration(alloc: Global, more: u8) -> Result<Vec<u8>, Fail> {
-    let mut bytes = Vec::from_slice(alloc, &[1, 16])?;
-    for item in 1..=16 {
-        let more = if item == 16 { more } else { 0 };
-        bytes.extend_from_slice(&[2, 0, 0, 0x20, more])?;
-        bytes.extend_from_slice(&SEGMENT[..10])?;
-        // The first entry has 8,144 bytes, its signed message 8,141, and the signature 8,099.
-        bytes.extend_from_slice(&[0x12, 0xd0 + more, 0x3f, 0x0a, 0xcd + more, 0x3f])?;
-        bytes.extend_from_slice(&SEGMENT[14..53])?;
-        bytes.extend_from_slice(&[0x12, 0xa3 + more, 0x3f])?;
-        bytes.extend_from_slice(&[0; 8_099])?;
-        for _ in 0..more {
-            bytes.push(0)?;
-        }
-        bytes.extend_from_slice(&SEGMENT[53..])?;
+/// Appends a down row of 8,192 bytes, or of one more, behind its head: the worked segment with a signature of 8,099 bytes or of one
+/// more.
+fn put_long_row(bytes: &mut Vec<u8>, is_longer: bool) -> Result<(), Fail> {
+    // The lengths of the row, of the first entry, of its signed message and of the signature.
+    let [row, entry, signed, signature] = match is_longer {
+        false => [0, 0xd0, 0xcd, 0xa3],
+        true => [1, 0xd1, 0xce, 0xa4],
+    };
+    bytes.extend_from_slice(&[2, 0, 0, 0x20, row])?;
+    bytes.extend_from_slice(&SEGMENT[..10])?;
+    bytes.extend_from_slice(&[0x12, entry, 0x3f, 0x0a, signed, 0x3f])?;
+    bytes.extend_from_slice(&SEGMENT[14..53])?;
+    bytes.extend_from_slice(&[0x12, signature, 0x3f])?;
+    bytes.extend_from_slice(&[0; 8_099])?;
+    if is_longer {
+        bytes.push(0)?;
     }
+    bytes.extend_from_slice(&SEGMENT[53..])?;
+    Ok(())
+}
+
+/// A record that registers sixteen segments of 8,192 bytes, the last of them perhaps of one more.
+fn long_registration(alloc: Global, is_longer: bool) -> Result<Vec<u8>, Fail> {
+    let mut bytes = Vec::from_slice(alloc, &[1, 16])?;
+    for _ in 1..16 {
+        put_long_row(&mut bytes, false)?;
+    }
+    put_long_row(&mut bytes, is_longer)?;
     Ok(bytes)
 }
 
@@ -236,22 +250,22 @@ fn removals(rt: HostRuntime) -> Result<(), Fail> {
 fn changed_registrations(rt: HostRuntime) -> Result<(), Fail> {
     let bytes = registration(rt.alloc(), 2)?;
     for (at, byte, expected) in [
-        (0, 2, Err(BAD)),     // a purge of many bytes
-        (0, 3, Err(BAD)),     // a removal of many bytes
-        (0, 4, Err(BAD)),     // another kind
-        (1, 0, Err(BAD)),     // the count: bytes are left over
-        (1, 1, Err(BAD)),     // a row is left over
-        (1, 3, Err(BAD)),     // a row is missing
-        (2, 0, Err(BAD)),     // the type
-        (2, 3, Ok((1, 2))),   // rows in any order
-        (95, 2, Ok((1, 2))),  // equal rows, as they are
-        (95, 4, Err(BAD)),    // the second row's type
-        (3, 1, Err(BAD)),     // the length: far more than there are
-        (6, 87, Err(BAD)),    // a byte less than the segment
-        (99, 89, Err(BAD)),   // a byte more than there are
-        (7, 0x0b, Err(BAD)),  // a field's wire type
+        (0, 2, Err(BAD)), // a purge of many bytes
+        (0, 3, Err(BAD)), // a removal of many bytes
+        (0, 4, Err(BAD)), // another kind
+        (1, 0, Err(BAD)), // the count: bytes are left over
+        (1, 1, Err(BAD)), // a row is left over
+        (1, 3, Err(BAD)), // a row is missing
+        (2, 0, Err(BAD)), // the type
+        (2, 3, Ok((1, 2))), // rows in any order
+        (95, 2, Ok((1, 2))), // equal rows, as they are
+        (95, 4, Err(BAD)), // the second row's type
+        (3, 1, Err(BAD)), // the length: far more than there are
+        (6, 87, Err(BAD)), // a byte less than the segment
+        (99, 89, Err(BAD)), // a byte more than there are
+        (7, 0x0b, Err(BAD)), // a field's wire type
         (7, 0x1a, Err(BAD)), // a field that is skipped: a segment is read, but it is spelled otherwise
-        (46, 0, Err(BAD)),   // no way out of the first AS
+        (46, 0, Err(BAD)), // no way out of the first AS
         (46, 9, Ok((1, 2))), // another way out
         (187, 0x8b, Err(BAD)), // the last MTU, which goes on past the end
     ] {
@@ -274,9 +288,9 @@ fn registrations_are_limited(rt: HostRuntime) -> Result<(), Fail> {
         let bytes = registration(rt.alloc(), count)?;
         assert_eq!(rt; command_of(rt.alloc(), &bytes, 1), expected, "{count}");
     }
-    for (more, expected) in [(0, Ok((1, 16))), (1, Err(BAD))] {
-        let bytes = long_registration(rt.alloc(), more)?;
-        assert_eq!(rt; command_of(rt.alloc(), &bytes, 1), expected, "{more}");
+    for (is_longer, expected) in [(false, Ok((1, 16))), (true, Err(BAD))] {
+        let bytes = long_registration(rt.alloc(), is_longer)?;
+        assert_eq!(rt; command_of(rt.alloc(), &bytes, 1), expected);
     }
     Ok(())
 }

@@ -13,9 +13,11 @@ mod Canon
 mod Newest
 mod Kept
 mod Counts
+mod RowsRead
+mod Writable
+mod Refused
 mod Records
 mod Spelled
 mod ReadBack
 pub mod RowsBack
-mod RowsRead
-mod Writable
+mod RowPieces

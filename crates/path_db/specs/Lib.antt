@@ -12,3 +12,4 @@ pub mod RecordSteps
 pub mod RowRecord
 pub mod CommandRecord
 pub mod RecordLaws
+pub mod RecordRefusals

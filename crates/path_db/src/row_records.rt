@@ -1,6 +1,6 @@
 //! Rows as records.
 
-ghost use Rattle.std.specs.Prelude.{◌≡◌, ◌≤◌, ◌++◌, length, take, drop, IfOk, IfErr, OnOk, OnErr, IsOk, is_ok};
+ghost use Rattle.std.specs.Prelude.{◌≡◌, ◌≤◌, ◌<◌, ◌++◌, length, take, drop, IfOk, IfErr, OnOk, OnErr, IsOk, is_ok};
 ghost use Rattle.std.specs.Int.{w32, to_be_bytes};
 ghost use Rattle.seg_core.specs.Encoding.{IsSegment, segment_encoding};
 ghost use Rattle.seg_core.specs.Registration.{type_number, type_of};
@@ -26,10 +26,12 @@ use std::alloc::{AllocError, Global};
 pub(crate) const ROW_HEAD: usize = 5;
 
 /// Appends the records of all rows, in the order of their keys. A record is the type in one byte, the length of the segment's
-/// encoding in four big-endian bytes, and the encoding. Where memory is refused, the vector has the items that it had.
+/// encoding in four big-endian bytes, and the encoding. Where memory is refused, the vector has the items that it had. To write no
+/// rows takes none.
 pub fn write_rows(db: &PathDb, out: &mut Vec<u8>) -> Result<(), AllocError>
     ensures ok { OnOk result (out.new.items ≡ out.old.items ++ rows_encoding db.now) }
     ensures err { OnErr result (out.new.items ≡ out.old.items) }
+    ensures memory { OnErr result (0 < length db.now) }
 {
     let before = out.len();
     let put = put_rows(db.rows(), out);
@@ -43,6 +45,7 @@ pub fn write_rows(db: &PathDb, out: &mut Vec<u8>) -> Result<(), AllocError>
 fn put_rows(rows: Rows<'_>, out: &mut Vec<u8>) -> Result<(), AllocError>
     ensures ok { OnOk result (out.new.items ≡ out.old.items ++ rows_encoding rows.entry) }
     ensures kept { take (length out.old.items) out.new.items ≡ out.old.items }
+    ensures memory { OnErr result (0 < length rows.entry) }
 {
     for row in rows {
         put_row(row.kind, &row.segment, out)?;

@@ -1,4 +1,4 @@
-use Rattle.std.proofs.Common.{◌≡◌, ◌++◌, length, take}
+use Rattle.std.proofs.Common.{◌≡◌, ◌≤◌, ◌++◌, length, take}
 use Rattle.path_db.specs.RowRecord.{rows_encoding}
 use Rattle.path_db.proofs.row_records.put_rows.Given as goal
 
@@ -6,5 +6,6 @@ use Rattle.path_db.proofs.row_records.put_rows.Given as goal
 abbrev pub invariant-loop-row : goal.invariant-loop-row
 invariant-loop-row l = record {
   rest : l.out.items ++ rows_encoding l.row-iterator ≡ l.fn.out.items ++ rows_encoding l.fn.rows;
+  left : length l.row-iterator ≤ length l.fn.rows;
   kept : take (length l.fn.out.items) l.out.items ≡ l.fn.out.items;
 }
