@@ -20,8 +20,6 @@ mod RefusedCommands
 mod Records
 mod Spelled
 mod ReadBack
-mod RowsBack
-mod RowsRead
-mod Writable
-mod Refused
+pub mod RowsBack
+mod RowPieces
 pub mod Exports

@@ -1,0 +1,19 @@
+//! The two halves of a store: what their heads and checkpoints are read as, which half is chosen, and what is written.
+//!
+//! To the layer above, each call answers what the definitions of `image_laws` say of the bytes, with the rows of `path_db`,
+//! and refuses just where they do.
+#![tactic(auto)]
+
+mod choice;
+mod encoding;
+mod error;
+mod head;
+mod reading;
+mod rows_laws;
+
+pub use choice::{choose, openings_go_on_there, tail_half};
+pub use encoding::encode_checkpoint;
+pub use error::PairError;
+pub use head::{Head, Heads, LATEST, read_head};
+pub use reading::{Checkpoint, Front, read_front, read_half};
+pub use rows_laws::{checkpoints_are_read_by_their_fronts, databases_can_be_checkpoints, read_checkpoints_are_databases};
