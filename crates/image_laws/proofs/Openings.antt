@@ -47,14 +47,14 @@ module _ {Db C : Type 0} (format : StoreFormat Db C) (latest : ℕ) (image : Lis
 
   mine : head_of latest opening.geometry opening.chosen image ≡ Ok (Some opening.checkpoint.head)
   mine =
-      ap (λ (b : Bool). head_behind b (head_in latest (area_of opening.geometry opening.chosen image))) (open_true (gate_of opening.geometry opening.chosen image) is.gate)
+      ap (λ (b : Bool). head_behind b (head_in latest (area_of opening.geometry opening.chosen image))) (open_true (gate_of opening.geometry opening.chosen image) is.half.gate)
       ∙ ap (head_behind true) (head_read (area_of opening.geometry opening.chosen image) opening.checkpoint.head
-      (begins_with_its_head format.rows (area_of opening.geometry opening.chosen image) opening.checkpoint is.checkpoint) latest is.known)
+      (begins_with_its_head format.rows (area_of opening.geometry opening.chosen image) opening.checkpoint is.half.begins) latest is.half.known)
 
   others_by : (b : Bool) → is_open_gate (gate_of opening.geometry (other opening.chosen) image) ≡ b → OtherHead latest opening.geometry (other opening.chosen) image opening.checkpoint.head.epoch
   others_by false closed = record { head = None; read = ap (λ (b : Bool). head_behind b (head_in latest (area_of opening.geometry (other opening.chosen) image))) closed; behind = tt }
   others_by true opened =
-      let older = is.older (true_open (gate_of opening.geometry (other opening.chosen) image) opened) in
+      let older = is.half.older (true_open (gate_of opening.geometry (other opening.chosen) image) opened) in
       record {
         head = Some older.head;
         read = ap (λ (b : Bool). head_behind b (head_in latest (area_of opening.geometry (other opening.chosen) image))) opened
@@ -86,7 +86,7 @@ module _ {Db C : Type 0} (format : StoreFormat Db C) (latest : ℕ) (image : Lis
       ap (λ (b : Bool). behind_journal b (is_open_gate (gate_of opening.geometry (other opening.chosen) image)) alone (behind opening.journal.place)) goes_on.1.sealed
       ∙ ap (λ (b : Bool). behind_journal true b alone (behind opening.journal.place)) (open_false (gate_of opening.geometry (other opening.chosen) image) goes_on.0)
       ∙ ap (read_tail alone) (journal_read format.commands (limits_in opening.checkpoint) (journal_of opening.geometry (other opening.chosen) image) opening.journal.place last
-      (store_journal opening.geometry image is.store (other opening.chosen)) goes_on.1.journal)
+      (store_journal opening.geometry image is.half.store (other opening.chosen)) goes_on.1.journal)
       ∙ ap (λ (b : Bool). with_tail alone b last) goes_on.1.unsealed
     where
       alone : Opening Db C
@@ -94,10 +94,10 @@ module _ {Db C : Type 0} (format : StoreFormat Db C) (latest : ℕ) (image : Lis
 
   pub opening_read : opening_of format latest image ≡ Ok opening
   opening_read =
-      ap (by_geometry format latest image) (store_read image opening.geometry is.store)
+      ap (by_geometry format latest image) (store_read image opening.geometry is.half.store)
       ∙ ap (by_choice format latest opening.geometry image) (chosen_so opening.chosen mine others)
-      ∙ ap (by_checkpoint format opening.geometry opening.chosen image) (checkpoint_read format.rows latest (area_of opening.geometry opening.chosen image) opening.checkpoint is.checkpoint is.known)
+      ∙ ap (by_checkpoint format opening.geometry opening.chosen image) (checkpoint_read format.rows latest (area_of opening.geometry opening.chosen image) opening.checkpoint is.half.begins is.half.known)
       ∙ ap (λ (r : Result (Reading C) JournalRefusal). by_journal opening.geometry opening.chosen opening.checkpoint (is_open_gate (gate_of opening.geometry (other opening.chosen) image)) r behind)
       (journal_read format.commands (limits_in opening.checkpoint) (journal_of opening.geometry opening.chosen image) opening.checkpoint.head.place opening.journal
-      (store_journal opening.geometry image is.store opening.chosen) is.journal)
+      (store_journal opening.geometry image is.half.store opening.chosen) is.journal)
       ∙ tail_so opening.tail is.tail

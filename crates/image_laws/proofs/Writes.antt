@@ -5,7 +5,7 @@ use Rattle.byte_lists.proofs.Contents.{part_below, part_above}
 use Rattle.image_laws.specs.declared.half.Half.{Half}
 use Rattle.image_laws.specs.declared.half.Half.TheVariants.{First, Second}
 use Rattle.image_laws.specs.Layout.{Geometry, half_sectors, area_at, image_sectors, Piece, Area, Gate, Journal, Region, FirstSector, InHalf, region_at, region_sectors, region_end, region_of}
-use Rattle.image_laws.specs.ImageLaws.{RegionsAreApart, RegionsAreInside, WritesLeaveRegionsApart, WritesLeaveOtherRegions}
+use Rattle.image_laws.specs.RegionLaws.{RegionsAreApart, RegionsAreInside, WritesLeaveRegionsApart, WritesLeaveOtherRegions}
 
 -- a region lies within its half
 record IsInHalf (geometry : Geometry) (half : Half) (piece : Piece) : Type 0 where

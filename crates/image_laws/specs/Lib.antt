@@ -17,4 +17,6 @@ pub mod OpeningReading
 pub mod CheckpointLaws
 pub mod OpeningLaws
 pub mod WhatCounts
-pub mod ImageLaws
+pub mod RegionLaws
+pub mod WhatCountsLaws
+pub mod TakeOver

@@ -20,8 +20,8 @@ pub use journal_laws::{
     journals_stay_within_bounds, later_versions_allow_more, payloads_fill_sectors,
 };
 pub use opening_laws::{
-    halves_take_over_the_same, openings_are_read, openings_go_by_what_counts,
-    openings_stay_under_later_versions,
+    halves_take_over_the_same, new_stores_open_empty, openings_are_read,
+    openings_go_by_what_counts, openings_stay_under_later_versions,
 };
 pub use regions::{regions_are_apart, writes_leave_other_regions};
 pub use worked::{worked_journals, worked_payloads, worked_sizes, worked_versions};

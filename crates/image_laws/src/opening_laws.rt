@@ -1,7 +1,8 @@
 //! Laws of what an image opens to, in any format of databases of type `Db` and commands of type `C`.
 
 ghost use Rattle.image_laws.specs.OpeningLaws.{IsOpenedSo, HasValueJustWhere, HasOneValue, OpensUnderLaterVersions};
-ghost use Rattle.image_laws.specs.ImageLaws.{GoesByWhatCounts, IsKeptByWritesElsewhere, TakesOverTheSame};
+ghost use Rattle.image_laws.specs.WhatCountsLaws.{GoesByWhatCounts, IsKeptByWritesElsewhere, GoesByTheChosenHalf};
+ghost use Rattle.image_laws.specs.TakeOver.{TakesOverTheSame, TakesOverTheSameAtRest, OpensEmpty};
 
 /// An image is read as opening just where it opens, to the value for which it stands; and it stands for one value at most.
 pub fn openings_are_read<Db, C>()
@@ -16,13 +17,20 @@ pub fn openings_stay_under_later_versions<Db, C>()
 {}
 
 /// An opening goes by what counts of the image: one of that size that is the same there opens so too. What is written
-/// elsewhere leaves it as it was.
+/// elsewhere leaves it as it was. Where no journal is sealed the chosen half is enough, if the other is closed or older.
 pub fn openings_go_by_what_counts<Db, C>()
     ensures same { GoesByWhatCounts Db C }
     ensures kept { IsKeptByWritesElsewhere Db C }
+    ensures chosen { GoesByTheChosenHalf Db C }
 {}
 
-/// A half that takes over from a sealed one stands for the same.
+/// A half that takes over from a sealed one, or from one at rest, stands for the same.
 pub fn halves_take_over_the_same<Db, C>()
-    ensures { TakesOverTheSame Db C }
+    ensures sealed { TakesOverTheSame Db C }
+    ensures rest { TakesOverTheSameAtRest Db C }
+{}
+
+/// A store that was formatted opens to the empty database, at place 0.
+pub fn new_stores_open_empty<Db, C>()
+    ensures { OpensEmpty Db C }
 {}

@@ -1,6 +1,6 @@
 //! Laws of the regions of an image.
 
-ghost use Rattle.image_laws.specs.ImageLaws.{RegionsAreApart, RegionsAreInside, WritesLeaveRegionsApart, WritesLeaveOtherRegions};
+ghost use Rattle.image_laws.specs.RegionLaws.{RegionsAreApart, RegionsAreInside, WritesLeaveRegionsApart, WritesLeaveOtherRegions};
 
 /// The regions of an image are apart, and in it.
 pub fn regions_are_apart()
