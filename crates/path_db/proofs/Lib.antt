@@ -19,3 +19,4 @@ mod ReadBack
 mod RowsBack
 mod RowsRead
 mod Writable
+pub mod Exports

@@ -101,7 +101,7 @@ pub record_len : (row : RowView) → length (row_record row) ≡ 5 + length (seg
 unfolding row_record
 record_len row = ap suc (length-append (to_be_bytes w32 (length (segment_encoding row.1))) (segment_encoding row.1)) ∙ omega arith
 
-encoding_len : (rows : List RowView) → length (rows_encoding rows) ≡ segments_len rows + 5 * length rows
+pub encoding_len : (rows : List RowView) → length (rows_encoding rows) ≡ segments_len rows + 5 * length rows
 encoding_len [] = refl
 encoding_len (row ∷ rows) =
     let split : length (rows_encoding (row ∷ rows)) ≡ length (row_record row) + length (rows_encoding rows) =

@@ -1,0 +1,5 @@
+mod Found
+mod Payloads
+mod Pieces
+mod Ends
+mod Needed

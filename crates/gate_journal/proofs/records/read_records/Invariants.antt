@@ -1,0 +1,12 @@
+use Rattle.std.proofs.Common.{◌≡◌, ◌-◌}
+use Rattle.image_laws.specs.Limits.{limits_of}
+use Rattle.image_laws.specs.GroupReading.{commands_in}
+use Rattle.gate_journal.specs.Commands.{command_format}
+use Rattle.gate_journal.proofs.Found.{appended}
+use Rattle.gate_journal.proofs.records.read_records.Given as goal
+
+-- What is left, behind the commands that were read so far, gives what all of it gives.
+abbrev pub invariant-loop : goal.invariant-loop
+invariant-loop l =
+    appended l.fn.commands.items (commands_in command_format (limits_of l.version) l.count l.bytes)
+    ≡ appended l.commands.items (commands_in command_format (limits_of l.version) (l.count - l.counter) l.rest)

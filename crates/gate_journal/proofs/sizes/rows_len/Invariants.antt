@@ -1,0 +1,10 @@
+use Rattle.std.proofs.Common.{◌≡◌, ◌+◌, ◌*◌, ◌≤◌, take}
+use Rattle.path_db.specs.CommandRecord.{segments_len}
+use Rattle.gate_journal.proofs.sizes.rows_len.Given as goal
+
+-- the lengths of the rows so far
+abbrev pub invariant-loop-segment : goal.invariant-loop-segment
+invariant-loop-segment l = record {
+  so_far : l.len ≡ segments_len (take l.segment-index l.rows) + 5 * l.segment-index;
+  small : l.len ≤ 16389 * l.segment-index;
+}

@@ -1,0 +1,34 @@
+-- The commands of a journal are those of the database, each spelled as its record.
+use Rattle.std.specs.Prelude.{◌≡◌, Result, Ok, Err, Some}
+use Rattle.std.specs.Result.{result_ok}
+use Rattle.std.proofs.Common.{ap}
+use Rattle.path_db.specs.declared.command.Command.{Command}
+use Rattle.path_db.specs.Command.{HasWholeSegments}
+use Rattle.path_db.specs.CommandRecord.{IsWithinLimits, command_encoding, command_decoding}
+use Rattle.path_db.specs.RecordLaws.{HasWidths, IsAllowedBy}
+use Rattle.path_db.proofs.Exports.{command_spelled, command_read_on}
+use Rattle.image_laws.specs.Limits.{Limits}
+use Rattle.image_laws.specs.CommandFormat.{CommandFormat, IsAllowed}
+
+-- a reading that gives a command didn't refuse it
+pub read_from : {T E : Type 0} (reading : Result T E) (value : T) → result_ok reading ≡ Some value → reading ≡ Ok value
+read_from (Ok other) value is = cc
+read_from (Err refusal) value is = cc
+
+-- A command is spelled as its record, and bytes are read as one; of the limits those on removals count.
+abbrev pub command_format : CommandFormat Command
+command_format = record {
+  encoding = command_encoding;
+  decoding = λ limits bytes. result_ok (command_decoding limits.removals bytes);
+  spelled = λ limits bytes command each is.
+      command_spelled limits.removals bytes command each (read_from (command_decoding limits.removals bytes) command is);
+  grows = λ small large bytes command larger is.
+      ap result_ok (command_read_on small.removals large.removals bytes command larger.removals
+      (read_from (command_decoding small.removals bytes) command is));
+}
+
+-- The limits of a journal allow each command within its own limits, a removal where they allow these.
+abbrev pub CommandsAreAllowed : Type 0
+CommandsAreAllowed =
+    (limits : Limits) (command : Command) → IsWithinLimits command → HasWholeSegments command → HasWidths command → IsAllowedBy limits.removals command
+    → IsAllowed command_format limits command

@@ -1,0 +1,7 @@
+pub mod Commands
+pub mod Payload
+pub mod RecordError
+pub mod Reading
+pub mod ScannerView
+pub mod Scanning
+pub mod ErrorNumber

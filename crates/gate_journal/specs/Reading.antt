@@ -1,0 +1,60 @@
+-- What of a journal is read at a time: the first sector of a payload, and then all of a group's.
+use Rattle.std.specs.Prelude.{◌≡◌, ℕ, ◌+◌, ◌-◌, ◌*◌, List, ◌++◌, Option, Some, None, Result, Ok, Err, nat_le, ◌==◌, if◌then◌else◌}
+use Rattle.byte_lists.specs.Content.{part}
+use Rattle.path_db.specs.declared.command.Command.{Command}
+use Rattle.image_laws.specs.Limits.{Limits}
+use Rattle.image_laws.specs.Group.{payload_sectors}
+use Rattle.image_laws.specs.GroupReading.{JournalRefusal, check, count_in, size_in, place_in, is_group_header, is_seal_header, are_zeros, commands_in}
+use Rattle.image_laws.specs.GroupReading.{BadHeader as IsBadHeader, BadRecord as IsBadRecord, Gap as IsGap, PastEnd as IsPastEnd}
+use Rattle.gate_journal.specs.declared.error.JournalError.{JournalError}
+use Rattle.gate_journal.specs.declared.error.JournalError.TheVariants.{NoMemory, BadHeader, BadRecord, Gap, PastEnd}
+use Rattle.gate_journal.specs.declared.header.Header.{Header}
+use Rattle.gate_journal.specs.declared.header.Header.TheVariants.{Group, Seal}
+use Rattle.gate_journal.specs.Commands.{command_format}
+
+-- ---- errors
+
+-- An error is the refusal that a definition gives; want of memory says nothing of it.
+abbrev pub Refuses : {X : Type 0} → JournalError → Result X JournalRefusal → Type 0
+Refuses NoMemory reading = Unit {0}
+Refuses BadHeader reading = reading ≡ Err IsBadHeader
+Refuses BadRecord reading = reading ≡ Err IsBadRecord
+Refuses (Gap place) reading = reading ≡ Err (IsGap place)
+Refuses PastEnd reading = reading ≡ Err IsPastEnd
+
+-- A call answers just what the reading gives, seen by `view`, unless it was refused memory.
+abbrev pub Gives : {X Y : Type 0} → (X → Y) → Result X JournalError → Result Y JournalRefusal → Type 0
+Gives view (Ok x) reading = reading ≡ Ok (view x)
+Gives view (Err e) reading = Refuses e reading
+
+-- It appends just the commands that the reading gives, unless it was refused memory.
+abbrev pub Appends : List Command → List Command → Result (Unit {0}) JournalError → Result (List Command) JournalRefusal → Type 0
+Appends old new (Ok done) reading = (found : List Command) × (reading ≡ Ok found) × (new ≡ old ++ found)
+Appends old new (Err e) reading = Refuses e reading
+
+-- ---- readings
+
+-- what was found in records, which else are bad
+abbrev pub found_in_records : {X : Type 0} → Option X → Result X JournalRefusal
+found_in_records None = Err IsBadRecord
+found_in_records (Some x) = Ok x
+
+-- The header in the first sector of the payload behind a gate, where this place is expected and the journal has so many
+-- sectors; of a seal its padding is judged too.
+abbrev pub header_reading : Limits → List ℕ → ℕ → ℕ → ℕ → Result Header JournalRefusal
+header_reading limits sector gate place sectors =
+    if is_group_header limits sector then
+    check (place_in sector == place) (IsGap place)
+    (check (nat_le (gate + 1 + payload_sectors (size_in sector) + 2) sectors) IsPastEnd (Ok (Group (count_in sector) (size_in sector))))
+    else if is_seal_header sector then
+    check (place_in sector == place) (IsGap place) (check (are_zeros (part 16 496 sector)) IsBadRecord (Ok Seal))
+    else Err IsBadHeader
+
+-- what stands behind the records of a group's payload
+abbrev pub padding_of : ℕ → List ℕ → List ℕ
+padding_of size payload = part (16 + size) (512 * payload_sectors size - (16 + size)) payload
+
+-- the commands of a group's payload, by the count and the size that its header says
+abbrev pub payload_reading : Limits → ℕ → ℕ → List ℕ → Result (List Command) JournalRefusal
+payload_reading limits count size payload =
+    check (are_zeros (padding_of size payload)) IsBadRecord (found_in_records (commands_in command_format limits count (part 16 size payload)))

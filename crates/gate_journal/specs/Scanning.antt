@@ -1,0 +1,121 @@
+-- A journal that is read piece by piece. A piece is whole sectors; they are counted from the journal's start.
+use Rattle.std.specs.Prelude.{◌≡◌, ℕ, ◌+◌, ◌-◌, ◌*◌, ◌<◌, ◌≤◌, true, List, length, Result, Ok, Err}
+use Rattle.byte_lists.specs.Content.{AreBytes, part}
+use Rattle.byte_lists.specs.Sectors.{whole_sectors, sector_at, IsOpenGate}
+use Rattle.path_db.specs.declared.command.Command.{Command}
+use Rattle.image_laws.specs.Limits.{Limits, limits_of}
+use Rattle.image_laws.specs.Group.{payload_sectors}
+use Rattle.image_laws.specs.GroupReading.{are_zeros}
+use Rattle.image_laws.specs.GroupReading.{BadHeader as IsBadHeader, BadRecord as IsBadRecord, Gap as IsGap, PastEnd as IsPastEnd}
+use Rattle.image_laws.specs.Journal.{Reading, IsChain, IsJournal, all_of, sectors_read}
+use Rattle.image_laws.specs.JournalRefusals.{IsRefused}
+use Rattle.gate_journal.specs.declared.error.JournalError.{JournalError}
+use Rattle.gate_journal.specs.declared.error.JournalError.TheVariants.{NoMemory, BadHeader, BadRecord, Gap, PastEnd}
+use Rattle.gate_journal.specs.declared.header.Header.TheVariants.{Group}
+use Rattle.gate_journal.specs.declared.scanner.Scan.{Scan}
+use Rattle.gate_journal.specs.declared.scanner.Stage.{Stage}
+use Rattle.gate_journal.specs.declared.scanner.Stage.TheVariants.{AtGate, AtHeader, AtPayload}
+use Rattle.gate_journal.specs.declared.scanner.Progress.{Progress}
+use Rattle.gate_journal.specs.declared.scanner.Progress.TheVariants.{More, Done}
+use Rattle.gate_journal.specs.Commands.{command_format}
+use Rattle.gate_journal.specs.Reading.{header_reading, padding_of}
+use Rattle.gate_journal.specs.ScannerView.{ScannerView}
+
+-- the reading that a scan tells
+abbrev pub reading_of : Scan → Reading Command
+reading_of scan = record { commands = scan.commands.items; tail = scan.tail; sealed = scan.sealed; place = scan.place }
+
+-- ---- pieces
+
+-- which sector the next piece begins with, and how many it has: the gate, the sector behind it, or the whole payload
+abbrev pub first_of : Stage → ℕ → ℕ
+first_of AtGate gate = gate
+first_of AtHeader gate = gate + 1
+first_of (AtPayload count size) gate = gate + 1
+
+abbrev pub count_of : Stage → ℕ
+count_of AtGate = 1
+count_of AtHeader = 1
+count_of (AtPayload count size) = payload_sectors size
+
+abbrev pub first_wanted : ScannerView → ℕ
+first_wanted scanner = first_of scanner.stage scanner.gate
+
+abbrev pub count_wanted : ScannerView → ℕ
+count_wanted scanner = count_of scanner.stage
+
+-- the journal has these bytes in that piece
+abbrev pub HasPiece : ScannerView → List ℕ → List ℕ → Type 0
+HasPiece scanner bytes piece = part (512 * first_wanted scanner) (512 * count_wanted scanner) bytes ≡ piece
+
+-- how many pieces are left at most: three behind each gate, and a gate is two sectors at least behind the last one
+abbrev pub rank_of : Stage → ℕ
+rank_of AtGate = 2
+rank_of AtHeader = 1
+rank_of (AtPayload count size) = 0
+
+abbrev pub pieces_left : ScannerView → ℕ
+pieces_left scanner = 3 * (scanner.sectors - scanner.gate) + rank_of scanner.stage
+
+-- ---- what was read
+
+-- what is known of the journal behind the gate: that it is open, and then that its header is one of a group in order
+abbrev pub IsKnown : Stage → Limits → List ℕ → ℕ → ℕ → Type 0
+IsKnown AtGate limits bytes gate place = Unit {0}
+IsKnown AtHeader limits bytes gate place = IsOpenGate (sector_at gate bytes)
+IsKnown (AtPayload count size) limits bytes gate place =
+    IsOpenGate (sector_at gate bytes)
+    × (header_reading limits (sector_at (gate + 1) bytes) gate place (whole_sectors bytes) ≡ Ok (Group count size))
+
+-- The journal is read up to the scanner's gate: groups stand up to there, the commands are theirs, and the place is reached.
+pub record IsReadUpTo (scanner : ScannerView) (bytes : List ℕ) (start : ℕ) : Type 0 where
+  pub size : whole_sectors bytes ≡ scanner.sectors
+  pub groups : List (List Command)
+  pub chain : IsChain command_format (limits_of scanner.version) bytes 0 start groups scanner.gate
+  pub commands : scanner.commands ≡ all_of groups
+  pub place : scanner.place ≡ start + length (all_of groups)
+  pub known : IsKnown scanner.stage (limits_of scanner.version) bytes scanner.gate scanner.place
+
+-- each journal that the scanner has read up to its gate is read by so many sectors at least, if it has a reading
+abbrev pub CountsForReading : ScannerView → ℕ → Type 0
+CountsForReading scanner sectors =
+    (bytes : List ℕ) (start : ℕ) (reading : Reading Command) → IsReadUpTo scanner bytes start
+    → IsJournal command_format (limits_of scanner.version) bytes start reading → sectors ≤ sectors_read reading
+
+-- Reading may want memory: groups stand up to an open gate, and behind that a header of a group that is in order, at the
+-- place reached and with room, and zeros behind its records.
+pub record MayWantMemory (limits : Limits) (bytes : List ℕ) (start : ℕ) : Type 0 where
+  pub groups : List (List Command)
+  pub gate : ℕ
+  pub chain : IsChain command_format limits bytes 0 start groups gate
+  pub opened : IsOpenGate (sector_at gate bytes)
+  pub count : ℕ
+  pub size : ℕ
+  pub header : header_reading limits (sector_at (gate + 1) bytes) gate (start + length (all_of groups)) (whole_sectors bytes) ≡ Ok (Group count size)
+  pub padding : are_zeros (padding_of size (part (512 * (gate + 1)) (512 * payload_sectors size) bytes)) ≡ true
+
+-- what an error means of a whole journal
+abbrev pub MeansError : JournalError → Limits → List ℕ → ℕ → Type 0
+MeansError NoMemory limits bytes start = MayWantMemory limits bytes start
+MeansError BadHeader limits bytes start = IsRefused command_format limits bytes start IsBadHeader
+MeansError BadRecord limits bytes start = IsRefused command_format limits bytes start IsBadRecord
+MeansError (Gap place) limits bytes start = IsRefused command_format limits bytes start (IsGap place)
+MeansError PastEnd limits bytes start = IsRefused command_format limits bytes start IsPastEnd
+
+-- what a piece leads to: the journal is read further, or has this reading, or is refused
+abbrev pub LeadsTo : Result Progress JournalError → Limits → List ℕ → ℕ → Type 0
+LeadsTo (Ok (More next)) limits bytes start = IsReadUpTo next bytes start
+LeadsTo (Ok (Done scan)) limits bytes start = IsJournal command_format limits bytes start (reading_of scan)
+LeadsTo (Err e) limits bytes start = MeansError e limits bytes start
+
+-- the scanner goes on in the same journal, with fewer pieces left
+abbrev pub GoesOn : Result Progress JournalError → ScannerView → Type 0
+GoesOn (Ok (More next)) scanner = (next.sectors ≡ scanner.sectors) × (next.version ≡ scanner.version) × (pieces_left next < pieces_left scanner)
+GoesOn (Ok (Done scan)) scanner = Unit {0}
+GoesOn (Err e) scanner = Unit {0}
+
+-- A scanner took a piece: of each journal that it has read up to its gate, and that has this piece.
+pub record TakesPiece (scanner : ScannerView) (piece : List ℕ) (result : Result Progress JournalError) : Type 0 where
+  pub leads : (bytes : List ℕ) (start : ℕ) → AreBytes bytes → IsReadUpTo scanner bytes start → HasPiece scanner bytes piece
+      → LeadsTo result (limits_of scanner.version) bytes start
+  pub on : GoesOn result scanner

@@ -1,0 +1,104 @@
+//! Groups and seals as payloads of whole sectors.
+
+ghost use Rattle.std.specs.Prelude.{◌≡◌, ◌↔◌, ◌≤◌, ◌++◌, [], length, IfOk, IsTrue, OnOk};
+ghost use Rattle.std.specs.List.{All};
+ghost use Rattle.path_db.specs.CommandRecord.{IsWithinLimits};
+ghost use Rattle.image_laws.specs.Group.{record_encoding, records_of, with_header, group_encoding, seal_encoding};
+ghost use Rattle.gate_journal.specs.Commands.{command_format};
+ghost use Rattle.gate_journal.specs.Payload.{IsWithinGroupLimits};
+
+use crate::header::MOST_RECORD_BYTES;
+use crate::sizes::{is_within_limits, record_len};
+use byte_lists::pad;
+use path_db::{Command, write_command};
+use std::alloc::{AllocError, Global};
+
+/// The kind of a group's header.
+pub(crate) const GROUP: u8 = 1;
+/// The kind of a seal's header.
+pub(crate) const SEAL: u8 = 2;
+/// The bytes of a header.
+pub(crate) const HEADER: usize = 16;
+/// The bytes of a sector.
+pub(crate) const SECTOR: usize = 512;
+
+/// Whether these commands may be written as one group, whose first command has this place: there are 1 to 32, each within its
+/// limits, their records have at most 262,144 bytes, and no place is above 2^64 - 1.
+pub fn can_be_group(commands: &[Command], place: u64) -> bool
+    ensures { IsTrue result ↔ IsWithinGroupLimits commands.now place }
+{
+    let count = commands.len();
+    1 <= count
+        && count <= 32
+        && place <= u64::MAX - count as u64
+        && commands.iter().all(|command| is_within_limits(command))
+        && records_len(commands) <= MOST_RECORD_BYTES as usize
+}
+
+/// The payload of a group whose first command has this place: a header, each command's record behind its length, and zeros up
+/// to a whole sector.
+pub fn encode_group(alloc: Global, commands: &[Command], place: u64) -> Result<Vec<u8>, AllocError>
+    requires { IsWithinGroupLimits commands.now place }
+    ensures { IfOk result (λ payload. payload.items ≡ group_encoding command_format place commands.now) }
+{
+    let size = records_len(commands);
+    let mut out = Vec::with_capacity(alloc, HEADER + size + SECTOR)?;
+    put_header(commands.len() as u8, size as u32, place, &mut out)?;
+    put_records(commands, &mut out)?;
+    pad(&mut out)?;
+    Ok(out)
+}
+
+/// The payload of a seal at the place reached: a header, and zeros up to a whole sector.
+pub fn encode_seal(place: u64) -> [u8; 512]
+    ensures { result ≡ seal_encoding place }
+{
+    let mut sector = [0; SECTOR];
+    sector[0] = SEAL;
+    sector[8..HEADER].copy_from_slice(&place.to_be_bytes());
+    sector
+}
+
+/// How many bytes the records of commands take.
+fn records_len(commands: &[Command]) -> usize
+    requires most { length commands.now ≤ 32 }
+    requires each { All IsWithinLimits commands.now }
+    ensures { result ≡ length (records_of command_format commands.now) }
+{
+    let mut len = 0;
+    for command in commands {
+        len += record_len(command);
+    }
+    len
+}
+
+/// Appends the header of a group: the kind, the count of commands, two zeros, the length of the records in four big-endian
+/// bytes, the place in eight.
+fn put_header(count: u8, size: u32, place: u64, out: &mut Vec<u8>) -> Result<(), AllocError>
+    ensures { OnOk result (out.new.items ≡ out.old.items ++ with_header 1 count size place []) }
+{
+    out.extend_from_slice(&[GROUP, count, 0, 0])?;
+    out.extend_from_slice(&size.to_be_bytes())?;
+    out.extend_from_slice(&place.to_be_bytes())
+}
+
+/// Appends the records of commands.
+fn put_records(commands: &[Command], out: &mut Vec<u8>) -> Result<(), AllocError>
+    requires { All IsWithinLimits commands.now }
+    ensures { OnOk result (out.new.items ≡ out.old.items ++ records_of command_format commands.now) }
+{
+    for command in commands {
+        put_record(command, out)?;
+    }
+    Ok(())
+}
+
+/// Appends the length of a command's own record in four big-endian bytes, and that record.
+fn put_record(command: &Command, out: &mut Vec<u8>) -> Result<(), AllocError>
+    requires { IsWithinLimits command.now }
+    ensures { OnOk result (out.new.items ≡ out.old.items ++ record_encoding command_format command.now) }
+{
+    let size = record_len(command) as u32 - 4;
+    out.extend_from_slice(&size.to_be_bytes())?;
+    write_command(command, out)
+}

@@ -1,0 +1,102 @@
+//! The first sector of a payload.
+
+ghost use Rattle.std.specs.Prelude.{◌≡◌, ◌≢◌, ◌*◌, ◌≤◌, length, IfErr};
+ghost use Rattle.image_laws.specs.Limits.{limits_of};
+ghost use Rattle.image_laws.specs.GroupReading.{is_group_header as group_header, is_seal_header as seal_header, is_header as header_of, are_zeros as all_zeros};
+ghost use Rattle.gate_journal.specs.declared.error.JournalError.TheVariants.{NoMemory};
+ghost use Rattle.gate_journal.specs.Reading.{header_reading, Gives};
+
+use crate::encoding::{GROUP, HEADER, SEAL};
+use crate::error::JournalError;
+use crate::sizes::{fits, payload_sectors};
+use byte_lists::{read_u32, read_u64};
+
+/// The most bytes that the records of a group have together.
+pub(crate) const MOST_RECORD_BYTES: u32 = 262_144;
+
+/// What the header of a payload is of: a group of so many commands, whose records have so many bytes, or a seal.
+#[derive(Clone, Copy)]
+pub(crate) enum Header {
+    Group(u8, u32),
+    Seal,
+}
+
+/// Reads the first sector of the payload behind a gate, where this place is expected and the journal has so many sectors.
+pub(crate) fn read_header(
+    sector: &[u8],
+    version: u32,
+    gate: u64,
+    place: u64,
+    sectors: u64,
+) -> Result<Header, JournalError>
+    requires { length sector.now ≡ 512 }
+    ensures reading { Gives (λ header. header) result (header_reading (limits_of version) sector.now gate place sectors) }
+    ensures memory { IfErr result (λ e. e ≢ NoMemory) }
+{
+    let size = read_u32(sector, 4);
+    if is_group_header(sector, version) {
+        if read_u64(sector, 8) != place {
+            return Err(JournalError::Gap(place));
+        }
+        if !fits(gate, payload_sectors(u64::from(size)), sectors) {
+            return Err(JournalError::PastEnd);
+        }
+        return Ok(Header::Group(sector[1], size));
+    }
+    if !is_seal_header(sector) {
+        return Err(JournalError::BadHeader);
+    }
+    if read_u64(sector, 8) != place {
+        return Err(JournalError::Gap(place));
+    }
+    if !are_zeros(&sector[HEADER..]) {
+        return Err(JournalError::BadRecord);
+    }
+    Ok(Header::Seal)
+}
+
+/// Whether a payload begins with the header of a group.
+fn is_group_header(sector: &[u8], version: u32) -> bool
+    requires { length sector.now ≡ 512 }
+    ensures { result ≡ group_header (limits_of version) sector.now }
+{
+    is_header(sector, GROUP, 1, most_commands(version), MOST_RECORD_BYTES)
+}
+
+/// Whether a payload begins with the header of a seal.
+fn is_seal_header(sector: &[u8]) -> bool
+    requires { length sector.now ≡ 512 }
+    ensures { result ≡ seal_header sector.now }
+{
+    is_header(sector, SEAL, 0, 0, 0)
+}
+
+/// Whether a payload begins with a header of this kind, with so many commands at least and at most, and records of so many
+/// bytes at most.
+fn is_header(sector: &[u8], kind: u8, few: u8, many: u8, longest: u32) -> bool
+    requires { length sector.now ≡ 512 }
+    ensures { result ≡ header_of kind few many longest sector.now }
+{
+    let count = sector[1];
+    sector[0] == kind
+        && few <= count
+        && count <= many
+        && sector[2] == 0
+        && sector[3] == 0
+        && read_u32(sector, 4) <= longest
+        && read_u64(sector, 8) <= u64::MAX - u64::from(count)
+}
+
+/// The most commands of a group.
+fn most_commands(version: u32) -> u8
+    ensures { result ≡ (limits_of version).most }
+{
+    if version <= 1 { 8 } else { 32 }
+}
+
+/// Whether all bytes are zero.
+pub(crate) fn are_zeros(bytes: &[u8]) -> bool
+    ensures { result ≡ all_zeros bytes.now }
+{
+    bytes.iter().all(|byte| *byte == 0)
+}

@@ -1,0 +1,21 @@
+//! Groups of commands behind gates, and seals: what a store's journal is made of, written and scanned.
+//!
+//! To the layers above: what is written is the one payload of a group or a seal, and what is read of a journal is what the
+//! scan of `image_laws` gives of it, at the commands of `path_db`.
+#![tactic(auto)]
+
+mod command_laws;
+mod encoding;
+mod error;
+mod header;
+mod records;
+mod scanner;
+mod sizes;
+mod whole;
+
+pub use command_laws::commands_are_allowed;
+pub use encoding::{can_be_group, encode_group, encode_seal};
+pub use error::JournalError;
+pub use scanner::{Piece, Progress, Scan, Scanner, Stage};
+pub use sizes::{fits, payload_sectors, record_len};
+pub use whole::scan;

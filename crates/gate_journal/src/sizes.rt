@@ -1,0 +1,81 @@
+//! How many sectors payloads take, and how many bytes records.
+
+ghost use Rattle.std.specs.Prelude.{◌≡◌, ◌↔◌, ◌+◌, ◌*◌, ◌≤◌, length, IsTrue};
+ghost use Rattle.path_db.specs.declared.command.Command.TheVariants.{Register};
+ghost use Rattle.path_db.specs.CommandRecord.{IsWithinLimits, segments_len};
+ghost use Rattle.image_laws.specs.Group.{HasRoom, record_encoding, payload_sectors as sectors_of_payload};
+ghost use Rattle.gate_journal.specs.Commands.{command_format};
+
+use path_db::Command;
+use seg_core::{SegType, Segment, encoded_len};
+
+/// The bytes of a sector.
+const SECTOR: u64 = 512;
+/// The bytes of a header.
+const HEADER: u64 = 16;
+
+/// How many sectors a payload takes whose records have so many bytes: these and the header's 16, rounded up.
+pub fn payload_sectors(record_bytes: u64) -> u64
+    ensures { result ≡ sectors_of_payload record_bytes }
+{
+    record_bytes / SECTOR + (record_bytes % SECTOR + HEADER + SECTOR - 1) / SECTOR
+}
+
+/// Whether a journal of so many sectors has room for a payload of so many behind a gate, and for two sectors behind it: the
+/// next gate, and a seal's payload.
+pub fn fits(gate: u64, payload: u64, journal: u64) -> bool
+    ensures { IsTrue result ↔ HasRoom gate payload journal }
+{
+    journal >= 3 && payload <= journal - 3 && gate <= journal - 3 - payload
+}
+
+/// How many bytes the record of a command takes in a group: four, and the command's own.
+#[tactic(auto, using(path_db::proofs::Exports::encoding_len), unfolding(path_db::specs::CommandRecord::command_encoding))]
+pub fn record_len(command: &Command) -> usize
+    requires { IsWithinLimits command.now }
+    ensures exact { result ≡ length (record_encoding command_format command.now) }
+    ensures most { result ≤ 131158 }
+{
+    match command {
+        Command::Register(registration) => 6 + rows_len(registration.as_slice()),
+        Command::Purge(_) => 13,
+        Command::Remove(_, id) => removal_len(id),
+    }
+}
+
+/// How many bytes the record of a removal takes.
+fn removal_len(id: &[u8; 32]) -> usize
+    ensures exact { result ≡ 6 + length id.now }
+    ensures most { result ≡ 38 }
+{
+    6 + id.len()
+}
+
+/// How many bytes the records of rows take.
+fn rows_len(rows: &[(SegType, Segment)]) -> usize
+    requires { length rows.now ≤ 16 }
+    ensures { result ≡ segments_len rows.now + 5 * length rows.now }
+{
+    let mut len = 0;
+    for (_, segment) in rows {
+        len += 5 + encoded_len(segment);
+    }
+    len
+}
+
+/// Whether a command is within its limits: at most 16 segments, which have at most 131,072 bytes together.
+pub(crate) fn is_within_limits(command: &Command) -> bool
+    ensures { IsTrue result ↔ IsWithinLimits command.now }
+{
+    match command {
+        Command::Register(registration) => are_within_limits(registration.as_slice()),
+        Command::Purge(_) | Command::Remove(_, _) => true,
+    }
+}
+
+/// Whether segments may be registered by one command.
+fn are_within_limits(rows: &[(SegType, Segment)]) -> bool
+    ensures { IsTrue result ↔ IsWithinLimits (Register rows.now) }
+{
+    rows.len() <= 16 && rows_len(rows) - 5 * rows.len() <= 131_072
+}
