@@ -1,0 +1,50 @@
+-- Heads as values, and where the tail of a store stands.
+use Rattle.std.specs.Prelude.{◌≡◌, ℕ, Bool, true, false, Result, Ok, Err, Option, Some, None}
+use Rattle.std.specs.Option.{option_map}
+use Rattle.image_laws.specs.declared.half.Half.{Half}
+use Rattle.image_laws.specs.declared.half.Half.TheVariants.{First, Second}
+use Rattle.image_laws.specs.GroupReading.{JournalRefusal}
+use Rattle.image_laws.specs.Journal.{Reading}
+use Rattle.image_laws.specs.Layout.{other}
+use Rattle.image_laws.specs.Checkpoint as laws
+use Rattle.image_laws.specs.CheckpointReading.{PairRefusal, SealedNewer}
+use Rattle.image_laws.specs.Opening.{Opening}
+use Rattle.image_laws.specs.OpeningReading.{BadPair, read_tail, behind_journal}
+use Rattle.ckpt_pair.specs.declared.head.Head.{Head}
+use Rattle.ckpt_pair.specs.declared.head.Heads.{Heads}
+
+-- the greatest version that is known, in which checkpoints are written
+abbrev pub latest : ℕ
+latest = 2
+
+-- the numbers of a head
+abbrev pub head_view : Head → laws.Head
+head_view head = record { version = head.version; epoch = head.epoch; place = head.place }
+
+-- the head of a half, where it is open
+abbrev pub head_seen : Option Head → Option laws.Head
+head_seen head = option_map head_view head
+
+abbrev pub head_at : Half → Heads → Option Head
+head_at First heads = heads.first
+head_at Second heads = heads.second
+
+-- The half where the tail stands, by whether the chosen half's journal is sealed, and whether the other half is open: the
+-- chosen one, or behind a seal the other one, which has to be closed.
+abbrev pub tail_of : Half → Bool → Bool → Result Half PairRefusal
+tail_of chosen false other_is_open = Ok chosen
+tail_of chosen true true = Err SealedNewer
+tail_of chosen true false = Ok (other chosen)
+
+-- What an opening is once the chosen half's journal is read, by where the tail stands: it is refused as the tail is, it is whole
+-- where the tail is in the chosen half, and else it goes on in the other half's journal.
+pub record IsByTail {Db C : Type 0} (opening : Opening Db C) (sealed other_is_open : Bool) (behind : Result (Reading C) JournalRefusal) : Type 0 where
+  pub refused : (refusal : PairRefusal) → tail_of opening.chosen sealed other_is_open ≡ Err refusal
+      → behind_journal sealed other_is_open opening behind ≡ Err (BadPair refusal)
+  pub whole : tail_of opening.chosen sealed other_is_open ≡ Ok opening.chosen → behind_journal sealed other_is_open opening behind ≡ Ok opening
+  pub goes_on : tail_of opening.chosen sealed other_is_open ≡ Ok (other opening.chosen)
+      → behind_journal sealed other_is_open opening behind ≡ read_tail opening behind
+
+abbrev pub GoesOnWhereTailStands : Type 0 → Type 0 → Type 0
+GoesOnWhereTailStands Db C =
+    (opening : Opening Db C) (sealed other_is_open : Bool) (behind : Result (Reading C) JournalRefusal) → IsByTail opening sealed other_is_open behind

@@ -1,0 +1,63 @@
+//! Which half counts, and where the tail stands.
+
+ghost use Rattle.std.specs.Prelude.{◌==◌, nat_lt};
+ghost use Rattle.std.specs.Option.{is_some};
+ghost use Rattle.image_laws.specs.OpeningReading.{choice};
+ghost use Rattle.image_laws.specs.OpeningReading as laws;
+ghost use Rattle.ckpt_pair.specs.Refusals.{Reads};
+ghost use Rattle.ckpt_pair.specs.Heads.{head_seen, head_at, tail_of, GoesOnWhereTailStands};
+ghost use Rattle.image_laws.specs.Layout.{other};
+
+use crate::error::PairError;
+use crate::head::Heads;
+use image_laws::Half;
+
+/// The half that is chosen: the open one, and of two the one of greater epoch. It is refused as `NoHalf` where none is open, and
+/// as `SameEpoch` where both have one epoch.
+pub fn choose(heads: Heads) -> Result<Half, PairError>
+    ensures { Reads (λ half. half) result (choice (head_seen heads.first) (head_seen heads.second)) }
+{
+    match (heads.first, heads.second) {
+        (None, None) => Err(PairError::NoHalf),
+        (Some(_), None) => Ok(Half::First),
+        (None, Some(_)) => Ok(Half::Second),
+        (Some(one), Some(two)) => by_epochs(one.epoch, two.epoch),
+    }
+}
+
+/// Of two open halves the one of greater epoch.
+fn by_epochs(first: u64, second: u64) -> Result<Half, PairError>
+    ensures { Reads (λ half. half) result (laws.by_epochs (first == second) (nat_lt first second)) }
+{
+    if first == second {
+        return Err(PairError::SameEpoch);
+    }
+    if first < second {
+        Ok(Half::Second)
+    } else {
+        Ok(Half::First)
+    }
+}
+
+/// The half where the tail stands: the chosen one, or where its journal is sealed the other one. It is refused as `SealedNewer`
+/// where the chosen half's journal is sealed and the other half is open.
+pub fn tail_half(heads: Heads, chosen: Half, sealed: bool) -> Result<Half, PairError>
+    ensures { Reads (λ half. half) result (tail_of chosen sealed (is_some (head_at (other chosen) heads))) }
+{
+    if !sealed {
+        return Ok(chosen);
+    }
+    let other = match chosen {
+        Half::First => heads.second,
+        Half::Second => heads.first,
+    };
+    if other.is_some() {
+        return Err(PairError::SealedNewer);
+    }
+    Ok(chosen.other())
+}
+
+/// Where the tail stands is where an opening reads on.
+pub fn openings_go_on_there<Db, C>()
+    ensures { GoesOnWhereTailStands Db C }
+{}

@@ -1,0 +1,26 @@
+//! Why a pair of halves is refused.
+
+use thiserror::Error;
+
+/// Why the halves of a store are refused. They are numbered from 0 in this order.
+#[derive(Clone, Copy, Debug, PartialEq, Eq, Error)]
+pub enum PairError {
+    /// Memory ran out. It says nothing of the halves.
+    #[error("out of memory")]
+    NoMemory,
+    /// No half is open.
+    #[error("no half is open")]
+    NoHalf,
+    /// Both halves are open, and have the same epoch.
+    #[error("both halves have the same epoch")]
+    SameEpoch,
+    /// An open half has no head, or the chosen one no rows that are in order and as many as it says.
+    #[error("a checkpoint is not well-formed")]
+    BadCheckpoint,
+    /// The chosen half's journal is sealed while the other half is open, or the other journal is sealed too.
+    #[error("a half is sealed beside an open or a sealed one")]
+    SealedNewer,
+    /// The version of an open half is greater than those that are known.
+    #[error("version {0} of the format is not known")]
+    NewerFormat(u32),
+}

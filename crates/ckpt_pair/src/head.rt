@@ -1,0 +1,64 @@
+//! Heads of checkpoints.
+
+ghost use Rattle.std.specs.Prelude.{◌≤◌, length};
+ghost use Rattle.byte_lists.specs.Sectors.{is_open_gate};
+ghost use Rattle.image_laws.specs.CheckpointReading.{head_in};
+ghost use Rattle.image_laws.specs.OpeningReading.{head_behind};
+ghost use Rattle.ckpt_pair.specs.Refusals.{Reads};
+ghost use Rattle.ckpt_pair.specs.Heads.{latest, head_view, head_seen};
+
+use crate::error::PairError;
+use byte_lists::{is_open, read_u32, read_u64};
+
+/// The greatest version of the format that is known, in which checkpoints are written.
+pub const LATEST: u32 = 2;
+
+/// The four letters PCKP, as one number.
+pub(crate) const MAGIC: u32 = 0x50434b50;
+
+/// The head of a checkpoint: the version of its format, the epoch, which is greater in the newer half, and the place, which is
+/// how many commands are folded into its rows.
+#[derive(Clone, Copy, Debug, PartialEq, Eq)]
+pub struct Head {
+    pub version: u32,
+    pub epoch: u64,
+    pub place: u64,
+}
+
+/// The heads of both halves of a store: none of a half that is closed.
+#[derive(Clone, Copy, Debug, PartialEq, Eq)]
+pub struct Heads {
+    pub first: Option<Head>,
+    pub second: Option<Head>,
+}
+
+/// The head that a half's area begins with: none where the half's gate is closed, and then the area isn't read. An open half
+/// with another magic or version 0 is `BadCheckpoint`, and a version above `LATEST` is `NewerFormat`.
+pub fn read_head(gate: &[u8], area: &[u8]) -> Result<Option<Head>, PairError>
+    requires { 24 ≤ length area.now }
+    ensures { Reads head_seen result (head_behind (is_open_gate gate.now) (head_in latest area.now)) }
+{
+    if !is_open(gate) {
+        return Ok(None);
+    }
+    Ok(Some(open_head(area)?))
+}
+
+/// The head that an open half's area begins with.
+pub(crate) fn open_head(area: &[u8]) -> Result<Head, PairError>
+    requires { 24 ≤ length area.now }
+    ensures { Reads head_view result (head_in latest area.now) }
+{
+    let version = read_u32(area, 4);
+    if read_u32(area, 0) != MAGIC || version == 0 {
+        return Err(PairError::BadCheckpoint);
+    }
+    if version > LATEST {
+        return Err(PairError::NewerFormat(version));
+    }
+    Ok(Head {
+        version,
+        epoch: read_u64(area, 8),
+        place: read_u64(area, 16),
+    })
+}
