@@ -1,0 +1,6 @@
+//! Tests of `store_open`, a module for each subject. They see what no clause says: the bytes of a new store, what is answered
+//! where a call of the device fails, and that calls succeed.
+#![tactic(auto)]
+
+#[cfg(test)]
+mod formatting;

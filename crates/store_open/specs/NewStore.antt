@@ -1,0 +1,66 @@
+-- What a store is that was just made, to the byte, and what making one answers.
+use Rattle.std.specs.Prelude.{◌≡◌, ◌++◌, ℕ, ◌≤◌, ◌<◌, List, take, replicate, ◌∷◌, Result, Ok, Err}
+use Rattle.std.specs.Int.{w32, to_be_bytes}
+use Rattle.byte_lists.specs.Sectors.{sector_at}
+use Rattle.sector_dev.specs.Disk.{Disk, IsHonest, reads_of}
+use Rattle.sector_dev.specs.Image.{EveryImage}
+use Rattle.sector_dev.specs.Calls.{one_more}
+use Rattle.image_laws.specs.declared.half.Half.TheVariants.{First, Second}
+use Rattle.image_laws.specs.Layout.{Geometry, IsGeometry, image_sectors, area_of, gate_of, journal_of}
+use Rattle.image_laws.specs.FirstSector.{IsStore}
+use Rattle.image_laws.specs.Checkpoint.{Head, head_encoding}
+use Rattle.image_laws.specs.StoreFormat.{StoreFormat}
+use Rattle.image_laws.specs.TakeOver.{IsFormatted}
+use Rattle.store_open.specs.declared.new_store.FormatError.{FormatError}
+use Rattle.store_open.specs.declared.new_store.FormatError.TheVariants.{BadGeometry, TooSmall, Fault}
+
+-- the version in which stores are made, which is the greatest that is known
+abbrev pub latest : ℕ
+latest = 2
+
+-- the head of a new store: epoch 1, place 0
+abbrev pub first_head : Head
+first_head = record { version = latest; epoch = 1; place = 0 }
+
+-- its checkpoint: that head, and no bytes of no rows
+abbrev pub first_checkpoint_bytes : List ℕ
+first_checkpoint_bytes = head_encoding first_head ++ (to_be_bytes w32 0 ++ to_be_bytes w32 0)
+
+-- gates as they are written
+abbrev pub open_sector : List ℕ
+open_sector = 0xA7 ∷ replicate 511 0
+
+abbrev pub closed_sector : List ℕ
+closed_sector = replicate 512 0
+
+-- A new store: the first half is open, with no rows, and its journal's first gate is closed; both of the second half are closed.
+pub record IsNewStore (geometry : Geometry) (image : List ℕ) : Type 0 where
+  pub store : IsStore geometry image
+  pub begins : take 32 (area_of geometry First image) ≡ first_checkpoint_bytes
+  pub gate : gate_of geometry First image ≡ open_sector
+  pub journal : sector_at 0 (journal_of geometry First image) ≡ closed_sector
+  pub second_gate : gate_of geometry Second image ≡ closed_sector
+  pub second_journal : sector_at 0 (journal_of geometry Second image) ≡ closed_sector
+
+-- In any format of databases and commands it is a formatted store.
+abbrev pub IsFormattedInAny : Type 0 → Type 0 → Type 0
+IsFormattedInAny Db C =
+    (format : StoreFormat Db C) (geometry : Geometry) (image : List ℕ) → IsNewStore geometry image → IsFormatted format latest geometry image
+
+-- whatever a stop leaves is a new store, and reads give one
+pub record HoldsNewStore (geometry : Geometry) (disk : Disk) : Type 0 where
+  pub every : EveryImage disk.history.now (IsNewStore geometry)
+  pub reads : IsNewStore geometry (reads_of disk)
+
+-- these sizes are allowed, and the device has room for a store of them
+pub record HasRoomFor (geometry : Geometry) (disk : Disk) : Type 0 where
+  pub allowed : IsGeometry geometry
+  pub room : image_sectors geometry ≤ disk.sectors
+
+-- What making a store answers: it is there; or the sizes aren't allowed, or they are and the device is too small, and nothing
+-- was done; or the device failed.
+abbrev pub Formats : Geometry → Result (Unit {0}) FormatError → Disk → Disk → Type 0
+Formats geometry (Ok done) old new = HasRoomFor geometry old × (new.faults ≡ old.faults) × (IsHonest old → HoldsNewStore geometry new)
+Formats geometry (Err BadGeometry) old new = (¬ IsGeometry geometry) × (new ≡ old)
+Formats geometry (Err TooSmall) old new = IsGeometry geometry × (old.sectors < image_sectors geometry) × (new ≡ old)
+Formats geometry (Err Fault) old new = HasRoomFor geometry old × (new.faults ≡ one_more old.faults)

@@ -1,0 +1,58 @@
+//! Reading the sizes of a store.
+
+ghost use Rattle.std.specs.Prelude.{◌≡◌, ◌↔◌, ℕ, List, length, IsTrue, IfOk};
+ghost use Rattle.std.specs.Option.{option_map};
+ghost use Rattle.byte_lists.specs.Content.{part};
+ghost use Rattle.byte_lists.specs.Numbers.{four_at, eight_at};
+ghost use Rattle.byte_lists.specs.Sectors.{whole_sectors};
+ghost use Rattle.sector_dev.specs.Disk.{IsHonest, reads_of};
+ghost use Rattle.sector_dev.specs.Calls.{Keeps, count_after};
+ghost use Rattle.image_laws.specs.FirstSector.{store_magic, layout_number, geometry_in};
+ghost use Rattle.store_open.specs.Geometry.{geometry_view};
+
+use crate::Geometry;
+use crate::sectors::{LAYOUT, STORE_MAGIC};
+use byte_lists::{read_u32, read_u64};
+use sector_dev::{DevError, Device, SECTOR};
+
+/// The sizes of the store on a device, in sector 0: none where what reads give is no store. The device stays as it is.
+pub fn read_geometry<D: Device>(device: &mut D) -> Result<Option<Geometry>, DevError>
+    ensures keeps { Keeps (D.disk device.old) (D.disk device.new) }
+    ensures faults { (D.disk device.new).faults ≡ count_after result (D.disk device.old).faults }
+    ensures history { IsHonest (D.disk device.old) → (D.disk device.new).history ≡ (D.disk device.old).history }
+    ensures read { IfOk result (λ found. IsHonest (D.disk device.old) → option_map geometry_view found ≡ geometry_in (reads_of (D.disk device.old))) }
+{
+    let sectors = device.sectors();
+    if sectors == 0 {
+        return Ok(None);
+    }
+    let mut sector = [0; SECTOR];
+    device.read(0, &mut sector)?;
+    Ok(geometry_of(&sector, sectors))
+}
+
+/// The sizes that sector 0 tells, where it is that of a store that so many sectors have room for.
+fn geometry_of(sector: &[u8], sectors: u64) -> Option<Geometry>
+    requires { length sector.now ≡ 512 }
+    ensures { (image : List ℕ) → part 0 512 image ≡ sector.now → whole_sectors image ≡ sectors → option_map geometry_view result ≡ geometry_in image }
+{
+    if !is_named(sector) {
+        return None;
+    }
+    let geometry = Geometry {
+        checkpoint: read_u32(sector, 12),
+        journal: read_u32(sector, 16),
+    };
+    if !geometry.is_allowed() || sectors < geometry.sectors() {
+        return None;
+    }
+    Some(geometry)
+}
+
+/// Whether the name and the number of the layout stand there.
+fn is_named(sector: &[u8]) -> bool
+    requires { length sector.now ≡ 512 }
+    ensures { IsTrue result ↔ ((eight_at 0 sector.now ≡ store_magic) × (four_at 8 sector.now ≡ layout_number)) }
+{
+    read_u64(sector, 0) == STORE_MAGIC && read_u32(sector, 8) == LAYOUT
+}

@@ -1,0 +1,16 @@
+//! Stores on devices: how one is made, and what is read of it.
+//!
+//! To the layer above: after `format` every image of the device is a new store, and `read_geometry` tells the sizes of a store
+//! just where an image is one.
+#![tactic(auto)]
+
+mod first_sector;
+mod geometry;
+mod new_store;
+mod new_store_laws;
+mod sectors;
+
+pub use first_sector::read_geometry;
+pub use geometry::Geometry;
+pub use new_store::{FormatError, format};
+pub use new_store_laws::new_stores_are_formatted;

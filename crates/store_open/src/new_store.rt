@@ -1,0 +1,61 @@
+//! Making a store.
+
+ghost use Rattle.std.specs.Prelude.{◌≡◌, ◌≤◌, OnOk};
+ghost use Rattle.sector_dev.specs.Disk.{IsHonest};
+ghost use Rattle.sector_dev.specs.Calls.{Keeps, count_after};
+ghost use Rattle.image_laws.specs.Layout.{IsGeometry, image_sectors};
+ghost use Rattle.store_open.specs.Geometry.{geometry_view};
+ghost use Rattle.store_open.specs.NewStore.{Formats, HoldsNewStore, HasRoomFor};
+
+use crate::Geometry;
+use crate::sectors::{closed_gate, first_checkpoint, first_sector, open_gate};
+use image_laws::Half;
+use sector_dev::{DevError, Device};
+use thiserror::Error;
+
+/// Why no store was made.
+#[derive(Clone, Copy, Debug, PartialEq, Eq, Error)]
+pub enum FormatError {
+    /// The sizes aren't allowed.
+    #[error("the sizes are not allowed")]
+    BadGeometry = 1,
+    /// The device has fewer sectors than a store of these sizes takes.
+    #[error("the device is too small")]
+    TooSmall,
+    /// The device failed. What is on it may be no store: it is to be formatted again.
+    #[error("the device failed")]
+    Fault,
+}
+
+/// Makes a store of these sizes, with no rows and at place 0, of whatever stood on the device. It takes no memory.
+pub fn format<D: Device>(device: &mut D, geometry: Geometry) -> Result<(), FormatError>
+    ensures keeps { Keeps (D.disk device.old) (D.disk device.new) }
+    ensures answer { Formats (geometry_view geometry) result (D.disk device.old) (D.disk device.new) }
+{
+    if !geometry.is_allowed() {
+        return Err(FormatError::BadGeometry);
+    }
+    if device.sectors() < geometry.sectors() {
+        return Err(FormatError::TooSmall);
+    }
+    match lay_out(device, geometry) {
+        Ok(()) => Ok(()),
+        Err(_) => Err(FormatError::Fault),
+    }
+}
+
+/// Writes the sectors of a new store, and syncs.
+fn lay_out<D: Device>(device: &mut D, geometry: Geometry) -> Result<(), DevError>
+    requires { HasRoomFor (geometry_view geometry) (D.disk device.old) }
+    ensures keeps { Keeps (D.disk device.old) (D.disk device.new) }
+    ensures faults { (D.disk device.new).faults ≡ count_after result (D.disk device.old).faults }
+    ensures done { OnOk result (IsHonest (D.disk device.old) → HoldsNewStore (geometry_view geometry) (D.disk device.new)) }
+{
+    device.write(0, &first_sector(geometry))?;
+    device.write(geometry.area_at(Half::First), &first_checkpoint())?;
+    device.write(geometry.gate_at(Half::First), &open_gate())?;
+    device.write(geometry.journal_at(Half::First), &closed_gate())?;
+    device.write(geometry.gate_at(Half::Second), &closed_gate())?;
+    device.write(geometry.journal_at(Half::Second), &closed_gate())?;
+    device.sync()
+}
