@@ -21,5 +21,4 @@ mod Records
 mod Spelled
 mod ReadBack
 pub mod RowsBack
-mod RowPieces
 pub mod Exports
