@@ -30,10 +30,11 @@ pub record HasLowerRow (bytes : List ℕ) : Type 0 where
   pub whole : IsSegment row.1
   pub lower : is_above (last_of rows) row ≡ false
 
--- Bytes are refused as rows for the first thing that isn't there.
+-- Bytes are refused as rows by BadRecord just where they stop being records behind those of a database.
 abbrev pub BadRecordIsExact : Type 0
 BadRecordIsExact = (bytes : List ℕ) → AreBytes bytes → (rows_decoding bytes ≡ Err BadRecord) ↔ HasNoRecord bytes
 
+-- They are refused by Order just where the record of a lower row comes there.
 abbrev pub OrderIsExact : Type 0
 OrderIsExact = (bytes : List ℕ) → AreBytes bytes → (rows_decoding bytes ≡ Err Order) ↔ HasLowerRow bytes
 
