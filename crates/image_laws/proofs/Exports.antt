@@ -33,3 +33,5 @@ pub use Rattle.image_laws.proofs.Refusals.{refused_where, refused_from}
 -- the last journal is written: a group or a seal behind the last gate, and then the gate
 pub use Rattle.image_laws.proofs.StoreGrowth.{folds_in_parts, halves_differ, size_kept, region_kept, journal_written, title_kept, areas_kept, gates_kept, journal_kept, still_chosen, in_image, goes_by_last, last_is, last_unsealed, grown_value, store_goes_by_its_last_journal, store_is_made_ready, store_grows_by_its_gate}
 pub use Rattle.image_laws.proofs.Seals.{store_is_made_ready_for_seal, store_is_sealed_by_its_gate}
+-- a half's gate is written, and a half that is older changes
+pub use Rattle.image_laws.proofs.Switch.{gate_size, gate_there, area_beside, journal_beside, gate_beside, store_beside, stays, is_switched, switches_by_the_gate, switches_by_the_gate_at_rest, older_half_may_change}

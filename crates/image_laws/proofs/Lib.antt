@@ -20,3 +20,4 @@ pub mod SmallImage
 pub mod Refusals
 pub mod StoreGrowth
 pub mod Seals
+pub mod Switch
