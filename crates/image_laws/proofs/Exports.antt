@@ -35,3 +35,5 @@ pub use Rattle.image_laws.proofs.StoreGrowth.{folds_in_parts, halves_differ, siz
 pub use Rattle.image_laws.proofs.Seals.{store_is_made_ready_for_seal, store_is_sealed_by_its_gate}
 -- a half's gate is written, and a half that is older changes
 pub use Rattle.image_laws.proofs.Switch.{gate_size, gate_there, area_beside, journal_beside, gate_beside, store_beside, stays, is_switched, switches_by_the_gate, switches_by_the_gate_at_rest, older_half_may_change}
+-- an opening goes by its regions
+pub use Rattle.image_laws.proofs.ByRegions.{KeepsRegions, opens_by_regions, closed_area_may_change}
