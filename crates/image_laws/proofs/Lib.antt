@@ -20,3 +20,5 @@ pub mod SmallImage
 pub mod Refusals
 pub mod StoreGrowth
 pub mod Seals
+pub mod Switch
+pub mod ByRegions

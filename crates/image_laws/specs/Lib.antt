@@ -23,3 +23,4 @@ pub mod TakeOver
 pub mod WorkedImages
 pub mod OpeningRefusals
 pub mod StoreGrowth
+pub mod Switch
