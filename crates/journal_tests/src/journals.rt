@@ -63,7 +63,7 @@ fn journals_are_read(rt: HostRuntime) -> Result<(), Fail> {
     for (i, (parts, place, version, wanted)) in cases.iter().enumerate() {
         let bytes = bytes_of(rt.alloc(), parts)?;
         assert_eq!(rt;
-            seen(&rt, rt.alloc(), &bytes, *place, *version),
+            seen(&rt, rt.alloc(), &bytes, *place, *version)?,
             *wanted,
             "case {i}"
         );
@@ -106,7 +106,7 @@ fn versions_have_limits(rt: HostRuntime) -> Result<(), Fail> {
     for (i, (parts, place, version, wanted)) in cases.iter().enumerate() {
         let bytes = bytes_of(rt.alloc(), parts)?;
         assert_eq!(rt;
-            seen(&rt, rt.alloc(), &bytes, *place, *version),
+            seen(&rt, rt.alloc(), &bytes, *place, *version)?,
             *wanted,
             "case {i}"
         );

@@ -1,7 +1,7 @@
 //! Want of memory: a group is written whole or not at all, and a journal is read whole or not at all.
 
 use crate::worked::Part::{Closed, Open, Purges, Seal};
-use crate::worked::{Seen, bytes_of, many, seen};
+use crate::worked::{Seen, bytes_of, many, read_as, seen};
 use gate_journal::{JournalError, can_be_group, encode_group};
 use path_db::Command;
 use std::test::Fail;
@@ -21,12 +21,11 @@ fn refused_calls_may_be_tried_again(rt: HostRuntime) -> Result<(), Fail> {
     let mut bytes = bytes_of(rt.alloc(), &[Open])?;
     bytes.extend_from_slice(&payload)?;
     bytes.extend_from_slice(&bytes_of(rt.alloc(), &[Open, Seal(2)])?)?;
-    let first = seen(&rt, rt.alloc(), &bytes, 0, 2);
-    let again = match first {
-        Err(JournalError::NoMemory) => seen(&rt, rt.alloc(), &bytes, 0, 2),
+    let answer = match read_as(&rt, rt.alloc(), &bytes, 0, 2) {
+        Err(JournalError::NoMemory) => read_as(&rt, rt.alloc(), &bytes, 0, 2),
         answer => answer,
     };
-    assert_eq!(rt; again, Ok((2, 4, true, 2)));
+    assert_eq!(rt; answer, Ok((2, 4, true, 2)));
     Ok(())
 }
 
@@ -45,7 +44,7 @@ fn refusals_take_no_memory(rt: HostRuntime) -> Result<(), Fail> {
         ),
     ];
     for (bytes, wanted) in &cases {
-        assert_eq!(rt; seen(&rt, rt.alloc(), bytes, 0, 1), *wanted);
+        assert_eq!(rt; seen(&rt, rt.alloc(), bytes, 0, 1)?, *wanted);
     }
     Ok(())
 }

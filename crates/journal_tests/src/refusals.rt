@@ -84,13 +84,13 @@ const CHANGES: [(usize, u8, Seen); 46] = [
 #[test]
 fn one_byte_is_changed(rt: HostRuntime) -> Result<(), Fail> {
     let mut bytes = journal(rt.alloc())?;
-    assert_eq!(rt; seen(&rt, rt.alloc(), &bytes, 0, 1), WHOLE);
+    assert_eq!(rt; seen(&rt, rt.alloc(), &bytes, 0, 1)?, WHOLE);
     for (at, byte, wanted) in CHANGES {
         assert!(rt; at < bytes.len());
         let was = bytes[at];
         bytes[at] = byte;
         assert_eq!(rt;
-            seen(&rt, rt.alloc(), &bytes, 0, 1),
+            seen(&rt, rt.alloc(), &bytes, 0, 1)?,
             wanted,
             "{byte} at {at}"
         );

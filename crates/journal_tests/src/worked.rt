@@ -142,9 +142,29 @@ fn pad(bytes: &mut Vec<u8>) -> Result<(), Fail> {
 /// What a journal reads as: how many commands, its tail, whether it is sealed, and the place reached.
 pub(crate) type Seen = Result<(usize, u64, bool, u64), JournalError>;
 
-/// What these bytes read as.
-pub(crate) fn seen(rt: &impl Abort, alloc: Global, bytes: &[u8], place: u64, version: u32) -> Seen {
+/// What these bytes read as, or want of memory.
+pub(crate) fn read_as(
+    rt: &impl Abort,
+    alloc: Global,
+    bytes: &[u8],
+    place: u64,
+    version: u32,
+) -> Seen {
     assert!(rt; bytes.len() >= 512 && bytes.len() % 512 == 0);
     let read = scan(alloc, bytes, place, version)?;
     Ok((read.commands.len(), read.tail, read.sealed, read.place))
+}
+
+/// What these bytes read as. Want of memory is no answer.
+pub(crate) fn seen(
+    rt: &impl Abort,
+    alloc: Global,
+    bytes: &[u8],
+    place: u64,
+    version: u32,
+) -> Result<Seen, Fail> {
+    match read_as(rt, alloc, bytes, place, version) {
+        Err(JournalError::NoMemory) => Err(JournalError::NoMemory.into()),
+        answer => Ok(answer),
+    }
 }
