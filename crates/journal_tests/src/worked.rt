@@ -1,0 +1,170 @@
+//! A segment that was worked through by hand, and others like it.
+
+use gate_journal::{JournalError, scan};
+use path_db::{Command, Registration};
+use seg_core::{SegType, Segment, read_segment};
+use std::alloc::Global;
+use std::process::Abort;
+use std::test::Fail;
+
+/// Two entries, from 1-ff00:0:110 to 1-ff00:0:111.
+pub(crate) const SEGMENT: [u8; 88] = [
+    0x0a, 0x08, 0x08, 0x80, 0xe2, 0xcf, 0xaa, 0x06, 0x10, 0x07, // the segment's information
+    0x12, 0x29, 0x0a, 0x27, 0x0a, 0x25, // the first entry, its signed message, header and body
+    0x12, 0x23, 0x08, 0x90, 0x82, 0x80, 0x80, 0x80, 0xe0, 0x7f, // its AS
+    0x10, 0x91, 0x82, 0x80, 0x80, 0x80, 0xe0, 0x7f, // the next AS
+    0x1a, 0x0e, 0x0a, 0x0c, 0x10, 0x01, 0x18, 0x3f, 0x22, 0x06, // the hop entry and its hop field
+    0x01, 0x02, 0x03, 0x04, 0x05, 0x06, 0x28, 0xc0, 0x0b, // a MAC, and the MTU
+    0x12, 0x21, 0x0a, 0x1f, 0x0a, 0x1d, // the second entry
+    0x12, 0x1b, 0x08, 0x91, 0x82, 0x80, 0x80, 0x80, 0xe0, 0x7f, // its AS
+    0x1a, 0x0e, 0x0a, 0x0c, 0x08, 0x02, 0x18, 0x3f, 0x22, 0x06, // the hop entry and its hop field
+    0x0a, 0x0b, 0x0c, 0x0d, 0x0e, 0x0f, 0x28, 0xc0, 0x0b, // a MAC, and the MTU
+];
+
+/// Its id: SHA-256 over `0001ff0000000110 0000 0001 0001ff0000000111 0002 0000`.
+pub(crate) const ID: [u8; 32] = [
+    0x8a, 0xdc, 0xea, 0x68, 0xdc, 0x57, 0xcb, 0xbe, 0x68, 0xda, 0x71, 0x42, 0xaf, 0x88, 0xb6, 0x8a,
+    0x9d, 0x27, 0xa5, 0x90, 0xe1, 0xd5, 0x15, 0x7c, 0x53, 0xc2, 0xbb, 0x2c, 0x76, 0x23, 0x45, 0xff,
+];
+
+/// The moment at which it expires, in half seconds since 1970: 2 * 1,700,000,000 + 64 * 675.
+pub(crate) const EXPIRY: u64 = 3_400_043_200;
+
+/// The worked segment.
+pub(crate) fn segment(alloc: Global) -> Result<Segment, Fail> {
+    Ok(read_segment(alloc, &SEGMENT)?)
+}
+
+/// The worked segment with another timestamp and another segment id, both below 128. It has the same hops, and so that id.
+pub(crate) fn dated(alloc: Global, timestamp: u8, segment_id: u8) -> Result<Segment, Fail> {
+    let mut message = Vec::from_slice(alloc, &[0x0a, 0x04, 0x08, timestamp, 0x10, segment_id])?;
+    message.extend_from_slice(&SEGMENT[10..])?;
+    Ok(read_segment(alloc, &message)?)
+}
+
+/// The worked segment, but its first AS is left by this interface, below 128: its id is another.
+pub(crate) fn leaving_by(alloc: Global, egress: u8) -> Result<Segment, Fail> {
+    let mut message = SEGMENT;
+    message[39] = egress;
+    Ok(read_segment(alloc, &message)?)
+}
+
+/// The command that registers this segment.
+pub(crate) fn register(alloc: Global, kind: SegType, segment: Segment) -> Result<Command, Fail> {
+    let mut rows = Vec::new(alloc);
+    rows.push((kind, segment))?;
+    Ok(Command::Register(Registration::new(rows)))
+}
+
+/// The command that registers so many segments of so many ids.
+pub(crate) fn many(alloc: Global, count: u8) -> Result<Command, Fail> {
+    let mut rows = Vec::new(alloc);
+    for egress in 1..=count {
+        rows.push((SegType::Down, leaving_by(alloc, egress)?))?;
+    }
+    Ok(Command::Register(Registration::new(rows)))
+}
+
+/// So many purges, at the moments from 0 on.
+pub(crate) fn purges(alloc: Global, count: u64) -> Result<Vec<Command>, Fail> {
+    let mut commands = Vec::new(alloc);
+    for moment in 0..count {
+        commands.push(Command::Purge(moment))?;
+    }
+    Ok(commands)
+}
+
+/// The payload of a group of so many purges, as it is drawn, byte by byte.
+pub(crate) fn drawn(alloc: Global, count: u8, place: u64) -> Result<Vec<u8>, Fail> {
+    let size = u32::from(count) * 13;
+    let mut bytes = Vec::from_slice(alloc, &[1, count, 0, 0])?;
+    bytes.extend_from_slice(&size.to_be_bytes())?;
+    bytes.extend_from_slice(&place.to_be_bytes())?;
+    for moment in 0..u64::from(count) {
+        bytes.extend_from_slice(&[0, 0, 0, 9, 2])?;
+        bytes.extend_from_slice(&moment.to_be_bytes())?;
+    }
+    pad(&mut bytes)?;
+    Ok(bytes)
+}
+
+/// What stands in a journal.
+#[derive(Clone, Copy)]
+pub(crate) enum Part {
+    /// An open gate.
+    Open,
+    /// A closed gate.
+    Closed,
+    /// The group of so many purges at this place.
+    Purges(u8, u64),
+    /// The removal of a down segment, at place 0.
+    Removal,
+    /// The seal at this place.
+    Seal(u64),
+}
+
+/// The bytes of these parts.
+pub(crate) fn bytes_of(alloc: Global, parts: &[Part]) -> Result<Vec<u8>, Fail> {
+    let mut bytes = Vec::new(alloc);
+    for part in parts {
+        match *part {
+            Part::Open => {
+                bytes.push(0xa7)?;
+                pad(&mut bytes)?;
+            }
+            Part::Closed => bytes.extend_from_slice(&[0; 512])?,
+            Part::Purges(count, place) => bytes.extend_from_slice(&drawn(alloc, count, place)?)?,
+            Part::Removal => {
+                bytes.extend_from_slice(&[1, 1, 0, 0, 0, 0, 0, 38, 0, 0, 0, 0, 0, 0, 0, 0])?;
+                bytes.extend_from_slice(&[0, 0, 0, 34, 3, 2])?;
+                pad(&mut bytes)?;
+            }
+            Part::Seal(place) => {
+                bytes.extend_from_slice(&[2, 0, 0, 0, 0, 0, 0, 0])?;
+                bytes.extend_from_slice(&place.to_be_bytes())?;
+                pad(&mut bytes)?;
+            }
+        }
+    }
+    Ok(bytes)
+}
+
+/// Appends zeros up to a whole sector.
+fn pad(bytes: &mut Vec<u8>) -> Result<(), Fail> {
+    for _ in 0..512u16 {
+        if bytes.len() % 512 != 0 {
+            bytes.push(0)?;
+        }
+    }
+    Ok(())
+}
+
+/// What a journal reads as: how many commands, its tail, whether it is sealed, and the place reached.
+pub(crate) type Seen = Result<(usize, u64, bool, u64), JournalError>;
+
+/// What these bytes read as, or want of memory.
+pub(crate) fn read_as(
+    rt: &impl Abort,
+    alloc: Global,
+    bytes: &[u8],
+    place: u64,
+    version: u32,
+) -> Seen {
+    assert!(rt; bytes.len() >= 512 && bytes.len() % 512 == 0);
+    let read = scan(alloc, bytes, place, version)?;
+    Ok((read.commands.len(), read.tail, read.sealed, read.place))
+}
+
+/// What these bytes read as. Want of memory is no answer.
+pub(crate) fn seen(
+    rt: &impl Abort,
+    alloc: Global,
+    bytes: &[u8],
+    place: u64,
+    version: u32,
+) -> Result<Seen, Fail> {
+    match read_as(rt, alloc, bytes, place, version) {
+        Err(JournalError::NoMemory) => Err(JournalError::NoMemory.into()),
+        answer => Ok(answer),
+    }
+}
