@@ -1,5 +1,5 @@
 -- An opening goes by what counts of the image.
-use Rattle.std.proofs.Common.{◌≡◌, inl, inr, ℕ, zero, suc, ◌+◌, ◌*◌, ◌≤◌, Bool, true, false, List, [], ◌∷◌, length, take, get_or, length-take, Some, None, Option, refl, sym, ◌∙◌, ap, arith}
+use Rattle.std.proofs.Common.{◌≡◌, inl, inr, ℕ, ◌+◌, ◌*◌, ◌≤◌, Bool, true, false, List, [], ◌∷◌, length, take, get_or, subst, length-take, Some, None, Option, sym, ◌∙◌, ap, arith}
 use Rattle.std.specs.List.{AllByRecursion}
 use Rattle.byte_lists.specs.Content.{part, overwrite}
 use Rattle.byte_lists.specs.Sectors.{whole_sectors, IsOpenGate, is_open_gate}
@@ -11,20 +11,15 @@ use Rattle.image_laws.specs.CommandFormat.{CommandFormat}
 use Rattle.image_laws.specs.Journal.{Reading, IsJournal, sectors_to, sectors_read}
 use Rattle.image_laws.specs.Layout.{Geometry, other, area_at, gate_at, journal_at, area_of, gate_of, journal_of}
 use Rattle.image_laws.specs.FirstSector.{IsStore}
-use Rattle.image_laws.specs.StoreFormat.{RowsFormat}
+use Rattle.image_laws.specs.StoreFormat.{RowsFormat, StoreFormat}
 use Rattle.image_laws.specs.Checkpoint.{Head, Checkpoint, IsHead, checkpoint_size, IsCheckpoint}
-use Rattle.image_laws.specs.Opening.{limits_in, IsTail}
-use Rattle.image_laws.specs.WhatCounts.{Span, span, head_spans, tail_spans, spans_in, IsSameSpan, IsApart}
-use Rattle.image_laws.specs.ImageLaws.{GoesByWhatCounts, IsKeptByWritesElsewhere}
+use Rattle.image_laws.specs.Opening.{Opening, limits_in, HasOlderHead, IsTail, IsChosen, IsOpening}
+use Rattle.image_laws.specs.WhatCounts.{Span, span, chosen_spans, head_spans, tail_spans, spans_in, IsSameSpan, IsApart}
+use Rattle.image_laws.specs.WhatCountsLaws.{GoesByWhatCounts, IsKeptByWritesElsewhere, GoesByTheChosenHalf}
 use Rattle.image_laws.proofs.Bounds.{stays_within_bounds}
 use Rattle.image_laws.proofs.Growth.{goes_by_its_front}
+use Rattle.image_laws.proofs.Heads.{take_take}
 use Rattle.image_laws.proofs.Places.{area_long, journal_long, store_journal}
-
-pub take_take : (n m : ℕ) (xs : List ℕ) → n ≤ m → take n (take m xs) ≡ take n xs
-take_take zero m xs few = refl
-take_take (suc n) zero xs few = absurd (omega arith)
-take_take (suc n) (suc m) [] few = refl
-take_take (suc n) (suc m) (x ∷ xs) few = ap (λ (list : List ℕ). x ∷ list) (take_take n m xs (omega arith))
 
 -- the front of a part
 pub front_same : (at n m : ℕ) (one two : List ℕ) → n ≤ m → part at n two ≡ part at n one → take n (part at m two) ≡ take n (part at m one)
@@ -87,22 +82,32 @@ module _ (geometry : Geometry) (one two : List ℕ) (size : length two ≡ lengt
         inside : 512 * sectors_read reading ≤ 512 * geometry.journal
         inside = omega (arith, read_inside reading.sealed reading.tail geometry.journal bounds)
 
+-- what of the chosen half counts
+chosen_same : {Db C : Type 0} (format : StoreFormat Db C) (latest : ℕ) (one two : List ℕ) (opening : Opening Db C) (more : List Span) → length two ≡ length one
+    → AllByRecursion (IsSameSpan one two) (chosen_spans format opening more)
+    → (IsOpenGate (gate_of opening.geometry (other opening.chosen) two) → HasOlderHead latest (area_of opening.geometry (other opening.chosen) two) opening.checkpoint.head.epoch)
+    → IsOpening format latest one opening → IsChosen format latest two opening.geometry opening.chosen opening.checkpoint
+chosen_same format latest one two opening more size same older is = record {
+  store = store_same opening.geometry one two size is.half.store same.0;
+  gate = gate_same (512 * gate_at opening.geometry opening.chosen) one two same.1.0 is.half.gate;
+  begins = checkpoint_same opening.geometry one two size is.half.store opening.chosen format.rows opening.checkpoint same.1.1.0 is.half.begins;
+  known = is.half.known;
+  older = older;
+}
+
+pub goes_by_the_chosen_half : (Db C : Type 0) → GoesByTheChosenHalf Db C
+goes_by_the_chosen_half Db C format latest one two opening size none same older is = record {
+  half = chosen_same format latest one two opening [] size same older is;
+  journal = journal_same opening.geometry one two size is.half.store opening.chosen format.commands (limits_in opening.checkpoint) opening.checkpoint.head.place opening.journal same.1.1.1.0 is.journal;
+  tail = subst (IsTail format.commands (limits_in opening.checkpoint) opening.geometry (other opening.chosen) two opening.journal) (sym none)
+      (subst (IsTail format.commands (limits_in opening.checkpoint) opening.geometry (other opening.chosen) one opening.journal) none is.tail);
+}
+
 pub goes_by_what_counts : (Db C : Type 0) → GoesByWhatCounts Db C
 goes_by_what_counts Db C format latest one two opening size same is = record {
-  store = store_same geometry one two size is.store same.0;
-  gate = gate_same (512 * gate_at geometry opening.chosen) one two same.1.0 is.gate;
-  checkpoint = checkpoint_same geometry one two size is.store opening.chosen format.rows opening.checkpoint same.1.1.0 is.checkpoint;
-  known = is.known;
-  older = λ opened.
-      let opened_before = gate_same (512 * gate_at geometry beside) two one (sym same.1.1.1.1.0) opened in
-      let older = is.older opened_before in
-      record {
-        head = older.head;
-        is = head_same geometry one two size is.store beside older.head (rest.0 (open_true (gate_of geometry beside one) opened_before)) older.is;
-        known = older.known;
-        older = older.older;
-      };
-  journal = journal_same geometry one two size is.store opening.chosen format.commands (limits_in opening.checkpoint) opening.checkpoint.head.place opening.journal same.1.1.1.0 is.journal;
+  half = chosen_same format latest one two opening
+      (span (512 * gate_at geometry beside) 1 ∷ head_spans geometry beside (is_open_gate (gate_of geometry beside one)) (tail_spans geometry beside opening.tail)) size same older is;
+  journal = journal_same geometry one two size is.half.store opening.chosen format.commands (limits_in opening.checkpoint) opening.checkpoint.head.place opening.journal same.1.1.1.0 is.journal;
   tail = tail_same opening.tail rest.1 is.tail;
 }
   where
@@ -117,6 +122,17 @@ goes_by_what_counts Db C format latest one two opening size same is = record {
     rest = head_counts (IsSameSpan one two) opening.geometry (other opening.chosen) (is_open_gate (gate_of opening.geometry (other opening.chosen) one))
         (tail_spans opening.geometry (other opening.chosen) opening.tail) same.1.1.1.1.1
 
+    older : IsOpenGate (gate_of opening.geometry (other opening.chosen) two) → HasOlderHead latest (area_of opening.geometry (other opening.chosen) two) opening.checkpoint.head.epoch
+    older opened =
+        let opened_before = gate_same (512 * gate_at opening.geometry (other opening.chosen)) two one (sym same.1.1.1.1.0) opened in
+        let was = is.half.older opened_before in
+        record {
+          head = was.head;
+          is = head_same opening.geometry one two size is.half.store (other opening.chosen) was.head (rest.0 (open_true (gate_of opening.geometry (other opening.chosen) one) opened_before)) was.is;
+          known = was.known;
+          older = was.older;
+        }
+
     tail_same : (tail : Option (Reading C)) → AllByRecursion (IsSameSpan one two) (tail_spans opening.geometry (other opening.chosen) tail)
         → IsTail format.commands (limits_in opening.checkpoint) opening.geometry (other opening.chosen) one opening.journal tail
         → IsTail format.commands (limits_in opening.checkpoint) opening.geometry (other opening.chosen) two opening.journal tail
@@ -125,13 +141,13 @@ goes_by_what_counts Db C format latest one two opening size same is = record {
       λ opened. goes_on.0 (gate_same (512 * gate_at opening.geometry (other opening.chosen)) two one (sym same.1.1.1.1.0) opened),
       record {
         sealed = goes_on.1.sealed;
-        journal = journal_same opening.geometry one two size is.store (other opening.chosen) format.commands (limits_in opening.checkpoint) opening.journal.place last all.0 goes_on.1.journal;
+        journal = journal_same opening.geometry one two size is.half.store (other opening.chosen) format.commands (limits_in opening.checkpoint) opening.journal.place last all.0 goes_on.1.journal;
         unsealed = goes_on.1.unsealed;
       },
     )
 
 -- a write apart from spans
-spans_kept : (at : ℕ) (bytes image : List ℕ) → at + length bytes ≤ length image → (spans : List Span) → AllByRecursion (IsApart at (length bytes)) spans
+pub spans_kept : (at : ℕ) (bytes image : List ℕ) → at + length bytes ≤ length image → (spans : List Span) → AllByRecursion (IsApart at (length bytes)) spans
     → AllByRecursion (IsSameSpan image (overwrite at bytes image)) spans
 spans_kept at bytes image inside [] all = tt
 spans_kept at bytes image inside (place ∷ more) all = (one all.0, spans_kept at bytes image inside more all.1)

@@ -13,12 +13,13 @@ use Rattle.image_laws.specs.FirstSector.{IsStore, geometry_in}
 use Rattle.image_laws.specs.StoreFormat.{StoreFormat}
 use Rattle.image_laws.specs.Checkpoint.{Head, Checkpoint, IsCheckpoint}
 use Rattle.image_laws.specs.CheckpointReading.{PairRefusal, head_in, checkpoint_in}
-use Rattle.image_laws.specs.Opening.{Opening, limits_in, HasOlderHead, IsTail, IsOpening, StoreValue, OpensTo}
+use Rattle.image_laws.specs.Opening.{Opening, limits_in, HasOlderHead, IsTail, IsChosen, IsOpening, StoreValue, OpensTo}
 use Rattle.image_laws.specs.OpeningReading.{OpenRefusal, head_behind, head_of, by_epochs, choice_of, behind_journal, read_tail, with_tail, by_journal, journal_from, by_checkpoint, by_choice, by_geometry, opening_of, value_in, store_value}
 use Rattle.image_laws.specs.OpeningLaws.{IsOpenedSo, HasValueJustWhere, HasOneValue, OpensUnderLaterVersions}
 use Rattle.image_laws.proofs.Scans.{read_journal}
 use Rattle.image_laws.proofs.Titles.{store_from}
-use Rattle.image_laws.proofs.Heads.{head_from, checkpoint_from, head_read, begins_with_its_head}
+use Rattle.image_laws.proofs.Heads.{head_from, head_read}
+use Rattle.image_laws.proofs.Checkpoints.{checkpoint_from, begins_with_its_head}
 use Rattle.image_laws.proofs.Places.{store_area, store_journal, area_bytes, journal_bytes}
 use Rattle.image_laws.proofs.Openings.{IsBehind, opening_read}
 
@@ -66,12 +67,12 @@ chosen_pair latest geometry image First is = choice_from _ _ First is
 chosen_pair latest geometry image Second is = choice_from _ _ Second is
 
 -- a head that was read stands behind an open gate
-head_open : (b : Bool) (read : Result Head PairRefusal) (head : Head) → head_behind b read ≡ Ok (Some head) → (b ≡ true) × (read ≡ Ok head)
+pub head_open : (b : Bool) (read : Result Head PairRefusal) (head : Head) → head_behind b read ≡ Ok (Some head) → (b ≡ true) × (read ≡ Ok head)
 head_open false read head is = cc
 head_open true (Err e) head is = cc
 head_open true (Ok found) head is = (refl, cc)
 
-head_closed : (b : Bool) (read : Result Head PairRefusal) → head_behind b read ≡ Ok None → b ≡ false
+pub head_closed : (b : Bool) (read : Result Head PairRefusal) → head_behind b read ≡ Ok None → b ≡ false
 head_closed false read is = refl
 head_closed true (Err e) is = cc
 head_closed true (Ok found) is = cc
@@ -160,11 +161,13 @@ module _ {Db C : Type 0} (format : StoreFormat Db C) (latest : ℕ) (image : Lis
   opens_so : AreBytes image → (so : ImageSo format latest image opening)
       → IsOpening format latest image (record { geometry = so.geometry; chosen = so.half; checkpoint = so.checkpoint; journal = so.journal_is.journal; tail = opening.tail })
   opens_so each so = record {
-    store = store;
-    gate = true_open (gate_of so.geometry so.half image) own.0;
-    checkpoint = checkpoint.0;
-    known = checkpoint.1;
-    older = λ opened. older pair.passed_over pair.others_is pair.behind opened;
+    half = record {
+      store = store;
+      gate = true_open (gate_of so.geometry so.half image) own.0;
+      begins = checkpoint.0;
+      known = checkpoint.1;
+      older = λ opened. older pair.passed_over pair.others_is pair.behind opened;
+    };
     journal = read_journal format.commands (limits_in so.checkpoint) (journal_of so.geometry so.half image) (journal_bytes so.geometry so.half image each) so.checkpoint.head.place
         so.journal_is.journal (store_journal so.geometry image store so.half) so.journal_is.first_is;
     tail = tail opening.tail so.journal_is.tail_read;
@@ -245,16 +248,22 @@ has_one_value Db C format latest image one other is_one is_other =
     cc
 
 -- more versions
-pub opens_later : {Db C : Type 0} (format : StoreFormat Db C) (earlier later : ℕ) (image : List ℕ) (opening : Opening Db C) → earlier ≤ later
-    → IsOpening format earlier image opening → IsOpening format later image opening
-opens_later format earlier later image opening before is = record {
+pub chosen_later : {Db C : Type 0} (format : StoreFormat Db C) (earlier later : ℕ) (image : List ℕ) (geometry : Geometry) (half : Half) (checkpoint : Checkpoint Db) → earlier ≤ later
+    → IsChosen format earlier image geometry half checkpoint → IsChosen format later image geometry half checkpoint
+chosen_later format earlier later image geometry half checkpoint before is = record {
   store = is.store;
   gate = is.gate;
-  checkpoint = is.checkpoint;
+  begins = is.begins;
   known = omega (arith, is.known);
   older = λ opened.
       let older = is.older opened in
       record { head = older.head; is = older.is; known = omega (arith, older.known); older = older.older };
+}
+
+pub opens_later : {Db C : Type 0} (format : StoreFormat Db C) (earlier later : ℕ) (image : List ℕ) (opening : Opening Db C) → earlier ≤ later
+    → IsOpening format earlier image opening → IsOpening format later image opening
+opens_later format earlier later image opening before is = record {
+  half = chosen_later format earlier later image opening.geometry opening.chosen opening.checkpoint before is.half;
   journal = is.journal;
   tail = is.tail;
 }

@@ -3,7 +3,7 @@ use Rattle.std.specs.Prelude.{◌≡◌, ℕ, ◌+◌, ◌^◌, ◌<◌, ◌≤�
 use Rattle.std.specs.Int.{w32, w64, to_be_bytes}
 use Rattle.byte_lists.specs.Sectors.{padded}
 use Rattle.image_laws.specs.Group.{last_place}
-use Rattle.image_laws.specs.StoreFormat.{RowsFormat, IsStorable}
+use Rattle.image_laws.specs.StoreFormat.{RowsFormat, IsStorable, StoreFormat}
 
 -- the version of the format that counts for a half, the epoch, which is greater in the newer half, and the place: how many
 -- commands are folded into the database
@@ -63,3 +63,7 @@ checkpoint_size rows checkpoint = 32 + length (rows.encoding checkpoint.db)
 pub record IsCheckpoint {Db : Type 0} (rows : RowsFormat Db) (area : List ℕ) (checkpoint : Checkpoint Db) : Type 0 where
   pub can : CanBeCheckpoint rows checkpoint
   pub spelled : take (checkpoint_size rows checkpoint) area ≡ checkpoint_bytes rows checkpoint
+
+-- the checkpoint of a store that is new: epoch 1, place 0, no row
+abbrev pub first_checkpoint : {Db C : Type 0} → StoreFormat Db C → ℕ → Checkpoint Db
+first_checkpoint format version = record { head = record { version = version; epoch = 1; place = 0 }; db = format.empty }

@@ -17,4 +17,10 @@ pub mod OpeningReading
 pub mod CheckpointLaws
 pub mod OpeningLaws
 pub mod WhatCounts
-pub mod ImageLaws
+pub mod RegionLaws
+pub mod WhatCountsLaws
+pub mod TakeOver
+pub mod WorkedImages
+pub mod OpeningRefusals
+pub mod StoreGrowth
+pub mod Switch

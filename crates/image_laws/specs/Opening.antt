@@ -44,26 +44,36 @@ IsTail format limits geometry half image journal None = journal.sealed ≡ false
 IsTail format limits geometry half image journal (Some behind) =
     (¬ IsOpenGate (gate_of geometry half image)) × GoesOn format limits (journal_of geometry half image) journal behind
 
+-- A half of a store's image is chosen, and begins with this checkpoint: it is open, of a known version, and the other half is
+-- closed or older.
+pub record IsChosen {Db C : Type 0} (format : StoreFormat Db C) (latest : ℕ) (image : List ℕ) (geometry : Geometry) (half : Half) (checkpoint : Checkpoint Db)
+    : Type 0 where
+  pub store : IsStore geometry image
+  pub gate : IsOpenGate (gate_of geometry half image)
+  pub begins : IsCheckpoint format.rows (area_of geometry half image) checkpoint
+  pub known : checkpoint.head.version ≤ latest
+  pub older : IsOpenGate (gate_of geometry (other half) image) → HasOlderHead latest (area_of geometry (other half) image) checkpoint.head.epoch
+
 -- the image opens with this reading
 pub record IsOpening {Db C : Type 0} (format : StoreFormat Db C) (latest : ℕ) (image : List ℕ) (opening : Opening Db C) : Type 0 where
-  pub store : IsStore opening.geometry image
-  pub gate : IsOpenGate (gate_of opening.geometry opening.chosen image)
-  pub checkpoint : IsCheckpoint format.rows (area_of opening.geometry opening.chosen image) opening.checkpoint
-  pub known : opening.checkpoint.head.version ≤ latest
-  pub older : IsOpenGate (gate_of opening.geometry (other opening.chosen) image)
-      → HasOlderHead latest (area_of opening.geometry (other opening.chosen) image) opening.checkpoint.head.epoch
+  pub half : IsChosen format latest image opening.geometry opening.chosen opening.checkpoint
   pub journal : IsJournal format.commands (limits_in opening.checkpoint) (journal_of opening.geometry opening.chosen image)
       opening.checkpoint.head.place opening.journal
   pub tail : IsTail format.commands (limits_in opening.checkpoint) opening.geometry (other opening.chosen) image opening.journal opening.tail
 
--- the commands of a tail, and the place that is reached with it
+-- the commands of a tail
 abbrev pub tail_commands : {C : Type 0} → Option (Reading C) → List C
 tail_commands None = []
 tail_commands (Some behind) = behind.commands
 
-abbrev pub tail_place : {C : Type 0} → Reading C → Option (Reading C) → ℕ
-tail_place journal None = journal.place
-tail_place journal (Some behind) = behind.place
+-- the half in which the last journal is, and that journal
+abbrev pub tail_half : {C : Type 0} → Half → Option (Reading C) → Half
+tail_half chosen None = chosen
+tail_half chosen (Some behind) = other chosen
+
+abbrev pub last_journal : {C : Type 0} → Reading C → Option (Reading C) → Reading C
+last_journal journal None = journal
+last_journal journal (Some behind) = behind
 
 -- what a store stands for: its database, and the place reached, which is the number of commands that made it
 pub record StoreValue (Db : Type 0) : Type 0 where
@@ -77,7 +87,7 @@ db_at_seal format opening = db_after format opening.checkpoint.db opening.journa
 abbrev pub value_of : {Db C : Type 0} → StoreFormat Db C → Opening Db C → StoreValue Db
 value_of format opening = record {
   db = db_after format (db_at_seal format opening) (tail_commands opening.tail);
-  place = tail_place opening.journal opening.tail;
+  place = (last_journal opening.journal opening.tail).place;
 }
 
 -- the image opens to this database at this place

@@ -26,16 +26,21 @@ abbrev pub tail_spans : {C : Type 0} → Geometry → Half → Option (Reading C
 tail_spans geometry half None = []
 tail_spans geometry half (Some behind) = span (512 * journal_at geometry half) (512 * sectors_read behind) ∷ []
 
--- The title in sector 0; of the chosen half byte 0 of its gate, its checkpoint, and its journal as far as it is read; and of
--- the other half byte 0 of its gate, and then its head or its journal.
-abbrev pub spans_of : {Db C : Type 0} → StoreFormat Db C → Opening Db C → Bool → List Span
-spans_of format opening other_is_open =
+-- the title in sector 0; and of the chosen half byte 0 of its gate, its checkpoint, and its journal as far as it is read
+abbrev pub chosen_spans : {Db C : Type 0} → StoreFormat Db C → Opening Db C → List Span → List Span
+chosen_spans format opening more =
     span 0 20
     ∷ span (512 * gate_at opening.geometry opening.chosen) 1
     ∷ span (512 * area_at opening.geometry opening.chosen) (checkpoint_size format.rows opening.checkpoint)
     ∷ span (512 * journal_at opening.geometry opening.chosen) (512 * sectors_read opening.journal)
-    ∷ span (512 * gate_at opening.geometry (other opening.chosen)) 1
-    ∷ head_spans opening.geometry (other opening.chosen) other_is_open (tail_spans opening.geometry (other opening.chosen) opening.tail)
+    ∷ more
+
+-- and of the other half byte 0 of its gate, and then its head or its journal
+abbrev pub spans_of : {Db C : Type 0} → StoreFormat Db C → Opening Db C → Bool → List Span
+spans_of format opening other_is_open =
+    chosen_spans format opening
+    (span (512 * gate_at opening.geometry (other opening.chosen)) 1
+    ∷ head_spans opening.geometry (other opening.chosen) other_is_open (tail_spans opening.geometry (other opening.chosen) opening.tail))
 
 -- those of an image that opens so
 abbrev pub spans_in : {Db C : Type 0} → StoreFormat Db C → List ℕ → Opening Db C → List Span
