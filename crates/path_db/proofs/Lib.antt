@@ -16,6 +16,7 @@ mod Counts
 mod RowsRead
 mod Writable
 mod Refused
+mod RefusedCommands
 mod Records
 mod Spelled
 mod ReadBack

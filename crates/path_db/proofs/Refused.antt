@@ -26,19 +26,19 @@ use Rattle.path_db.proofs.RowsRead.{last_behind, rows_behind, rows_begun, row_ne
 
 -- ---- a row is refused as BadRecord alone
 
-bad_step : {A B : Type 0} (r : Result A DbError) (rest : A → Result B DbError) (e : DbError) → ((x : DbError) → r ≡ Err x → x ≡ BadRecord)
+pub bad_step : {A B : Type 0} (r : Result A DbError) (rest : A → Result B DbError) (e : DbError) → ((x : DbError) → r ≡ Err x → x ≡ BadRecord)
     → ((a : A) (x : DbError) → rest a ≡ Err x → x ≡ BadRecord) → (r >>= rest) ≡ Err e → e ≡ BadRecord
 bad_step (Ok a) rest e first others read = others a e read
 bad_step (Err x) rest e first others read = let same : x ≡ e = cc in sym same ∙ first x refl
 
-bad_end : {A : Type 0} (a : A) (x : DbError) → Ok a ≡ Err x → x ≡ BadRecord
+pub bad_end : {A : Type 0} (a : A) (x : DbError) → Ok a ≡ Err x → x ≡ BadRecord
 bad_end a x e = absurd cc
 
-bad_check : (holds : Bool) (x : DbError) → check holds BadRecord ≡ Err x → x ≡ BadRecord
+pub bad_check : (holds : Bool) (x : DbError) → check holds BadRecord ≡ Err x → x ≡ BadRecord
 bad_check true x e = absurd cc
 bad_check false x e = let same : BadRecord ≡ x = cc in sym same
 
-bad_record : {A : Type 0} (r : Result A SegError) (x : DbError) → record_of r ≡ Err x → x ≡ BadRecord
+pub bad_record : {A : Type 0} (r : Result A SegError) (x : DbError) → record_of r ≡ Err x → x ≡ BadRecord
 bad_record (Ok a) x e = absurd cc
 bad_record (Err y) x e = let same : BadRecord ≡ x = cc in sym same
 
@@ -48,7 +48,7 @@ bad_spelling message x read =
     bad_step (record_of (segment_decoding message)) _ x (bad_record (segment_decoding message))
     (λ segment y later. bad_step (check (same_bytes message (segment_encoding segment)) BadRecord) (λ _. Ok segment) y (bad_check (same_bytes message (segment_encoding segment))) (λ _ z ends. bad_end segment z ends) later) read
 
-bad_row : (bytes : List ℕ) (x : DbError) → row_decoding bytes ≡ Err x → x ≡ BadRecord
+pub bad_row : (bytes : List ℕ) (x : DbError) → row_decoding bytes ≡ Err x → x ≡ BadRecord
 unfolding row_decoding
 bad_row bytes x read =
     let message = part 5 (four_at 1 bytes) bytes in

@@ -1,11 +1,15 @@
--- What the refusals of rows mean.
-use Rattle.std.specs.Prelude.{◌≡◌, ◌≢◌, ◌↔◌, ℕ, ◌<◌, List, ◌++◌, length, false, Err}
+-- What the refusals of rows and commands mean.
+use Rattle.std.specs.Prelude.{◌≡◌, ◌≢◌, ◌↔◌, ℕ, ◌<◌, List, ◌++◌, length, Bool, false, Err}
 use Rattle.byte_lists.specs.Content.{AreBytes}
 use Rattle.seg_core.specs.Encoding.{IsSegment}
 use Rattle.seg_core.specs.Message.{last_of}
+use Rattle.path_db.specs.declared.command.Command.{Command}
+use Rattle.path_db.specs.declared.error.DbError.{DbError}
 use Rattle.path_db.specs.declared.error.DbError.TheVariants.{NoMemory, BadRecord, Order}
 use Rattle.path_db.specs.Database.{RowView, IsDatabase}
 use Rattle.path_db.specs.RowRecord.{row_record, rows_encoding, is_above, rows_decoding}
+use Rattle.path_db.specs.CommandRecord.{command_encoding, command_decoding}
+use Rattle.path_db.specs.RecordLaws.{CanBeWritten}
 
 -- Behind the records of a database, perhaps of no rows, there are bytes that begin with no row's record.
 pub record HasNoRecord (bytes : List ℕ) : Type 0 where
@@ -36,3 +40,13 @@ OrderIsExact = (bytes : List ℕ) → AreBytes bytes → (rows_decoding bytes �
 -- What bytes say is never want of memory.
 abbrev pub RowsWantNoMemory : Type 0
 RowsWantNoMemory = (bytes : List ℕ) → AreBytes bytes → rows_decoding bytes ≢ Err NoMemory
+
+-- Bytes are refused as a command just where they are the record of none that can be written.
+abbrev pub CommandRefusalIsExact : Type 0
+CommandRefusalIsExact =
+    (removals : Bool) (bytes : List ℕ) → AreBytes bytes
+    → (command_decoding removals bytes ≡ Err BadRecord) ↔ ((command : Command) → CanBeWritten removals command → command_encoding command ≢ bytes)
+
+-- A command is refused for one reason.
+abbrev pub CommandsHaveOneRefusal : Type 0
+CommandsHaveOneRefusal = (removals : Bool) (bytes : List ℕ) (refusal : DbError) → command_decoding removals bytes ≡ Err refusal → refusal ≡ BadRecord

@@ -1,7 +1,7 @@
 //! Laws of commands and rows as records: the functions do nothing, and their contracts say them.
 
 ghost use Rattle.path_db.specs.RecordLaws.{ReadCommandsAreSpelled, CommandsAreReadOn, WrittenCommandsAreRead, ReadCommandsCanBeWritten, WrittenRowsAreRead, WrittenRowsAreCounted, ReadRowsAreSpelled};
-ghost use Rattle.path_db.specs.RecordRefusals.{BadRecordIsExact, OrderIsExact, RowsWantNoMemory};
+ghost use Rattle.path_db.specs.RecordRefusals.{BadRecordIsExact, OrderIsExact, RowsWantNoMemory, CommandRefusalIsExact, CommandsHaveOneRefusal};
 
 /// The bytes that are read as a command are its record.
 pub fn read_commands_are_spelled()
@@ -46,4 +46,10 @@ pub fn row_refusals_are_exact()
     ensures bad { BadRecordIsExact }
     ensures order { OrderIsExact }
     ensures memory { RowsWantNoMemory }
+{}
+
+/// Bytes are refused as a command just where they are the record of none that can be written, and for this one reason.
+pub fn command_refusals_are_exact()
+    ensures exact { CommandRefusalIsExact }
+    ensures only { CommandsHaveOneRefusal }
 {}
