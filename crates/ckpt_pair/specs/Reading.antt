@@ -1,5 +1,5 @@
 -- What an area is read as, its front first and then its rows.
-use Rattle.std.specs.Prelude.{◌≡◌, ℕ, ◌+◌, ◌≤◌, Bool, true, false, List, length, take, Result, Ok, Err, IsOk, Option, Some, None, nat_le}
+use Rattle.std.specs.Prelude.{◌≡◌, ℕ, ◌+◌, ◌≤◌, Bool, true, false, List, ◌++◌, length, take, Result, Ok, Err, IsOk, Option, Some, None, nat_le}
 use Rattle.byte_lists.specs.Content.{part}
 use Rattle.image_laws.specs.Checkpoint as laws
 use Rattle.image_laws.specs.CheckpointReading.{PairRefusal, BadCheckpoint, head_in, rows_size, rows_count, checkpoint_in}
@@ -36,6 +36,10 @@ front_in known size bytes = with_room (head_in known bytes) (nat_le (32 + rows_s
 abbrev pub or_bad : {X : Type 0} → Option X → Result X PairRefusal
 or_bad None = Err BadCheckpoint
 or_bad (Some x) = Ok x
+
+-- bytes that begin so aren't read as rows, however many they are to be and whatever stands behind
+abbrev pub AreNoRows : List ℕ → Type 0
+AreNoRows bytes = (count : ℕ) (behind : List ℕ) → as_counted count (rows_decoding (bytes ++ behind)) ≡ None
 
 -- the front of an area is in order, and the first of its rows has an outline: to read them takes memory
 pub record HasRowsToRead (area : List ℕ) : Type 0 where

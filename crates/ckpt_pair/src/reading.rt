@@ -91,7 +91,7 @@ fn read_counted(alloc: Global, bytes: &[u8], count: u32) -> Result<PathDb, PairE
 }
 
 /// Whether there are just so many rows.
-fn has_count(db: &PathDb, count: u32) -> bool
+pub(crate) fn has_count(db: &PathDb, count: u32) -> bool
     ensures { result ≡ (length db.now == count) }
 {
     let mut left = count;

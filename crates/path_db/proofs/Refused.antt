@@ -151,7 +151,7 @@ behind_more whole so_far (row ∷ others) rest rise all so =
     behind_more whole (so_far ++ row ∷ []) others rest later all.1 (next ∙ ap (λ (t : List ℕ). rows_behind (so_far ++ row ∷ []) t) back.1)
     ∙ ap (λ (l : List RowView). rows_behind l rest) (append_assoc so_far (row ∷ []) others)
 
-behind_database : (rows : List RowView) (rest : List ℕ) → IsDatabase rows → rows_decoding (rows_encoding rows ++ rest) ≡ rows_behind rows rest
+pub behind_database : (rows : List RowView) (rest : List ℕ) → IsDatabase rows → rows_decoding (rows_encoding rows ++ rest) ≡ rows_behind rows rest
 behind_database rows rest is = behind_more _ [] rows rest (rises rows is.rising) is.whole (rows_begun (rows_encoding rows ++ rest))
 
 -- ---- the refusals

@@ -13,3 +13,4 @@ pub mod RowRecord
 pub mod CommandRecord
 pub mod RecordLaws
 pub mod RecordRefusals
+pub mod RowsReader

@@ -19,6 +19,7 @@ mod record_laws;
 mod row;
 mod row_list;
 mod row_records;
+mod rows_reader;
 
 pub use command::{Command, Registration};
 pub use command_laws::{
@@ -38,3 +39,4 @@ pub use record_laws::{
 pub use row::Row;
 pub use row_list::Rows;
 pub use row_records::{read_rows, write_rows};
+pub use rows_reader::RowsReader;
