@@ -21,7 +21,7 @@ pub use Rattle.image_laws.proofs.Heads.{four_small, eight_small, part_take, take
 pub use Rattle.image_laws.proofs.Checkpoints.{begins_with_its_head, db_read, checkpoint_read, checkpoint_from, written_front, written_there, first_can_be}
 -- the regions of an image, and what a write leaves
 pub use Rattle.image_laws.proofs.Places.{other_twice, half_inside, area_inside, gate_inside, journal_inside, area_long, gate_long, journal_long, area_bytes, journal_bytes, store_area, store_journal}
-pub use Rattle.image_laws.proofs.Writes.{regions_apart, regions_inside, writes_leave_apart, writes_leave_others}
+pub use Rattle.image_laws.proofs.Writes.{regions_apart, regions_inside, writes_leave_apart, writes_leave_others, part_written, writes_change_their_region}
 -- what an image opens to
 pub use Rattle.image_laws.proofs.Openings.{open_head, closed_head, own_head, half_chosen, chosen_read, opening_read}
 pub use Rattle.image_laws.proofs.Opened.{opening_from, value_read, value_from, has_one_value, chosen_later, opens_later, opens_under_later_versions}
@@ -30,3 +30,6 @@ pub use Rattle.image_laws.proofs.Counts.{front_same, gate_same, store_same, head
 pub use Rattle.image_laws.proofs.TakeOver.{empty_read, same_value, same_value_at_rest, takes_over_the_same, takes_over_the_same_at_rest, opens_empty}
 -- an image is refused just where the refusal means it
 pub use Rattle.image_laws.proofs.Refusals.{refused_where, refused_from}
+-- the last journal is written: a group or a seal behind the last gate, and then the gate
+pub use Rattle.image_laws.proofs.StoreGrowth.{folds_in_parts, halves_differ, size_kept, region_kept, journal_written, title_kept, areas_kept, gates_kept, journal_kept, still_chosen, in_image, goes_by_last, last_is, last_unsealed, grown_value, store_goes_by_its_last_journal, store_is_made_ready, store_grows_by_its_gate}
+pub use Rattle.image_laws.proofs.Seals.{store_is_made_ready_for_seal, store_is_sealed_by_its_gate}

@@ -18,3 +18,5 @@ pub mod Counts
 pub mod TakeOver
 pub mod SmallImage
 pub mod Refusals
+pub mod StoreGrowth
+pub mod Seals

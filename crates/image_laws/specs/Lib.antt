@@ -22,3 +22,4 @@ pub mod WhatCountsLaws
 pub mod TakeOver
 pub mod WorkedImages
 pub mod OpeningRefusals
+pub mod StoreGrowth

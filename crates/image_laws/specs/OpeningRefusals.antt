@@ -55,7 +55,8 @@ pub record HasNoRows {Db C : Type 0} (format : StoreFormat Db C) (latest : ℕ) 
   pub none : (checkpoint : Checkpoint Db) → ¬ IsCheckpoint format.rows (area_of geometry half image) checkpoint
 
 -- the chosen half's journal is refused
-pub record HasBadJournal {Db C : Type 0} (format : StoreFormat Db C) (latest : ℕ) (geometry : Geometry) (image : List ℕ) (refusal : JournalRefusal) : Type 0 where
+pub record HasBadJournal {Db C : Type 0} (format : StoreFormat Db C) (latest : ℕ) (geometry : Geometry) (image : List ℕ) (refusal : JournalRefusal)
+    : Type 0 where
   pub half : Half
   pub checkpoint : Checkpoint Db
   pub chosen : IsChosen format latest image geometry half checkpoint

@@ -2,7 +2,7 @@
 
 ghost use Rattle.image_laws.specs.OpeningLaws.{IsOpenedSo, IsOpenRefusedSo, HasValueJustWhere, HasOneValue, OpensUnderLaterVersions};
 ghost use Rattle.image_laws.specs.WhatCountsLaws.{GoesByWhatCounts, IsKeptByWritesElsewhere, GoesByTheChosenHalf};
-ghost use Rattle.image_laws.specs.TakeOver.{TakesOverTheSame, TakesOverTheSameAtRest, OpensEmpty};
+ghost use Rattle.image_laws.specs.TakeOver.{OpensEmpty};
 
 /// An image is read as opening just where it opens, to the value for which it stands; it stands for one value at most. And it
 /// is refused just where the refusal means it.
@@ -24,12 +24,6 @@ pub fn openings_go_by_what_counts<Db, C>()
     ensures same { GoesByWhatCounts Db C }
     ensures kept { IsKeptByWritesElsewhere Db C }
     ensures chosen { GoesByTheChosenHalf Db C }
-{}
-
-/// A half that takes over from a sealed one, or from one at rest, stands for the same.
-pub fn halves_take_over_the_same<Db, C>()
-    ensures sealed { TakesOverTheSame Db C }
-    ensures rest { TakesOverTheSameAtRest Db C }
 {}
 
 /// A store that was formatted opens to the empty database, at place 0.
