@@ -1,12 +1,11 @@
 -- What one call of an honest device leaves.
-use Rattle.std.proofs.Common.{◌≡◌, ◌⊎◌, inl, inr, ℕ, ◌+◌, ◌*◌, ◌≤◌, List, length, get_or, refl, sym, ◌∙◌, ap, subst, arith, Result, Ok, Err}
-use Rattle.byte_lists.specs.Content.{part, overwrite}
+use Rattle.std.proofs.Common.{inl, inr, ℕ, ◌+◌, ◌*◌, ◌≤◌, List, length, refl, sym, ◌∙◌, ap, subst, arith, Result, Ok, Err}
+use Rattle.byte_lists.specs.Content.{part}
 use Rattle.byte_lists.proofs.Contents.{length-overwrite, overwrite_before, overwrite_behind, part_new}
-use Rattle.sector_dev.specs.Disk.{History, Disk, IsHonest, reads_of, after_write, after_sync}
+use Rattle.sector_dev.specs.Disk.{History, Disk, IsHonest, reads_of, after_write}
 use Rattle.sector_dev.specs.Image.{IsCleanPart, IsImage, EveryImage}
 use Rattle.sector_dev.specs.Calls.{WriteCall, SyncCall}
 use Rattle.sector_dev.specs.Stretch.{Stretch}
-use Rattle.sector_dev.proofs.Results.{success}
 use Rattle.sector_dev.proofs.Images.{clean_none, clean_beside, clean_part_none}
 use Rattle.sector_dev.proofs.Parts.{history_written, history_synced}
 use Rattle.sector_dev.proofs.Stretches.{honest_after, leaves_written, stretch_sync, stretch_here}
