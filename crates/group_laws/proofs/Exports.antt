@@ -1,0 +1,13 @@
+-- The lemmas that other crates cite, which is all that they take from these proofs.
+
+-- one range: its parts, from moment to moment, and in images
+pub use Rattle.group_laws.proofs.Ranges.{part_of_part, parts_joined, is_in_every_image, has_settled_parts, joins_neighbours, reads_as_before, clean_kept, stays_settled, has_untouched_parts, stays_on_and_on, clean_stays_in_images}
+-- what one call leaves
+pub use Rattle.group_laws.proofs.Calls.{landed_beside, writes_leave_what_is_beside, writes_are_read, syncs_leave_all, syncs_settle, write_moments, sync_moments, writes_are_one_moment, syncs_are_no_moment}
+-- the flusher's part: what stays of it, and what the tail's journal reads as
+pub use Rattle.group_laws.proofs.TailReads.{same_long, journal_byte, sectors_same, fewer, load_room, sectors_kept, groups_kept, closed_kept, open_kept, load_kept, part_kept, reads_without, reads_with, reads_either, reads_by_its_part}
+-- facts of the halves
+pub use Rattle.group_laws.proofs.HalfReads.{head_of_checkpoint, title_kept, open_reads_kept, closed_reads_kept, open_half_kept, closed_half_kept, first_reads_kept, first_kept, checkpoint_kept, head_kept}
+-- what images open to
+pub use Rattle.group_laws.proofs.Openings.{opens_plain, opens_sealed, base_images}
+pub use Rattle.group_laws.proofs.Standings.{unsealed_may, opens_by_both_parts}

@@ -1,0 +1,9 @@
+pub mod Range
+pub mod RangeLaws
+pub mod Setting
+pub mod Tail
+pub mod FlusherPart
+pub mod Halves
+pub mod BasePart
+pub mod Standing
+pub mod StandingLaws

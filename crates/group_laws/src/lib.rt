@@ -1,0 +1,16 @@
+//! What stands on a store's device while two actors work on it, the flusher and the checkpointer, and what a stop leaves of it.
+//!
+//! To the layer above: facts of ranges and of the two actors' parts, with the laws by which each step keeps them. All is told
+//! for any format of rows and commands.
+#![tactic(auto)]
+
+mod phases;
+mod range_laws;
+mod standing_laws;
+
+pub use phases::{Check, Flush};
+pub use range_laws::{
+    calls_leave_what_is_around_them, ranges_have_parts, settled_ranges_are_in_every_image,
+    syncs_settle, untouched_ranges_stay, writes_leave_what_is_beside,
+};
+pub use standing_laws::images_open_to_fronts;

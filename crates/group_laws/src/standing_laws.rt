@@ -1,0 +1,11 @@
+//! Laws of a device that holds what a state stands for, in any format of databases of type `Db` and commands of type `C`.
+
+ghost use Rattle.group_laws.specs.StandingLaws.{ReadsByItsPart, OpensByBothParts};
+
+/// The flusher's part tells what the tail's journal may read as in each image, and both parts tell what each image opens to:
+/// what is committed, with none of the commands in flight until their gate is written, with none or all of them until that is
+/// synced, and then with all.
+pub fn images_open_to_fronts<Db, C>()
+    ensures journal { ReadsByItsPart C }
+    ensures opens { OpensByBothParts Db C }
+{}
