@@ -21,4 +21,5 @@ mod Records
 mod Spelled
 mod ReadBack
 pub mod RowsBack
+mod RowPieces
 pub mod Exports
