@@ -2,7 +2,6 @@
 
 ghost use Rattle.std.specs.Prelude.{◌≡◌, ℕ, ◌+◌, ◌*◌, ◌≤◌, List, length};
 ghost use Rattle.byte_lists.specs.Sectors.{whole_sectors};
-ghost use Rattle.gate_journal.specs.ScannerView.{ScannerView};
 ghost use Rattle.gate_journal.specs.Scanning.{first_wanted, count_wanted, IsReadUpTo, TakesPiece, CountsForReading};
 
 use crate::error::JournalError;
