@@ -1,8 +1,8 @@
 //! Checkpoints as they are written.
 
 ghost use Rattle.std.specs.Prelude.{◌≡◌, ◌<◌, ◌^◌, ◌++◌, ◌*◌, ◌+◌, length, IfOk, OnOk};
-ghost use Rattle.image_laws.specs.Checkpoint.{checkpoint_encoding, checkpoint_bytes, head_encoding};
-ghost use Rattle.path_db.specs.Database.{rows_len};
+ghost use Rattle.image_laws.specs.Checkpoint.{checkpoint_encoding, head_encoding, CanBeCheckpoint};
+ghost use Rattle.path_db.specs.Database.{IsDatabase, rows_len};
 ghost use Rattle.ckpt_pair.specs.Heads.{head_view};
 ghost use Rattle.ckpt_pair.specs.Rows.{rows_format};
 ghost use Rattle.ckpt_pair.specs.Checkpoint.{written_checkpoint, rows_part};
@@ -18,7 +18,7 @@ const SECTOR: usize = 512;
 pub(crate) const BEFORE_ROWS: usize = 32;
 
 /// A database as the checkpoint of an epoch and a place, in the version that is written, filled with zeros to whole sectors.
-/// Its records have to be less than 4 GiB. The buffer is reserved once, for all of it.
+/// Its records have to be less than 4 GiB; then it can be a checkpoint. The buffer is reserved once, for all of it.
 pub fn encode_checkpoint(
     alloc: Global,
     db: &PathDb,
@@ -26,7 +26,8 @@ pub fn encode_checkpoint(
     place: u64,
 ) -> Result<Vec<u8>, AllocError>
     requires { rows_len db.now < 2 ^ 32 }
-    ensures { IfOk result (λ bytes. bytes.items ≡ checkpoint_encoding rows_format (written_checkpoint epoch place db.now)) }
+    ensures spelled { IfOk result (λ bytes. bytes.items ≡ checkpoint_encoding rows_format (written_checkpoint epoch place db.now)) }
+    ensures can { OnOk result (CanBeCheckpoint rows_format (written_checkpoint epoch place db.now)) }
 {
     let size = db.encoded_len() as u32;
     let sectors = sector_count(BEFORE_ROWS + size as usize);
@@ -56,7 +57,8 @@ fn put_head(head: Head, out: &mut Vec<u8>) -> Result<(), AllocError>
 /// Appends how many bytes rows have and how many they are, and the rows, or a part of it where memory is refused.
 fn put_rows(db: &PathDb, size: u32, out: &mut Vec<u8>) -> Result<(), AllocError>
     requires { rows_len db.now ≡ size }
-    ensures { OnOk result (out.new.items ≡ out.old.items ++ rows_part db.now) }
+    ensures put { OnOk result (out.new.items ≡ out.old.items ++ rows_part db.now) }
+    ensures whole { IsDatabase db.now }
 {
     let count = row_count(db);
     out.extend_from_slice(&size.to_be_bytes())?;
@@ -67,7 +69,8 @@ fn put_rows(db: &PathDb, size: u32, out: &mut Vec<u8>) -> Result<(), AllocError>
 /// How many rows there are, where their records have less than 4 GiB.
 fn row_count(db: &PathDb) -> u32
     requires { rows_len db.now < 2 ^ 32 }
-    ensures { result ≡ length db.now }
+    ensures count { result ≡ length db.now }
+    ensures whole { IsDatabase db.now }
 {
     let mut count = 0;
     for _row in db.rows() {

@@ -19,4 +19,7 @@ pub use head::{Head, Heads, LATEST, read_head};
 pub use path_db::RowsReader;
 pub use pieces::{feed_rows, finish_rows};
 pub use reading::{Checkpoint, Front, read_front, read_half};
-pub use rows_laws::{checkpoints_are_read_by_their_fronts, databases_can_be_checkpoints, read_checkpoints_are_databases};
+pub use rows_laws::{
+    checkpoints_are_read_by_their_fronts, databases_can_be_checkpoints,
+    read_checkpoints_are_databases,
+};

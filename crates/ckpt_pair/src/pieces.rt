@@ -12,8 +12,8 @@ use crate::error::PairError;
 use crate::reading::has_count;
 use path_db::{DbError, PathDb, RowsReader};
 
-/// Reads on with the next piece of the rows' bytes, cut anywhere. Bytes that are no rows, however many they are to be and
-/// whatever stands behind this piece, are `BadCheckpoint` here. To read an empty piece takes no memory.
+/// Reads on with the next piece of the rows' bytes, cut anywhere. What is `BadCheckpoint` here are no rows, however many they
+/// are to be and whatever stands behind this piece. To read an empty piece takes no memory.
 pub fn feed_rows(reader: RowsReader, piece: &[u8]) -> Result<RowsReader, PairError>
     ensures fed { IfOk result (λ more. more ≡ reader ++ piece.now) }
     ensures refused { IfErr result (λ e. e ≢ NoMemory → (e ≡ BadCheckpoint) × AreNoRows (reader ++ piece.now)) }

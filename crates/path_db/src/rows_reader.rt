@@ -47,8 +47,8 @@ impl RowsReader {
         }
     }
 
-    /// Reads on with the next piece. Rows that are refused, whatever stands behind this piece, are refused here. To read an
-    /// empty piece takes no memory.
+    /// Reads on with the next piece. What is refused here is refused whatever stands behind this piece. To read an empty piece
+    /// takes no memory.
     pub fn feed(self, piece: &[u8]) -> Result<RowsReader, DbError>
         ensures fed { IfOk result (λ reader. reader ≡ self ++ piece.now) }
         ensures refused { IfErr result (λ e. e ≢ NoMemory → AreRefused (self ++ piece.now) e) }
