@@ -135,3 +135,8 @@ record_refused BadRecord first all is so = so (bad_first first is)
 record_refused BadHeader first all is so = let same = other_first first _ is in absurd cc
 record_refused (Gap place) first all is so = let same = other_first first _ is in absurd cc
 record_refused PastEnd first all is so = let same = other_first first _ is in absurd cc
+
+-- what holds of the bytes of the first record holds of it later too
+pub first_or : (P : List ℕ → Type 0) (n : ℕ) (rest bytes : List ℕ) → (n ≡ 0 → rest ≡ bytes) → (0 < n → P bytes) → P rest → P bytes
+first_or P zero rest bytes first later here = subst P (first refl) here
+first_or P (suc n) rest bytes first later here = later (omega arith)

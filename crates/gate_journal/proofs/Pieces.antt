@@ -5,7 +5,7 @@ use Rattle.byte_lists.specs.Sectors.{whole_sectors, sector_at, IsOpenGate}
 use Rattle.path_db.specs.declared.command.Command.{Command}
 use Rattle.image_laws.specs.Limits.{Limits, limits_of}
 use Rattle.image_laws.specs.Group.{payload_sectors, group_sectors}
-use Rattle.image_laws.specs.GroupReading.{JournalRefusal, are_zeros, Payload, payload_at}
+use Rattle.image_laws.specs.GroupReading.{JournalRefusal, Payload, payload_at}
 use Rattle.image_laws.specs.GroupReading.{Group as IsGroupOf, Seal as IsSealOf}
 use Rattle.image_laws.specs.Journal.{IsChain, IsJournal, HasGroup, all_of}
 use Rattle.image_laws.specs.JournalRefusals.{IsRefused, IsRefusedAt}
@@ -19,7 +19,7 @@ use Rattle.gate_journal.specs.declared.scanner.Stage.{Stage}
 use Rattle.gate_journal.specs.declared.scanner.Stage.TheVariants.{AtGate, AtHeader, AtPayload}
 use Rattle.gate_journal.specs.declared.scanner.Progress.TheVariants.{More, Done}
 use Rattle.gate_journal.specs.Commands.{command_format}
-use Rattle.gate_journal.specs.Reading.{Refuses, header_reading, padding_of, payload_reading}
+use Rattle.gate_journal.specs.Reading.{Refuses, header_reading, payload_reading, PayloadWantsMemory}
 use Rattle.gate_journal.specs.ScannerView.{ScannerView, IsInside}
 use Rattle.gate_journal.specs.Scanning.{reading_of, first_of, count_of, HasPiece, IsKnown, IsReadUpTo, MayWantMemory, MeansError, TakesPiece}
 use Rattle.gate_journal.proofs.Payloads.{payload_is, front_payload, as_group, behind_header, payload_counted}
@@ -177,8 +177,8 @@ module _ (scanner : ScannerView) (piece : List ℕ) (count size : ℕ) (turn : s
       (sym (front_payload (limits_of scanner.version) count size p) ∙ ap (payload_reading (limits_of scanner.version) count size) (payload_here bytes has))
 
   pub payload_was_refused : (e : JournalError) → Refuses e (payload_reading (limits_of scanner.version) count size piece)
-      → (e ≡ NoMemory → are_zeros (padding_of size piece) ≡ true) → TakesPiece scanner piece (Err e)
-  payload_was_refused e refused zeros = record {
+      → (e ≡ NoMemory → PayloadWantsMemory (limits_of scanner.version) size piece) → TakesPiece scanner piece (Err e)
+  payload_was_refused e refused wants = record {
     leads = λ bytes start each is has.
         means e scanner bytes start each is (payload_known bytes start is).0
         (refuses_on e (payload_reading (limits_of scanner.version) count size piece)
@@ -194,7 +194,7 @@ module _ (scanner : ScannerView) (piece : List ℕ) (count size : ℕ) (turn : s
           size = size;
           header = ap (λ (n : ℕ). header_reading (limits_of scanner.version) (sector_at (scanner.gate + 1) bytes) scanner.gate n (whole_sectors bytes)) (sym is.place)
               ∙ (payload_known bytes start is).1;
-          padding = ap (λ (list : List ℕ). are_zeros (padding_of size list)) (payload_here bytes has) ∙ zeros same;
+          payload = subst (λ (list : List ℕ). PayloadWantsMemory (limits_of scanner.version) size list) (sym (payload_here bytes has)) (wants same);
         });
     on = tt;
   }

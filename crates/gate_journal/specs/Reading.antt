@@ -1,10 +1,11 @@
 -- What of a journal is read at a time: the first sector of a payload, and then all of a group's.
-use Rattle.std.specs.Prelude.{◌≡◌, ℕ, ◌+◌, ◌-◌, ◌*◌, List, ◌++◌, Option, Some, None, Result, Ok, Err, nat_le, ◌==◌, if◌then◌else◌}
+use Rattle.std.specs.Prelude.{◌≡◌, ◌⊎◌, ℕ, ◌+◌, ◌-◌, ◌*◌, ◌≤◌, true, List, ◌++◌, length, Option, Some, None, IsSome, Result, Ok, Err, nat_le, ◌==◌, if◌then◌else◌}
 use Rattle.byte_lists.specs.Content.{part}
 use Rattle.path_db.specs.declared.command.Command.{Command}
+use Rattle.path_db.specs.CommandRecord.{WantsMemory}
 use Rattle.image_laws.specs.Limits.{Limits}
 use Rattle.image_laws.specs.Group.{payload_sectors}
-use Rattle.image_laws.specs.GroupReading.{JournalRefusal, check, count_in, size_in, place_in, is_group_header, is_seal_header, are_zeros, commands_in}
+use Rattle.image_laws.specs.GroupReading.{JournalRefusal, check, count_in, size_in, place_in, is_group_header, is_seal_header, are_zeros, record_size, first_command, commands_in}
 use Rattle.image_laws.specs.GroupReading.{BadHeader as IsBadHeader, BadRecord as IsBadRecord, Gap as IsGap, PastEnd as IsPastEnd}
 use Rattle.gate_journal.specs.declared.error.JournalError.{JournalError}
 use Rattle.gate_journal.specs.declared.error.JournalError.TheVariants.{NoMemory, BadHeader, BadRecord, Gap, PastEnd}
@@ -58,3 +59,15 @@ padding_of size payload = part (16 + size) (512 * payload_sectors size - (16 + s
 abbrev pub payload_reading : Limits → ℕ → ℕ → List ℕ → Result (List Command) JournalRefusal
 payload_reading limits count size payload =
     check (are_zeros (padding_of size payload)) IsBadRecord (found_in_records (commands_in command_format limits count (part 16 size payload)))
+
+-- ---- want of memory
+
+-- The first record ends within the bytes, and is a command's, or to read that command takes memory.
+pub record FirstWantsMemory (limits : Limits) (bytes : List ℕ) : Type 0 where
+  pub size : 4 + record_size bytes ≤ length bytes
+  pub command : IsSome (first_command command_format limits bytes) ⊎ WantsMemory (part 4 (record_size bytes) bytes)
+
+-- To read the commands of a group's payload takes memory: zeros are behind its records, and the first record takes it.
+pub record PayloadWantsMemory (limits : Limits) (size : ℕ) (payload : List ℕ) : Type 0 where
+  pub padding : are_zeros (padding_of size payload) ≡ true
+  pub first : FirstWantsMemory limits (part 16 size payload)

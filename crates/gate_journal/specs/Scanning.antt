@@ -1,11 +1,10 @@
 -- A journal that is read piece by piece. A piece is whole sectors; they are counted from the journal's start.
-use Rattle.std.specs.Prelude.{◌≡◌, ℕ, ◌+◌, ◌-◌, ◌*◌, ◌<◌, ◌≤◌, true, List, length, Result, Ok, Err}
+use Rattle.std.specs.Prelude.{◌≡◌, ℕ, ◌+◌, ◌-◌, ◌*◌, ◌<◌, ◌≤◌, List, length, Result, Ok, Err}
 use Rattle.byte_lists.specs.Content.{AreBytes, part}
 use Rattle.byte_lists.specs.Sectors.{whole_sectors, sector_at, IsOpenGate}
 use Rattle.path_db.specs.declared.command.Command.{Command}
 use Rattle.image_laws.specs.Limits.{Limits, limits_of}
 use Rattle.image_laws.specs.Group.{payload_sectors}
-use Rattle.image_laws.specs.GroupReading.{are_zeros}
 use Rattle.image_laws.specs.GroupReading.{BadHeader as IsBadHeader, BadRecord as IsBadRecord, Gap as IsGap, PastEnd as IsPastEnd}
 use Rattle.image_laws.specs.Journal.{Reading, IsChain, IsJournal, all_of, sectors_read}
 use Rattle.image_laws.specs.JournalRefusals.{IsRefused}
@@ -18,7 +17,7 @@ use Rattle.gate_journal.specs.declared.scanner.Stage.TheVariants.{AtGate, AtHead
 use Rattle.gate_journal.specs.declared.scanner.Progress.{Progress}
 use Rattle.gate_journal.specs.declared.scanner.Progress.TheVariants.{More, Done}
 use Rattle.gate_journal.specs.Commands.{command_format}
-use Rattle.gate_journal.specs.Reading.{header_reading, padding_of}
+use Rattle.gate_journal.specs.Reading.{header_reading, PayloadWantsMemory}
 use Rattle.gate_journal.specs.ScannerView.{ScannerView}
 
 -- the reading that a scan tells
@@ -82,8 +81,8 @@ CountsForReading scanner sectors =
     (bytes : List ℕ) (start : ℕ) (reading : Reading Command) → IsReadUpTo scanner bytes start
     → IsJournal command_format (limits_of scanner.version) bytes start reading → sectors ≤ sectors_read reading
 
--- Reading may want memory: groups stand up to an open gate, and behind that a header of a group that is in order, at the
--- place reached and with room, and zeros behind its records.
+-- Reading may want memory: groups stand up to an open gate; behind that is a header of a group that is in order, at the place
+-- reached and with room; and to read the group's payload takes memory.
 pub record MayWantMemory (limits : Limits) (bytes : List ℕ) (start : ℕ) : Type 0 where
   pub groups : List (List Command)
   pub gate : ℕ
@@ -92,7 +91,7 @@ pub record MayWantMemory (limits : Limits) (bytes : List ℕ) (start : ℕ) : Ty
   pub count : ℕ
   pub size : ℕ
   pub header : header_reading limits (sector_at (gate + 1) bytes) gate (start + length (all_of groups)) (whole_sectors bytes) ≡ Ok (Group count size)
-  pub padding : are_zeros (padding_of size (part (512 * (gate + 1)) (512 * payload_sectors size) bytes)) ≡ true
+  pub payload : PayloadWantsMemory limits size (part (512 * (gate + 1)) (512 * payload_sectors size) bytes)
 
 -- what an error means of a whole journal
 abbrev pub MeansError : JournalError → Limits → List ℕ → ℕ → Type 0

@@ -1,12 +1,12 @@
 //! The records of a group.
 
-ghost use Rattle.std.specs.Prelude.{◌≡◌, ◌+◌, ◌*◌, length, drop, true, IfOk, IfErr};
+ghost use Rattle.std.specs.Prelude.{◌≡◌, ◌+◌, ◌*◌, length, drop, IfOk, IfErr, OnOk};
 ghost use Rattle.image_laws.specs.Limits.{limits_of};
 ghost use Rattle.image_laws.specs.Group.{payload_sectors};
-ghost use Rattle.image_laws.specs.GroupReading.{first_command, commands_in, record_size, are_zeros as all_zeros};
+ghost use Rattle.image_laws.specs.GroupReading.{first_command, commands_in, record_size};
 ghost use Rattle.gate_journal.specs.Commands.{command_format};
 ghost use Rattle.gate_journal.specs.declared.error.JournalError.TheVariants.{NoMemory};
-ghost use Rattle.gate_journal.specs.Reading.{Gives, Appends, found_in_records, padding_of, payload_reading};
+ghost use Rattle.gate_journal.specs.Reading.{Gives, Appends, found_in_records, payload_reading, FirstWantsMemory, PayloadWantsMemory};
 
 use crate::encoding::HEADER;
 use crate::error::JournalError;
@@ -26,7 +26,7 @@ pub(crate) fn read_payload(
 ) -> Result<(), JournalError>
     requires { length payload.now ≡ 512 * payload_sectors size }
     ensures reading { Appends commands.old.items commands.new.items result (payload_reading (limits_of version) count size payload.now) }
-    ensures memory { IfErr result (λ e. e ≡ NoMemory → all_zeros (padding_of size payload.now) ≡ true) }
+    ensures memory { IfErr result (λ e. e ≡ NoMemory → PayloadWantsMemory (limits_of version) size payload.now) }
 {
     let end = HEADER + size as usize;
     if !are_zeros(&payload[end..]) {
@@ -43,7 +43,8 @@ fn read_records(
     version: u32,
     commands: &mut Vec<Command>,
 ) -> Result<(), JournalError>
-    ensures { Appends commands.old.items commands.new.items result (found_in_records (commands_in command_format (limits_of version) count bytes.now)) }
+    ensures reading { Appends commands.old.items commands.new.items result (found_in_records (commands_in command_format (limits_of version) count bytes.now)) }
+    ensures memory { IfErr result (λ e. e ≡ NoMemory → FirstWantsMemory (limits_of version) bytes.now) }
 {
     let mut rest = bytes;
     for _ in 0..count {
@@ -61,6 +62,8 @@ fn read_records(
 fn read_record(alloc: Global, bytes: &[u8], version: u32) -> Result<(Command, &[u8]), JournalError>
     ensures first { Gives (λ read. read.0) result (found_in_records (first_command command_format (limits_of version) bytes.now)) }
     ensures behind { IfOk result (λ read. read.1.now ≡ drop (4 + record_size bytes.now) bytes.now) }
+    ensures some { OnOk result (FirstWantsMemory (limits_of version) bytes.now) }
+    ensures memory { IfErr result (λ e. e ≡ NoMemory → FirstWantsMemory (limits_of version) bytes.now) }
 {
     if bytes.len() < 4 {
         return Err(JournalError::BadRecord);
