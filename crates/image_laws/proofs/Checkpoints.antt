@@ -10,9 +10,11 @@ use Rattle.byte_lists.proofs.BigEndian.{encoded-four_at}
 use Rattle.image_laws.specs.StoreFormat.{RowsFormat}
 use Rattle.image_laws.specs.Checkpoint.{Head, Checkpoint, checkpoint_bytes, checkpoint_encoding, CanBeCheckpoint, IsHead, checkpoint_size, IsCheckpoint}
 use Rattle.image_laws.specs.CheckpointReading.{PairRefusal, head_in, rows_size, rows_count, db_in, with_rows, checkpoint_in}
-use Rattle.image_laws.specs.CheckpointLaws.{FirstCheckpointCanBe, IsCheckpointReadSo}
+use Rattle.image_laws.specs.CheckpointLaws.{PiecesAreWritten, WholeEncodingIsThere, FirstCheckpointCanBe, IsCheckpointReadSo}
 use Rattle.image_laws.proofs.Titles.{begins_with, split_part, some_if}
-use Rattle.image_laws.proofs.Heads.{four_small, head_read, head_from}
+use Rattle.byte_lists.proofs.Padding.{length-padded}
+use Rattle.std.proofs.Math.Seq.{take-add}
+use Rattle.image_laws.proofs.Heads.{take_take, four_small, head_read, head_from}
 
 -- what is written to the front, with its padding
 pub written_front : (bytes content : List ℕ) → take (length bytes) (overwrite 0 (padded bytes) content) ≡ bytes
@@ -165,3 +167,32 @@ first_can_be Db C format version some small = record {
 
     count : format.rows.count format.empty ≡ 0
     count = format.rows.counted 0 [] format.empty no_bytes format.none
+
+-- piece by piece
+pub pieces_written : PiecesAreWritten
+pieces_written bytes area at n inside fits same =
+    take_at (take at area ++ piece) (drop (at + length piece) area) (at + n) long
+    ∙ ap (λ (list : List ℕ). list ++ piece) same
+    ∙ sym (take-add at n bytes)
+  where
+    piece : List ℕ
+    piece = part at n bytes
+
+    long : length (take at area ++ piece) ≡ at + n
+    long = omega (arith, length-append (take at area) piece, length-part 0 at area (omega arith), length-part at n bytes inside)
+
+pub whole_there : (Db : Type 0) → WholeEncodingIsThere Db
+whole_there Db rows area checkpoint can is = record {
+  can = can;
+  spelled =
+      ap (λ (n : ℕ). take n area) size
+      ∙ sym (take_take (length bytes) (length (padded bytes)) area (omega (arith, length-padded bytes)))
+      ∙ ap (take (length bytes)) is
+      ∙ take_at bytes (replicate (512 * sectors_of (length bytes) - length bytes) 0) (length bytes) refl;
+}
+  where
+    bytes : List ℕ
+    bytes = checkpoint_bytes rows checkpoint
+
+    size : checkpoint_size rows checkpoint ≡ length bytes
+    size = omega arith

@@ -18,7 +18,7 @@ pub use Rattle.image_laws.proofs.Growth.{group_larger, chain_larger, read_under_
 -- sector 0, heads and checkpoints: read, written, and refused
 pub use Rattle.image_laws.proofs.Titles.{begins_with, split_part, geometry_true, geometry_from, store_read, store_from, first_sector_makes_store}
 pub use Rattle.image_laws.proofs.Heads.{four_small, eight_small, part_take, take_take, magic_is, version_is, numbers_are, head_read, head_from, refused_from_magic, refused_head, head_goes_by_its_front}
-pub use Rattle.image_laws.proofs.Checkpoints.{begins_with_its_head, db_read, checkpoint_read, checkpoint_from, written_front, written_there, first_can_be}
+pub use Rattle.image_laws.proofs.Checkpoints.{begins_with_its_head, db_read, checkpoint_read, checkpoint_from, written_front, written_there, pieces_written, whole_there, first_can_be}
 -- the regions of an image, and what a write leaves
 pub use Rattle.image_laws.proofs.Places.{other_twice, half_inside, area_inside, gate_inside, journal_inside, area_long, gate_long, journal_long, area_bytes, journal_bytes, store_area, store_journal}
 pub use Rattle.image_laws.proofs.Writes.{regions_apart, regions_inside, writes_leave_apart, writes_leave_others, part_written, writes_change_their_region}
@@ -35,3 +35,5 @@ pub use Rattle.image_laws.proofs.StoreGrowth.{folds_in_parts, halves_differ, siz
 pub use Rattle.image_laws.proofs.Seals.{store_is_made_ready_for_seal, store_is_sealed_by_its_gate}
 -- a half's gate is written, and a half that is older changes
 pub use Rattle.image_laws.proofs.Switch.{gate_size, gate_there, area_beside, journal_beside, gate_beside, store_beside, stays, is_switched, switches_by_the_gate, switches_by_the_gate_at_rest, older_half_may_change}
+-- an opening goes by its regions
+pub use Rattle.image_laws.proofs.ByRegions.{KeepsRegions, opens_by_regions, closed_area_may_change}

@@ -21,3 +21,4 @@ pub mod Refusals
 pub mod StoreGrowth
 pub mod Seals
 pub mod Switch
+pub mod ByRegions

@@ -1,6 +1,6 @@
 -- What holds of first sectors, heads and checkpoints. Each statement is the contract of a function.
-use Rattle.std.specs.Prelude.{◌≡◌, ◌↔◌, ℕ, ◌<◌, ◌≤◌, ◌^◌, List, length, take, Some, Ok, Err}
-use Rattle.byte_lists.specs.Content.{AreBytes, overwrite}
+use Rattle.std.specs.Prelude.{◌≡◌, ◌↔◌, ℕ, ◌+◌, ◌<◌, ◌≤◌, ◌^◌, List, length, take, Some, Ok, Err}
+use Rattle.byte_lists.specs.Content.{AreBytes, part, overwrite}
 use Rattle.byte_lists.specs.Sectors.{whole_sectors}
 use Rattle.image_laws.specs.Layout.{Geometry, IsGeometry, image_sectors}
 use Rattle.image_laws.specs.FirstSector.{first_sector, IsStore, geometry_in}
@@ -48,6 +48,19 @@ WrittenCheckpointIsThere Db =
     (rows : RowsFormat Db) (area : List ℕ) (checkpoint : Checkpoint Db) → CanBeCheckpoint rows checkpoint
     → length (checkpoint_encoding rows checkpoint) ≤ length area
     → IsCheckpoint rows (overwrite 0 (checkpoint_encoding rows checkpoint) area) checkpoint
+
+-- It may be written piece by piece: where an area begins with the first so many bytes, it begins with more once the next ones
+-- are written behind them.
+abbrev pub PiecesAreWritten : Type 0
+PiecesAreWritten =
+    (bytes area : List ℕ) (at n : ℕ) → at + n ≤ length bytes → length bytes ≤ length area → take at area ≡ take at bytes
+    → take (at + n) (overwrite at (part at n bytes) area) ≡ take (at + n) bytes
+
+-- And an area that begins with all that is written begins with the checkpoint.
+abbrev pub WholeEncodingIsThere : Type 0 → Type 0
+WholeEncodingIsThere Db =
+    (rows : RowsFormat Db) (area : List ℕ) (checkpoint : Checkpoint Db) → CanBeCheckpoint rows checkpoint
+    → take (length (checkpoint_encoding rows checkpoint)) area ≡ checkpoint_encoding rows checkpoint → IsCheckpoint rows area checkpoint
 
 -- the checkpoint of a new store is one
 abbrev pub FirstCheckpointCanBe : Type 0 → Type 0 → Type 0

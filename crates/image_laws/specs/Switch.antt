@@ -1,11 +1,11 @@
--- How one half takes over from the other: its gate decides, and then the old half may be anything that is older. Each statement
+-- How one half takes over from the other: its area is written, then its gate decides, and then the old half may be anything that is older. Each statement
 -- is the contract of a function.
 use Rattle.std.specs.Prelude.{◌≡◌, ℕ, ◌+◌, ◌*◌, ◌<◌, ◌≤◌, List, [], ◌∷◌, length, Some, None}
 use Rattle.std.specs.List.{AllByRecursion}
 use Rattle.byte_lists.specs.Content.{overwrite}
 use Rattle.byte_lists.specs.Sectors.{sector_at, IsOpenGate}
 use Rattle.image_laws.specs.Journal.{Reading}
-use Rattle.image_laws.specs.Layout.{other, area_at, gate_at, area_of, journal_of}
+use Rattle.image_laws.specs.Layout.{other, area_at, gate_at, area_of, gate_of, journal_of}
 use Rattle.image_laws.specs.StoreFormat.{StoreFormat}
 use Rattle.image_laws.specs.Checkpoint.{Checkpoint, IsCheckpoint}
 use Rattle.image_laws.specs.Opening.{Opening, HasOlderHead, IsOpening, value_of}
@@ -18,6 +18,14 @@ pub record IsLaid {Db C : Type 0} (format : StoreFormat Db C) (latest : ℕ) (im
   pub begins : IsCheckpoint format.rows (area_of opening.geometry (other opening.chosen) image) next
   pub known : next.head.version ≤ latest
   pub newer : opening.checkpoint.head.epoch < next.head.epoch
+
+-- As long as the other half is closed, whatever is written in its area leaves the opening.
+abbrev pub ClosedAreaMayChange : Type 0 → Type 0 → Type 0
+ClosedAreaMayChange Db C =
+    (format : StoreFormat Db C) (latest : ℕ) (image : List ℕ) (opening : Opening Db C) (at : ℕ) (bytes : List ℕ)
+    → IsOpening format latest image opening → ¬ IsOpenGate (gate_of opening.geometry (other opening.chosen) image)
+    → at + length bytes ≤ 512 * opening.geometry.checkpoint
+    → IsOpening format latest (overwrite (512 * area_at opening.geometry (other opening.chosen) + at) bytes image) opening
 
 -- The gate of the other half, in whose journal the tail is, is written with any bytes: where that opens it that half is chosen,
 -- and stands for the same; and else the image opens as it did.

@@ -1,6 +1,6 @@
 //! Laws of first sectors and checkpoints, in any format of rows of databases of type `Db`.
 
-ghost use Rattle.image_laws.specs.CheckpointLaws.{IsStoreReadSo, FirstSectorMakesStore, IsHeadReadSo, IsHeadRefusedSo, HeadGoesByItsFront, BeginsWithItsHead, IsCheckpointReadSo, WrittenCheckpointIsThere, FirstCheckpointCanBe};
+ghost use Rattle.image_laws.specs.CheckpointLaws.{IsStoreReadSo, FirstSectorMakesStore, IsHeadReadSo, IsHeadRefusedSo, HeadGoesByItsFront, BeginsWithItsHead, IsCheckpointReadSo, WrittenCheckpointIsThere, PiecesAreWritten, WholeEncodingIsThere, FirstCheckpointCanBe};
 
 /// An image is read as a store's just where it is one.
 pub fn first_sectors_are_read()
@@ -22,9 +22,11 @@ pub fn checkpoints_are_read<Db>()
     ensures head { BeginsWithItsHead Db }
 {}
 
-/// A checkpoint that is written is there.
+/// A checkpoint that is written is there, in one piece or in several.
 pub fn checkpoints_are_written<Db>()
-    ensures { WrittenCheckpointIsThere Db }
+    ensures there { WrittenCheckpointIsThere Db }
+    ensures pieces { PiecesAreWritten }
+    ensures whole { WholeEncodingIsThere Db }
 {}
 
 /// The checkpoint of a new store can be written.

@@ -2,7 +2,7 @@
 //! `C`: groups and seals behind the last gate, and one half that takes over from the other.
 
 ghost use Rattle.image_laws.specs.StoreGrowth.{FoldsInParts, StoreGoesByItsLastJournal, StoreIsMadeReady, StoreGrowsByItsGate, StoreIsMadeReadyForSeal, StoreIsSealedByItsGate};
-ghost use Rattle.image_laws.specs.Switch.{SwitchesByTheGate, SwitchesByTheGateAtRest, OlderHalfMayChange};
+ghost use Rattle.image_laws.specs.Switch.{ClosedAreaMayChange, SwitchesByTheGate, SwitchesByTheGateAtRest, OlderHalfMayChange};
 ghost use Rattle.image_laws.specs.TakeOver.{TakesOverTheSame, TakesOverTheSameAtRest};
 
 /// An image goes by what its last journal reads as, whatever is written in it. Commands in two parts are folded one part after
@@ -29,6 +29,11 @@ pub fn stores_are_sealed_by_their_gate<Db, C>()
 pub fn halves_take_over_the_same<Db, C>()
     ensures sealed { TakesOverTheSame Db C }
     ensures rest { TakesOverTheSameAtRest Db C }
+{}
+
+/// The area of a half that is closed may change.
+pub fn closed_areas_may_change<Db, C>()
+    ensures { ClosedAreaMayChange Db C }
 {}
 
 /// The gate of the new half decides which of two halves is chosen, and both stand for the same.

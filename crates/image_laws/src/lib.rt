@@ -18,8 +18,9 @@ pub use checkpoint_laws::{
     first_sectors_are_read, heads_are_read,
 };
 pub use growth_laws::{
-    halves_switch_by_their_gate, halves_take_over_the_same, older_halves_may_change,
-    stores_are_sealed_by_their_gate, stores_go_by_their_last_journal, stores_grow_by_their_gate,
+    closed_areas_may_change, halves_switch_by_their_gate, halves_take_over_the_same,
+    older_halves_may_change, stores_are_sealed_by_their_gate, stores_go_by_their_last_journal,
+    stores_grow_by_their_gate,
 };
 pub use half::Half;
 pub use journal_laws::{
