@@ -8,6 +8,8 @@ mod Shown
 mod Ends
 mod Found
 mod Drops
+mod Keyed
+mod Places
 mod Keys
 mod Canon
 mod Newest
