@@ -84,7 +84,7 @@ leaves_before Equal false k row old others e under rising later =
     either_passed k row old others (is_newer row old) under both ∙ sym (under_first k old others false both)
 leaves_before Greater false k row old others e under rising later = ap (λ found. if is_under k old then Some old else found) later
 
-put_leaves : (k : List ℕ) (rows : List RowView) (row : RowView) → IsRising rows → row_under k (database_after_put rows row) ≡ left_by_put k (row_under k rows) row
+pub put_leaves : (k : List ℕ) (rows : List RowView) (row : RowView) → IsRising rows → row_under k (database_after_put rows row) ≡ left_by_put k (row_under k rows) row
 unfolding database_after_put
 put_leaves k [] row rising = refl
 put_leaves k (old ∷ others) row rising =

@@ -12,6 +12,7 @@ mod Keyed
 mod Places
 mod Keys
 mod Canon
+mod PutRow
 mod Newest
 mod Kept
 mod Counts

@@ -3,6 +3,7 @@ pub mod Put
 pub mod Row
 pub mod RowMap
 pub mod EndPlaces
+pub mod Saved
 pub mod Table
 pub mod Command
 pub mod Outcome

@@ -22,6 +22,7 @@ mod row;
 mod row_key;
 mod row_list;
 mod row_map;
+mod row_puts;
 mod row_records;
 
 pub use command::{Command, Registration};

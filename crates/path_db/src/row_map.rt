@@ -1,6 +1,6 @@
 //! The rows of a database by their keys.
 
-ghost use Rattle.std.specs.Prelude.{◌≡◌, ◌+◌, ◌<◌, ◌^◌, [], IfOk, OnErr, None, length};
+ghost use Rattle.std.specs.Prelude.{◌≡◌, ◌+◌, ◌*◌, ◌<◌, ◌≤◌, ◌^◌, [], IfOk, OnErr, None, length};
 ghost use Rattle.std.specs.Option.{option_map};
 ghost use Rattle.path_db.specs.Database.{IsRising, key, key_of, row_under, row_len, rows_len};
 ghost use Rattle.path_db.specs.Command.{database_after_purge, database_after_removal};
@@ -49,6 +49,8 @@ impl RowMap {
     pub(crate) fn len(&self) -> usize
         ensures same { result ≡ length self.now }
         ensures few { result < 2 ^ 63 }
+        ensures bytes { rows_len self.now ≤ 16389 * result }
+        ensures rising { IsRising self.now }
     {
         self.rows.len()
     }
@@ -99,6 +101,7 @@ impl RowMap {
         ensures left { self.new ≡ database_after_removal self.old (key kind id.now) }
         ensures old { option_map row_view result ≡ row_under (key kind id.now) self.old }
         ensures bytes { rows_len self.new + len_if_any (option_map row_view result) ≡ rows_len self.old }
+        ensures was_rising { IsRising self.old }
         ensures rising { IsRising self.new }
     {
         let key = row_key(kind, id);
