@@ -13,6 +13,9 @@ mod Places
 mod Keys
 mod Canon
 mod PutRow
+mod Restored
+mod Covered
+mod Removed
 mod Newest
 mod Kept
 mod Counts

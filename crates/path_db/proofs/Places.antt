@@ -4,7 +4,8 @@ use Rattle.std.specs.List.{AllByRecursion, list_any}
 use Rattle.std.specs.Ordering.{nat_cmp, is_eq, ordering_then}
 use Rattle.std.specs.Cmp.Lexicographic.{slice_cmp}
 use Rattle.std.specs.Cmp.{tied_then}
-use Rattle.std.specs.Option.{option_map}
+use Rattle.std.specs.Option.{option_map, is_some}
+use Rattle.std.specs.Borrow.{Bor}
 use Rattle.std.proofs.lemmas.Bool.{false≢true}
 use Rattle.std.proofs.lemmas.Bool.Decides.{eqb_tells}
 use Rattle.std.proofs.lemmas.Map.Lookups.{exact_bytes, exact_unsigned}
@@ -25,7 +26,8 @@ use Rattle.path_db.specs.declared.row.Row.{Row}
 use Rattle.path_db.specs.Database.{RowView, key_of, is_under, row_under}
 use Rattle.path_db.specs.Row.{row_view, row_views}
 use Rattle.path_db.specs.RowMap.{place_key}
-use Rattle.path_db.specs.EndPlaces.{is_of, is_place, ends_at, stands, AreTouched, IsIndex, IsCovered}
+use Rattle.path_db.specs.EndPlaces.{is_of, is_place, ends_at, stands, IsTouched, AreTouched, AreSavedTouched, IsIndex, IsCovered}
+use Rattle.path_db.specs.Saved.{Stood}
 use Rattle.path_db.proofs.Found.{under_itself}
 use Rattle.path_db.proofs.Keys.{its_key, equal_from}
 use Rattle.path_db.proofs.Ends.{last_seen}
@@ -36,7 +38,7 @@ EndOf = List EntryView → Option EntryView
 
 -- ---- tests
 
-both_from : (a b : Bool) → a ≡ true → b ≡ true → (a && b) ≡ true
+pub both_from : (a b : Bool) → a ≡ true → b ≡ true → (a && b) ≡ true
 both_from a b e f = ap (λ a. a && b) e ∙ f
 
 first_from : (a b : Bool) → (a && b) ≡ true → a ≡ true
@@ -122,7 +124,7 @@ last_is entries d some =
 -- ---- places of rows
 
 -- a row has one place
-one_place : (end : EndOf) (p q : Place) (row : RowView) → is_place end p row ≡ true → is_place end q row ≡ true → AreSame p q
+pub one_place : (end : EndOf) (p q : Place) (row : RowView) → is_place end p row ≡ true → is_place end q row ≡ true → AreSame p q
 one_place end p q row e f =
     let keys : place_key p ≡ place_key q =
       its_key (place_key p) row (first_from (is_under (place_key p) row) (is_of (end row.1.entries) p.isd_as) e)
@@ -141,7 +143,7 @@ has_last q p places e = list_any-append (is_same q) places (p ∷ []) ∙ ap (λ
     or_true true = refl
     or_true false = refl
 
-touched_still : (end : EndOf) (p : Place) (places : List Place) (rows : List RowView) → AreTouched end places rows → AreTouched end (places ++ p ∷ []) rows
+pub touched_still : (end : EndOf) (p : Place) (places : List Place) (rows : List RowView) → AreTouched end places rows → AreTouched end (places ++ p ∷ []) rows
 touched_still end p places [] all = tt
 touched_still end p places (row ∷ rows) all = ((λ q e. has_more q p places (all.0 q e)), touched_still end p places rows all.1)
 
@@ -241,3 +243,30 @@ module _ (end : EndOf) (rows : List RowView) (now places : List Place) (i : ℕ)
     kept = λ q so. still_has after q (is_same q p) empty (taken q) refl so;
     within = λ q there. within_less after q (is_same q p) (taken q) refl there;
   }
+
+-- ---- rows that are saved
+
+saved_still : (end : EndOf) (p : Place) (places : List Place) (saved : List Stood) → AreSavedTouched end places saved → AreSavedTouched end (places ++ p ∷ []) saved
+saved_still end p places [] all = tt
+saved_still end p places (stood ∷ saved) all = ((λ r e q its. has_more q p places (all.0 r e q its)), saved_still end p places saved all.1)
+
+saved_push : (end : EndOf) (places : List Place) (saved : List Stood) (stood : Stood) → AreSavedTouched end places saved → ((r : RowView) → stood.1 ≡ Some r → IsTouched end places r) → AreSavedTouched end places (saved ++ stood ∷ [])
+saved_push end places [] stood all one = (one, tt)
+saved_push end places (first ∷ saved) stood all one = (all.0, saved_push end places saved stood all.1 one)
+
+pub saved_some : (end : EndOf) (p : Place) (places : List Place) (saved : List Stood) (stood : Stood) (row : RowView) → AreSavedTouched end places saved → stood.1 ≡ Some row → is_place end p row ≡ true → AreSavedTouched end (places ++ p ∷ []) (saved ++ stood ∷ [])
+saved_some end p places saved stood row all is its =
+    saved_push end (places ++ p ∷ []) saved stood (saved_still end p places saved all)
+      (λ r e q so. let same : r ≡ row = cc in has_last q p places (same_if q p (one_place end q p row (subst (λ x. is_place end q x ≡ true) same so) its)))
+
+pub saved_none : (end : EndOf) (places : List Place) (saved : List Stood) (stood : Stood) → AreSavedTouched end places saved → stood.1 ≡ None → AreSavedTouched end places (saved ++ stood ∷ [])
+saved_none end places saved stood all is = saved_push end places saved stood all (λ r e. absurd (cc))
+
+-- ---- places that stand
+
+pub standing_alike : (rows : List RowView) (q p : Place) → is_same q p ≡ true → is_some (row_under (place_key p) rows) ≡ is_some (row_under (place_key q) rows)
+standing_alike rows q p e = let same = same_from q p e in rw (same.kind, same.id) refl
+
+pub is_some-seen : (found : Option (Bor Row)) (there : Option RowView) → option_map (λ row. row_view row.now) found ≡ there → is_some found ≡ is_some there
+is_some-seen None there e = ap is_some e
+is_some-seen (Some row) there e = ap is_some e

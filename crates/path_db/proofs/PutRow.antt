@@ -126,7 +126,7 @@ back_leaves l orig old new row e there holds k =
 
 -- ---- what is left to put back
 
-is_key_itself : (k : List ℕ) → is_key k k ≡ true
+pub is_key_itself : (k : List ℕ) → is_key k k ≡ true
 is_key_itself k = ap is_eq (tied_itself nat_list_cmp_total k)
 
 abbrev AreStood : List RowView → List Stood → Type 0

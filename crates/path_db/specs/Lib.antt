@@ -4,6 +4,7 @@ pub mod Row
 pub mod RowMap
 pub mod EndPlaces
 pub mod Saved
+pub mod Walk
 pub mod Table
 pub mod Command
 pub mod Outcome

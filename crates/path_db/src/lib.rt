@@ -16,7 +16,6 @@ mod end_places;
 mod error;
 mod outcome;
 mod outcome_laws;
-mod puts;
 mod record_laws;
 mod row;
 mod row_key;

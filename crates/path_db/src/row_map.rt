@@ -9,6 +9,7 @@ ghost use Rattle.path_db.specs.RowMap.{Holds, bytes_of, len_if_any, place_key};
 
 use crate::row::Row;
 use crate::row_key::RowKey;
+use crate::row_list::Rows;
 use crate::row_records::type_byte;
 use end_index::Place;
 use seg_check::expiry;
@@ -53,6 +54,33 @@ impl RowMap {
         ensures rising { IsRising self.now }
     {
         self.rows.len()
+    }
+
+    /// All rows, in the order of their keys.
+    pub(crate) fn rows(&self) -> Rows<'_>
+        ensures { result ≡ self.now }
+    {
+        Rows::of(self.rows.values())
+    }
+
+    /// The rows of a type, in the order of their keys.
+    pub(crate) fn rows_of(&self, kind: SegType) -> Rows<'_>
+        ensures { result ≡ self.now }
+    {
+        Rows::of(self.rows.values())
+    }
+
+    /// An equal map, which shares the segments. A copy of no rows takes no memory.
+    pub(crate) fn try_clone(&self, alloc: Global) -> Result<RowMap, AllocError>
+        ensures same { IfOk result (λ copy. copy ≡ self.now) }
+        ensures memory { OnErr result (0 < length self.now) }
+    {
+        if self.rows.is_empty() {
+            return Ok(RowMap::new(alloc));
+        }
+        Ok(RowMap {
+            rows: self.rows.clone()?,
+        })
     }
 
     /// The bytes of all rows.

@@ -2,7 +2,7 @@
 
 ghost use Rattle.std.specs.Prelude.{◌≡◌, ◌<◌, map, IfOk, OnOk, OnErr, length, vec_len};
 ghost use Rattle.std.specs.Option.{option_map};
-ghost use Rattle.path_db.specs.Database.{IsRising, key_of, row_under, rows_len};
+ghost use Rattle.path_db.specs.Database.{IsRising, AreWhole, key_of, row_under, rows_len};
 ghost use Rattle.path_db.specs.Put.{database_after_put, database_after_puts, change_of, changes_of};
 ghost use Rattle.path_db.specs.Outcome.{outcome_of_puts};
 ghost use Rattle.path_db.specs.Row.{row_view, row_views};
@@ -12,8 +12,21 @@ use crate::change::Change;
 use crate::outcome::Outcome;
 use crate::row::Row;
 use crate::row_map::RowMap;
-use seg_core::SegType;
+use seg_core::{SegType, Segment};
 use std::alloc::{AllocError, Global};
+
+/// The rows of these segments, in their order, which share them.
+pub(crate) fn rows_of(alloc: Global, new: &[(SegType, Segment)]) -> Result<Vec<Row>, AllocError>
+    ensures same { IfOk result (λ rows. row_views rows.items ≡ new.now) }
+    ensures whole { IfOk result (λ rows. AreWhole (row_views rows.items)) }
+    ensures memory { OnErr result (0 < length new.now) }
+{
+    let mut rows = Vec::with_capacity(alloc, new.len())?;
+    for (kind, segment) in new {
+        rows.push(Row::new(*kind, segment.try_clone()?))?;
+    }
+    Ok(rows)
+}
 
 /// What stood under a key.
 #[derive(Drop)]
@@ -75,6 +88,35 @@ fn put_back(rows: &mut RowMap, old: Saved)
         }
         None => {
             rows.remove(old.kind, &old.id);
+        }
+    }
+}
+
+/// Puts rows one after the other, or none of them. `saved` is what stands under their keys, and `bytes` counts the bytes of
+/// all rows.
+pub(crate) fn put_all(
+    rows: &mut RowMap,
+    bytes: &mut u128,
+    new: Vec<Row>,
+    saved: Vec<Saved>,
+) -> Result<Outcome, AllocError>
+    requires counted { bytes.old ≡ rows_len rows.old }
+    requires saved { map saved_view saved.items ≡ map (λ row. (key_of row, row_under (key_of row) rows.old)) (row_views new.items) }
+    ensures rows { OnOk result (rows.new ≡ database_after_puts rows.old (row_views new.items)) }
+    ensures outcome { IfOk result (λ outcome. outcome ≡ outcome_of_puts (changes_of rows.old (row_views new.items))) }
+    ensures err { OnErr result (rows.new ≡ rows.old) }
+    ensures bytes { bytes.new ≡ rows_len rows.new }
+    ensures memory { OnErr result (0 < vec_len new) }
+    ensures rising { IsRising rows.old }
+{
+    let before = *bytes;
+    let _count = rows.len();
+    match put_rows(rows, bytes, new) {
+        Ok(outcome) => Ok(outcome),
+        Err(refused) => {
+            restore(rows, saved);
+            *bytes = before;
+            Err(refused)
         }
     }
 }

@@ -1,7 +1,7 @@
 use Rattle.std.proofs.Common.{◌≡◌, take}
 use Rattle.path_db.specs.Database.{AreWhole}
 use Rattle.path_db.specs.Row.{row_views}
-use Rattle.path_db.proofs.puts.rows_of.Given as goal
+use Rattle.path_db.proofs.row_puts.rows_of.Given as goal
 
 abbrev pub invariant-loop-kind : goal.invariant-loop-kind
 invariant-loop-kind l = record {
