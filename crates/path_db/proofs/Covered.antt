@@ -1,16 +1,18 @@
 -- The places after puts: for `register`.
-use Rattle.std.proofs.Common.{◌≡◌, ◌⊎◌, inl, inr, ℕ, Bool, true, false, ◌&&◌, List, [], ◌∷◌, if◌then◌else◌, Option, Some, None, refl, sym, ap, ◌∙◌, subst}
+use Rattle.std.proofs.Common.{◌≡◌, ◌⊎◌, inl, inr, ℕ, Bool, true, false, ◌&&◌, List, [], ◌∷◌, map, if◌then◌else◌, Option, Some, None, Result, Ok, Err, IsOk, OnOk, OnErr, refl, sym, ap, ◌∙◌, subst}
 use Rattle.std.specs.List.{AllByRecursion}
 use Rattle.std.proofs.lemmas.Bool.{false≢true}
 use Rattle.end_index.specs.declared.place.Place.{Place}
 use Rattle.end_index.specs.Place.{has}
-use Rattle.path_db.specs.Database.{RowView, key_of, IsRising, is_under, row_under}
+use Rattle.path_db.specs.Database.{RowView, key_of, IsRising, AreWhole, IsDatabase, is_under, row_under}
 use Rattle.path_db.specs.Put.{is_newer, database_after_puts}
 use Rattle.path_db.specs.CommandLaws.{winner, left_by_put, left_by_puts}
 use Rattle.path_db.specs.RowMap.{place_key}
-use Rattle.path_db.specs.EndPlaces.{is_of, is_place, ends_at, stands, IsTouched, AreTouched, AreOldTouched, IsIndex, IsCovered, IsGrown, HasAll}
+use Rattle.path_db.specs.EndPlaces.{is_of, is_place, ends_at, stands, IsTouched, AreTouched, AreOldTouched, AreSavedTouched, IsIndex, IsCovered, IsGrown, HasAll}
 use Rattle.path_db.proofs.Keys.{its_key, puts_leave}
 use Rattle.path_db.proofs.PutRow.{found_is_under}
+use Rattle.path_db.proofs.Rising.{database_puts}
+use Rattle.path_db.proofs.Restored.{stood_under}
 use Rattle.path_db.proofs.Places.{EndOf, both_from}
 
 module _ (end : EndOf) (old : List RowView) (touched : List Place) where
@@ -37,7 +39,7 @@ module _ (end : EndOf) (old : List RowView) (touched : List Place) where
     | inr put ↦ inr put
     | inl same ↦ elim (put_one k row found (is_under k row) refl all.0 before.0) [
       | inl first ↦ inl (same ∙ first)
-      | inr put ↦ inr (put.0, (same ∙ put.1, put.2, put.3))
+      | inr put ↦ inr (put.0, same ∙ put.1, put.2, put.3)
     ]
   ]
 
@@ -92,3 +94,23 @@ covers_same end rows touched before after index grown = record {
     within_same : (q : Place) → (has before q ≡ true) ⊎ (has touched q ≡ true) → (stands end rows q ≡ true) ⊎ (has touched q ≡ true)
     within_same q (inl first) = inl (sym (index q) ∙ first)
     within_same q (inr so) = inr so
+
+-- ---- whether the puts were refused or not
+
+pub olds_from : (end : EndOf) (rows : List RowView) (places : List Place) (new : List RowView) → AreSavedTouched end places (map (stood_under rows) new) → AreOldTouched end rows places new
+olds_from end rows places [] all = tt
+olds_from end rows places (row ∷ new) all = (all.0, olds_from end rows places new all.1)
+
+module _ {A B E F : Type 0} where
+  pub covers_either : (end : EndOf) (old new now : List RowView) (touched before after : List Place) (added : Result A E) (r : Result B F) → IsRising old → AreTouched end touched new → AreOldTouched end old touched new
+      → IsIndex end old before → IsGrown touched before after → OnOk added (HasAll touched after) → OnOk r (IsOk added) → OnOk r (now ≡ database_after_puts old new) → OnErr r (now ≡ old) → IsCovered end now touched after
+  covers_either end old new now touched before after (Ok x) (Ok y) rising all olds index grown added ok put same =
+      subst (λ l. IsCovered end l touched after) (sym put) (covers_puts end old new rising touched before after all olds index grown added)
+  covers_either end old new now touched before after (Err e) (Ok y) rising all olds index grown added ok put same = absurd (false≢true ok)
+  covers_either end old new now touched before after added (Err f) rising all olds index grown done ok put same =
+      subst (λ l. IsCovered end l touched after) (sym same) (covers_same end old touched before after index grown)
+
+
+pub database_either : {B F : Type 0} (old new now : List RowView) (r : Result B F) → IsDatabase old → AreWhole new → OnOk r (now ≡ database_after_puts old new) → OnErr r (now ≡ old) → IsDatabase now
+database_either old new now (Ok y) all whole put same = subst IsDatabase (sym put) (database_puts old new all whole)
+database_either old new now (Err f) all whole put same = subst IsDatabase (sym same) all

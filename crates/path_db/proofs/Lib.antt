@@ -16,6 +16,7 @@ mod PutRow
 mod Restored
 mod Covered
 mod Removed
+mod Rebuilt
 mod Newest
 mod Kept
 mod Counts

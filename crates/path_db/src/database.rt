@@ -20,7 +20,7 @@ use crate::outcome::Outcome;
 use crate::row::Row;
 use crate::row_list::Rows;
 use crate::row_map::RowMap;
-use crate::row_puts::{put_all, rows_of, saved_rows};
+use crate::row_puts::{put_after, rows_of, saved_rows};
 use crate::row_records::type_byte;
 use end_index::EndIndex;
 use isd_as::IsdAs;
@@ -115,14 +115,14 @@ impl PathDb {
         ensures memory { OnErr result (0 < length new.items) }
         ensures whole { IsDatabase self.new }
     {
+        if new.is_empty() {
+            return Ok(Outcome::nothing());
+        }
         let saved = saved_rows(self.alloc, &self.rows, &new)?;
         let firsts = touched_places(self.alloc, End::First, &new, &saved)?;
         let lasts = touched_places(self.alloc, End::Last, &new, &saved)?;
         let added = add_both(&mut self.by_first, &firsts, &mut self.by_last, &lasts);
-        let put = match added {
-            Ok(()) => put_all(&mut self.rows, &mut self.bytes, new, saved),
-            Err(refused) => Err(refused),
-        };
+        let put = put_after(added, &mut self.rows, &mut self.bytes, new, saved);
         sweep(End::First, &mut self.by_first, &self.rows, &firsts);
         sweep(End::Last, &mut self.by_last, &self.rows, &lasts);
         put

@@ -1,6 +1,6 @@
 //! Puts into a map of rows.
 
-ghost use Rattle.std.specs.Prelude.{◌≡◌, ◌<◌, map, IfOk, OnOk, OnErr, length, vec_len};
+ghost use Rattle.std.specs.Prelude.{◌≡◌, ◌⊎◌, ◌<◌, map, IfOk, OnOk, OnErr, IsOk, IsErr, length, vec_len};
 ghost use Rattle.std.specs.Option.{option_map};
 ghost use Rattle.path_db.specs.Database.{IsRising, AreWhole, key_of, row_under, rows_len};
 ghost use Rattle.path_db.specs.Put.{database_after_put, database_after_puts, change_of, changes_of};
@@ -90,6 +90,27 @@ fn put_back(rows: &mut RowMap, old: Saved)
             rows.remove(old.kind, &old.id);
         }
     }
+}
+
+/// Puts rows where their places were added, or none of them.
+pub(crate) fn put_after(
+    added: Result<(), AllocError>,
+    rows: &mut RowMap,
+    bytes: &mut u128,
+    new: Vec<Row>,
+    saved: Vec<Saved>,
+) -> Result<Outcome, AllocError>
+    requires counted { bytes.old ≡ rows_len rows.old }
+    requires saved { map saved_view saved.items ≡ map (λ row. (key_of row, row_under (key_of row) rows.old)) (row_views new.items) }
+    ensures added { OnOk result (IsOk added) }
+    ensures rows { OnOk result (rows.new ≡ database_after_puts rows.old (row_views new.items)) }
+    ensures outcome { IfOk result (λ outcome. outcome ≡ outcome_of_puts (changes_of rows.old (row_views new.items))) }
+    ensures err { OnErr result (rows.new ≡ rows.old) }
+    ensures bytes { bytes.new ≡ rows_len rows.new }
+    ensures memory { OnErr result (IsErr added ⊎ (0 < vec_len new)) }
+{
+    added?;
+    put_all(rows, bytes, new, saved)
 }
 
 /// Puts rows one after the other, or none of them. `saved` is what stands under their keys, and `bytes` counts the bytes of
