@@ -17,6 +17,7 @@ mod Restored
 mod Covered
 mod Removed
 mod Rebuilt
+mod ShownLeft
 mod Newest
 mod Kept
 mod Counts

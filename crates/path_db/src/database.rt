@@ -115,6 +115,7 @@ impl PathDb {
         ensures memory { OnErr result (0 < length new.items) }
         ensures whole { IsDatabase self.new }
     {
+        let _count = self.rows.len();
         if new.is_empty() {
             return Ok(Outcome::nothing());
         }

@@ -1,4 +1,4 @@
-use Rattle.std.proofs.Common.{rules, ◌≡◌, [], List, map, OnOk, length, sym, ap, ◌∙◌, subst, arith}
+use Rattle.std.proofs.Common.{rules, ◌≡◌, [], List, map, OnOk, vec_len, length, sym, ap, ◌∙◌, subst, arith}
 use Rattle.path_db.specs.declared.end.End.TheVariants.{First, Last}
 use Rattle.path_db.specs.Put.{database_after_puts, changes_of}
 use Rattle.path_db.specs.Outcome.{outcome_of_puts}
@@ -53,3 +53,15 @@ invariant_of-self c = record {
 
 pub returns-clause-whole : goal.returns-clause-whole
 returns-clause-whole c = (invariant_of-self c).database
+
+pub returns-then-is_empty-clause-database : goal.returns-then-is_empty-clause-database
+returns-then-is_empty-clause-database c =
+    let few : vec_len c.args.new ≡ 0 = search rules in
+    let none = no_items c.args.new.items (omega (arith, few, c.args.new.ok.0)) in
+    nothing_after c.args.self.now ∙ ap (λ l. database_after_puts c.args.self.now (row_views l)) (sym none)
+
+pub returns-then-is_empty-clause-outcome : goal.returns-then-is_empty-clause-outcome
+returns-then-is_empty-clause-outcome c =
+    let few : vec_len c.args.new ≡ 0 = search rules in
+    let none = no_items c.args.new.items (omega (arith, few, c.args.new.ok.0)) in
+    c.nothing.ensures ∙ none_counted c.args.self.now ∙ ap (λ l. outcome_of_puts (changes_of c.args.self.now (row_views l))) (sym none)
