@@ -1,11 +1,15 @@
 -- What a walk has shown, by what is left of it: for `first_shown` and `shown_at`.
-use Rattle.std.proofs.Common.{◌≡◌, ℕ, zero, suc, ◌+◌, ◌<◌, ◌≤◌, Bool, true, false, cond, List, [], ◌∷◌, ◌++◌, length, map, take, refl, sym, ap, ◌∙◌, subst, arith}
-use Rattle.path_db.proofs.Lists.{append_assoc}
+use Rattle.std.proofs.Common.{◌≡◌, ℕ, zero, suc, ◌+◌, ◌<◌, ◌≤◌, Bool, true, false, cond, Some, List, [], ◌∷◌, ◌++◌, length, map, take, refl, sym, ap, ◌∙◌, subst, arith}
+use Rattle.std.proofs.lemmas.List.{append_assoc, length-append}
 use Rattle.std.specs.List.{filter}
 use Rattle.std.proofs.lemmas.List.{take-map, length-map}
 use Rattle.std.proofs.Math.Seq.{take-append_seam}
 use Rattle.seg_core.specs.SegmentView.{SegmentView}
-use Rattle.path_db.specs.Database.{RowView}
+use Rattle.std.specs.Option.{option_to_list}
+use Rattle.end_index.specs.declared.place.Place.{Place}
+use Rattle.path_db.specs.Database.{RowView, row_under}
+use Rattle.path_db.specs.RowMap.{place_key}
+use Rattle.path_db.specs.Walk.{rows_at}
 use Rattle.path_db.specs.Answer.{segments_of}
 
 -- the segments so far, and those that are left to show, are all that are shown
@@ -38,3 +42,18 @@ shown_more w rows left row found wanted all =
 
 pub shown_same : (w : RowView → Bool) (rows left : List RowView) (row : RowView) (found : List SegmentView) → w row ≡ false → ShowsAll w rows found (row ∷ left) → ShowsAll w rows found left
 shown_same w rows left row found wanted all = all ∙ ap (λ b. found ++ segments_of (cond b (row ∷ filter w left) (filter w left))) wanted
+
+take_some : {X : Type 0} (n : ℕ) (xs : List X) → 0 < n → 0 < length xs → 0 < length (take n xs)
+take_some zero xs lt some = absurd (omega (arith, lt))
+take_some (suc n) [] lt some = absurd (omega (arith, some))
+take_some (suc n) (x ∷ xs) lt some = omega arith
+
+pub some_left : (n : ℕ) (w : RowView → Bool) (rows left : List RowView) (row : RowView) (found : List SegmentView) → w row ≡ true → ShowsAll w rows found (row ∷ left) → length found < n → 0 < length (take n (filter w rows))
+some_left n w rows left row found wanted all less =
+    let more = all ∙ ap (λ b. found ++ segments_of (cond b (row ∷ filter w left) (filter w left))) wanted in
+    let count = ap length more in
+    let some : 0 < length (filter w rows) = omega (arith, count, length-map (filter w rows) (λ (r : RowView). r.1), length-append found (row.1 ∷ segments_of (filter w left))) in
+    take_some n (filter w rows) (omega (arith, less)) some
+
+pub first_row : (rows : List RowView) (place : Place) (places : List Place) (row : RowView) → row_under (place_key place) rows ≡ Some row → rows_at rows (place ∷ places) ≡ row ∷ rows_at rows places
+first_row rows place places row here = ap (λ found. option_to_list found ++ rows_at rows places) here
