@@ -18,6 +18,7 @@ mod Covered
 mod Removed
 mod Rebuilt
 mod ShownLeft
+mod Walked
 mod Newest
 mod Kept
 mod Counts
