@@ -41,15 +41,15 @@ EndOf = List EntryView → Option EntryView
 pub both_from : (a b : Bool) → a ≡ true → b ≡ true → (a && b) ≡ true
 both_from a b e f = ap (λ a. a && b) e ∙ f
 
-first_from : (a b : Bool) → (a && b) ≡ true → a ≡ true
+pub first_from : (a b : Bool) → (a && b) ≡ true → a ≡ true
 first_from true b e = refl
 first_from false b e = e
 
-second_from : (a b : Bool) → (a && b) ≡ true → b ≡ true
+pub second_from : (a b : Bool) → (a && b) ≡ true → b ≡ true
 second_from true b e = e
 second_from false b e = absurd (false≢true e)
 
-either_from : (a b : Bool) → (a || b) ≡ true → (a ≡ true) ⊎ (b ≡ true)
+pub either_from : (a b : Bool) → (a || b) ≡ true → (a ≡ true) ⊎ (b ≡ true)
 either_from true b e = inl refl
 either_from false b e = inr e
 
@@ -109,7 +109,7 @@ same_entry (Some x) m n e f = sym (number_from x.ia m e) ∙ number_from x.ia n 
       | inr other ↦ absurd (false≢true (sym other.0 ∙ e))
     ]
 
-number_itself : (n : ℕ) → (n == n) ≡ true
+pub number_itself : (n : ℕ) → (n == n) ≡ true
 number_itself n = elim (eqb_tells n n) [
   | inl same ↦ same.0
   | inr other ↦ absurd (other.1 refl)
@@ -162,11 +162,11 @@ views_more rows i row lt is = ap row_views (taken_more rows i row lt is) ∙ map
 dropped_less : {X : Type 0} (xs : List X) (i : ℕ) (x : X) → i < length xs → x ≡ get_or xs i x → drop i xs ≡ x ∷ drop (i + 1) xs
 dropped_less xs i x lt is = let next : suc i ≡ i + 1 = omega arith in drop-cons xs i x lt ∙ ap (λ y. y ∷ drop (suc i) xs) (sym is) ∙ ap (λ n. x ∷ drop n xs) next
 
-or_second : (a b : Bool) → b ≡ true → (a || b) ≡ true
+pub or_second : (a b : Bool) → b ≡ true → (a || b) ≡ true
 or_second true b e = refl
 or_second false b e = e
 
-or_first : (a b : Bool) → a ≡ true → (a || b) ≡ true
+pub or_first : (a b : Bool) → a ≡ true → (a || b) ≡ true
 or_first a b e = ap (λ a. a || b) e
 
 pub has_taken : (q : Place) (i : ℕ) (places : List Place) → has (take i places) q ≡ true → has places q ≡ true
