@@ -19,6 +19,7 @@ mod Removed
 mod Rebuilt
 mod ShownLeft
 mod Walked
+mod Outlined
 mod Newest
 mod Kept
 mod Counts
