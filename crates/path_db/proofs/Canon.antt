@@ -17,7 +17,7 @@ first_stands : (row : RowView) (rows : List RowView) → row_under (key_of row) 
 first_stands row rows = under_first (key_of row) row rows true (under_itself row)
 
 -- a row below the first of rising rows has no row under its key there
-none_above : (low row : RowView) (rows : List RowView) → key_order low row ≡ Less → IsRising (row ∷ rows) → row_under (key_of low) (row ∷ rows) ≡ None
+pub none_above : (low row : RowView) (rows : List RowView) → key_order low row ≡ Less → IsRising (row ∷ rows) → row_under (key_of low) (row ∷ rows) ≡ None
 none_above low row rows below rising = none_under (key_of low) (row ∷ rows) (others_above low (row ∷ rows) (below, above_less low row rows below rising.0))
 
 one_first : (o : Ordering) (x y : RowView) (xs ys : List RowView) → key_order x y ≡ o → IsRising (x ∷ xs) → IsRising (y ∷ ys) → SameUnderAll (x ∷ xs) (y ∷ ys) → Some x ≡ Some y

@@ -1,5 +1,5 @@
 -- What a test leaves of rows, and how many it drops: for `purge` and `outcome_laws`.
-use Rattle.std.proofs.Common.{◌≡◌, ℕ, ◌+◌, ◌-◌, Bool, true, false, not, cond, List, [], ◌∷◌, length, refl, ap, ◌∙◌, arith}
+use Rattle.std.proofs.Common.{◌≡◌, ◌≤◌, ℕ, ◌+◌, ◌-◌, Bool, true, false, not, cond, List, [], ◌∷◌, length, refl, ap, ◌∙◌, arith}
 use Rattle.std.specs.List.{filter, count_by}
 use Rattle.std.proofs.lemmas.List.Sums.{sum_by-cons}
 use Rattle.path_db.specs.declared.row.Row.{Row}
@@ -30,3 +30,6 @@ left_and_dropped p (row ∷ rows) =
 
 pub dropped_count : (p : RowView → Bool) (rows : List RowView) → length rows - length (filter p rows) ≡ count_by (λ row. not (p row)) rows
 dropped_count p rows = omega (arith, left_and_dropped p rows)
+
+pub fewer_left : (p : RowView → Bool) (rows : List RowView) → length (filter p rows) ≤ length rows
+fewer_left p rows = omega (arith, left_and_dropped p rows)

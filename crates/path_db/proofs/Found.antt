@@ -36,7 +36,7 @@ pub others_above : (row : RowView) (rows : List RowView) → AllAbove row rows �
 others_above row [] above = tt
 others_above row (r ∷ rows) above = (ap is_eq above.0, others_above row rows above.1)
 
-turned : (a b : List ℕ) (o : Ordering) → slice_cmp nat_cmp a b ≡ o → is_eq o ≡ false → is_eq (slice_cmp nat_cmp b a) ≡ false
+pub turned : (a b : List ℕ) (o : Ordering) → slice_cmp nat_cmp a b ≡ o → is_eq o ≡ false → is_eq (slice_cmp nat_cmp b a) ≡ false
 turned a b Less e other = ap is_eq (nat_list_cmp_total.antisymm b a ∙ ap ordering_reverse e)
 turned a b Equal e other = absurd (false≢true (sym other))
 turned a b Greater e other = ap is_eq (nat_list_cmp_total.antisymm b a ∙ ap ordering_reverse e)

@@ -19,7 +19,7 @@ use Rattle.path_db.proofs.Found.{AreOthers, none_under, others_above, under_itse
 
 -- ---- one row and a key
 
-equal_from : (o : Ordering) → is_eq o ≡ true → o ≡ Equal
+pub equal_from : (o : Ordering) → is_eq o ≡ true → o ≡ Equal
 equal_from Less e = absurd (false≢true e)
 equal_from Equal e = refl
 equal_from Greater e = absurd (false≢true e)
@@ -55,7 +55,7 @@ either_wins k row old others true new_under old_under = under_first k row others
 either_wins k row old others false new_under old_under = under_first k old others true old_under
 
 -- rows of one key are under the same keys
-under_both : (k : List ℕ) (row old : RowView) (b : Bool) → key_order row old ≡ Equal → is_under k row ≡ b → is_under k old ≡ b
+pub under_both : (k : List ℕ) (row old : RowView) (b : Bool) → key_order row old ≡ Equal → is_under k row ≡ b → is_under k old ≡ b
 under_both k row old b same e = subst (λ l. is_eq (slice_cmp nat_cmp k l) ≡ b) (exact_bytes (key_of row) (key_of old) same) e
 
 either_passed : (k : List ℕ) (row old : RowView) (others : List RowView) (newer : Bool) → is_under k row ≡ false → is_under k old ≡ false → row_under k ((if newer then row else old) ∷ others) ≡ row_under k others
@@ -63,7 +63,7 @@ either_passed k row old others true new_other old_other = under_first k row othe
 either_passed k row old others false new_other old_other = under_first k old others false old_other
 
 -- a row below or above one under a key is not under it
-not_under : (k : List ℕ) (row old : RowView) (o : Ordering) → key_order row old ≡ o → is_eq o ≡ false → is_under k row ≡ true → is_under k old ≡ false
+pub not_under : (k : List ℕ) (row old : RowView) (o : Ordering) → key_order row old ≡ o → is_eq o ≡ false → is_under k row ≡ true → is_under k old ≡ false
 not_under k row old o e other under = subst (λ l. is_eq (slice_cmp nat_cmp l (key_of old)) ≡ false) (sym (its_key k row under)) (ap is_eq e ∙ other)
 
 leaves_before : (o : Ordering) (b : Bool) (k : List ℕ) (row old : RowView) (others : List RowView) → key_order row old ≡ o → is_under k row ≡ b → IsRising (old ∷ others)
@@ -84,7 +84,7 @@ leaves_before Equal false k row old others e under rising later =
     either_passed k row old others (is_newer row old) under both ∙ sym (under_first k old others false both)
 leaves_before Greater false k row old others e under rising later = ap (λ found. if is_under k old then Some old else found) later
 
-put_leaves : (k : List ℕ) (rows : List RowView) (row : RowView) → IsRising rows → row_under k (database_after_put rows row) ≡ left_by_put k (row_under k rows) row
+pub put_leaves : (k : List ℕ) (rows : List RowView) (row : RowView) → IsRising rows → row_under k (database_after_put rows row) ≡ left_by_put k (row_under k rows) row
 unfolding database_after_put
 put_leaves k [] row rising = refl
 put_leaves k (old ∷ others) row rising =

@@ -1,6 +1,10 @@
 pub mod Database
 pub mod Put
 pub mod Row
+pub mod RowMap
+pub mod EndPlaces
+pub mod Saved
+pub mod Walk
 pub mod Table
 pub mod Command
 pub mod Outcome

@@ -1,6 +1,6 @@
 //! What a lookup shows of a database.
 
-ghost use Rattle.std.specs.Prelude.{◌≡◌, ◌<◌, ◌≤◌, length, IfOk, OnErr};
+ghost use Rattle.std.specs.Prelude.{◌≡◌, ◌<◌, ◌≤◌, length, IfOk, OnErr, IsTrue};
 ghost use Rattle.std.specs.List.{AllByRecursion};
 ghost use Rattle.std.specs.Option.{option_map};
 ghost use Rattle.isd_as.specs.IsdAs.{number_of};
@@ -10,8 +10,12 @@ ghost use Rattle.seg_core.specs.Message.{last_of};
 ghost use Rattle.path_db.specs.Row.{row_view, row_views};
 ghost use Rattle.path_db.specs.Answer.{covers_entry, first_of, matches, is_shown, segments_of};
 ghost use Rattle.path_db.specs.Wanted.{answer_to};
+ghost use Rattle.path_db.specs.Walk.{IsExact, rows_at};
 
 use crate::row::Row;
+use crate::row_list::Rows;
+use crate::row_map::RowMap;
+use end_index::Places;
 use isd_as::{IsdAs, covers};
 use seg_check::expiry;
 use seg_core::{Entry, SegType, Segment};
@@ -70,15 +74,22 @@ fn covers_entry(pattern: IsdAs, entry: Option<&Entry>) -> bool
     }
 }
 
+/// Whether the places of an ISD-AS are walked for a pattern: none of its parts is 0, and it isn't the greatest of 64 bits.
+pub(crate) fn is_indexed(pattern: IsdAs) -> bool
+    ensures { IsTrue result → IsExact (number_of pattern) }
+{
+    pattern.isd != 0 && pattern.asn != 0 && pattern.to_u64() < u64::MAX
+}
+
 /// The segments of the first rows that are wanted, at most so many.
 pub(crate) fn first_shown(
     alloc: Global,
-    rows: &[Row],
+    rows: Rows<'_>,
     wanted: Wanted,
     limit: usize,
 ) -> Result<Vec<Segment>, AllocError>
-    ensures same { IfOk result (λ found. found.items ≡ segments_of (answer_to limit (row_views rows.now) wanted)) }
-    ensures memory { OnErr result (0 < length (answer_to limit (row_views rows.now) wanted)) }
+    ensures same { IfOk result (λ found. found.items ≡ segments_of (answer_to limit rows.entry wanted)) }
+    ensures memory { OnErr result (0 < length (answer_to limit rows.entry wanted)) }
     ensures few { IfOk result (λ found. length found.items ≤ limit) }
     ensures whole { IfOk result (λ found. AllByRecursion IsSegment found.items) }
 {
@@ -89,6 +100,33 @@ pub(crate) fn first_shown(
         }
         if wanted.is_shown(row) {
             found.push(row.segment.try_clone()?)?;
+        }
+    }
+    Ok(found)
+}
+
+/// The segments of the first rows at places that are wanted, at most so many.
+pub(crate) fn shown_at(
+    alloc: Global,
+    rows: &RowMap,
+    places: Places<'_>,
+    wanted: Wanted,
+    limit: usize,
+) -> Result<Vec<Segment>, AllocError>
+    ensures same { IfOk result (λ found. found.items ≡ segments_of (answer_to limit (rows_at rows.now places.entry) wanted)) }
+    ensures memory { OnErr result (0 < length (answer_to limit (rows_at rows.now places.entry) wanted)) }
+    ensures few { IfOk result (λ found. length found.items ≤ limit) }
+    ensures whole { IfOk result (λ found. AllByRecursion IsSegment found.items) }
+{
+    let mut found = Vec::new(alloc);
+    for place in places {
+        if found.len() == limit {
+            break;
+        }
+        if let Some(row) = rows.at(place) {
+            if wanted.is_shown(row) {
+                found.push(row.segment.try_clone()?)?;
+            }
         }
     }
     Ok(found)

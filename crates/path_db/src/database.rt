@@ -3,7 +3,7 @@
 ghost use Rattle.std.specs.Prelude.{◌≡◌, ◌-◌, ◌^◌, ◌<◌, ◌≤◌, [], length, min, not, count_by, if◌then◌else◌, IfOk, OnOk, OnErr};
 ghost use Rattle.std.specs.List.{AllByRecursion};
 ghost use Rattle.std.specs.Option.{option_copied, option_map, is_some};
-ghost use Rattle.path_db.specs.Database.{IsDatabase, key, row_under, rows_len};
+ghost use Rattle.path_db.specs.Database.{IsDatabase, AreWhole, key, row_under, rows_len};
 ghost use Rattle.path_db.specs.Put.{database_after_puts, changes_of};
 ghost use Rattle.path_db.specs.Outcome.{outcome_of_puts, outcome_of_drops};
 ghost use Rattle.path_db.specs.Command.{database_after, database_after_purge, database_after_removal, is_valid_beyond, outcome_of, TakesMemory};
@@ -12,14 +12,18 @@ ghost use Rattle.path_db.specs.Answer.{answer_of, segments_of};
 ghost use Rattle.seg_core.specs.Encoding.{IsSegment};
 ghost use Rattle.isd_as.specs.IsdAs.{number_of};
 
-use crate::answers::{Wanted, first_shown};
+use crate::answers::{Wanted, first_shown, is_indexed, shown_at};
 use crate::command::Command;
+use crate::end::End;
+use crate::end_places::{add_both, keep_standing, place_of, sweep, touched_places};
 use crate::outcome::Outcome;
-use crate::puts::{index_of, put_all, rows_of};
 use crate::row::Row;
 use crate::row_list::Rows;
+use crate::row_map::RowMap;
+use crate::row_puts::{put_after, rows_of, saved_rows};
+use crate::row_records::type_byte;
+use end_index::EndIndex;
 use isd_as::IsdAs;
-use seg_check::expiry;
 use seg_core::{SegType, Segment};
 use std::alloc::{AllocError, Global};
 use std::marker::Model;
@@ -29,7 +33,9 @@ use std::marker::Model;
 #[derive(Drop)]
 pub struct PathDb {
     alloc: Global,
-    rows: Vec<Row>,
+    rows: RowMap,
+    by_first: EndIndex,
+    by_last: EndIndex,
     bytes: u128,
 }
 
@@ -52,18 +58,22 @@ impl PathDb {
     {
         PathDb {
             alloc,
-            rows: Vec::new(alloc),
+            rows: RowMap::new(alloc),
+            by_first: EndIndex::new(alloc),
+            by_last: EndIndex::new(alloc),
             bytes: 0,
         }
     }
 
-    /// The database of rows that take so many bytes.
-    pub(crate) fn of_rows(alloc: Global, rows: Vec<Row>, bytes: u128) -> PathDb
-        requires database { IsDatabase (row_views rows.items) }
-        requires counted { bytes ≡ rows_len (row_views rows.items) }
-        ensures { result ≡ row_views rows.items }
+    /// The database of these rows. No rows take no memory.
+    pub(crate) fn of_rows(alloc: Global, rows: Vec<Row>) -> Result<PathDb, AllocError>
+        requires { IsDatabase (row_views rows.items) }
+        ensures same { IfOk result (λ db. db ≡ row_views rows.items) }
+        ensures memory { OnErr result (0 < length rows.items) }
     {
-        PathDb { alloc, rows, bytes }
+        let mut db = PathDb::new(alloc);
+        db.put(rows)?;
+        Ok(db)
     }
 
     /// Applies a command, whole or, where memory runs out, not at all. A purge, a removal and a registration of nothing take
@@ -92,8 +102,30 @@ impl PathDb {
         ensures whole { IsDatabase self.new }
     {
         let new = rows_of(self.alloc, new)?;
-        self.rows.try_reserve(new.len())?;
-        Ok(put_all(&mut self.rows, &mut self.bytes, new))
+        self.put(new)
+    }
+
+    /// Puts rows one after the other, or none of them.
+    fn put(&mut self, new: Vec<Row>) -> Result<Outcome, AllocError>
+        requires { AreWhole (row_views new.items) }
+        ensures database { OnOk result (self.new ≡ database_after_puts self.old (row_views new.items)) }
+        ensures outcome { IfOk result (λ outcome. outcome ≡ outcome_of_puts (changes_of self.old (row_views new.items))) }
+        ensures refused { OnErr result (self.new ≡ self.old) }
+        ensures memory { OnErr result (0 < length new.items) }
+        ensures whole { IsDatabase self.new }
+    {
+        let _count = self.rows.len();
+        if new.is_empty() {
+            return Ok(Outcome::nothing());
+        }
+        let saved = saved_rows(self.alloc, &self.rows, &new)?;
+        let firsts = touched_places(self.alloc, End::First, &new, &saved)?;
+        let lasts = touched_places(self.alloc, End::Last, &new, &saved)?;
+        let added = add_both(&mut self.by_first, &firsts, &mut self.by_last, &lasts);
+        let put = put_after(added, &mut self.rows, &mut self.bytes, new, saved);
+        sweep(End::First, &mut self.by_first, &self.rows, &firsts);
+        sweep(End::Last, &mut self.by_last, &self.rows, &lasts);
+        put
     }
 
     /// Drops every row that expires at the moment or before.
@@ -103,8 +135,10 @@ impl PathDb {
         ensures whole { IsDatabase self.new }
     {
         let before = self.rows.len();
-        self.rows.retain(|row| moment < expiry(&row.segment));
-        self.bytes = bytes_of(&self.rows);
+        self.rows.purge(moment);
+        keep_standing(&mut self.by_first, &self.rows);
+        keep_standing(&mut self.by_last, &self.rows);
+        self.bytes = self.rows.bytes();
         Outcome::dropped(before - self.rows.len())
     }
 
@@ -114,14 +148,13 @@ impl PathDb {
         ensures outcome { result ≡ outcome_of_drops (if is_some (row_under (key kind id.now) self.old) then 1 else 0) }
         ensures whole { IsDatabase self.new }
     {
-        match index_of(&self.rows, kind, id) {
-            Ok(at) => {
-                let row = self.rows.remove(at);
-                self.bytes -= u128::from(row.len());
-                Outcome::dropped(1)
-            }
-            Err(_) => Outcome::dropped(0),
-        }
+        let Some(row) = self.rows.remove(kind, id) else {
+            return Outcome::dropped(0);
+        };
+        self.by_first.remove(&place_of(End::First, &row));
+        self.by_last.remove(&place_of(End::Last, &row));
+        self.bytes -= u128::from(row.len());
+        Outcome::dropped(1)
     }
 
     /// The segment of a type and an id.
@@ -129,9 +162,9 @@ impl PathDb {
         ensures same { option_copied result ≡ option_map (λ row. row.1) (row_under (key kind id.now) self.now) }
         ensures whole { IsDatabase self.now }
     {
-        match index_of(&self.rows, kind, id) {
-            Ok(at) => Some(&self.rows[at].segment),
-            Err(_) => None,
+        match self.rows.get(kind, id) {
+            Some(row) => Some(&row.segment),
+            None => None,
         }
     }
 
@@ -140,7 +173,7 @@ impl PathDb {
         ensures same { result ≡ self.now }
         ensures whole { IsDatabase self.now }
     {
-        Rows::of(&self.rows)
+        self.rows.rows()
     }
 
     /// The segments of the first rows by key, at most `limit`, that are of this type, whose first entry `start` covers and
@@ -165,7 +198,15 @@ impl PathDb {
             end,
             moment: now,
         };
-        first_shown(self.alloc, &self.rows, wanted, limit)
+        if is_indexed(end) {
+            let places = self.by_last.places_at(type_byte(kind), end.to_u64());
+            return shown_at(self.alloc, &self.rows, places, wanted, limit);
+        }
+        if is_indexed(start) {
+            let places = self.by_first.places_at(type_byte(kind), start.to_u64());
+            return shown_at(self.alloc, &self.rows, places, wanted, limit);
+        }
+        first_shown(self.alloc, self.rows.rows_of(kind), wanted, limit)
     }
 
     /// The bytes of all rows as records: for each a type in one, a length in four, and the segment's encoding. A greater
@@ -182,21 +223,15 @@ impl PathDb {
         ensures memory { OnErr result (0 < length self.now) }
         ensures whole { IfOk result (λ copy. IsDatabase copy) }
     {
-        let mut rows = Vec::with_capacity(self.alloc, self.rows.len())?;
-        for row in &self.rows {
-            rows.push(row.try_clone()?)?;
+        if self.rows.len() == 0 {
+            return Ok(PathDb::new(self.alloc));
         }
         Ok(PathDb {
             alloc: self.alloc,
-            rows,
+            rows: self.rows.try_clone(self.alloc)?,
+            by_first: self.by_first.try_clone()?,
+            by_last: self.by_last.try_clone()?,
             bytes: self.bytes,
         })
     }
-}
-
-/// The bytes of these rows.
-pub(crate) fn bytes_of(rows: &[Row]) -> u128
-    ensures { result ≡ rows_len (row_views rows.now) }
-{
-    rows.iter().map(|row| u128::from(row.len())).sum()
 }

@@ -11,13 +11,17 @@ mod command;
 mod command_laws;
 mod command_records;
 mod database;
+mod end;
+mod end_places;
 mod error;
 mod outcome;
 mod outcome_laws;
-mod puts;
 mod record_laws;
 mod row;
+mod row_key;
 mod row_list;
+mod row_map;
+mod row_puts;
 mod row_records;
 mod rows_reader;
 

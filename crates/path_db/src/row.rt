@@ -39,7 +39,8 @@ impl Row {
 
     /// An equal row, which shares the segment. It takes no memory, and is refused where 2^63 share the segment.
     pub fn try_clone(&self) -> Result<Row, AllocError>
-        ensures { IfOk result (λ copy. row_view copy ≡ row_view self.now) }
+        ensures view { IfOk result (λ copy. row_view copy ≡ row_view self.now) }
+        ensures same { IfOk result (λ copy. copy ≡ self.now) }
     {
         Ok(Row {
             kind: self.kind,
@@ -65,5 +66,13 @@ impl Row {
         ensures short { result ≤ 16389 }
     {
         ROW_HEAD + encoded_len(&self.segment) as u64
+    }
+}
+
+impl Clone for Row {
+    ghost is_clone = { λ row copy. copy ≡ row };
+
+    fn clone(&self) -> Result<Row, AllocError> {
+        self.try_clone()
     }
 }

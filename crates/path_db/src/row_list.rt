@@ -5,12 +5,14 @@ ghost use Rattle.std.specs.Iterator.{YieldsFirstBy, at_most};
 ghost use Rattle.path_db.specs.Row.{row_view, row_views};
 
 use crate::row::Row;
+use crate::row_key::RowKey;
+use std::collections::btree_map::Values;
 use std::marker::Model;
 
 /// The rows that are left, in the order of their keys.
 #[derive(Drop)]
 pub struct Rows<'a> {
-    rows: &'a [Row],
+    rows: Values<'a, RowKey, Row>,
 }
 
 impl<'a> Model for Rows<'a> {
@@ -20,13 +22,13 @@ impl<'a> Model for Rows<'a> {
 
     ghost Value = { List RowView };
 
-    ghost view = { λ s. row_views s.rows.now };
+    ghost view = { λ s. row_views s.rows };
 }
 
 impl<'a> Rows<'a> {
     /// All of these.
-    pub(crate) fn of(rows: &'a [Row]) -> Rows<'a>
-        ensures { result ≡ row_views rows.now }
+    pub(crate) fn of(rows: Values<'a, RowKey, Row>) -> Rows<'a>
+        ensures { result ≡ row_views rows.entry }
     {
         Rows { rows }
     }
@@ -40,8 +42,6 @@ impl<'a> Iterator for Rows<'a> {
     ghost remaining = { λ s. at_most (length s) };
 
     fn next(&mut self) -> Option<&'a Row> {
-        let (first, rest) = self.rows.split_first()?;
-        self.rows = rest;
-        Some(first)
+        self.rows.next()
     }
 }

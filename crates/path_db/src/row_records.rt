@@ -154,7 +154,7 @@ pub fn read_rows(alloc: Global, bytes: &[u8]) -> Result<PathDb, DbError>
     ensures memory { IfErr result (λ e. e ≡ NoMemory → HasOutline bytes.now) }
 {
     let rows = read_rising(alloc, bytes)?;
-    Ok(PathDb::of_rows(alloc, rows, bytes.len() as u128))
+    Ok(PathDb::of_rows(alloc, rows)?)
 }
 
 /// Reads rows whose keys rise.

@@ -1,14 +1,14 @@
 //! Rows that are read by pieces.
 
-ghost use Rattle.std.specs.Prelude.{◌≡◌, ◌≢◌, ◌<◌, ◌≤◌, ◌++◌, [], length, drop, IfOk, IfErr};
+ghost use Rattle.std.specs.Prelude.{◌≡◌, ◌≢◌, ◌<◌, ◌≤◌, ◌++◌, [], length, drop, IfOk, IfErr, IsOk};
 ghost use Rattle.path_db.specs.declared.error.DbError.TheVariants.{NoMemory};
-ghost use Rattle.path_db.specs.RecordSteps.{Reads};
+ghost use Rattle.path_db.specs.RecordSteps.{Gives};
 ghost use Rattle.path_db.specs.Database.{IsDatabase};
 ghost use Rattle.path_db.specs.Row.{row_views};
 ghost use Rattle.path_db.specs.RowRecord.{rows_encoding, rows_decoding, has_row};
 ghost use Rattle.path_db.specs.RowsReader.{AreRefused, AreReadOn};
 
-use crate::database::{PathDb, bytes_of};
+use crate::database::PathDb;
 use crate::error::DbError;
 use crate::row::Row;
 use crate::row_records::{is_above_last, read_row, size_of_row};
@@ -68,16 +68,16 @@ impl RowsReader {
         Ok(RowsReader { alloc, rows, rest })
     }
 
-    /// The rows of all bytes that were fed, as `read_rows` answers them. It takes no memory.
+    /// The rows of all bytes that were fed, as `read_rows` answers them. It takes memory only where there are some.
     pub fn finish(self) -> Result<PathDb, DbError>
-        ensures decoding { Reads (λ rows. rows) result (rows_decoding self) }
+        ensures decoding { Gives (λ rows. rows) result (rows_decoding self) }
         ensures whole { IfOk result IsDatabase }
+        ensures memory { IfErr result (λ e. e ≡ NoMemory → IsOk (rows_decoding self) × (0 < length self)) }
     {
         if !self.rest.is_empty() {
             return Err(DbError::BadRecord);
         }
-        let bytes = bytes_of(&self.rows);
-        Ok(PathDb::of_rows(self.alloc, self.rows, bytes))
+        Ok(PathDb::of_rows(self.alloc, self.rows)?)
     }
 }
 

@@ -1,0 +1,75 @@
+-- What lies between the bounds of a type and an ISD-AS: for `places_at`.
+use Rattle.std.proofs.Common.{◌≡◌, ◌≢◌, ◌⊎◌, inl, inr, ℕ, zero, suc, ◌+◌, ◌<◌, Bool, true, false, cond, not, ◌&&◌, ◌==◌, List, [], ◌∷◌, length, refl, sym, ap, ◌∙◌, arith}
+use Rattle.std.specs.List.{filter}
+use Rattle.std.specs.Ordering.{nat_cmp, is_eq, is_le, ordering_then, MatchOrdering}
+use Rattle.std.specs.Cmp.{ranks}
+use Rattle.std.specs.Cmp.Lexicographic.{slice_cmp}
+use Rattle.std.specs.declared.cmp.Ordering.{Ordering}
+use Rattle.std.specs.declared.cmp.Ordering.TheVariants.{Less, Equal, Greater}
+use Rattle.std.proofs.lemmas.Bool.{false≢true}
+use Rattle.std.proofs.lemmas.Bool.Decides.{eqb_tells}
+use Rattle.std.proofs.Math.Dec.{eqb}
+use Rattle.end_index.specs.declared.place.Place.{Place}
+use Rattle.end_index.specs.Place.{place_cmp, stands_at}
+
+abbrev pub zeros : ℕ → List ℕ
+zeros zero = []
+zeros (suc n) = 0 ∷ zeros n
+
+-- no number is below zero
+from_zero : (o later : Ordering) (b : ℕ) → MatchOrdering o (0 < b) (0 ≡ b) (b < 0) → is_le later ≡ true → is_le (ordering_then o later) ≡ true
+from_zero Less later b says e = refl
+from_zero Equal later b says e = e
+from_zero Greater later b says e = absurd (omega (arith, says))
+
+-- no id of the length is below zeros
+pub zeros_first : (n : ℕ) (id : List ℕ) → length id ≡ n → is_le (slice_cmp nat_cmp (zeros n) id) ≡ true
+zeros_first zero [] e = refl
+zeros_first zero (b ∷ id) e = absurd (omega (arith, e))
+zeros_first (suc n) [] e = absurd (omega (arith, e))
+zeros_first (suc n) (b ∷ id) e = from_zero (nat_cmp 0 b) (slice_cmp nat_cmp (zeros n) id) b (ranks 0 b) (zeros_first n id (omega (arith, e)))
+
+-- how the next number stands to one that a number stands to so
+abbrev IsNext : Ordering → Ordering → Type 0
+IsNext o p = MatchOrdering o (is_le p ≡ true) (is_le p ≡ false) (Unit {0})
+
+next_rank : (o p : Ordering) (a b : ℕ) → MatchOrdering o (a < b) (a ≡ b) (b < a) → MatchOrdering p (a + 1 < b) (a + 1 ≡ b) (b < a + 1) → IsNext o p
+next_rank Less Less a b one other = refl
+next_rank Less Equal a b one other = refl
+next_rank Less Greater a b one other = absurd (omega (arith, one, other))
+next_rank Equal Less a b one other = absurd (omega (arith, one, other))
+next_rank Equal Equal a b one other = absurd (omega (arith, one, other))
+next_rank Equal Greater a b one other = refl
+next_rank Greater p a b one other = tt
+
+-- by how a type, an ISD-AS and the next one stand to those of a place, and how the least id does
+table : (o p r later : Ordering) → is_le later ≡ true → IsNext p r → (is_le (ordering_then o (ordering_then p later)) && not (is_le (ordering_then o (ordering_then r later)))) ≡ (is_eq o && is_eq p)
+table Less p r later e next = refl
+table Greater p r later e next = refl
+table Equal Less Less later e next = refl
+table Equal Less Equal later e next = ap not e
+table Equal Less Greater later e next = sym next
+table Equal Equal Greater later e next = ap (λ b. b && true) e
+table Equal Equal Less later e next = absurd (false≢true (sym next))
+table Equal Equal Equal later e next = absurd (false≢true (sym next))
+table Equal Greater r later e next = refl
+
+-- a number stands to itself alone as equal
+same_number : (o : Ordering) (a b : ℕ) → MatchOrdering o (a < b) (a ≡ b) (b < a) → ((eqb b a ≡ true) × (b ≡ a)) ⊎ ((eqb b a ≡ false) × (b ≢ a)) → is_eq o ≡ (b == a)
+same_number Less a b says (inl same) = absurd (omega (arith, says, same.1))
+same_number Less a b says (inr other) = sym other.0
+same_number Equal a b says (inl same) = sym same.0
+same_number Equal a b says (inr other) = absurd (other.1 (sym says))
+same_number Greater a b says (inl same) = absurd (omega (arith, says, same.1))
+same_number Greater a b says (inr other) = sym other.0
+
+-- what lies between the least places of an ISD-AS and of the next
+pub between : (low high place : Place) (n : ℕ) → low.id ≡ zeros n → high.id ≡ zeros n → high.kind ≡ low.kind → high.isd_as ≡ low.isd_as + 1 → length place.id ≡ n
+    → (is_le (place_cmp low place) && not (is_le (place_cmp high place))) ≡ stands_at low.kind low.isd_as place
+between low high place n low_id high_id kind next long =
+    rw (low_id, high_id, kind, next)
+      (table (nat_cmp low.kind place.kind) (nat_cmp low.isd_as place.isd_as) (nat_cmp (low.isd_as + 1) place.isd_as) (slice_cmp nat_cmp (zeros n) place.id)
+         (zeros_first n place.id long)
+         (next_rank (nat_cmp low.isd_as place.isd_as) (nat_cmp (low.isd_as + 1) place.isd_as) low.isd_as place.isd_as (ranks low.isd_as place.isd_as) (ranks (low.isd_as + 1) place.isd_as))
+       ∙ ap (λ a. a && is_eq (nat_cmp low.isd_as place.isd_as)) (same_number (nat_cmp low.kind place.kind) low.kind place.kind (ranks low.kind place.kind) (eqb_tells place.kind low.kind))
+       ∙ ap (λ b. (place.kind == low.kind) && b) (same_number (nat_cmp low.isd_as place.isd_as) low.isd_as place.isd_as (ranks low.isd_as place.isd_as) (eqb_tells place.isd_as low.isd_as)))

@@ -1,0 +1,272 @@
+-- The places of rows: for `end_places`.
+use Rattle.std.proofs.Common.{◌≡◌, ◌-◌, ◌+◌, zero, length, get_or, take, drop, arith, ◌⊎◌, inl, inr, ℕ, suc, ◌<◌, Bool, true, false, not, ◌&&◌, ◌||◌, ◌==◌, List, [], ◌∷◌, ◌++◌, Option, Some, None, refl, sym, ap, ◌∙◌, subst}
+use Rattle.std.specs.List.{AllByRecursion, list_any}
+use Rattle.std.specs.Ordering.{nat_cmp, is_eq, ordering_then}
+use Rattle.std.specs.Cmp.Lexicographic.{slice_cmp}
+use Rattle.std.specs.Cmp.{tied_then}
+use Rattle.std.specs.Option.{option_map, is_some}
+use Rattle.std.specs.Borrow.{Bor}
+use Rattle.std.proofs.lemmas.Bool.{false≢true}
+use Rattle.std.proofs.lemmas.Bool.Decides.{eqb_tells}
+use Rattle.std.proofs.lemmas.Map.Lookups.{exact_bytes, exact_unsigned}
+use Rattle.std.proofs.lemmas.Option.{slice_get-get_or}
+use Rattle.isd_as.specs.IsdAs.{number_of}
+use Rattle.seg_core.specs.declared.entry.Entry.{Entry}
+use Rattle.seg_core.specs.EntryView.{entry_view, entry_views}
+use Rattle.seg_core.specs.Message.{last_of}
+use Rattle.std.proofs.lemmas.Cmp.{nat_cmp_total, nat_list_cmp_total, tied_itself}
+use Rattle.std.proofs.lemmas.List.{map-append}
+use Rattle.std.proofs.lemmas.List.Folds.{list_any-append}
+use Rattle.std.proofs.Math.Seq.{take-suc, drop-cons}
+use Rattle.seg_core.specs.SegmentView.{EntryView}
+use Rattle.seg_core.specs.Registration.{type_number}
+use Rattle.end_index.specs.declared.place.Place.{Place}
+use Rattle.end_index.specs.Place.{place_cmp, is_same, has}
+use Rattle.path_db.specs.declared.row.Row.{Row}
+use Rattle.path_db.specs.Database.{RowView, key_of, is_under, row_under}
+use Rattle.path_db.specs.Row.{row_view, row_views}
+use Rattle.path_db.specs.RowMap.{place_key}
+use Rattle.path_db.specs.EndPlaces.{is_of, is_place, ends_at, stands, IsTouched, AreTouched, AreSavedTouched, IsIndex, IsCovered}
+use Rattle.path_db.specs.Saved.{Stood}
+use Rattle.path_db.proofs.Found.{under_itself}
+use Rattle.path_db.proofs.Keys.{its_key, equal_from}
+use Rattle.path_db.proofs.Ends.{last_seen}
+
+-- what the type of an end is
+abbrev pub EndOf : Type 0
+EndOf = List EntryView → Option EntryView
+
+-- ---- tests
+
+pub both_from : (a b : Bool) → a ≡ true → b ≡ true → (a && b) ≡ true
+both_from a b e f = ap (λ a. a && b) e ∙ f
+
+pub first_from : (a b : Bool) → (a && b) ≡ true → a ≡ true
+first_from true b e = refl
+first_from false b e = e
+
+pub second_from : (a b : Bool) → (a && b) ≡ true → b ≡ true
+second_from true b e = e
+second_from false b e = absurd (false≢true e)
+
+pub either_from : (a b : Bool) → (a || b) ≡ true → (a ≡ true) ⊎ (b ≡ true)
+either_from true b e = inl refl
+either_from false b e = inr e
+
+-- ---- one place
+
+-- the place that is made of a row is its place
+pub place_is : (end : EndOf) (kind number : ℕ) (id : List ℕ) (row : Row) → kind ≡ type_number row.kind → id ≡ row.id → is_of (end row.segment.entries) number ≡ true
+    → (is_under (kind ∷ id) (row_view row) && is_of (end row.segment.entries) number) ≡ true
+unfolding key_of
+place_is end kind number id row kinds ids says =
+    let same : kind ∷ id ≡ key_of (row_view row) = ap (λ n. n ∷ id) kinds ∙ ap (λ l. type_number row.kind ∷ l) (ids ∙ row.identified) in
+    both_from (is_under (kind ∷ id) (row_view row)) (is_of (end row.segment.entries) number) (subst (λ k. is_under k (row_view row) ≡ true) (sym same) (under_itself (row_view row))) says
+
+-- what is the same of two places
+pub record AreSame (p q : Place) : Type 0 where
+  pub kind : p.kind ≡ q.kind
+  pub isd_as : p.isd_as ≡ q.isd_as
+  pub id : p.id ≡ q.id
+
+equal_numbers : (m n : ℕ) → m ≡ n → is_eq (nat_cmp m n) ≡ true
+equal_numbers m n e = subst (λ k. is_eq (nat_cmp m k) ≡ true) e (ap is_eq (tied_itself nat_cmp_total m))
+
+equal_ids : (l k : List ℕ) → l ≡ k → is_eq (slice_cmp nat_cmp l k) ≡ true
+equal_ids l k e = subst (λ m. is_eq (slice_cmp nat_cmp l m) ≡ true) e (ap is_eq (tied_itself nat_list_cmp_total l))
+
+-- the test by its three parts
+parts : (p q : Place) → is_same p q ≡ (is_eq (nat_cmp p.kind q.kind) && (is_eq (nat_cmp p.isd_as q.isd_as) && is_eq (slice_cmp nat_cmp p.id q.id)))
+parts p q =
+    sym (tied_then (nat_cmp p.kind q.kind) (ordering_then (nat_cmp p.isd_as q.isd_as) (slice_cmp nat_cmp p.id q.id)))
+    ∙ ap (λ b. is_eq (nat_cmp p.kind q.kind) && b) (sym (tied_then (nat_cmp p.isd_as q.isd_as) (slice_cmp nat_cmp p.id q.id)))
+
+pub same_if : (p q : Place) → AreSame p q → is_same p q ≡ true
+same_if p q same =
+    parts p q
+    ∙ both_from (is_eq (nat_cmp p.kind q.kind)) (is_eq (nat_cmp p.isd_as q.isd_as) && is_eq (slice_cmp nat_cmp p.id q.id)) (equal_numbers p.kind q.kind same.kind)
+        (both_from (is_eq (nat_cmp p.isd_as q.isd_as)) (is_eq (slice_cmp nat_cmp p.id q.id)) (equal_numbers p.isd_as q.isd_as same.isd_as) (equal_ids p.id q.id same.id))
+
+pub same_from : (p q : Place) → is_same p q ≡ true → AreSame p q
+same_from p q e =
+    let all = sym (parts p q) ∙ e in
+    let more = second_from (is_eq (nat_cmp p.kind q.kind)) (is_eq (nat_cmp p.isd_as q.isd_as) && is_eq (slice_cmp nat_cmp p.id q.id)) all in
+    record {
+      kind = exact_unsigned p.kind q.kind (equal_from (nat_cmp p.kind q.kind) (first_from (is_eq (nat_cmp p.kind q.kind)) (is_eq (nat_cmp p.isd_as q.isd_as) && is_eq (slice_cmp nat_cmp p.id q.id)) all));
+      isd_as = exact_unsigned p.isd_as q.isd_as (equal_from (nat_cmp p.isd_as q.isd_as) (first_from (is_eq (nat_cmp p.isd_as q.isd_as)) (is_eq (slice_cmp nat_cmp p.id q.id)) more));
+      id = exact_bytes p.id q.id (equal_from (slice_cmp nat_cmp p.id q.id) (second_from (is_eq (nat_cmp p.isd_as q.isd_as)) (is_eq (slice_cmp nat_cmp p.id q.id)) more));
+    }
+
+-- ---- the ISD-AS at an end
+
+same_entry : (o : Option EntryView) (m n : ℕ) → is_of o m ≡ true → is_of o n ≡ true → m ≡ n
+same_entry None m n e f = absurd (false≢true e)
+same_entry (Some x) m n e f = sym (number_from x.ia m e) ∙ number_from x.ia n f
+  where
+    number_from : (m n : ℕ) → (m == n) ≡ true → m ≡ n
+    number_from m n e = elim (eqb_tells m n) [
+      | inl same ↦ same.1
+      | inr other ↦ absurd (false≢true (sym other.0 ∙ e))
+    ]
+
+pub number_itself : (n : ℕ) → (n == n) ≡ true
+number_itself n = elim (eqb_tells n n) [
+  | inl same ↦ same.0
+  | inr other ↦ absurd (other.1 refl)
+]
+
+pub last_is : (entries : List Entry) (d : Entry) → 0 < length entries → is_of (last_of (entry_views entries)) (number_of (get_or entries (length entries - 1) d).ia) ≡ true
+last_is entries d some =
+    let i = length entries - 1 in
+    let there : last_of (entry_views entries) ≡ Some (entry_view (get_or entries i d)) = sym (last_seen entry_view entries) ∙ ap (option_map entry_view) (slice_get-get_or entries i d (omega (arith, some))) in
+    ap (λ o. is_of o (number_of (get_or entries i d).ia)) there ∙ number_itself (number_of (get_or entries i d).ia)
+
+-- ---- places of rows
+
+-- a row has one place
+pub one_place : (end : EndOf) (p q : Place) (row : RowView) → is_place end p row ≡ true → is_place end q row ≡ true → AreSame p q
+one_place end p q row e f =
+    let keys : place_key p ≡ place_key q =
+      its_key (place_key p) row (first_from (is_under (place_key p) row) (is_of (end row.1.entries) p.isd_as) e)
+      ∙ sym (its_key (place_key q) row (first_from (is_under (place_key q) row) (is_of (end row.1.entries) q.isd_as) f)) in
+    let number = same_entry (end row.1.entries) p.isd_as q.isd_as (second_from (is_under (place_key p) row) (is_of (end row.1.entries) p.isd_as) e) (second_from (is_under (place_key q) row) (is_of (end row.1.entries) q.isd_as) f) in
+    record { kind = cc; isd_as = number; id = cc }
+
+-- more places have what some have
+has_more : (q p : Place) (places : List Place) → has places q ≡ true → has (places ++ p ∷ []) q ≡ true
+has_more q p places e = list_any-append (is_same q) places (p ∷ []) ∙ ap (λ b. b || has (p ∷ []) q) e
+
+has_last : (q p : Place) (places : List Place) → is_same q p ≡ true → has (places ++ p ∷ []) q ≡ true
+has_last q p places e = list_any-append (is_same q) places (p ∷ []) ∙ ap (λ b. has places q || (b || false)) e ∙ or_true (has places q)
+  where
+    or_true : (b : Bool) → (b || true) ≡ true
+    or_true true = refl
+    or_true false = refl
+
+pub touched_still : (end : EndOf) (p : Place) (places : List Place) (rows : List RowView) → AreTouched end places rows → AreTouched end (places ++ p ∷ []) rows
+touched_still end p places [] all = tt
+touched_still end p places (row ∷ rows) all = ((λ q e. has_more q p places (all.0 q e)), touched_still end p places rows all.1)
+
+pub touched_more : (end : EndOf) (p : Place) (places : List Place) (rows : List RowView) (row : RowView) → AreTouched end places rows → is_place end p row ≡ true → AreTouched end (places ++ p ∷ []) (rows ++ row ∷ [])
+touched_more end p places [] row all its = ((λ q e. has_last q p places (same_if q p (one_place end q p row e its))), tt)
+touched_more end p places (first ∷ rows) row all its = ((λ q e. has_more q p places (all.0 q e)), touched_more end p places rows row all.1 its)
+
+-- ---- loops over places and rows
+
+pub taken_more : {X : Type 0} (xs : List X) (i : ℕ) (x : X) → i < length xs → x ≡ get_or xs i x → take (i + 1) xs ≡ take i xs ++ x ∷ []
+taken_more xs i x lt is = let next : i + 1 ≡ suc i = omega arith in ap (λ n. take n xs) next ∙ take-suc xs i x lt ∙ ap (λ y. take i xs ++ y ∷ []) (sym is)
+
+pub views_more : (rows : List Row) (i : ℕ) (row : Row) → i < length rows → row ≡ get_or rows i row → row_views (take (i + 1) rows) ≡ row_views (take i rows) ++ row_view row ∷ []
+views_more rows i row lt is = ap row_views (taken_more rows i row lt is) ∙ map-append row_view (take i rows) (row ∷ [])
+
+dropped_less : {X : Type 0} (xs : List X) (i : ℕ) (x : X) → i < length xs → x ≡ get_or xs i x → drop i xs ≡ x ∷ drop (i + 1) xs
+dropped_less xs i x lt is = let next : suc i ≡ i + 1 = omega arith in drop-cons xs i x lt ∙ ap (λ y. y ∷ drop (suc i) xs) (sym is) ∙ ap (λ n. x ∷ drop n xs) next
+
+pub or_second : (a b : Bool) → b ≡ true → (a || b) ≡ true
+or_second true b e = refl
+or_second false b e = e
+
+pub or_first : (a b : Bool) → a ≡ true → (a || b) ≡ true
+or_first a b e = ap (λ a. a || b) e
+
+pub has_taken : (q : Place) (i : ℕ) (places : List Place) → has (take i places) q ≡ true → has places q ≡ true
+has_taken q zero places e = absurd (false≢true e)
+has_taken q (suc i) [] e = e
+has_taken q (suc i) (p ∷ places) e = elim (either_from (is_same q p) (has (take i places) q) e) [
+  | inl same ↦ or_first (is_same q p) (has places q) same
+  | inr later ↦ or_second (is_same q p) (has places q) (has_taken q i places later)
+]
+
+-- a place is added
+module _ (start now after places : List Place) (i : ℕ) (p : Place) (lt : i < length places) (is : p ≡ get_or places i p) (ok : (q : Place) → has after q ≡ (is_same q p || has now q)) where
+  pub kept_by_add : ((q : Place) → has start q ≡ true → has now q ≡ true) → (q : Place) → has start q ≡ true → has after q ≡ true
+  kept_by_add kept q e = ok q ∙ or_second (is_same q p) (has now q) (kept q e)
+
+  pub within_by_add : ((q : Place) → has now q ≡ true → (has start q ≡ true) ⊎ (has (take i places) q ≡ true)) → (q : Place) → has after q ≡ true → (has start q ≡ true) ⊎ (has (take (i + 1) places) q ≡ true)
+  within_by_add within q e = elim (either_from (is_same q p) (has now q) (sym (ok q) ∙ e)) [
+    | inl same ↦ inr (ap (λ l. has l q) (taken_more places i p lt is) ∙ has_last q p (take i places) same)
+    | inr old ↦ elim (within q old) [
+      | inl first ↦ inl first
+      | inr taken ↦ inr (ap (λ l. has l q) (taken_more places i p lt is) ∙ has_more q p (take i places) taken)
+    ]
+  ]
+
+  pub done_by_add : ((q : Place) → has (take i places) q ≡ true → has now q ≡ true) → (q : Place) → has (take (i + 1) places) q ≡ true → has after q ≡ true
+  done_by_add done q e = elim (either_from (has (take i places) q) (is_same q p || false) (sym (ap (λ l. has l q) (taken_more places i p lt is) ∙ list_any-append (is_same q) (take i places) (p ∷ [])) ∙ e)) [
+    | inl taken ↦ ok q ∙ or_second (is_same q p) (has now q) (done q taken)
+    | inr last ↦ elim (either_from (is_same q p) false last) [
+      | inl same ↦ ok q ∙ or_first (is_same q p) (has now q) same
+      | inr never ↦ absurd (false≢true never)
+    ]
+  ]
+
+-- ---- sweeping
+
+stands_same : (end : EndOf) (rows : List RowView) (p q : Place) → AreSame p q → stands end rows p ≡ stands end rows q
+stands_same end rows p q same = rw (same.kind, same.isd_as, same.id) refl
+
+and_not : (b c : Bool) → b ≡ true → (not b && c) ≡ false
+and_not b c e = ap (λ b. not b && c) e
+
+module _ (end : EndOf) (rows : List RowView) (now places : List Place) (i : ℕ) (p : Place) (lt : i < length places) (is : p ≡ get_or places i p) (all : IsCovered end rows (drop i places) now) where
+  first_or_later : (q : Place) → has (drop i places) q ≡ true → (is_same q p ≡ true) ⊎ (has (drop (i + 1) places) q ≡ true)
+  first_or_later q e = either_from (is_same q p) (has (drop (i + 1) places) q) (sym (ap (λ l. has l q) (dropped_less places i p lt is)) ∙ e)
+
+  pub swept_standing : stands end rows p ≡ true → IsCovered end rows (drop (i + 1) places) now
+  swept_standing standing = record {
+    kept = all.kept;
+    within = λ q e. elim (all.within q e) [
+      | inl so ↦ inl so
+      | inr touched ↦ elim (first_or_later q touched) [
+        | inl same ↦ inl (stands_same end rows q p (same_from q p same) ∙ standing)
+        | inr later ↦ inr later
+      ]
+    ];
+  }
+
+  still_has : (after : List Place) (q : Place) (b : Bool) → stands end rows p ≡ false → has after q ≡ (not (is_same q p) && has now q) → is_same q p ≡ b → stands end rows q ≡ true → has after q ≡ true
+  still_has after q true empty taken e so = absurd (false≢true (sym empty ∙ sym (stands_same end rows q p (same_from q p e)) ∙ so))
+  still_has after q false empty taken e so = taken ∙ ap (λ b. not b && has now q) e ∙ all.kept q so
+
+  within_less : (after : List Place) (q : Place) (b : Bool) → has after q ≡ (not (is_same q p) && has now q) → is_same q p ≡ b → has after q ≡ true → (stands end rows q ≡ true) ⊎ (has (drop (i + 1) places) q ≡ true)
+  within_less after q true taken e there = absurd (false≢true (sym (taken ∙ and_not (is_same q p) (has now q) e) ∙ there))
+  within_less after q false taken e there = elim (all.within q (sym (taken ∙ ap (λ b. not b && has now q) e) ∙ there)) [
+    | inl so ↦ inl so
+    | inr touched ↦ elim (first_or_later q touched) [
+      | inl same ↦ absurd (false≢true (sym e ∙ same))
+      | inr later ↦ inr later
+    ]
+  ]
+
+  pub swept_away : (after : List Place) → stands end rows p ≡ false → ((q : Place) → has after q ≡ (not (is_same q p) && has now q)) → IsCovered end rows (drop (i + 1) places) after
+  swept_away after empty taken = record {
+    kept = λ q so. still_has after q (is_same q p) empty (taken q) refl so;
+    within = λ q there. within_less after q (is_same q p) (taken q) refl there;
+  }
+
+-- ---- rows that are saved
+
+saved_still : (end : EndOf) (p : Place) (places : List Place) (saved : List Stood) → AreSavedTouched end places saved → AreSavedTouched end (places ++ p ∷ []) saved
+saved_still end p places [] all = tt
+saved_still end p places (stood ∷ saved) all = ((λ r e q its. has_more q p places (all.0 r e q its)), saved_still end p places saved all.1)
+
+saved_push : (end : EndOf) (places : List Place) (saved : List Stood) (stood : Stood) → AreSavedTouched end places saved → ((r : RowView) → stood.1 ≡ Some r → IsTouched end places r) → AreSavedTouched end places (saved ++ stood ∷ [])
+saved_push end places [] stood all one = (one, tt)
+saved_push end places (first ∷ saved) stood all one = (all.0, saved_push end places saved stood all.1 one)
+
+pub saved_some : (end : EndOf) (p : Place) (places : List Place) (saved : List Stood) (stood : Stood) (row : RowView) → AreSavedTouched end places saved → stood.1 ≡ Some row → is_place end p row ≡ true → AreSavedTouched end (places ++ p ∷ []) (saved ++ stood ∷ [])
+saved_some end p places saved stood row all is its =
+    saved_push end (places ++ p ∷ []) saved stood (saved_still end p places saved all)
+      (λ r e q so. let same : r ≡ row = cc in has_last q p places (same_if q p (one_place end q p row (subst (λ x. is_place end q x ≡ true) same so) its)))
+
+pub saved_none : (end : EndOf) (places : List Place) (saved : List Stood) (stood : Stood) → AreSavedTouched end places saved → stood.1 ≡ None → AreSavedTouched end places (saved ++ stood ∷ [])
+saved_none end places saved stood all is = saved_push end places saved stood all (λ r e. absurd (cc))
+
+-- ---- places that stand
+
+pub standing_alike : (rows : List RowView) (q p : Place) → is_same q p ≡ true → is_some (row_under (place_key p) rows) ≡ is_some (row_under (place_key q) rows)
+standing_alike rows q p e = let same = same_from q p e in rw (same.kind, same.id) refl
+
+pub is_some-seen : (found : Option (Bor Row)) (there : Option RowView) → option_map (λ row. row_view row.now) found ≡ there → is_some found ≡ is_some there
+is_some-seen None there e = ap is_some e
+is_some-seen (Some row) there e = ap is_some e

@@ -1,0 +1,10 @@
+use Rattle.std.proofs.Common.{◌≡◌, [], sym, ap, ◌∙◌}
+use Rattle.path_db.specs.Put.{database_after_puts}
+use Rattle.path_db.specs.Row.{row_views}
+use Rattle.path_db.proofs.Rebuilt.{rebuilt}
+use Rattle.path_db.proofs.database.PathDb.of_rows.Goals as goal
+
+pub returns-clause-same : goal.returns-clause-same
+returns-clause-same c =
+    let new = row_views c.args.rows.items in
+    c.in_ok-put.ensures.database ∙ ap (λ old. database_after_puts old new) c.new-db.ensures ∙ rebuilt new c.requires.database.rising

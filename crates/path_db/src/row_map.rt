@@ -1,0 +1,156 @@
+//! The rows of a database by their keys.
+
+ghost use Rattle.std.specs.Prelude.{◌≡◌, ◌+◌, ◌*◌, ◌<◌, ◌≤◌, ◌^◌, [], IfOk, OnErr, None, length};
+ghost use Rattle.std.specs.Option.{option_map};
+ghost use Rattle.path_db.specs.Database.{IsRising, key, key_of, row_under, row_len, rows_len};
+ghost use Rattle.path_db.specs.Command.{database_after_purge, database_after_removal};
+ghost use Rattle.path_db.specs.Row.{row_view};
+ghost use Rattle.path_db.specs.RowMap.{Holds, bytes_of, len_if_any, place_key};
+
+use crate::row::Row;
+use crate::row_key::RowKey;
+use crate::row_list::Rows;
+use crate::row_records::type_byte;
+use end_index::Place;
+use seg_check::expiry;
+use seg_core::SegType;
+use std::alloc::{AllocError, Global};
+use std::collections::BTreeMap;
+use std::marker::Model;
+
+/// Rows, each under its key, in the order of the keys.
+#[derive(Drop)]
+pub(crate) struct RowMap {
+    rows: BTreeMap<RowKey, Row>,
+}
+
+impl Model for RowMap {
+    ghost use Rattle.std.specs.Prelude.{List};
+    ghost use Rattle.path_db.specs.Database.{RowView};
+    ghost use Rattle.path_db.specs.RowMap.{views_of, AreKeyed};
+
+    ghost Value = { List RowView };
+
+    ghost view = { λ s. views_of s.rows.entries };
+
+    ghost invariant = { λ s. AreKeyed s.rows.entries };
+}
+
+impl RowMap {
+    /// No rows.
+    pub(crate) fn new(alloc: Global) -> RowMap
+        ensures { result ≡ [] }
+    {
+        RowMap {
+            rows: BTreeMap::new(alloc),
+        }
+    }
+
+    /// How many rows there are.
+    pub(crate) fn len(&self) -> usize
+        ensures same { result ≡ length self.now }
+        ensures few { result < 2 ^ 63 }
+        ensures bytes { rows_len self.now ≤ 16389 * result }
+        ensures rising { IsRising self.now }
+    {
+        self.rows.len()
+    }
+
+    /// All rows, in the order of their keys.
+    pub(crate) fn rows(&self) -> Rows<'_>
+        ensures { result ≡ self.now }
+    {
+        Rows::of(self.rows.values())
+    }
+
+    /// The rows of a type, in the order of their keys.
+    pub(crate) fn rows_of(&self, kind: SegType) -> Rows<'_>
+        ensures { result ≡ self.now }
+    {
+        Rows::of(self.rows.values())
+    }
+
+    /// An equal map, which shares the segments. A copy of no rows takes no memory.
+    pub(crate) fn try_clone(&self, alloc: Global) -> Result<RowMap, AllocError>
+        ensures same { IfOk result (λ copy. copy ≡ self.now) }
+        ensures memory { OnErr result (0 < length self.now) }
+    {
+        if self.rows.is_empty() {
+            return Ok(RowMap::new(alloc));
+        }
+        Ok(RowMap {
+            rows: self.rows.clone()?,
+        })
+    }
+
+    /// The bytes of all rows.
+    pub(crate) fn bytes(&self) -> u128
+        ensures { result ≡ rows_len self.now }
+    {
+        self.rows.values().map(|row| u128::from(row.len())).sum()
+    }
+
+    /// The row of a place.
+    pub(crate) fn at(&self, place: &Place) -> Option<&Row>
+        ensures { option_map (λ row. row_view row.now) result ≡ row_under (place_key place.now) self.now }
+    {
+        let key = RowKey {
+            kind: place.kind,
+            id: place.id,
+        };
+        self.rows.get(&key)
+    }
+
+    /// The row of a type and an id.
+    pub(crate) fn get(&self, kind: SegType, id: &[u8; 32]) -> Option<&Row>
+        ensures same { option_map (λ row. row_view row.now) result ≡ row_under (key kind id.now) self.now }
+        ensures rising { IsRising self.now }
+    {
+        let key = row_key(kind, id);
+        self.rows.get(&key)
+    }
+
+    /// Puts a row under its key, and gives back the one that stood there, in whose place it takes no memory.
+    pub(crate) fn set(&mut self, row: Row) -> Result<Option<Row>, AllocError>
+        ensures ok { IfOk result (λ old. Holds self.old (row_view row) self.new) }
+        ensures old { IfOk result (λ old. option_map row_view old ≡ row_under (key_of (row_view row)) self.old) }
+        ensures bytes { IfOk result (λ old. rows_len self.new + len_if_any (option_map row_view old) ≡ rows_len self.old + row_len (row_view row)) }
+        ensures err { OnErr result (self.new ≡ self.old) }
+        ensures absent { OnErr result (row_under (key_of (row_view row)) self.old ≡ None) }
+        ensures rising { IsRising self.new }
+    {
+        let key = row_key(row.kind, &row.id);
+        let old = self.rows.insert(key, row)?;
+        Ok(old)
+    }
+
+    /// Takes out the row of a type and an id. That takes no memory.
+    pub(crate) fn remove(&mut self, kind: SegType, id: &[u8; 32]) -> Option<Row>
+        ensures left { self.new ≡ database_after_removal self.old (key kind id.now) }
+        ensures old { option_map row_view result ≡ row_under (key kind id.now) self.old }
+        ensures bytes { rows_len self.new + len_if_any (option_map row_view result) ≡ rows_len self.old }
+        ensures was_rising { IsRising self.old }
+        ensures rising { IsRising self.new }
+    {
+        let key = row_key(kind, id);
+        self.rows.remove(&key)
+    }
+
+    /// Keeps the rows that expire after a moment. That takes no memory.
+    pub(crate) fn purge(&mut self, moment: u64)
+        ensures left { self.new ≡ database_after_purge self.old moment }
+        ensures rising { IsRising self.new }
+    {
+        self.rows.retain(|_, row| moment < expiry(&row.segment));
+    }
+}
+
+/// The key of a type and an id.
+fn row_key(kind: SegType, id: &[u8; 32]) -> RowKey
+    ensures { bytes_of result ≡ key kind id.now }
+{
+    RowKey {
+        kind: type_byte(kind),
+        id: *id,
+    }
+}
