@@ -1,6 +1,5 @@
 -- What lies between the bounds of a type and an ISD-AS: for `places_at`.
-use Rattle.std.proofs.Common.{◌≡◌, ◌≢◌, ◌⊎◌, inl, inr, ℕ, zero, suc, ◌+◌, ◌<◌, Bool, true, false, cond, not, ◌&&◌, ◌==◌, List, [], ◌∷◌, length, refl, sym, ap, ◌∙◌, arith}
-use Rattle.std.specs.List.{filter}
+use Rattle.std.proofs.Common.{◌≡◌, ◌≢◌, ◌⊎◌, inl, inr, ℕ, zero, suc, ◌+◌, ◌<◌, true, false, not, ◌&&◌, ◌==◌, List, [], ◌∷◌, length, refl, sym, ap, ◌∙◌, arith}
 use Rattle.std.specs.Ordering.{nat_cmp, is_eq, is_le, ordering_then, MatchOrdering}
 use Rattle.std.specs.Cmp.{ranks}
 use Rattle.std.specs.Cmp.Lexicographic.{slice_cmp}
@@ -68,8 +67,8 @@ pub between : (low high place : Place) (n : ℕ) → low.id ≡ zeros n → high
     → (is_le (place_cmp low place) && not (is_le (place_cmp high place))) ≡ stands_at low.kind low.isd_as place
 between low high place n low_id high_id kind next long =
     rw (low_id, high_id, kind, next)
-      (table (nat_cmp low.kind place.kind) (nat_cmp low.isd_as place.isd_as) (nat_cmp (low.isd_as + 1) place.isd_as) (slice_cmp nat_cmp (zeros n) place.id)
-         (zeros_first n place.id long)
-         (next_rank (nat_cmp low.isd_as place.isd_as) (nat_cmp (low.isd_as + 1) place.isd_as) low.isd_as place.isd_as (ranks low.isd_as place.isd_as) (ranks (low.isd_as + 1) place.isd_as))
-       ∙ ap (λ a. a && is_eq (nat_cmp low.isd_as place.isd_as)) (same_number (nat_cmp low.kind place.kind) low.kind place.kind (ranks low.kind place.kind) (eqb_tells place.kind low.kind))
-       ∙ ap (λ b. (place.kind == low.kind) && b) (same_number (nat_cmp low.isd_as place.isd_as) low.isd_as place.isd_as (ranks low.isd_as place.isd_as) (eqb_tells place.isd_as low.isd_as)))
+    (table (nat_cmp low.kind place.kind) (nat_cmp low.isd_as place.isd_as) (nat_cmp (low.isd_as + 1) place.isd_as) (slice_cmp nat_cmp (zeros n) place.id)
+    (zeros_first n place.id long)
+    (next_rank (nat_cmp low.isd_as place.isd_as) (nat_cmp (low.isd_as + 1) place.isd_as) low.isd_as place.isd_as (ranks low.isd_as place.isd_as) (ranks (low.isd_as + 1) place.isd_as))
+    ∙ ap (λ a. a && is_eq (nat_cmp low.isd_as place.isd_as)) (same_number (nat_cmp low.kind place.kind) low.kind place.kind (ranks low.kind place.kind) (eqb_tells place.kind low.kind))
+    ∙ ap (λ b. (place.kind == low.kind) && b) (same_number (nat_cmp low.isd_as place.isd_as) low.isd_as place.isd_as (ranks low.isd_as place.isd_as) (eqb_tells place.isd_as low.isd_as)))

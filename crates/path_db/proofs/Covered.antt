@@ -1,6 +1,5 @@
 -- The places after puts: for `register`.
-use Rattle.std.proofs.Common.{◌≡◌, ◌⊎◌, inl, inr, ℕ, Bool, true, false, ◌&&◌, List, [], ◌∷◌, map, if◌then◌else◌, Option, Some, None, Result, Ok, Err, IsOk, OnOk, OnErr, refl, sym, ap, ◌∙◌, subst}
-use Rattle.std.specs.List.{AllByRecursion}
+use Rattle.std.proofs.Common.{◌≡◌, ◌⊎◌, inl, inr, ℕ, Bool, true, false, List, [], ◌∷◌, map, if◌then◌else◌, Option, Some, None, Result, Ok, Err, IsOk, OnOk, OnErr, refl, sym, ap, ◌∙◌, subst}
 use Rattle.std.proofs.lemmas.Bool.{false≢true}
 use Rattle.end_index.specs.declared.place.Place.{Place}
 use Rattle.end_index.specs.Place.{has}
@@ -67,19 +66,19 @@ module _ (end : EndOf) (old new : List RowView) (rising : IsRising old) (touched
   covers_kept q so = elim (at_key q) [
     | inl same ↦ grown.kept q (index q ∙ ap (ends_at end q.isd_as) (sym same) ∙ so)
     | inr put ↦
-      added q (put.2 q (has_place end (database_after_puts old new) q put.0 put.1 (subst (λ found. ends_at end q.isd_as found ≡ true) put.1 so)))
+        added q (put.2 q (has_place end (database_after_puts old new) q put.0 put.1 (subst (λ found. ends_at end q.isd_as found ≡ true) put.1 so)))
   ]
 
   covers_within : (q : Place) → has after q ≡ true → (stands end (database_after_puts old new) q ≡ true) ⊎ (has touched q ≡ true)
   covers_within q there = elim (grown.within q there) [
     | inr so ↦ inr so
     | inl first ↦
-      let stood = sym (index q) ∙ first in
-      let by = stands_by end q.isd_as (row_under (place_key q) old) stood in
-      elim (at_key q) [
-        | inl same ↦ inl (ap (ends_at end q.isd_as) same ∙ stood)
-        | inr put ↦ inr (put.3 by.0 by.1 q (has_place end old q by.0 by.1 by.2))
-      ]
+        let stood = sym (index q) ∙ first in
+        let by = stands_by end q.isd_as (row_under (place_key q) old) stood in
+        elim (at_key q) [
+          | inl same ↦ inl (ap (ends_at end q.isd_as) same ∙ stood)
+          | inr put ↦ inr (put.3 by.0 by.1 q (has_place end old q by.0 by.1 by.2))
+        ]
   ]
 
   pub covers_puts : IsCovered end (database_after_puts old new) touched after
@@ -109,7 +108,6 @@ module _ {A B E F : Type 0} where
   covers_either end old new now touched before after (Err e) (Ok y) rising all olds index grown added ok put same = absurd (false≢true ok)
   covers_either end old new now touched before after added (Err f) rising all olds index grown done ok put same =
       subst (λ l. IsCovered end l touched after) (sym same) (covers_same end old touched before after index grown)
-
 
 pub database_either : {B F : Type 0} (old new now : List RowView) (r : Result B F) → IsDatabase old → AreWhole new → OnOk r (now ≡ database_after_puts old new) → OnErr r (now ≡ old) → IsDatabase now
 database_either old new now (Ok y) all whole put same = subst IsDatabase (sym put) (database_puts old new all whole)

@@ -179,8 +179,8 @@ pub set_bytes : (q : RowKey) (row : Row) (es : List (RowKey × Row)) → IsStric
 set_bytes q row [] sorted = omega (arith, sum_by-cons row_len (row_view row) [])
 set_bytes q row (e ∷ es) sorted =
     put_first (key_cmp q e.0) q row e es (insert_entry key_cmp es q row) (lookup (is_at (key_cmp q)) es) refl
-      (λ below. lookup-none (is_at (key_cmp q)) es (none_below_head key_cmp_total q e es sorted below).1)
-      (set_bytes q row es (sorted_tail key_cmp e.0 (keys_of es) sorted))
+    (λ below. lookup-none (is_at (key_cmp q)) es (none_below_head key_cmp_total q e es sorted below).1)
+    (set_bytes q row es (sorted_tail key_cmp e.0 (keys_of es) sorted))
 
 pub sum_views : (rows : List Row) → sum_by (λ row. row_len (row_view row)) rows ≡ rows_len (row_views rows)
 sum_views [] = refl

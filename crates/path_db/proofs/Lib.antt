@@ -4,7 +4,6 @@ mod Order
 mod Rising
 mod Indices
 mod Steps
-mod Shown
 mod Ends
 mod Found
 mod Drops

@@ -1,6 +1,5 @@
 -- The places of rows: for `end_places`.
 use Rattle.std.proofs.Common.{◌≡◌, ◌-◌, ◌+◌, zero, length, get_or, take, drop, arith, ◌⊎◌, inl, inr, ℕ, suc, ◌<◌, Bool, true, false, not, ◌&&◌, ◌||◌, ◌==◌, List, [], ◌∷◌, ◌++◌, Option, Some, None, refl, sym, ap, ◌∙◌, subst}
-use Rattle.std.specs.List.{AllByRecursion, list_any}
 use Rattle.std.specs.Ordering.{nat_cmp, is_eq, ordering_then}
 use Rattle.std.specs.Cmp.Lexicographic.{slice_cmp}
 use Rattle.std.specs.Cmp.{tied_then}
@@ -21,12 +20,12 @@ use Rattle.std.proofs.Math.Seq.{take-suc, drop-cons}
 use Rattle.seg_core.specs.SegmentView.{EntryView}
 use Rattle.seg_core.specs.Registration.{type_number}
 use Rattle.end_index.specs.declared.place.Place.{Place}
-use Rattle.end_index.specs.Place.{place_cmp, is_same, has}
+use Rattle.end_index.specs.Place.{is_same, has}
 use Rattle.path_db.specs.declared.row.Row.{Row}
 use Rattle.path_db.specs.Database.{RowView, key_of, is_under, row_under}
 use Rattle.path_db.specs.Row.{row_view, row_views}
 use Rattle.path_db.specs.RowMap.{place_key}
-use Rattle.path_db.specs.EndPlaces.{is_of, is_place, ends_at, stands, IsTouched, AreTouched, AreSavedTouched, IsIndex, IsCovered}
+use Rattle.path_db.specs.EndPlaces.{is_of, is_place, stands, IsTouched, AreTouched, AreSavedTouched, IsCovered}
 use Rattle.path_db.specs.Saved.{Stood}
 use Rattle.path_db.proofs.Found.{under_itself}
 use Rattle.path_db.proofs.Keys.{its_key, equal_from}
@@ -85,7 +84,7 @@ pub same_if : (p q : Place) → AreSame p q → is_same p q ≡ true
 same_if p q same =
     parts p q
     ∙ both_from (is_eq (nat_cmp p.kind q.kind)) (is_eq (nat_cmp p.isd_as q.isd_as) && is_eq (slice_cmp nat_cmp p.id q.id)) (equal_numbers p.kind q.kind same.kind)
-        (both_from (is_eq (nat_cmp p.isd_as q.isd_as)) (is_eq (slice_cmp nat_cmp p.id q.id)) (equal_numbers p.isd_as q.isd_as same.isd_as) (equal_ids p.id q.id same.id))
+    (both_from (is_eq (nat_cmp p.isd_as q.isd_as)) (is_eq (slice_cmp nat_cmp p.id q.id)) (equal_numbers p.isd_as q.isd_as same.isd_as) (equal_ids p.id q.id same.id))
 
 pub same_from : (p q : Place) → is_same p q ≡ true → AreSame p q
 same_from p q e =
@@ -127,8 +126,8 @@ last_is entries d some =
 pub one_place : (end : EndOf) (p q : Place) (row : RowView) → is_place end p row ≡ true → is_place end q row ≡ true → AreSame p q
 one_place end p q row e f =
     let keys : place_key p ≡ place_key q =
-      its_key (place_key p) row (first_from (is_under (place_key p) row) (is_of (end row.1.entries) p.isd_as) e)
-      ∙ sym (its_key (place_key q) row (first_from (is_under (place_key q) row) (is_of (end row.1.entries) q.isd_as) f)) in
+    its_key (place_key p) row (first_from (is_under (place_key p) row) (is_of (end row.1.entries) p.isd_as) e)
+    ∙ sym (its_key (place_key q) row (first_from (is_under (place_key q) row) (is_of (end row.1.entries) q.isd_as) f)) in
     let number = same_entry (end row.1.entries) p.isd_as q.isd_as (second_from (is_under (place_key p) row) (is_of (end row.1.entries) p.isd_as) e) (second_from (is_under (place_key q) row) (is_of (end row.1.entries) q.isd_as) f) in
     record { kind = cc; isd_as = number; id = cc }
 
@@ -257,7 +256,7 @@ saved_push end places (first ∷ saved) stood all one = (all.0, saved_push end p
 pub saved_some : (end : EndOf) (p : Place) (places : List Place) (saved : List Stood) (stood : Stood) (row : RowView) → AreSavedTouched end places saved → stood.1 ≡ Some row → is_place end p row ≡ true → AreSavedTouched end (places ++ p ∷ []) (saved ++ stood ∷ [])
 saved_some end p places saved stood row all is its =
     saved_push end (places ++ p ∷ []) saved stood (saved_still end p places saved all)
-      (λ r e q so. let same : r ≡ row = cc in has_last q p places (same_if q p (one_place end q p row (subst (λ x. is_place end q x ≡ true) same so) its)))
+    (λ r e q so. let same : r ≡ row = cc in has_last q p places (same_if q p (one_place end q p row (subst (λ x. is_place end q x ≡ true) same so) its)))
 
 pub saved_none : (end : EndOf) (places : List Place) (saved : List Stood) (stood : Stood) → AreSavedTouched end places saved → stood.1 ≡ None → AreSavedTouched end places (saved ++ stood ∷ [])
 saved_none end places saved stood all is = saved_push end places saved stood all (λ r e. absurd (cc))

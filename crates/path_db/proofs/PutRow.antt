@@ -16,11 +16,11 @@ use Rattle.path_db.specs.declared.change.Change.TheVariants.{Inserted, Updated, 
 use Rattle.path_db.specs.Database.{RowView, key_of, key_order, IsRising, is_under, row_under}
 use Rattle.path_db.specs.Put.{is_newer, database_after_put, change_before, change_of}
 use Rattle.path_db.specs.Command.{database_after_removal}
-use Rattle.path_db.specs.CommandLaws.{winner, left_by_put, kept_if}
+use Rattle.path_db.specs.CommandLaws.{winner, kept_if}
 use Rattle.path_db.specs.RowMap.{Holds}
 use Rattle.path_db.specs.Saved.{wins, is_key, Stood, is_saved, IsLeft, PutsBack}
 use Rattle.path_db.proofs.Rising.{rising_put}
-use Rattle.path_db.proofs.Found.{turned, under_itself}
+use Rattle.path_db.proofs.Found.{turned}
 use Rattle.path_db.proofs.Keys.{its_key, equal_from, put_leaves, test_leaves, under_first}
 use Rattle.path_db.proofs.Canon.{database_is_canonical, none_above}
 
@@ -49,12 +49,12 @@ new_under k row rows false under e = refl
 pub kept_rows : (rows : List RowView) (row : RowView) → IsRising rows → wins row (row_under (key_of row) rows) ≡ false → rows ≡ database_after_put rows row
 kept_rows rows row rising e =
     database_is_canonical rows (database_after_put rows row) rising (rising_put rows row rising)
-      (λ k. kept_under k row rows (is_under k row) refl e ∙ sym (put_leaves k rows row rising))
+    (λ k. kept_under k row rows (is_under k row) refl e ∙ sym (put_leaves k rows row rising))
 
 pub new_rows : (rows new : List RowView) (row : RowView) → IsRising rows → IsRising new → wins row (row_under (key_of row) rows) ≡ true → Holds rows row new → new ≡ database_after_put rows row
 new_rows rows new row rising after e holds =
     database_is_canonical new (database_after_put rows row) after (rising_put rows row rising)
-      (λ k. holds k ∙ new_under k row rows (is_under k row) refl e ∙ sym (put_leaves k rows row rising))
+    (λ k. holds k ∙ new_under k row rows (is_under k row) refl e ∙ sym (put_leaves k rows row rising))
 
 -- ---- what it does
 

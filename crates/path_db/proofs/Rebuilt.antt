@@ -1,6 +1,6 @@
 -- Rows whose keys rise, put into no rows, are these rows: for `of_rows`.
 use Rattle.std.proofs.Common.{◌≡◌, ℕ, Bool, true, false, List, [], ◌∷◌, if◌then◌else◌, Option, Some, None, refl, sym, ap, ◌∙◌}
-use Rattle.path_db.specs.Database.{RowView, key_of, IsRising, is_under, row_under}
+use Rattle.path_db.specs.Database.{RowView, IsRising, is_under, row_under}
 use Rattle.path_db.specs.Put.{database_after_puts}
 use Rattle.path_db.specs.CommandLaws.{winner, left_by_put, left_by_puts}
 use Rattle.path_db.proofs.Rising.{rising_puts}

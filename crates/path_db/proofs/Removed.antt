@@ -1,5 +1,5 @@
 -- The places after a purge and a removal: for `purge` and `remove`.
-use Rattle.std.proofs.Common.{◌≡◌, ◌⊎◌, inl, inr, ℕ, Bool, true, false, not, ◌&&◌, List, [], ◌∷◌, if◌then◌else◌, Option, Some, None, refl, sym, ap, ◌∙◌, subst}
+use Rattle.std.proofs.Common.{◌≡◌, ℕ, Bool, true, false, not, ◌&&◌, List, if◌then◌else◌, Option, Some, None, refl, sym, ap, ◌∙◌, subst}
 use Rattle.std.specs.Option.{is_some}
 use Rattle.std.specs.Ordering.{nat_cmp}
 use Rattle.std.specs.Cmp.Lexicographic.{slice_cmp}
@@ -7,7 +7,7 @@ use Rattle.std.proofs.lemmas.Bool.{false≢true}
 use Rattle.std.proofs.lemmas.Map.Lookups.{exact_bytes}
 use Rattle.end_index.specs.declared.place.Place.{Place}
 use Rattle.end_index.specs.Place.{has, is_same}
-use Rattle.path_db.specs.Database.{RowView, key_of, IsRising, is_under, row_under}
+use Rattle.path_db.specs.Database.{RowView, IsRising, is_under, row_under}
 use Rattle.path_db.specs.Command.{is_valid_beyond, database_after_purge, database_after_removal}
 use Rattle.path_db.specs.CommandLaws.{kept_if}
 use Rattle.path_db.specs.RowMap.{place_key}
@@ -17,8 +17,7 @@ use Rattle.path_db.proofs.Keys.{test_leaves, its_key, equal_from}
 use Rattle.path_db.proofs.Rising.{rising_filtered}
 use Rattle.path_db.proofs.Canon.{database_is_canonical}
 use Rattle.path_db.proofs.PutRow.{found_is_under, removal_leaves, is_key_itself}
-use Rattle.path_db.proofs.Places.{EndOf, AreSame, same_if, same_from, one_place, both_from}
-use Rattle.path_db.proofs.Covered.{stands_by, has_place}
+use Rattle.path_db.proofs.Places.{EndOf, same_if, same_from, one_place, both_from}
 
 -- ---- a purge
 
@@ -87,13 +86,13 @@ pub purged_now : (end : EndOf) (rows now : List RowView) (moment : ℕ) (before 
     → ((q : Place) → has after q ≡ (is_some (row_under (place_key q) now) && has before q)) → IsIndex end now after
 purged_now end rows now moment before after left rising index kept =
     subst (λ l. IsIndex end l after) (sym left)
-      (purged_index end rows moment before after rising index (λ q. kept q ∙ ap (λ l. is_some (row_under (place_key q) l) && has before q) left))
+    (purged_index end rows moment before after rising index (λ q. kept q ∙ ap (λ l. is_some (row_under (place_key q) l) && has before q) left))
 
 -- a removal under a key with no row keeps all
 pub none_to_remove : (l : List ℕ) (rows : List RowView) → IsRising rows → row_under l rows ≡ None → database_after_removal rows l ≡ rows
 none_to_remove l rows rising none =
     database_is_canonical (database_after_removal rows l) rows (rising_filtered (λ row. not (is_under l row)) rows rising) rising
-      (λ k. removal_leaves k l rows rising ∙ under_none k (is_key k l) refl)
+    (λ k. removal_leaves k l rows rising ∙ under_none k (is_key k l) refl)
   where
     under_none : (k : List ℕ) (b : Bool) → is_key k l ≡ b → (if b then None else row_under k rows) ≡ row_under k rows
     under_none k true e = sym (ap (λ m. row_under m rows) (exact_bytes k l (equal_from (slice_cmp nat_cmp k l) e)) ∙ none)

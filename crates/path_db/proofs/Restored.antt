@@ -1,9 +1,8 @@
 -- What the first puts of several leave to put back: for `put_all`.
-use Rattle.std.proofs.Common.{◌≡◌, ℕ, Bool, true, false, ◌||◌, List, [], ◌∷◌, ◌++◌, map, if◌then◌else◌, Option, Some, None, IsSome, refl, sym, ap, ◌∙◌, subst}
+use Rattle.std.proofs.Common.{◌≡◌, ℕ, Bool, true, false, ◌||◌, List, [], ◌∷◌, ◌++◌, map, if◌then◌else◌, Option, Some, IsSome, refl, sym, ap, ◌∙◌, subst}
 use Rattle.std.specs.List.{AllByRecursion}
 use Rattle.std.proofs.lemmas.Bool.{false≢true}
 use Rattle.path_db.specs.Database.{RowView, key_of, IsRising, is_under, row_under}
-use Rattle.path_db.specs.Put.{database_after_puts}
 use Rattle.path_db.specs.CommandLaws.{winner, left_by_put, left_by_puts}
 use Rattle.path_db.specs.Saved.{Stood, is_saved, AreFirstPut, IsLeft}
 use Rattle.path_db.proofs.Keys.{puts_leave}
@@ -43,7 +42,7 @@ pub left_of_first : (rows new now : List RowView) → IsRising rows → AreFirst
 left_of_first rows new now rising first = record {
   stood = all_stood rows new;
   others = λ k none.
-    ap (row_under k) first.put ∙ puts_leave k rows first.part rising
-    ∙ stays rows k (row_under k rows) first.part first.rest (ap (λ l. is_saved (map (stood_under rows) l) k) (sym first.parts) ∙ none);
+      ap (row_under k) first.put ∙ puts_leave k rows first.part rising
+      ∙ stays rows k (row_under k rows) first.part first.rest (ap (λ l. is_saved (map (stood_under rows) l) k) (sym first.parts) ∙ none);
   there = λ k some. subst IsSome (sym (ap (row_under k) first.put ∙ puts_leave k rows first.part rising)) (keeps k (row_under k rows) first.part some);
 }

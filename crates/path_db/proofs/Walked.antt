@@ -1,11 +1,11 @@
 -- The rows at the places of one type and one ISD-AS: for `matching`.
-use Rattle.std.proofs.Common.{◌≡◌, ◌/◌, ◌%◌, ◌^◌, take, arith, ◌⊎◌, inl, inr, ℕ, Bool, true, false, cond, ◌&&◌, ◌||◌, ◌==◌, List, [], ◌∷◌, ◌++◌, length, if◌then◌else◌, Option, Some, None, refl, sym, ap, ◌∙◌, subst}
+use Rattle.std.proofs.Common.{◌≡◌, ◌/◌, ◌%◌, ◌^◌, take, arith, inl, inr, ℕ, Bool, true, false, cond, ◌&&◌, ◌||◌, ◌==◌, List, [], ◌∷◌, ◌++◌, if◌then◌else◌, Option, Some, None, refl, sym, ap, ◌∙◌, subst}
 use Rattle.std.specs.List.{AllByRecursion, list_any, filter}
 use Rattle.std.specs.List.Sorted.{IsStrictlySortedBy}
 use Rattle.std.specs.Ordering.{nat_cmp, is_eq, ordering_then}
 use Rattle.std.specs.Cmp.Lexicographic.{slice_cmp}
 use Rattle.std.specs.Option.{option_to_list}
-use Rattle.std.specs.declared.cmp.Ordering.TheVariants.{Less, Equal, Greater}
+use Rattle.std.specs.declared.cmp.Ordering.TheVariants.{Less, Equal}
 use Rattle.std.proofs.lemmas.Bool.{false≢true}
 use Rattle.std.proofs.lemmas.Bool.Decides.{eqb_tells}
 use Rattle.std.specs.Cmp.{IsTotalOrder, both_ways}
@@ -15,7 +15,7 @@ use Rattle.std.proofs.lemmas.List.Elements.{recursion_from_All}
 use Rattle.std.proofs.lemmas.Map.Views.{All-set_contains}
 use Rattle.seg_check.proofs.Exports.{digest-length}
 use Rattle.std.proofs.lemmas.Map.Lookups.{exact_bytes}
-use Rattle.isd_as.specs.IsdAs.{has_zero_part, part_covers, covers_number}
+use Rattle.isd_as.specs.IsdAs.{part_covers, covers_number}
 use Rattle.seg_core.specs.declared.seg_type.SegType.{SegType}
 use Rattle.seg_core.specs.SegmentView.{EntryView}
 use Rattle.seg_core.specs.Message.{last_of}
@@ -23,11 +23,11 @@ use Rattle.seg_core.specs.Registration.{type_number}
 use Rattle.seg_check.specs.Digest.{segment_digest}
 use Rattle.end_index.specs.declared.place.Place.{Place}
 use Rattle.end_index.specs.Place.{place_cmp, is_same, has, stands_at}
-use Rattle.path_db.specs.Database.{RowView, key_of, key_order, IsRising, is_under, row_under}
+use Rattle.path_db.specs.Database.{RowView, key_of, IsRising, is_under, row_under}
 use Rattle.path_db.specs.CommandLaws.{kept_if}
 use Rattle.path_db.specs.RowMap.{place_key}
 use Rattle.path_db.specs.Saved.{is_key}
-use Rattle.path_db.specs.EndPlaces.{end_of, is_of, is_place, ends_at, stands, IsIndex}
+use Rattle.path_db.specs.EndPlaces.{end_of, is_of, ends_at, IsIndex}
 use Rattle.path_db.specs.declared.end.End.TheVariants.{First, Last}
 use Rattle.path_db.specs.Answer.{covers_entry, first_of, matches, is_shown, answer_of}
 use Rattle.path_db.specs.Command.{is_valid_beyond}
@@ -37,7 +37,7 @@ use Rattle.path_db.proofs.Rising.{rising_filtered}
 use Rattle.path_db.proofs.Keys.{its_key, equal_from, test_leaves}
 use Rattle.path_db.proofs.Canon.{database_is_canonical}
 use Rattle.path_db.proofs.PutRow.{found_is_under, is_key_itself}
-use Rattle.path_db.proofs.Places.{EndOf, AreSame, same_if, same_from, both_from, first_from, second_from, either_from, or_first, or_second, number_itself}
+use Rattle.path_db.proofs.Places.{EndOf, AreSame, same_from, both_from, first_from, second_from, either_from, or_first, or_second, number_itself}
 
 equal_number : (a b : ℕ) → (a == b) ≡ true → a ≡ b
 equal_number a b e = elim (eqb_tells a b) [
@@ -55,7 +55,7 @@ key_less kind number p q at_p at_q less =
     let kinds : nat_cmp p.kind q.kind ≡ Equal = subst (λ n. nat_cmp p.kind n ≡ Equal) (p_kind ∙ sym q_kind) (tied_itself nat_cmp_total p.kind) in
     let numbers : nat_cmp p.isd_as q.isd_as ≡ Equal = subst (λ n. nat_cmp p.isd_as n ≡ Equal) (p_number ∙ sym q_number) (tied_itself nat_cmp_total p.isd_as) in
     let ids : slice_cmp nat_cmp p.id q.id ≡ Less =
-      sym (ap (λ o. ordering_then o (ordering_then (nat_cmp p.isd_as q.isd_as) (slice_cmp nat_cmp p.id q.id))) kinds ∙ ap (λ o. ordering_then o (slice_cmp nat_cmp p.id q.id)) numbers) ∙ less in
+    sym (ap (λ o. ordering_then o (ordering_then (nat_cmp p.isd_as q.isd_as) (slice_cmp nat_cmp p.id q.id))) kinds ∙ ap (λ o. ordering_then o (slice_cmp nat_cmp p.id q.id)) numbers) ∙ less in
     ap (λ o. ordering_then o (slice_cmp nat_cmp p.id q.id)) kinds ∙ ids
 
 -- ---- the rows rise
@@ -169,7 +169,7 @@ module _ (end : EndOf) (rows : List RowView) (places : List Place) (kind number 
         let of = second_from (type_number r.0 == kind) (is_of (end r.1.entries) number) e in
         let found = subst (λ l. row_under l rows ≡ Some r) key_is_its there in
         key_there its_place places (index its_place ∙ ap (ends_at end number) found ∙ of) (both_from (type_number r.0 == kind) (number == number) kinds (number_itself number))
-          (subst (λ l. is_key k l ≡ true) key_is_its (is_key_itself k))
+        (subst (λ l. is_key k l ≡ true) key_is_its (is_key_itself k))
 
     of_place : (x : Place) → has places x ≡ true → stands_at kind number x ≡ true → is_key k (place_key x) ≡ true → is_there r ≡ true
     unfolding key_of
@@ -207,7 +207,7 @@ module _ (end : EndOf) (rows : List RowView) (places : List Place) (kind number 
   pub walked : IsRising rows → IsStrictlySortedBy place_cmp places → rows_at rows (filter (stands_at kind number) places) ≡ filter (λ row. (type_number row.0 == kind) && is_of (end row.1.entries) number) rows
   walked rising sorted =
       database_is_canonical (rows_at rows (filter (stands_at kind number) places)) (filter is_there rows) (rising_at rows kind number places sorted) (rising_filtered is_there rows rising)
-        (λ k. under_at rows k (filter (stands_at kind number) places) ∙ kept_at k (row_under k rows) refl ∙ sym (test_leaves k is_there rows rising))
+      (λ k. under_at rows k (filter (stands_at kind number) places) ∙ kept_at k (row_under k rows) refl ∙ sym (test_leaves k is_there rows rising))
 
 -- ---- what a lookup wants of them
 

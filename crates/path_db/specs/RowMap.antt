@@ -1,5 +1,5 @@
 -- The rows of a map by their keys.
-use Rattle.std.specs.Prelude.{◌≡◌, ℕ, List, ◌∷◌, map, if◌then◌else◌, Option, Some, None}
+use Rattle.std.specs.Prelude.{◌≡◌, ℕ, List, ◌∷◌, if◌then◌else◌, Option, Some, None}
 use Rattle.std.specs.List.{AllByRecursion}
 use Rattle.std.specs.Map.{values_of}
 use Rattle.end_index.specs.declared.place.Place.{Place}

@@ -5,7 +5,7 @@ use Rattle.std.specs.Option.{option_map}
 use Rattle.std.specs.Ordering.{nat_cmp, is_eq}
 use Rattle.std.specs.Cmp.Lexicographic.{slice_cmp}
 use Rattle.path_db.specs.declared.row_puts.Saved.{Saved}
-use Rattle.path_db.specs.Database.{RowView, key, key_of, IsRising, row_under}
+use Rattle.path_db.specs.Database.{RowView, key, IsRising, row_under}
 use Rattle.path_db.specs.Put.{is_newer, database_after_puts}
 use Rattle.path_db.specs.Row.{row_view}
 

@@ -1,5 +1,5 @@
 -- The rows that are walked by their places.
-use Rattle.std.specs.Prelude.{◌≡◌, ℕ, ◌+◌, ◌^◌, ◌<◌, List, [], ◌∷◌, ◌++◌, Bool, false, Option, Some, None}
+use Rattle.std.specs.Prelude.{◌≡◌, ℕ, ◌+◌, ◌^◌, ◌<◌, List, [], ◌∷◌, ◌++◌, false}
 use Rattle.std.specs.Option.{option_to_list}
 use Rattle.isd_as.specs.IsdAs.{has_zero_part}
 use Rattle.end_index.specs.declared.place.Place.{Place}

@@ -206,7 +206,7 @@ impl PathDb {
             let places = self.by_first.places_at(type_byte(kind), start.to_u64());
             return shown_at(self.alloc, &self.rows, places, wanted, limit);
         }
-        first_shown(self.alloc, self.rows.rows_of(kind), wanted, limit)
+        first_shown(self.alloc, self.rows.rows(), wanted, limit)
     }
 
     /// The bytes of all rows as records: for each a type in one, a length in four, and the segment's encoding. A greater

@@ -63,13 +63,6 @@ impl RowMap {
         Rows::of(self.rows.values())
     }
 
-    /// The rows of a type, in the order of their keys.
-    pub(crate) fn rows_of(&self, kind: SegType) -> Rows<'_>
-        ensures { result ≡ self.now }
-    {
-        Rows::of(self.rows.values())
-    }
-
     /// An equal map, which shares the segments. A copy of no rows takes no memory.
     pub(crate) fn try_clone(&self, alloc: Global) -> Result<RowMap, AllocError>
         ensures same { IfOk result (λ copy. copy ≡ self.now) }

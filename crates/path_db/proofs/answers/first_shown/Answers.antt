@@ -1,10 +1,8 @@
-use Rattle.std.proofs.Common.{rules, ◌≡◌, ◌<◌, true, [], ◌∷◌, length, take, ap, sym, ◌∙◌, subst, arith}
-use Rattle.std.specs.List.{filter}
+use Rattle.std.proofs.Common.{rules, ◌≡◌, ◌<◌, true, [], ◌∷◌, length, subst, arith}
 use Rattle.isd_as.specs.IsdAs.{number_of}
 use Rattle.path_db.specs.Answer.{is_shown, answer_of}
 use Rattle.path_db.specs.Row.{row_view}
-use Rattle.path_db.specs.Walk.{rows_at}
-use Rattle.path_db.proofs.ShownLeft.{ShowsAll, shown_enough, shown_whole, some_left, first_row}
+use Rattle.path_db.proofs.ShownLeft.{ShowsAll, shown_enough, shown_whole, some_left}
 use Rattle.path_db.proofs.answers.first_shown.Goals as goal
 use Rattle.path_db.proofs.answers.first_shown.Goals.{in-None, in-Some+then-len-limit}
 
@@ -15,11 +13,11 @@ returns-clause-same c =
     let wanted = is_shown query.kind (number_of query.start) (number_of query.end) query.moment in
     elim c.match-next.branch [
       | in-None w ↦
-        let none : c.loop-row.row-iterator ≡ [] = search (rules, w.in-None) in
-        shown_whole c.args.limit wanted c.args.rows c.loop-row.row-iterator c.loop-row.found.items c.loop-row.invariant.shown none c.loop-row.invariant.few
+          let none : c.loop-row.row-iterator ≡ [] = search (rules, w.in-None) in
+          shown_whole c.args.limit wanted c.args.rows c.loop-row.row-iterator c.loop-row.found.items c.loop-row.invariant.shown none c.loop-row.invariant.few
       | in-Some+then-len-limit w ↦
-        let enough : length c.loop-row.found.items ≡ c.args.limit = omega (arith, c.loop-row.found.ok.0, w.len.ensures, w.if-len-limit.true) in
-        shown_enough c.args.limit wanted c.args.rows c.loop-row.row-iterator c.loop-row.found.items c.loop-row.invariant.shown enough
+          let enough : length c.loop-row.found.items ≡ c.args.limit = omega (arith, c.loop-row.found.ok.0, w.len.ensures, w.if-len-limit.true) in
+          shown_enough c.args.limit wanted c.args.rows c.loop-row.row-iterator c.loop-row.found.items c.loop-row.invariant.shown enough
     ]
 
 pub returns-in_err-try_clone-clause-memory : goal.returns-in_err-try_clone-clause-memory
@@ -49,4 +47,3 @@ returns-in_err-push-clause-memory c =
     let shown = subst (λ l. ShowsAll wanted c.args.rows c.loop-row.found.items l) front c.loop-row.invariant.shown in
     let some = some_left c.args.limit wanted c.args.rows left row c.loop-row.found.items passes shown asked in
     search (rules, some)
-

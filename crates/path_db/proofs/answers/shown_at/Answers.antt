@@ -1,5 +1,4 @@
-use Rattle.std.proofs.Common.{rules, ◌≡◌, ◌<◌, true, [], ◌∷◌, Some, length, take, ap, sym, ◌∙◌, subst, arith}
-use Rattle.std.specs.List.{filter}
+use Rattle.std.proofs.Common.{rules, ◌≡◌, ◌<◌, true, [], ◌∷◌, Some, length, ap, ◌∙◌, subst, arith}
 use Rattle.isd_as.specs.IsdAs.{number_of}
 use Rattle.path_db.specs.Answer.{is_shown, answer_of}
 use Rattle.path_db.specs.Row.{row_view}
@@ -17,11 +16,11 @@ returns-clause-same c =
     let wanted = is_shown query.kind (number_of query.start) (number_of query.end) query.moment in
     elim c.match-next.branch [
       | in-None w ↦
-        let none : c.loop-place.place-iterator ≡ [] = search (rules, w.in-None) in
-        shown_whole c.args.limit wanted (rows_at c.args.rows.now c.args.places) (rows_at c.args.rows.now c.loop-place.place-iterator) c.loop-place.found.items c.loop-place.invariant.shown (ap (rows_at c.args.rows.now) none) c.loop-place.invariant.few
+          let none : c.loop-place.place-iterator ≡ [] = search (rules, w.in-None) in
+          shown_whole c.args.limit wanted (rows_at c.args.rows.now c.args.places) (rows_at c.args.rows.now c.loop-place.place-iterator) c.loop-place.found.items c.loop-place.invariant.shown (ap (rows_at c.args.rows.now) none) c.loop-place.invariant.few
       | in-Some+then-len-limit w ↦
-        let enough : length c.loop-place.found.items ≡ c.args.limit = omega (arith, c.loop-place.found.ok.0, w.len.ensures, w.if-len-limit.true) in
-        shown_enough c.args.limit wanted (rows_at c.args.rows.now c.args.places) (rows_at c.args.rows.now c.loop-place.place-iterator) c.loop-place.found.items c.loop-place.invariant.shown enough
+          let enough : length c.loop-place.found.items ≡ c.args.limit = omega (arith, c.loop-place.found.ok.0, w.len.ensures, w.if-len-limit.true) in
+          shown_enough c.args.limit wanted (rows_at c.args.rows.now c.args.places) (rows_at c.args.rows.now c.loop-place.place-iterator) c.loop-place.found.items c.loop-place.invariant.shown enough
     ]
 
 pub returns-in_err-try_clone-clause-memory : goal.returns-in_err-try_clone-clause-memory
@@ -55,4 +54,3 @@ returns-in_err-push-clause-memory c =
     let shown = subst (λ l. ShowsAll wanted (rows_at c.args.rows.now c.args.places) c.loop-place.found.items l) first c.loop-place.invariant.shown in
     let some = some_left c.args.limit wanted (rows_at c.args.rows.now c.args.places) left row c.loop-place.found.items passes shown asked in
     search (rules, some)
-

@@ -1,4 +1,4 @@
-use Rattle.std.proofs.Common.{◌≡◌, ◌⊎◌, inl, inr, true, subst, arith}
+use Rattle.std.proofs.Common.{◌≡◌, inl, inr, true, subst, arith}
 use Rattle.end_index.specs.Place.{has}
 use Rattle.path_db.proofs.Places.{has_taken, kept_by_add, within_by_add, done_by_add}
 use Rattle.path_db.proofs.end_places.add_places.Goals as goal

@@ -1,8 +1,6 @@
-use Rattle.std.proofs.Common.{length, ap, subst, arith}
+use Rattle.std.proofs.Common.{length, ap, arith}
 use Rattle.std.proofs.lemmas.List.{length-map}
 use Rattle.seg_core.specs.EntryView.{entry_view}
-use Rattle.seg_core.specs.Message.{last_of}
-use Rattle.path_db.specs.EndPlaces.{is_of}
 use Rattle.path_db.proofs.Places.{last_is}
 use Rattle.path_db.proofs.end_places.isd_as_at.Goals as goal
 
@@ -11,4 +9,4 @@ returns-in-Last c =
     let entries = c.entries-entries.result.now in
     let some = ap length c.entries-entries.ensures.same in
     rw (c.in-Last.is, ← c.entries-entries.ensures.same, c.to_u64-in-Last.ensures)
-      (last_is entries c.index-entries-entries.result (omega (arith, c.entries-entries.ensures.whole.counted, some, length-map entries entry_view)))
+    (last_is entries c.index-entries-entries.result (omega (arith, c.entries-entries.ensures.whole.counted, some, length-map entries entry_view)))

@@ -10,4 +10,4 @@ loop-row-preserved c =
     let i = c.loop-row.row-index in
     let row = c.row-item.result in
     rw (c.in_ok-push.ensures.items, views_more rows i row (omega arith) c.row-item.is)
-      (touched_more (end_of c.args.end) c.place_of.result c.loop-row.places.items (row_views (take i rows)) (row_view row) c.loop-row.invariant c.place_of.ensures)
+    (touched_more (end_of c.args.end) c.place_of.result c.loop-row.places.items (row_views (take i rows)) (row_view row) c.loop-row.invariant c.place_of.ensures)

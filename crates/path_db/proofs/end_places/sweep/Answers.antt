@@ -14,9 +14,9 @@ loop-place-preserved c =
     let p = c.place-item.result in
     elim c.if-not-is_standing.branch [
       | then-not-is_standing w ↦
-        let empty : c.is_standing.result ≡ false = search (rules, w) in
-        rw w.index-is (swept_away end rows now places i p (omega arith) c.place-item.is c.loop-place.invariant w.remove.new.self (sym c.is_standing.ensures ∙ empty) w.remove.ensures)
+          let empty : c.is_standing.result ≡ false = search (rules, w) in
+          rw w.index-is (swept_away end rows now places i p (omega arith) c.place-item.is c.loop-place.invariant w.remove.new.self (sym c.is_standing.ensures ∙ empty) w.remove.ensures)
       | else-not-is_standing w ↦
-        let there : c.is_standing.result ≡ true = search (rules, w) in
-        rw w.index-is (swept_standing end rows now places i p (omega arith) c.place-item.is c.loop-place.invariant (sym c.is_standing.ensures ∙ there))
+          let there : c.is_standing.result ≡ true = search (rules, w) in
+          rw w.index-is (swept_standing end rows now places i p (omega arith) c.place-item.is c.loop-place.invariant (sym c.is_standing.ensures ∙ there))
     ]

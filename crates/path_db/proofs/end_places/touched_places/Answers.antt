@@ -1,4 +1,4 @@
-use Rattle.std.proofs.Common.{rules, ◌≡◌, [], ◌∷◌, ◌++◌, Some, None, map, take, ap, ◌∙◌, arith}
+use Rattle.std.proofs.Common.{rules, ◌≡◌, [], ◌∷◌, Some, None, map, take, ap, ◌∙◌, arith}
 use Rattle.std.specs.Option.{option_map}
 use Rattle.std.proofs.lemmas.List.{map-append}
 use Rattle.path_db.specs.Row.{row_view, row_views}
@@ -19,15 +19,15 @@ loop-old-preserved c =
     let more = ap (map saved_view) (taken_more all i old (omega arith) c.old-item.is) ∙ map-append saved_view (take i all) (old ∷ []) in
     elim c.match-old.branch [
       | in-Some+in_ok-push w ↦
-        let is : option_map row_view old.row ≡ Some (row_view w.in-Some.row) = search (rules, w.in-Some) in
-        rw (w.places-is, w.in_ok-push.ensures.items, more) record {
-          new = touched_still end w.place_of.result places (row_views c.args.new.now) c.loop-old.invariant.new;
-          saved = saved_some end w.place_of.result places saved (saved_view old) (row_view w.in-Some.row) c.loop-old.invariant.saved is w.place_of.ensures;
-        }
+          let is : option_map row_view old.row ≡ Some (row_view w.in-Some.row) = search (rules, w.in-Some) in
+          rw (w.places-is, w.in_ok-push.ensures.items, more) record {
+            new = touched_still end w.place_of.result places (row_views c.args.new.now) c.loop-old.invariant.new;
+            saved = saved_some end w.place_of.result places saved (saved_view old) (row_view w.in-Some.row) c.loop-old.invariant.saved is w.place_of.ensures;
+          }
       | in_default w ↦
-        let is : option_map row_view old.row ≡ None = search (rules, w.in_default) in
-        rw (w.places-is, more) record {
-          new = c.loop-old.invariant.new;
-          saved = saved_none end places saved (saved_view old) c.loop-old.invariant.saved is;
-        }
+          let is : option_map row_view old.row ≡ None = search (rules, w.in_default) in
+          rw (w.places-is, more) record {
+            new = c.loop-old.invariant.new;
+            saved = saved_none end places saved (saved_view old) c.loop-old.invariant.saved is;
+          }
     ]

@@ -1,4 +1,4 @@
-use Rattle.std.proofs.Common.{◌≡◌, map, take}
+use Rattle.std.proofs.Common.{map, take}
 use Rattle.path_db.specs.Row.{row_views}
 use Rattle.path_db.specs.Saved.{saved_view}
 use Rattle.path_db.specs.EndPlaces.{end_of, AreTouched, AreSavedTouched}

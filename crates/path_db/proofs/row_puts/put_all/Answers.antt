@@ -1,4 +1,4 @@
-use Rattle.std.proofs.Common.{◌≡◌, List, sym, ap, ◌∙◌, subst}
+use Rattle.std.proofs.Common.{List, sym, ap, ◌∙◌, subst}
 use Rattle.path_db.specs.Database.{rows_len}
 use Rattle.path_db.specs.Row.{row_views}
 use Rattle.path_db.specs.Saved.{Stood, IsLeft}

@@ -1,4 +1,4 @@
-use Rattle.std.proofs.Common.{rules, ◌≡◌, true, false, Some, ap, sym, ◌∙◌}
+use Rattle.std.proofs.Common.{rules, ◌≡◌, true, false, ap, sym, ◌∙◌}
 use Rattle.std.specs.Option.{option_map}
 use Rattle.path_db.specs.Row.{row_view}
 use Rattle.path_db.proofs.PutRow.{kept_rows, new_rows, kept_change, updated_change, inserted_change}

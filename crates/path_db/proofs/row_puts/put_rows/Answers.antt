@@ -1,7 +1,7 @@
-use Rattle.std.proofs.Common.{rules, [], ◌∷◌, ◌++◌, drop, length, sym, ap, ◌∙◌, subst, arith}
-use Rattle.std.proofs.lemmas.List.{map-append, map-id, length_push, take-append-drop}
+use Rattle.std.proofs.Common.{rules, [], ◌∷◌, ◌++◌, drop, length, sym, ap, ◌∙◌}
+use Rattle.std.proofs.lemmas.List.{map-append, map-id, take-append-drop}
 use Rattle.std.proofs.lemmas.Iterator.Adapters.{YieldsList-from_vec}
-use Rattle.std.proofs.lemmas.Iterator.Consumers.{YieldsList-turn, YieldsList-end, YieldsList-so_far}
+use Rattle.std.proofs.lemmas.Iterator.Consumers.{YieldsList-so_far}
 use Rattle.path_db.specs.Put.{database_after_put, database_after_puts, change_of, changes_of}
 use Rattle.path_db.specs.Row.{row_view, row_views}
 use Rattle.path_db.specs.Outcome.{outcome_of_puts, outcome_after}
@@ -26,8 +26,8 @@ returns-in_err-put_row-clause-some c =
       part = row_views c.loop-row.yielded;
       rest = row_views (drop n c.args.new.items);
       parts =
-        ap row_views (sym (take-append-drop n c.args.new.items) ∙ ap (λ l. l ++ drop n c.args.new.items) (sym taken))
-        ∙ map-append row_view c.loop-row.yielded (drop n c.args.new.items);
+          ap row_views (sym (take-append-drop n c.args.new.items) ∙ ap (λ l. l ++ drop n c.args.new.items) (sym taken))
+          ∙ map-append row_view c.loop-row.yielded (drop n c.args.new.items);
       put = c.in_err-put_row.ensures.err ∙ c.loop-row.invariant.put;
     } in
     search (rules, some)

@@ -1,4 +1,4 @@
-use Rattle.std.proofs.Common.{◌≡◌, ◌++◌}
+use Rattle.std.proofs.Common.{◌≡◌}
 use Rattle.path_db.specs.Database.{rows_len}
 use Rattle.path_db.specs.Put.{database_after_puts, changes_of}
 use Rattle.path_db.specs.Outcome.{outcome_of_puts}

@@ -1,4 +1,4 @@
-use Rattle.std.proofs.Common.{◌≡◌, map}
+use Rattle.std.proofs.Common.{map}
 use Rattle.path_db.specs.Saved.{saved_view, IsRestoring}
 use Rattle.path_db.proofs.row_puts.restore.Given as goal
 

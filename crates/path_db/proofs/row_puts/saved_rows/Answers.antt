@@ -1,8 +1,8 @@
-use Rattle.std.proofs.Common.{◌≡◌, refl, [], ◌∷◌, ◌++◌, map, take, sym, ap, ◌∙◌, arith}
+use Rattle.std.proofs.Common.{◌≡◌, refl, ap, arith}
 use Rattle.std.proofs.lemmas.List.{map-append}
 use Rattle.path_db.specs.Database.{RowView, key, key_of, row_under}
-use Rattle.path_db.specs.Row.{row_view, row_views}
-use Rattle.path_db.specs.Saved.{Stood, saved_view}
+use Rattle.path_db.specs.Row.{row_view}
+use Rattle.path_db.specs.Saved.{Stood}
 use Rattle.path_db.proofs.Indices.{key_is}
 use Rattle.path_db.proofs.Places.{views_more}
 use Rattle.path_db.proofs.row_puts.saved_rows.Goals as goal

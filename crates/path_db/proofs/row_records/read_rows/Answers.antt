@@ -1,5 +1,7 @@
-use Rattle.std.proofs.Common.{sym}
-use Rattle.path_db.specs.Row.{row_views}
+use Rattle.std.proofs.Common.{rules, ◌<◌, length, sym, arith}
+use Rattle.std.proofs.lemmas.List.{length-map}
+use Rattle.path_db.specs.Row.{row_view, row_views}
+use Rattle.path_db.proofs.Outlined.{some_outlined}
 use Rattle.path_db.proofs.RowsBack.{rows_read}
 use Rattle.path_db.proofs.row_records.read_rows.Goals as goal
 
@@ -11,3 +13,10 @@ of_rows-requires-clause-database c = record {
 
 pub of_rows-requires-clause-counted : goal.of_rows-requires-clause-counted
 of_rows-requires-clause-counted c = sym (rows_read c.args.bytes.now (row_views c.in_ok-rows.rows.items) c.in_ok-rows.ensures.decoding).1
+
+pub returns-in_err-of_rows-clause-memory : goal.returns-in_err-of_rows-clause-memory
+returns-in_err-of_rows-clause-memory c =
+    let rows = c.in_ok-rows.rows.items in
+    let some : 0 < length (row_views rows) = omega (arith, c.in_err-of_rows.ensures.memory, length-map rows row_view) in
+    let outlined = some_outlined c.args.bytes.now (row_views rows) c.in_ok-rows.ensures.decoding some in
+    search (rules, outlined)

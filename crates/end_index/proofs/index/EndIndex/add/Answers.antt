@@ -1,4 +1,4 @@
-use Rattle.std.proofs.Common.{ap, ◌∙◌, not, ◌&&◌, ◌||◌}
+use Rattle.std.proofs.Common.{ap, ◌∙◌, ◌||◌}
 use Rattle.end_index.specs.Place.{has, is_same}
 use Rattle.end_index.proofs.Tests.{cond-or, same_both_ways}
 use Rattle.end_index.proofs.index.EndIndex.add.Goals as goal

@@ -39,4 +39,3 @@ returns-then-is_indexed-2-clause-memory c =
     let walk : c.places_at-places-then-is_indexed-2.result ≡ filter (stands_at (type_number c.args.kind) (number_of c.args.start)) c.self.inside.by_first = rw (← c.type_byte-then-is_indexed-2.ensures, ← c.to_u64-then-is_indexed-2.ensures) c.places_at-places-then-is_indexed-2.ensures.same in
     let answer = answer_at_first c.args.limit rows c.self.inside.by_first c.places_at-places-then-is_indexed-2.result c.args.kind (number_of c.args.start) (number_of c.args.end) c.args.now c.self.invariant.database.rising c.self.invariant.first c.places_at-places-then-is_indexed-2.ensures.rising exact walk in
     rw (← c.self.view_is) (subst (λ a. OnErr c.shown_at-then-is_indexed-2.result (0 < length a)) answer c.shown_at-then-is_indexed-2.ensures.memory)
-

@@ -1,4 +1,4 @@
-use Rattle.std.proofs.Common.{◌≡◌, [], sym, ap, ◌∙◌}
+use Rattle.std.proofs.Common.{ap, ◌∙◌}
 use Rattle.path_db.specs.Put.{database_after_puts}
 use Rattle.path_db.specs.Row.{row_views}
 use Rattle.path_db.proofs.Rebuilt.{rebuilt}

@@ -1,5 +1,5 @@
 use Rattle.std.proofs.Common.{◌≡◌, ◌-◌, not, length, sym, ap, ◌∙◌, subst, arith}
-use Rattle.std.specs.List.{count_by, filter}
+use Rattle.std.specs.List.{count_by}
 use Rattle.path_db.specs.declared.end.End.TheVariants.{First, Last}
 use Rattle.path_db.specs.Database.{IsDatabase}
 use Rattle.path_db.specs.Command.{is_valid_beyond}

@@ -1,4 +1,4 @@
-use Rattle.std.proofs.Common.{rules, ◌≡◌, [], List, map, OnOk, vec_len, length, sym, ap, ◌∙◌, subst, arith}
+use Rattle.std.proofs.Common.{rules, ◌≡◌, List, map, OnOk, vec_len, sym, ap, ◌∙◌, subst, arith}
 use Rattle.path_db.specs.declared.end.End.TheVariants.{First, Last}
 use Rattle.path_db.specs.Put.{database_after_puts, changes_of}
 use Rattle.path_db.specs.Outcome.{outcome_of_puts}
@@ -23,9 +23,9 @@ sweep-requires c =
     let grown : IsGrown touched c.self.inside.by_first c.add_both-added.new.by_first = rw (← c.deref-6.ensures.value) c.add_both-added.ensures.first in
     let added : OnOk c.add_both-added.result (HasAll touched c.add_both-added.new.by_first) = rw (← c.deref-6.ensures.value) c.add_both-added.ensures.all_first in
     rw c.deref-8.ensures.value
-      (covers_either end rows new c.put_after-put.new.rows touched c.self.inside.by_first c.add_both-added.new.by_first c.add_both-added.result c.put_after-put.result c.self.invariant.database.rising all
-        (olds_from end rows touched new (subst (λ (l : List Stood). AreSavedTouched end touched l) each saved))
-        c.self.invariant.first grown added c.put_after-put.ensures.added c.put_after-put.ensures.rows c.put_after-put.ensures.err)
+    (covers_either end rows new c.put_after-put.new.rows touched c.self.inside.by_first c.add_both-added.new.by_first c.add_both-added.result c.put_after-put.result c.self.invariant.database.rising all
+    (olds_from end rows touched new (subst (λ (l : List Stood). AreSavedTouched end touched l) each saved))
+    c.self.invariant.first grown added c.put_after-put.ensures.added c.put_after-put.ensures.rows c.put_after-put.ensures.err)
 
 pub sweep-requires-2 : goal.sweep-requires-2
 sweep-requires-2 c =
@@ -39,9 +39,9 @@ sweep-requires-2 c =
     let grown : IsGrown touched c.self.inside.by_last c.add_both-added.new.by_last = rw (← c.deref-7.ensures.value) c.add_both-added.ensures.last in
     let added : OnOk c.add_both-added.result (HasAll touched c.add_both-added.new.by_last) = rw (← c.deref-7.ensures.value) c.add_both-added.ensures.all_last in
     rw c.deref-9.ensures.value
-      (covers_either end rows new c.put_after-put.new.rows touched c.self.inside.by_last c.add_both-added.new.by_last c.add_both-added.result c.put_after-put.result c.self.invariant.database.rising all
-        (olds_from end rows touched new (subst (λ (l : List Stood). AreSavedTouched end touched l) each saved))
-        c.self.invariant.last grown added c.put_after-put.ensures.added c.put_after-put.ensures.rows c.put_after-put.ensures.err)
+    (covers_either end rows new c.put_after-put.new.rows touched c.self.inside.by_last c.add_both-added.new.by_last c.add_both-added.result c.put_after-put.result c.self.invariant.database.rising all
+    (olds_from end rows touched new (subst (λ (l : List Stood). AreSavedTouched end touched l) each saved))
+    c.self.invariant.last grown added c.put_after-put.ensures.added c.put_after-put.ensures.rows c.put_after-put.ensures.err)
 
 pub invariant_of-self : goal.invariant_of-self
 invariant_of-self c = record {

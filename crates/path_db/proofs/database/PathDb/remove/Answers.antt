@@ -1,10 +1,8 @@
-use Rattle.std.proofs.Common.{◌≡◌, Some, None, not, sym, ap, ◌∙◌, subst, arith}
-use Rattle.std.specs.Option.{option_map}
+use Rattle.std.proofs.Common.{not, sym, ap, ◌∙◌, subst, arith}
 use Rattle.path_db.specs.declared.end.End.TheVariants.{First, Last}
-use Rattle.path_db.specs.Database.{key, is_under, row_under, rows_len, IsDatabase}
+use Rattle.path_db.specs.Database.{key, is_under, rows_len, IsDatabase}
 use Rattle.path_db.specs.EndPlaces.{end_of}
 use Rattle.path_db.specs.Row.{row_view}
-use Rattle.path_db.specs.RowMap.{len_if_any}
 use Rattle.path_db.proofs.Rising.{database_filtered}
 use Rattle.path_db.proofs.Removed.{removed_index, kept_index, none_to_remove}
 use Rattle.path_db.proofs.database.PathDb.remove.Goals as goal

@@ -1,4 +1,4 @@
-use Rattle.std.proofs.Common.{rules, ◌≡◌, sym, ap, ◌∙◌, subst}
+use Rattle.std.proofs.Common.{rules, sym, ap, ◌∙◌, subst}
 use Rattle.std.proofs.lemmas.Map.Made.{filter_same_pairs}
 use Rattle.path_db.specs.declared.row.Row.{Row}
 use Rattle.path_db.specs.declared.row_key.RowKey.{RowKey}
