@@ -1,10 +1,10 @@
 //! The rows of a checkpoint, read by pieces of their bytes: for areas that are larger than what is to be in memory.
 
-ghost use Rattle.std.specs.Prelude.{◌≡◌, ◌≢◌, ◌<◌, ◌++◌, length, IfOk, IfErr};
+ghost use Rattle.std.specs.Prelude.{◌≡◌, ◌≢◌, ◌<◌, ◌++◌, length, IfOk, IfErr, IsOk};
 ghost use Rattle.path_db.specs.Database.{IsDatabase};
 ghost use Rattle.path_db.specs.RowRecord.{rows_decoding};
 ghost use Rattle.ckpt_pair.specs.declared.error.PairError.TheVariants.{NoMemory, BadCheckpoint};
-ghost use Rattle.ckpt_pair.specs.Refusals.{Reads};
+ghost use Rattle.ckpt_pair.specs.Refusals.{Gives};
 ghost use Rattle.ckpt_pair.specs.Rows.{as_counted};
 ghost use Rattle.ckpt_pair.specs.Reading.{or_bad, AreNoRows};
 
@@ -26,13 +26,17 @@ pub fn feed_rows(reader: RowsReader, piece: &[u8]) -> Result<RowsReader, PairErr
     }
 }
 
-/// The database of all bytes that were fed, which are to be the records of just so many rows. It takes no memory.
+/// The database of all bytes that were fed, which are to be the records of just so many rows. It takes memory only where they
+/// are the records of some rows.
 pub fn finish_rows(reader: RowsReader, count: u32) -> Result<PathDb, PairError>
-    ensures decoding { Reads (λ rows. rows) result (or_bad (as_counted count (rows_decoding reader))) }
+    ensures decoding { Gives (λ rows. rows) result (or_bad (as_counted count (rows_decoding reader))) }
     ensures whole { IfOk result IsDatabase }
+    ensures memory { IfErr result (λ e. e ≡ NoMemory → IsOk (rows_decoding reader) × (0 < length reader)) }
 {
-    let Ok(db) = reader.finish() else {
-        return Err(PairError::BadCheckpoint);
+    let db = match reader.finish() {
+        Ok(db) => db,
+        Err(DbError::NoMemory) => return Err(PairError::NoMemory),
+        Err(_) => return Err(PairError::BadCheckpoint),
     };
     if !has_count(&db, count) {
         return Err(PairError::BadCheckpoint);

@@ -1,6 +1,6 @@
 -- Rows read by pieces: for `rows_reader`.
-use Rattle.std.proofs.Common.{◌≡◌, ℕ, ◌+◌, ◌-◌, ◌<◌, ◌≤◌, Bool, true, false, List, [], ◌∷◌, ◌++◌, length, take, drop, refl, sym, ap, ◌∙◌, arith, append_assoc, append-nil, leb-true, le-leb, Ok, Err, Some, None}
-use Rattle.std.specs.Prelude.{Result, Option, slice_index, if◌then◌else◌, nat_le}
+use Rattle.std.proofs.Common.{◌≡◌, ℕ, ◌+◌, ◌-◌, ◌<◌, ◌≤◌, Bool, true, false, List, [], ◌∷◌, ◌++◌, length, take, drop, refl, sym, ap, subst, ◌∙◌, arith, append_assoc, append-nil, leb-true, le-leb, Ok, Err, Some, None}
+use Rattle.std.specs.Prelude.{Result, Option, IsOk, slice_index, if◌then◌else◌, nat_le}
 use Rattle.std.specs.Option.{option_or}
 use Rattle.std.specs.Int.{w32, from_be_bytes}
 use Rattle.std.proofs.lemmas.List.{length-append, length-drop, take-append-le, drop-append-le, drop-drop}
@@ -20,6 +20,7 @@ use Rattle.path_db.proofs.Spelled.{has_room, row_spelled}
 use Rattle.path_db.proofs.Records.{whole_more}
 use Rattle.path_db.proofs.RowsBack.{Rises, rises, rising}
 use Rattle.path_db.proofs.RowsRead.{row_refused, row_falls, rows_done}
+use Rattle.path_db.proofs.ReadBack.{encoding_len}
 use Rattle.path_db.proofs.Refused.{behind_database}
 
 -- ---- one row more
@@ -139,3 +140,9 @@ pub left_more : (bytes left : List ℕ) (n : ℕ) → left ≡ drop (length byte
 left_more bytes left n is inside within =
     ap (drop n) is ∙ drop-drop n (length bytes - length left) bytes
     ∙ ap (λ (k : ℕ). drop k bytes) (omega (arith, inside, within, length-drop n left))
+
+-- where rows were read there are bytes
+pub wanted_at : (rows : List RowView) (rest : List ℕ) → rows_decoding (rows_encoding rows ++ rest) ≡ Ok rows → 0 < length rows
+    → IsOk (rows_decoding (rows_encoding rows ++ rest)) × (0 < length (rows_encoding rows ++ rest))
+wanted_at rows rest read some =
+    (subst IsOk (sym read) refl, omega (arith, some, encoding_len rows, length-append (rows_encoding rows) rest))

@@ -7,4 +7,4 @@ use Rattle.path_db.proofs.database.PathDb.of_rows.Goals as goal
 pub returns-clause-same : goal.returns-clause-same
 returns-clause-same c =
     let new = row_views c.args.rows.items in
-    c.in_ok-put.ensures.database ∙ ap (λ old. database_after_puts old new) c.new-db.ensures ∙ rebuilt new c.requires.database.rising
+    c.in_ok-put.ensures.database ∙ ap (λ old. database_after_puts old new) c.new-db.ensures ∙ rebuilt new c.requires.rising
