@@ -5,3 +5,4 @@ pub mod TailReads
 pub mod HalfReads
 pub mod Openings
 pub mod Standings
+pub mod Kept

@@ -7,3 +7,4 @@ pub mod Halves
 pub mod BasePart
 pub mod Standing
 pub mod StandingLaws
+pub mod Kept

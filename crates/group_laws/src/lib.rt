@@ -4,10 +4,12 @@
 //! for any format of rows and commands.
 #![tactic(auto)]
 
+mod kept_laws;
 mod phases;
 mod range_laws;
 mod standing_laws;
 
+pub use kept_laws::{calls_leave_the_other_part, parts_stay_where_untouched};
 pub use phases::{Check, Flush};
 pub use range_laws::{
     calls_leave_what_is_around_them, ranges_have_parts, settled_ranges_are_in_every_image,
