@@ -13,3 +13,5 @@ pub use Rattle.group_laws.proofs.Openings.{opens_plain, opens_sealed, base_image
 pub use Rattle.group_laws.proofs.Standings.{unsealed_may, opens_by_both_parts}
 -- what one actor leaves to the other
 pub use Rattle.group_laws.proofs.Kept.{whole_journal, keeps_flusher_part, checkpoint_inside, front_gate, front_area, front_checkpoint, half_front, half_journal, half_first, old_kept, new_kept, written_kept, base_kept, keeps_base_part, journal_apart_beside, beside_apart, beside_inside, tail_writes_leave_base, base_writes_leave_tail, syncs_leave_both}
+-- the flusher's steps
+pub use Rattle.group_laws.proofs.FlusherSteps.{length-seal, length-load, length-open_gate, closed_gate_closed, writes_in_journal, written_part, journal_part, synced_clean, writes_load, syncs_load, opens_tail_gate, syncs_tail_gate, publishes_group}

@@ -6,3 +6,4 @@ pub mod HalfReads
 pub mod Openings
 pub mod Standings
 pub mod Kept
+pub mod FlusherSteps

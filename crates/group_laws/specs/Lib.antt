@@ -8,3 +8,4 @@ pub mod BasePart
 pub mod Standing
 pub mod StandingLaws
 pub mod Kept
+pub mod FlusherSteps

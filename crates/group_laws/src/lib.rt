@@ -4,11 +4,15 @@
 //! for any format of rows and commands.
 #![tactic(auto)]
 
+mod flusher_laws;
 mod kept_laws;
 mod phases;
 mod range_laws;
 mod standing_laws;
 
+pub use flusher_laws::{
+    durable_groups_are_published, flusher_calls_go_on, flusher_writes_lie_in_the_journal,
+};
 pub use kept_laws::{calls_leave_the_other_part, parts_stay_where_untouched};
 pub use phases::{Check, Flush};
 pub use range_laws::{
