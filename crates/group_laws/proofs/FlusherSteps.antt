@@ -1,12 +1,11 @@
 -- What the flusher's calls make of its part.
-use Rattle.std.proofs.Common.{◌≡◌, ◌⊎◌, inl, inr, ℕ, ◌+◌, ◌*◌, ◌<◌, ◌≤◌, List, [], ◌∷◌, ◌++◌, length, take, drop, get_or, replicate, refl, sym, ◌∙◌, ap, subst, arith, length-append, Result, Ok, Err}
+use Rattle.std.proofs.Common.{◌≡◌, inl, inr, ℕ, ◌+◌, ◌*◌, ◌≤◌, List, [], length, take, get_or, sym, ◌∙◌, ap, subst, arith, length-append, Result, Ok, Err}
 use Rattle.std.proofs.lemmas.Bool.{cases_lt}
 use Rattle.std.proofs.lemmas.List.{take_at, take_all, drop_at, length-replicate, get_or-replicate}
 use Rattle.byte_lists.specs.Content.{part}
 use Rattle.byte_lists.specs.Sectors.{whole_sectors, sector_at, IsOpenGate}
-use Rattle.byte_lists.proofs.Contents.{get_or-part}
 use Rattle.byte_lists.proofs.Padding.{length-padded}
-use Rattle.sector_dev.specs.Disk.{Moment, History, Disk, IsHonest, reads_of}
+use Rattle.sector_dev.specs.Disk.{History, Disk, IsHonest, reads_of}
 use Rattle.sector_dev.specs.Image.{IsCleanPart}
 use Rattle.sector_dev.specs.Calls.{WriteCall, SyncCall}
 use Rattle.sector_dev.proofs.Results.{success}
@@ -19,12 +18,11 @@ use Rattle.image_laws.specs.Group.{with_header, group_encoding, seal_encoding, g
 use Rattle.image_laws.specs.Journal.{all_of, gate_behind}
 use Rattle.image_laws.specs.Layout.{Geometry, journal_at, image_sectors, journal_of}
 use Rattle.image_laws.proofs.Exports.{length-group_encoding, half_inside, all_of_more, chain_more, journal_long}
-use Rattle.group_laws.specs.declared.phases.Flush.TheVariants.{Resting, Staged, Written, Stable, Opened, Doubtful, Durable}
+use Rattle.group_laws.specs.declared.phases.Flush.TheVariants.{Staged, Written, Stable, Opened, Doubtful, Durable}
 use Rattle.group_laws.specs.Range.{Untouched, AreApart}
 use Rattle.group_laws.specs.Setting.{HasTitle, AreCleanSectors}
-use Rattle.group_laws.specs.Tail.{Load, Commands, Seal, payload_of, load_sectors, closed_gate, open_gate, load_bytes, written_sectors, Tail, place_of, CanBeLoad, tail_after}
+use Rattle.group_laws.specs.Tail.{Load, Commands, Seal, closed_gate, open_gate, load_bytes, written_sectors, Tail, place_of, CanBeLoad}
 use Rattle.group_laws.specs.FlusherPart.{tail_bytes, HasGroups, HasClosedGate, HasLoad, FlusherPart}
-use Rattle.group_laws.specs.Kept.{IsInJournal}
 use Rattle.group_laws.specs.FlusherSteps.{by_result, load_at, tail_gate_at, WritesInJournal, WritesLoad, OpensTailGate, SyncsLoad, SyncsTailGate, PublishesGroup}
 use Rattle.group_laws.proofs.Ranges.{part_of_part}
 use Rattle.group_laws.proofs.Calls.{writes_leave_what_is_beside, writes_are_read, syncs_leave_all}
@@ -226,7 +224,7 @@ opens_tail_gate T E C format limits geometry tail load (Ok value) old new call h
         journal_part geometry tail.half (512 * tail.gate) 512 (reads_of new) (omega (arith, has.groups.room))
         ∙ ap (λ (at : ℕ). part at 512 (reads_of new)) first
         ∙ written_part E value (tail_gate_at geometry tail) open_gate old new call honest
-          (omega (arith, half_inside geometry tail.half, title.store.room, has.groups.room, length-open_gate)) 0 512 (omega (arith, length-open_gate))
+        (omega (arith, half_inside geometry tail.half, title.store.room, has.groups.room, length-open_gate)) 0 512 (omega (arith, length-open_gate))
         ∙ take_all 512 open_gate (omega (arith, length-open_gate))
 
     opened : IsOpenGate (sector_at tail.gate (tail_bytes geometry tail new.history.now))

@@ -7,3 +7,4 @@ pub mod Openings
 pub mod Standings
 pub mod Kept
 pub mod FlusherSteps
+pub mod CheckpointerSteps

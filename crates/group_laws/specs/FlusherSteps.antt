@@ -1,5 +1,5 @@
 -- What the flusher's calls make of its part. Each statement is the contract of a function.
-use Rattle.std.specs.Prelude.{ℕ, ◌+◌, ◌*◌, ◌≤◌, List, [], ◌∷◌, length, Result, Ok, Err}
+use Rattle.std.specs.Prelude.{ℕ, ◌+◌, List, length, Result, Ok, Err}
 use Rattle.sector_dev.specs.Disk.{Moment, Disk, IsHonest}
 use Rattle.sector_dev.specs.Calls.{WriteCall, SyncCall}
 use Rattle.image_laws.specs.Limits.{Limits}

@@ -9,3 +9,4 @@ pub mod Standing
 pub mod StandingLaws
 pub mod Kept
 pub mod FlusherSteps
+pub mod CheckpointerSteps

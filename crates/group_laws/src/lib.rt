@@ -4,12 +4,16 @@
 //! for any format of rows and commands.
 #![tactic(auto)]
 
+mod checkpointer_laws;
 mod flusher_laws;
 mod kept_laws;
 mod phases;
 mod range_laws;
 mod standing_laws;
 
+pub use checkpointer_laws::{
+    checkpoints_are_laid, halves_are_switched, parts_stay_under_larger_limits, seals_are_published,
+};
 pub use flusher_laws::{
     durable_groups_are_published, flusher_calls_go_on, flusher_writes_lie_in_the_journal,
 };
