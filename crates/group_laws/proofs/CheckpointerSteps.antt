@@ -26,7 +26,7 @@ use Rattle.group_laws.specs.Tail.{Load, Commands, Seal, closed_gate, open_gate, 
 use Rattle.group_laws.specs.FlusherPart.{FlusherPart}
 use Rattle.group_laws.specs.Halves.{ReadsOpen, IsOpenHalf, HasCheckpoint, FirstReadsClosed, IsFirstClosed}
 use Rattle.group_laws.specs.BasePart.{Base, sealed_of, OldStands, NewStands, CanBeWritten, HasWritten, BasePart}
-use Rattle.group_laws.specs.CheckpointerSteps.{StaysUnderLargerLimits, TakesTheNewVersion, base_switched, PublishesSeal, BeginsPlan, WritesChunk, SyncsChunks, OpensHalf, SyncsHalf, ClosesHalf, SyncsClose}
+use Rattle.group_laws.specs.CheckpointerSteps.{StaysUnderLargerLimits, WritesBesideJournal, TakesTheNewVersion, base_switched, PublishesSeal, BeginsPlan, WritesChunk, SyncsChunks, OpensHalf, SyncsHalf, ClosesHalf, SyncsClose}
 use Rattle.group_laws.proofs.Ranges.{parts_joined}
 use Rattle.group_laws.proofs.Calls.{writes_leave_what_is_beside, writes_are_read}
 use Rattle.group_laws.proofs.HalfReads.{head_of_checkpoint, checkpoint_kept, closed_half_kept}
@@ -342,3 +342,13 @@ syncs_close T E Db C setting base written (Ok value) old new call honest title h
     }
 syncs_close T E Db C setting base written (Err error) old new call honest title has =
     base_kept setting base old.history.now new.history.now title ((syncs_leave_both T E setting.geometry base.half (Err error) old new call honest).1) Closing written has
+
+pub writes_beside_journal : (Db C : Type 0) → WritesBesideJournal Db C
+writes_beside_journal Db C setting base written more sizes can inside = record {
+  chunk = inl (record { from = omega arith; to = omega (arith, long, can.fits, inside) });
+  gate = inl (record { from = omega arith; to = omega (arith, length-open_gate) });
+  gates = inr (record { from = omega arith; to = omega (arith, length-gates, sizes) });
+}
+  where
+    long : length (part (512 * written) (512 * more) (checkpoint_encoding setting.format.rows base.new)) ≡ 512 * more
+    long = length-part (512 * written) (512 * more) (checkpoint_encoding setting.format.rows base.new) (omega (arith, inside))

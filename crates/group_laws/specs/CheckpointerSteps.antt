@@ -5,7 +5,7 @@ use Rattle.sector_dev.specs.Disk.{Moment, Disk, IsHonest}
 use Rattle.sector_dev.specs.Calls.{WriteCall, SyncCall}
 use Rattle.image_laws.specs.Limits.{Limits, AreAsLarge, limits_of}
 use Rattle.image_laws.specs.CommandFormat.{CommandFormat}
-use Rattle.image_laws.specs.Layout.{Geometry, other, area_at, gate_at}
+use Rattle.image_laws.specs.Layout.{Geometry, IsGeometry, other, area_at, gate_at}
 use Rattle.image_laws.specs.Checkpoint.{Checkpoint, checkpoint_encoding}
 use Rattle.group_laws.specs.declared.phases.Flush.{Flush}
 use Rattle.group_laws.specs.declared.phases.Flush.TheVariants.{Resting, Durable}
@@ -15,6 +15,7 @@ use Rattle.group_laws.specs.Setting.{Setting, HasTitle}
 use Rattle.group_laws.specs.Tail.{Load, Seal, closed_gate, open_gate, Tail, place_of}
 use Rattle.group_laws.specs.FlusherPart.{FlusherPart}
 use Rattle.group_laws.specs.BasePart.{Base, FoldsTo, CanBeWritten, BasePart}
+use Rattle.group_laws.specs.Kept.{IsBesideJournal}
 use Rattle.group_laws.specs.FlusherSteps.{by_result}
 
 -- the tail's part under larger limits, and the checkpointer's for a later version of the tail's limits
@@ -55,6 +56,18 @@ BeginsPlan Db C =
     (setting : Setting Db C) (base : Base Db C) (next : Checkpoint Db) (written : ℕ) (moment : Moment)
     → FoldsTo setting.format (with_new base next) → CanBeWritten setting next
     → BasePart Sealed setting base written moment → BasePart Planned setting (with_new base next) 0 moment
+
+-- what the checkpointer writes lies beside the tail's journal: a chunk, the new half's gate, and the old half's two gates
+pub record WritesBeside {Db C : Type 0} (setting : Setting Db C) (base : Base Db C) (written more : ℕ) : Type 0 where
+  pub chunk : IsBesideJournal setting.geometry base.half (area_at setting.geometry base.half + written)
+      (length (part (512 * written) (512 * more) (checkpoint_encoding setting.format.rows base.new)))
+  pub gate : IsBesideJournal setting.geometry base.half (gate_at setting.geometry base.half) (length open_gate)
+  pub gates : IsBesideJournal setting.geometry base.half (gate_at setting.geometry (other base.half)) (length (closed_gate ++ closed_gate))
+
+abbrev pub WritesBesideJournal : Type 0 → Type 0 → Type 0
+WritesBesideJournal Db C =
+    (setting : Setting Db C) (base : Base Db C) (written more : ℕ) → IsGeometry setting.geometry → CanBeWritten setting base.new
+    → 512 * (written + more) ≤ length (checkpoint_encoding setting.format.rows base.new) → WritesBeside setting base written more
 
 -- the next sectors of it are written
 abbrev pub WritesChunk : Type 0 → Type 0 → Type 0 → Type 0 → Type 0

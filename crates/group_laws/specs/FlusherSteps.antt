@@ -32,22 +32,21 @@ WritesInJournal C =
     → IsInJournal geometry tail.half (load_at geometry tail) (length (load_bytes format (place_of tail) load))
     × IsInJournal geometry tail.half (tail_gate_at geometry tail) (length open_gate)
 
--- a write from one phase on
-abbrev pub IsFlusherWrite : (T E C : Type 0) → (CommandFormat C → Geometry → Tail C → Load C → ℕ) → (CommandFormat C → Tail C → Load C → List ℕ) → Flush → Flush → Flush → Type 0
-IsFlusherWrite T E C sector bytes from done failed =
-    (format : CommandFormat C) (limits : Limits) (geometry : Geometry) (tail : Tail C) (load : Load C) (result : Result T E) (old new : Disk)
-    → WriteCall (sector format geometry tail load) (bytes format tail load) result old new → IsHonest old
-    → HasTitle geometry old.history.now → FlusherPart from format limits geometry tail load old.history.now
-    → FlusherPart (by_result done failed result) format limits geometry tail load new.history.now
-
--- what is in flight is written behind the tail's gate; and that gate is written open
+-- what is in flight is written behind the tail's gate
 abbrev pub WritesLoad : Type 0 → Type 0 → Type 0 → Type 0
 WritesLoad T E C =
-    IsFlusherWrite T E C (λ format geometry tail load. load_at geometry tail) (λ format tail load. load_bytes format (place_of tail) load) Staged Written Staged
+    (format : CommandFormat C) (limits : Limits) (geometry : Geometry) (tail : Tail C) (load : Load C) (result : Result T E) (old new : Disk)
+    → WriteCall (load_at geometry tail) (load_bytes format (place_of tail) load) result old new → IsHonest old
+    → HasTitle geometry old.history.now → FlusherPart Staged format limits geometry tail load old.history.now
+    → FlusherPart (by_result Written Staged result) format limits geometry tail load new.history.now
 
+-- and that gate is written open
 abbrev pub OpensTailGate : Type 0 → Type 0 → Type 0 → Type 0
 OpensTailGate T E C =
-    IsFlusherWrite T E C (λ format geometry tail load. tail_gate_at geometry tail) (λ format tail load. open_gate) Stable Opened Doubtful
+    (format : CommandFormat C) (limits : Limits) (geometry : Geometry) (tail : Tail C) (load : Load C) (result : Result T E) (old new : Disk)
+    → WriteCall (tail_gate_at geometry tail) open_gate result old new → IsHonest old
+    → HasTitle geometry old.history.now → FlusherPart Stable format limits geometry tail load old.history.now
+    → FlusherPart (by_result Opened Doubtful result) format limits geometry tail load new.history.now
 
 -- a sync from one phase on, which stays where the sync fails
 abbrev pub IsFlusherSync : Type 0 → Type 0 → Type 0 → Flush → Flush → Type 0

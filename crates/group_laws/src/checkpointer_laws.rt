@@ -1,7 +1,7 @@
 //! Laws of the checkpointer's steps, in any format of databases of type `Db` and commands of type `C`. `T` and `E` are what
 //! a call answers.
 
-ghost use Rattle.group_laws.specs.CheckpointerSteps.{StaysUnderLargerLimits, TakesTheNewVersion, PublishesSeal, BeginsPlan, WritesChunk, SyncsChunks, OpensHalf, SyncsHalf, ClosesHalf, SyncsClose};
+ghost use Rattle.group_laws.specs.CheckpointerSteps.{StaysUnderLargerLimits, TakesTheNewVersion, PublishesSeal, BeginsPlan, WritesBesideJournal, WritesChunk, SyncsChunks, OpensHalf, SyncsHalf, ClosesHalf, SyncsClose};
 
 /// The parts stay when the tail's limits grow to those of the new half's version.
 pub fn parts_stay_under_larger_limits<Db, C>()
@@ -14,6 +14,11 @@ pub fn parts_stay_under_larger_limits<Db, C>()
 pub fn seals_are_published<Db, C>()
     ensures seal { PublishesSeal Db C }
     ensures plan { BeginsPlan Db C }
+{}
+
+/// What the checkpointer writes lies beside the tail's journal.
+pub fn checkpointer_writes_lie_beside_the_journal<Db, C>()
+    ensures { WritesBesideJournal Db C }
 {}
 
 /// The new checkpoint is written by its sectors, and synced: each call leaves the checkpointer's part of the next phase, or

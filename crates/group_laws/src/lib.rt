@@ -12,7 +12,8 @@ mod range_laws;
 mod standing_laws;
 
 pub use checkpointer_laws::{
-    checkpoints_are_laid, halves_are_switched, parts_stay_under_larger_limits, seals_are_published,
+    checkpointer_writes_lie_beside_the_journal, checkpoints_are_laid, halves_are_switched,
+    parts_stay_under_larger_limits, seals_are_published,
 };
 pub use flusher_laws::{
     durable_groups_are_published, flusher_calls_go_on, flusher_writes_lie_in_the_journal,
