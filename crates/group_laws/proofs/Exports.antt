@@ -17,3 +17,5 @@ pub use Rattle.group_laws.proofs.Kept.{whole_journal, keeps_flusher_part, checkp
 pub use Rattle.group_laws.proofs.FlusherSteps.{length-seal, length-load, length-open_gate, closed_gate_closed, writes_in_journal, written_part, journal_part, synced_clean, writes_load, syncs_load, opens_tail_gate, syncs_tail_gate, publishes_group}
 -- the checkpointer's steps
 pub use Rattle.group_laws.proofs.CheckpointerSteps.{stays_under_larger_limits, takes_the_new_version, publishes_seal, begins_plan, writes_chunk, syncs_chunks, opens_half, syncs_half, closes_half, syncs_close, writes_beside_journal}
+-- both parts at once
+pub use Rattle.group_laws.proofs.HeldSteps.{held_flushed, held_while_load_is_written, held_while_gate_is_opened, held_while_load_is_synced, held_while_gate_is_synced, writes_leave_fronts, syncs_leave_fronts}

@@ -8,3 +8,4 @@ pub mod Standings
 pub mod Kept
 pub mod FlusherSteps
 pub mod CheckpointerSteps
+pub mod HeldSteps

@@ -10,3 +10,4 @@ pub mod StandingLaws
 pub mod Kept
 pub mod FlusherSteps
 pub mod CheckpointerSteps
+pub mod HeldSteps

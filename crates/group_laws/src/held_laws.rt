@@ -1,0 +1,20 @@
+//! Laws of the calls on a device that holds what a state stands for, in any format of databases of type `Db` and commands of
+//! type `C`. `T` and `E` are what a call answers.
+
+ghost use Rattle.group_laws.specs.declared.phases.Flush.TheVariants.{Written, Stable, Opened, Durable};
+ghost use Rattle.group_laws.specs.HeldSteps.{HeldWhileLoadIsWritten, HeldWhileGateIsOpened, HeldWhileSynced, WritesLeaveFronts, SyncsLeaveFronts};
+
+/// Each call of the flusher leaves a device that holds what the state then stands for, in whatever phase the checkpointer is.
+pub fn flusher_calls_are_held<T, E, Db, C>()
+    ensures write { HeldWhileLoadIsWritten T E Db C }
+    ensures sync { HeldWhileSynced Written Stable T E Db C }
+    ensures gate { HeldWhileGateIsOpened T E Db C }
+    ensures gate_sync { HeldWhileSynced Opened Durable T E Db C }
+{}
+
+/// What a stop within a write leaves opens to a front that a stop before it or behind it may keep, and what one within a sync
+/// leaves to one that a stop before it may keep.
+pub fn calls_leave_fronts<T, E, Db, C>()
+    ensures write { WritesLeaveFronts T E Db C }
+    ensures sync { SyncsLeaveFronts T E Db C }
+{}
