@@ -116,7 +116,7 @@ gates_apart : (geometry : Geometry) (half : Half) (n : ℕ) → 2 ≤ geometry.j
 gates_apart geometry First n room few = inr (omega arith)
 gates_apart geometry Second n room few = inl (omega arith)
 
-length-gates : length (closed_gate ++ closed_gate) ≡ 1024
+pub length-gates : length (closed_gate ++ closed_gate) ≡ 1024
 length-gates = length-append closed_gate closed_gate ∙ omega (arith, length-replicate {A = ℕ} 512 0)
 
 module _ {T E Db C : Type 0} (setting : Setting Db C) (base : Base Db C) (result : Result T E) (old new : Disk) (honest : IsHonest old) (title : HasTitle setting.geometry old.history.now)

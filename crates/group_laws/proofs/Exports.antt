@@ -19,3 +19,4 @@ pub use Rattle.group_laws.proofs.FlusherSteps.{length-seal, length-load, length-
 pub use Rattle.group_laws.proofs.CheckpointerSteps.{stays_under_larger_limits, takes_the_new_version, publishes_seal, begins_plan, writes_chunk, syncs_chunks, opens_half, syncs_half, closes_half, syncs_close, writes_beside_journal}
 -- both parts at once
 pub use Rattle.group_laws.proofs.HeldSteps.{held_flushed, held_while_load_is_written, held_while_gate_is_opened, held_while_load_is_synced, held_while_gate_is_synced, writes_leave_fronts, syncs_leave_fronts}
+pub use Rattle.group_laws.proofs.HeldChecks.{held_checked, held_while_chunk_is_written, held_while_chunks_are_synced, held_while_half_is_opened, held_while_half_is_synced, held_while_half_is_closed, held_while_close_is_synced}

@@ -9,3 +9,4 @@ pub mod Kept
 pub mod FlusherSteps
 pub mod CheckpointerSteps
 pub mod HeldSteps
+pub mod HeldChecks

@@ -11,3 +11,4 @@ pub mod Kept
 pub mod FlusherSteps
 pub mod CheckpointerSteps
 pub mod HeldSteps
+pub mod HeldChecks

@@ -2,6 +2,8 @@
 //! type `C`. `T` and `E` are what a call answers.
 
 ghost use Rattle.group_laws.specs.declared.phases.Flush.TheVariants.{Written, Stable, Opened, Durable};
+ghost use Rattle.group_laws.specs.declared.phases.Check.TheVariants.{Ready, Switched, Live, Closing};
+ghost use Rattle.group_laws.specs.HeldChecks.{HeldWhileChunkIsWritten, HeldWhileChunksAreSynced, HeldWhileHalfIsOpened, HeldWhileHalfIsClosed, HeldWhileHalfIsSynced};
 ghost use Rattle.group_laws.specs.HeldSteps.{HeldWhileLoadIsWritten, HeldWhileGateIsOpened, HeldWhileSynced, WritesLeaveFronts, SyncsLeaveFronts};
 
 /// Each call of the flusher leaves a device that holds what the state then stands for, in whatever phase the checkpointer is.
@@ -10,6 +12,16 @@ pub fn flusher_calls_are_held<T, E, Db, C>()
     ensures sync { HeldWhileSynced Written Stable T E Db C }
     ensures gate { HeldWhileGateIsOpened T E Db C }
     ensures gate_sync { HeldWhileSynced Opened Durable T E Db C }
+{}
+
+/// Each call of the checkpointer leaves a device that holds what the state then stands for, in whatever phase the flusher is.
+pub fn checkpointer_calls_are_held<T, E, Db, C>()
+    ensures chunk { HeldWhileChunkIsWritten T E Db C }
+    ensures chunks_sync { HeldWhileChunksAreSynced T E Db C }
+    ensures open { HeldWhileHalfIsOpened T E Db C }
+    ensures open_sync { HeldWhileHalfIsSynced Switched Live T E Db C }
+    ensures close { HeldWhileHalfIsClosed T E Db C }
+    ensures close_sync { HeldWhileHalfIsSynced Closing Ready T E Db C }
 {}
 
 /// What a stop within a write leaves opens to a front that a stop before it or behind it may keep, and what one within a sync
