@@ -10,3 +10,4 @@ pub mod FlusherSteps
 pub mod CheckpointerSteps
 pub mod HeldSteps
 pub mod HeldChecks
+pub mod HeldTurns

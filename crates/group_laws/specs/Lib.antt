@@ -12,3 +12,4 @@ pub mod FlusherSteps
 pub mod CheckpointerSteps
 pub mod HeldSteps
 pub mod HeldChecks
+pub mod HeldTurns
