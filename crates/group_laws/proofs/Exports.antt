@@ -11,3 +11,13 @@ pub use Rattle.group_laws.proofs.HalfReads.{head_of_checkpoint, title_kept, open
 -- what images open to
 pub use Rattle.group_laws.proofs.Openings.{opens_plain, opens_sealed, base_images}
 pub use Rattle.group_laws.proofs.Standings.{unsealed_may, opens_by_both_parts}
+-- what one actor leaves to the other
+pub use Rattle.group_laws.proofs.Kept.{whole_journal, keeps_flusher_part, checkpoint_inside, front_gate, front_area, front_checkpoint, half_front, half_journal, half_first, old_kept, new_kept, written_kept, base_kept, keeps_base_part, journal_apart_beside, beside_apart, beside_inside, tail_writes_leave_base, base_writes_leave_tail, syncs_leave_both}
+-- the flusher's steps
+pub use Rattle.group_laws.proofs.FlusherSteps.{length-seal, length-load, length-open_gate, closed_gate_closed, writes_in_journal, written_part, journal_part, synced_clean, writes_load, syncs_load, opens_tail_gate, syncs_tail_gate, publishes_group}
+-- the checkpointer's steps
+pub use Rattle.group_laws.proofs.CheckpointerSteps.{stays_under_larger_limits, takes_the_new_version, publishes_seal, begins_plan, writes_chunk, syncs_chunks, opens_half, syncs_half, closes_half, syncs_close, writes_beside_journal}
+-- both parts at once
+pub use Rattle.group_laws.proofs.HeldSteps.{held_flushed, held_while_load_is_written, held_while_gate_is_opened, held_while_load_is_synced, held_while_gate_is_synced, writes_leave_fronts, syncs_leave_fronts}
+pub use Rattle.group_laws.proofs.HeldChecks.{held_checked, held_while_chunk_is_written, held_while_chunks_are_synced, held_while_half_is_opened, held_while_half_is_synced, held_while_half_is_closed, held_while_close_is_synced}
+pub use Rattle.group_laws.proofs.HeldTurns.{held_when_group_is_published, held_when_seal_is_published, held_when_plan_begins, held_under_the_new_version}

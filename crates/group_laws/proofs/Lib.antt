@@ -5,3 +5,9 @@ pub mod TailReads
 pub mod HalfReads
 pub mod Openings
 pub mod Standings
+pub mod Kept
+pub mod FlusherSteps
+pub mod CheckpointerSteps
+pub mod HeldSteps
+pub mod HeldChecks
+pub mod HeldTurns

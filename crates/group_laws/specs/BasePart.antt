@@ -70,10 +70,10 @@ pub record CanBeWritten {Db C : Type 0} (setting : Setting Db C) (checkpoint : C
   pub fits : length (checkpoint_encoding setting.format.rows checkpoint) ≤ 512 * setting.geometry.checkpoint
 
 -- its first sectors, so many, are written
-abbrev pub HasWritten : {Db C : Type 0} → Setting Db C → Base Db C → ℕ → Moment → Type 0
-HasWritten setting base written moment =
-    part (512 * area_at setting.geometry base.half) (512 * written) moment.reads
-    ≡ take (512 * written) (checkpoint_encoding setting.format.rows base.new)
+pub record HasWritten {Db C : Type 0} (setting : Setting Db C) (base : Base Db C) (written : ℕ) (moment : Moment) : Type 0 where
+  pub inside : 512 * written ≤ length (checkpoint_encoding setting.format.rows base.new)
+  pub front : part (512 * area_at setting.geometry base.half) (512 * written) moment.reads
+      ≡ take (512 * written) (checkpoint_encoding setting.format.rows base.new)
 
 -- the checkpointer's part
 abbrev pub BasePart : {Db C : Type 0} → Check → Setting Db C → Base Db C → ℕ → Moment → Type 0

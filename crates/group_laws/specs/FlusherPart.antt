@@ -59,8 +59,8 @@ AtPhase Durable format geometry tail load moment =
     × AreCleanSectors geometry tail.half tail.gate 1 moment
 
 -- the flusher's part
-pub record FlusherPart {C : Type 0} (phase : Flush) (format : CommandFormat C) (limits : Limits) (geometry : Geometry) (tail : Tail C) (load : Load C) (moment : Moment)
-    : Type 0 where
+pub record FlusherPart {C : Type 0} (phase : Flush) (format : CommandFormat C) (limits : Limits) (geometry : Geometry) (tail : Tail C) (load : Load C)
+    (moment : Moment) : Type 0 where
   pub groups : HasGroups format limits geometry tail moment
   pub can : CanBeLoad format limits geometry tail load
   pub facts : AtPhase phase format geometry tail load moment

@@ -7,3 +7,9 @@ pub mod Halves
 pub mod BasePart
 pub mod Standing
 pub mod StandingLaws
+pub mod Kept
+pub mod FlusherSteps
+pub mod CheckpointerSteps
+pub mod HeldSteps
+pub mod HeldChecks
+pub mod HeldTurns
