@@ -1,3 +1,5 @@
 pub mod Written
 pub mod NewStores
 pub mod FirstSectors
+pub mod Gates
+pub mod Kept

@@ -1,2 +1,4 @@
+pub mod Looking
+pub mod Closing
 pub mod Geometry
 pub mod NewStore

@@ -4,12 +4,15 @@
 //! just where an image is one.
 #![tactic(auto)]
 
+mod closing;
+mod closing_laws;
 mod first_sector;
 mod geometry;
 mod new_store;
 mod new_store_laws;
 mod sectors;
 
+pub use closing_laws::openings_are_kept_by_closing;
 pub use first_sector::read_geometry;
 pub use geometry::Geometry;
 pub use new_store::{FormatError, format};
