@@ -1,2 +1,5 @@
 pub mod Refusals
 pub mod Heads
+pub mod Rows
+pub mod Checkpoint
+pub mod Reading

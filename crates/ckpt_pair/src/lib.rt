@@ -5,9 +5,17 @@
 #![tactic(auto)]
 
 mod choice;
+mod encoding;
 mod error;
 mod head;
+mod pieces;
+mod reading;
+mod rows_laws;
 
 pub use choice::{choose, openings_go_on_there, tail_half};
+pub use encoding::encode_checkpoint;
 pub use error::PairError;
 pub use head::{Head, Heads, LATEST, read_head};
+pub use pieces::{feed_rows, finish_rows};
+pub use reading::{Checkpoint, Front, read_front, read_half};
+pub use rows_laws::{checkpoints_are_read_by_their_fronts, databases_can_be_checkpoints, read_checkpoints_are_databases};

@@ -1,5 +1,5 @@
 -- An opening goes by what counts of the image.
-use Rattle.std.proofs.Common.{◌≡◌, inl, inr, ℕ, zero, suc, ◌+◌, ◌*◌, ◌≤◌, Bool, true, false, List, [], ◌∷◌, length, take, get_or, subst, length-take, Some, None, Option, refl, sym, ◌∙◌, ap, arith}
+use Rattle.std.proofs.Common.{◌≡◌, inl, inr, ℕ, ◌+◌, ◌*◌, ◌≤◌, Bool, true, false, List, [], ◌∷◌, length, take, get_or, subst, length-take, Some, None, Option, sym, ◌∙◌, ap, arith}
 use Rattle.std.specs.List.{AllByRecursion}
 use Rattle.byte_lists.specs.Content.{part, overwrite}
 use Rattle.byte_lists.specs.Sectors.{whole_sectors, IsOpenGate, is_open_gate}
@@ -18,13 +18,8 @@ use Rattle.image_laws.specs.WhatCounts.{Span, span, chosen_spans, head_spans, ta
 use Rattle.image_laws.specs.WhatCountsLaws.{GoesByWhatCounts, IsKeptByWritesElsewhere, GoesByTheChosenHalf}
 use Rattle.image_laws.proofs.Bounds.{stays_within_bounds}
 use Rattle.image_laws.proofs.Growth.{goes_by_its_front}
+use Rattle.image_laws.proofs.Heads.{take_take}
 use Rattle.image_laws.proofs.Places.{area_long, journal_long, store_journal}
-
-pub take_take : (n m : ℕ) (xs : List ℕ) → n ≤ m → take n (take m xs) ≡ take n xs
-take_take zero m xs few = refl
-take_take (suc n) zero xs few = absurd (omega arith)
-take_take (suc n) (suc m) [] few = refl
-take_take (suc n) (suc m) (x ∷ xs) few = ap (λ (list : List ℕ). x ∷ list) (take_take n m xs (omega arith))
 
 -- the front of a part
 pub front_same : (at n m : ℕ) (one two : List ℕ) → n ≤ m → part at n two ≡ part at n one → take n (part at m two) ≡ take n (part at m one)
@@ -152,7 +147,7 @@ goes_by_what_counts Db C format latest one two opening size same is = record {
     )
 
 -- a write apart from spans
-spans_kept : (at : ℕ) (bytes image : List ℕ) → at + length bytes ≤ length image → (spans : List Span) → AllByRecursion (IsApart at (length bytes)) spans
+pub spans_kept : (at : ℕ) (bytes image : List ℕ) → at + length bytes ≤ length image → (spans : List Span) → AllByRecursion (IsApart at (length bytes)) spans
     → AllByRecursion (IsSameSpan image (overwrite at bytes image)) spans
 spans_kept at bytes image inside [] all = tt
 spans_kept at bytes image inside (place ∷ more) all = (one all.0, spans_kept at bytes image inside more all.1)

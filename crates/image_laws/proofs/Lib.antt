@@ -9,9 +9,15 @@ pub mod Staged
 pub mod Bounds
 pub mod Titles
 pub mod Heads
+pub mod Checkpoints
 pub mod Places
 pub mod Openings
 pub mod Opened
 pub mod Writes
 pub mod Counts
 pub mod TakeOver
+pub mod SmallImage
+pub mod Refusals
+pub mod StoreGrowth
+pub mod Seals
+pub mod Switch

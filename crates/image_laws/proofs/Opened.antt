@@ -18,7 +18,8 @@ use Rattle.image_laws.specs.OpeningReading.{OpenRefusal, head_behind, head_of, b
 use Rattle.image_laws.specs.OpeningLaws.{IsOpenedSo, HasValueJustWhere, HasOneValue, OpensUnderLaterVersions}
 use Rattle.image_laws.proofs.Scans.{read_journal}
 use Rattle.image_laws.proofs.Titles.{store_from}
-use Rattle.image_laws.proofs.Heads.{head_from, checkpoint_from, head_read, begins_with_its_head}
+use Rattle.image_laws.proofs.Heads.{head_from, head_read}
+use Rattle.image_laws.proofs.Checkpoints.{checkpoint_from, begins_with_its_head}
 use Rattle.image_laws.proofs.Places.{store_area, store_journal, area_bytes, journal_bytes}
 use Rattle.image_laws.proofs.Openings.{IsBehind, opening_read}
 
@@ -66,12 +67,12 @@ chosen_pair latest geometry image First is = choice_from _ _ First is
 chosen_pair latest geometry image Second is = choice_from _ _ Second is
 
 -- a head that was read stands behind an open gate
-head_open : (b : Bool) (read : Result Head PairRefusal) (head : Head) → head_behind b read ≡ Ok (Some head) → (b ≡ true) × (read ≡ Ok head)
+pub head_open : (b : Bool) (read : Result Head PairRefusal) (head : Head) → head_behind b read ≡ Ok (Some head) → (b ≡ true) × (read ≡ Ok head)
 head_open false read head is = cc
 head_open true (Err e) head is = cc
 head_open true (Ok found) head is = (refl, cc)
 
-head_closed : (b : Bool) (read : Result Head PairRefusal) → head_behind b read ≡ Ok None → b ≡ false
+pub head_closed : (b : Bool) (read : Result Head PairRefusal) → head_behind b read ≡ Ok None → b ≡ false
 head_closed false read is = refl
 head_closed true (Err e) is = cc
 head_closed true (Ok found) is = cc

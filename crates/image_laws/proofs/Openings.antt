@@ -1,21 +1,22 @@
 -- What opens is read so.
-use Rattle.std.proofs.Common.{◌≡◌, ℕ, ◌<◌, Bool, true, false, ltb, List, Some, None, Option, Ok, Result, refl, ◌∙◌, ap, arith, ne_eqb}
+use Rattle.std.proofs.Common.{◌≡◌, ℕ, ◌<◌, ◌≤◌, Bool, true, false, ltb, List, Some, None, Option, Ok, Result, refl, ◌∙◌, ap, arith, ne_eqb}
 use Rattle.std.proofs.lemmas.Bool.{lt-ltb, le-ltb}
-use Rattle.byte_lists.specs.Sectors.{is_open_gate}
-use Rattle.byte_lists.proofs.Padding.{open_true, open_false, true_open}
+use Rattle.byte_lists.specs.Sectors.{IsOpenGate, is_open_gate}
+use Rattle.byte_lists.proofs.Padding.{open_true, open_false, true_open, false_open}
 use Rattle.image_laws.specs.declared.half.Half.{Half}
 use Rattle.image_laws.specs.declared.half.Half.TheVariants.{First, Second}
 use Rattle.image_laws.specs.GroupReading.{JournalRefusal}
 use Rattle.image_laws.specs.Journal.{Reading}
 use Rattle.image_laws.specs.Layout.{Geometry, other, area_of, gate_of, journal_of}
 use Rattle.image_laws.specs.StoreFormat.{StoreFormat}
-use Rattle.image_laws.specs.Checkpoint.{Head}
+use Rattle.image_laws.specs.Checkpoint.{Head, Checkpoint, IsHead}
 use Rattle.image_laws.specs.CheckpointReading.{head_in}
-use Rattle.image_laws.specs.Opening.{Opening, limits_in, IsTail, IsOpening}
+use Rattle.image_laws.specs.Opening.{Opening, limits_in, HasOlderHead, IsTail, IsChosen, IsOpening}
 use Rattle.image_laws.specs.OpeningReading.{head_behind, head_of, by_epochs, choice, choice_of, behind_journal, read_tail, with_tail, by_journal, journal_from, by_checkpoint, by_choice, by_geometry, opening_of}
 use Rattle.image_laws.proofs.Chains.{journal_read}
 use Rattle.image_laws.proofs.Titles.{store_read}
-use Rattle.image_laws.proofs.Heads.{head_read, checkpoint_read, begins_with_its_head}
+use Rattle.image_laws.proofs.Heads.{head_read}
+use Rattle.image_laws.proofs.Checkpoints.{checkpoint_read, begins_with_its_head}
 use Rattle.image_laws.proofs.Places.{store_journal}
 
 -- the head of the half that isn't chosen, if it is open, has an earlier epoch
@@ -41,36 +42,47 @@ record OtherHead (latest : ℕ) (geometry : Geometry) (half : Half) (image : Lis
   read : head_of latest geometry half image ≡ Ok head
   behind : IsBehind epoch head
 
+module _ (latest : ℕ) (geometry : Geometry) (image : List ℕ) where
+  -- an open half's head, and a closed one's
+  pub open_head : (half : Half) → IsOpenGate (gate_of geometry half image) → head_of latest geometry half image ≡ head_behind true (head_in latest (area_of geometry half image))
+  open_head half opened = ap (λ (b : Bool). head_behind b (head_in latest (area_of geometry half image))) (open_true (gate_of geometry half image) opened)
+
+  pub closed_head : (half : Half) → (IsOpenGate (gate_of geometry half image) → ⊥) → head_of latest geometry half image ≡ Ok None
+  closed_head half closed = ap (λ (b : Bool). head_behind b (head_in latest (area_of geometry half image))) (open_false (gate_of geometry half image) closed)
+
+  pub own_head : (half : Half) (head : Head) → IsOpenGate (gate_of geometry half image) → IsHead (area_of geometry half image) head → head.version ≤ latest
+      → head_of latest geometry half image ≡ Ok (Some head)
+  own_head half head opened is known = open_head half opened ∙ ap (head_behind true) (head_read (area_of geometry half image) head is latest known)
+
+  passed_over : (half : Half) (epoch : ℕ) (b : Bool) → is_open_gate (gate_of geometry half image) ≡ b
+      → (IsOpenGate (gate_of geometry half image) → HasOlderHead latest (area_of geometry half image) epoch) → OtherHead latest geometry half image epoch
+  passed_over half epoch false closed older = record { head = None; read = closed_head half (false_open (gate_of geometry half image) closed); behind = tt }
+  passed_over half epoch true opened older =
+      let last = older (true_open (gate_of geometry half image) opened) in
+      record { head = Some last.head; read = own_head half last.head (true_open (gate_of geometry half image) opened) last.is last.known; behind = last.older }
+
+  by_half : (half : Half) (head : Head) → head_of latest geometry half image ≡ Ok (Some head) → OtherHead latest geometry (other half) image head.epoch
+      → choice_of (head_of latest geometry First image) (head_of latest geometry Second image) ≡ Ok half
+  by_half First head own its = (λ i. choice_of (own i) (its.read i)) ∙ choice_first head its.head its.behind
+  by_half Second head own its = (λ i. choice_of (its.read i) (own i)) ∙ choice_second head its.head its.behind
+
+  -- an open half with a head is chosen where the other half is closed or older
+  pub half_chosen : (half : Half) (head : Head) → IsOpenGate (gate_of geometry half image) → IsHead (area_of geometry half image) head → head.version ≤ latest
+      → (IsOpenGate (gate_of geometry (other half) image) → HasOlderHead latest (area_of geometry (other half) image) head.epoch)
+      → choice_of (head_of latest geometry First image) (head_of latest geometry Second image) ≡ Ok half
+  half_chosen half head opened is known older =
+      by_half half head (own_head half head opened is known) (passed_over (other half) head.epoch (is_open_gate (gate_of geometry (other half) image)) refl older)
+
+-- and its checkpoint is read
+pub chosen_read : {Db C : Type 0} (format : StoreFormat Db C) (latest : ℕ) (image : List ℕ) (geometry : Geometry) (half : Half) (checkpoint : Checkpoint Db)
+    → IsChosen format latest image geometry half checkpoint → opening_of format latest image ≡ by_checkpoint format geometry half image (Ok checkpoint)
+chosen_read format latest image geometry half checkpoint is =
+    ap (by_geometry format latest image) (store_read image geometry is.store)
+    ∙ ap (by_choice format latest geometry image)
+    (half_chosen latest geometry image half checkpoint.head is.gate (begins_with_its_head format.rows (area_of geometry half image) checkpoint is.begins) is.known is.older)
+    ∙ ap (by_checkpoint format geometry half image) (checkpoint_read format.rows latest (area_of geometry half image) checkpoint is.begins is.known)
+
 module _ {Db C : Type 0} (format : StoreFormat Db C) (latest : ℕ) (image : List ℕ) (opening : Opening Db C) (is : IsOpening format latest image opening) where
-  geometry : Geometry
-  geometry = opening.geometry
-
-  mine : head_of latest opening.geometry opening.chosen image ≡ Ok (Some opening.checkpoint.head)
-  mine =
-      ap (λ (b : Bool). head_behind b (head_in latest (area_of opening.geometry opening.chosen image))) (open_true (gate_of opening.geometry opening.chosen image) is.half.gate)
-      ∙ ap (head_behind true) (head_read (area_of opening.geometry opening.chosen image) opening.checkpoint.head
-      (begins_with_its_head format.rows (area_of opening.geometry opening.chosen image) opening.checkpoint is.half.begins) latest is.half.known)
-
-  others_by : (b : Bool) → is_open_gate (gate_of opening.geometry (other opening.chosen) image) ≡ b → OtherHead latest opening.geometry (other opening.chosen) image opening.checkpoint.head.epoch
-  others_by false closed = record { head = None; read = ap (λ (b : Bool). head_behind b (head_in latest (area_of opening.geometry (other opening.chosen) image))) closed; behind = tt }
-  others_by true opened =
-      let older = is.half.older (true_open (gate_of opening.geometry (other opening.chosen) image) opened) in
-      record {
-        head = Some older.head;
-        read = ap (λ (b : Bool). head_behind b (head_in latest (area_of opening.geometry (other opening.chosen) image))) opened
-            ∙ ap (head_behind true) (head_read (area_of opening.geometry (other opening.chosen) image) older.head older.is latest older.known);
-        behind = older.older;
-      }
-
-  others : OtherHead latest opening.geometry (other opening.chosen) image opening.checkpoint.head.epoch
-  others = others_by (is_open_gate (gate_of opening.geometry (other opening.chosen) image)) refl
-
-  chosen_so : (half : Half) → head_of latest opening.geometry half image ≡ Ok (Some opening.checkpoint.head)
-      → OtherHead latest opening.geometry (other half) image opening.checkpoint.head.epoch
-      → choice_of (head_of latest opening.geometry First image) (head_of latest opening.geometry Second image) ≡ Ok half
-  chosen_so First own its = (λ i. choice_of (own i) (its.read i)) ∙ choice_first opening.checkpoint.head its.head its.behind
-  chosen_so Second own its = (λ i. choice_of (its.read i) (own i)) ∙ choice_second opening.checkpoint.head its.head its.behind
-
   abbrev behind : ℕ → Result (Reading C) JournalRefusal
   behind place = journal_from format opening.checkpoint opening.geometry (other opening.chosen) image place
 
@@ -94,9 +106,7 @@ module _ {Db C : Type 0} (format : StoreFormat Db C) (latest : ℕ) (image : Lis
 
   pub opening_read : opening_of format latest image ≡ Ok opening
   opening_read =
-      ap (by_geometry format latest image) (store_read image opening.geometry is.half.store)
-      ∙ ap (by_choice format latest opening.geometry image) (chosen_so opening.chosen mine others)
-      ∙ ap (by_checkpoint format opening.geometry opening.chosen image) (checkpoint_read format.rows latest (area_of opening.geometry opening.chosen image) opening.checkpoint is.half.begins is.half.known)
+      chosen_read format latest image opening.geometry opening.chosen opening.checkpoint is.half
       ∙ ap (λ (r : Result (Reading C) JournalRefusal). by_journal opening.geometry opening.chosen opening.checkpoint (is_open_gate (gate_of opening.geometry (other opening.chosen) image)) r behind)
       (journal_read format.commands (limits_in opening.checkpoint) (journal_of opening.geometry opening.chosen image) opening.checkpoint.head.place opening.journal
       (store_journal opening.geometry image is.half.store opening.chosen) is.journal)

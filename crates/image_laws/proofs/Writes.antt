@@ -1,11 +1,12 @@
 -- The regions are apart, and what a write leaves.
-use Rattle.std.proofs.Common.{◌≡◌, ◌⊎◌, inl, inr, ℕ, ◌+◌, ◌*◌, ◌≤◌, List, length, refl, ap, arith}
-use Rattle.byte_lists.specs.Content.{overwrite}
-use Rattle.byte_lists.proofs.Contents.{part_below, part_above}
+use Rattle.std.proofs.Common.{◌≡◌, ◌⊎◌, inl, inr, ℕ, ◌+◌, ◌-◌, ◌*◌, ◌<◌, ◌≤◌, List, length, get_or, refl, sym, ◌∙◌, ap, arith}
+use Rattle.byte_lists.specs.Content.{part, overwrite}
+use Rattle.std.proofs.lemmas.Bool.{cases_lt}
+use Rattle.byte_lists.proofs.Contents.{length-overwrite, length-part, get_or-part, overwrite_before, overwrite_within, overwrite_behind, same_content, part_below, part_above}
 use Rattle.image_laws.specs.declared.half.Half.{Half}
 use Rattle.image_laws.specs.declared.half.Half.TheVariants.{First, Second}
 use Rattle.image_laws.specs.Layout.{Geometry, half_sectors, area_at, image_sectors, Piece, Area, Gate, Journal, Region, FirstSector, InHalf, region_at, region_sectors, region_end, region_of}
-use Rattle.image_laws.specs.RegionLaws.{RegionsAreApart, RegionsAreInside, WritesLeaveRegionsApart, WritesLeaveOtherRegions}
+use Rattle.image_laws.specs.RegionLaws.{RegionsAreApart, RegionsAreInside, WritesLeaveRegionsApart, WritesLeaveOtherRegions, WritesChangeTheirRegion}
 
 -- a region lies within its half
 record IsInHalf (geometry : Geometry) (half : Half) (piece : Piece) : Type 0 where
@@ -67,3 +68,47 @@ by_order geometry written region image at bytes inside from to (inr behind) = wr
 pub writes_leave_others : WritesLeaveOtherRegions
 writes_leave_others geometry written region image at bytes others room from to =
     by_order geometry written region image at bytes (omega (arith, regions_inside geometry written)) from to (regions_apart geometry region written others)
+
+-- a write within a part
+pub part_written : (from n at : ℕ) (bytes content : List ℕ) → at + length bytes ≤ n → from + n ≤ length content
+    → part from n (overwrite (from + at) bytes content) ≡ overwrite at bytes (part from n content)
+part_written from n at bytes content inside room =
+    same_content (part from n whole) (overwrite at bytes (part from n content)) (long ∙ sym long_behind) (λ i below. entry i (omega (arith, long)))
+  where
+    whole : List ℕ
+    whole = overwrite (from + at) bytes content
+
+    fits : from + at + length bytes ≤ length content
+    fits = omega arith
+
+    size : length (part from n content) ≡ n
+    size = length-part from n content room
+
+    long : length (part from n whole) ≡ n
+    long = length-part from n whole (omega (arith, length-overwrite (from + at) bytes content fits))
+
+    long_behind : length (overwrite at bytes (part from n content)) ≡ n
+    long_behind = length-overwrite at bytes (part from n content) (omega (arith, size)) ∙ size
+
+    entry : (i : ℕ) → i < n → get_or (part from n whole) i 0 ≡ get_or (overwrite at bytes (part from n content)) i 0
+    entry i below = get_or-part from n whole i below ∙ elim (cases_lt i at) [
+      | inl before ↦
+          overwrite_before (from + at) bytes content (from + i) (omega (arith, fits)) (omega arith)
+          ∙ sym (get_or-part from n content i below)
+          ∙ sym (overwrite_before at bytes (part from n content) i (omega (arith, size)) before)
+      | inr after ↦ elim (cases_lt i (at + length bytes)) [
+        | inl within ↦
+            let there : from + i - (from + at) ≡ i - at = omega arith in
+            overwrite_within (from + at) bytes content (from + i) (omega (arith, fits)) (omega arith) (omega arith)
+            ∙ ap (λ (k : ℕ). get_or bytes k 0) there
+            ∙ sym (overwrite_within at bytes (part from n content) i (omega (arith, size)) after within)
+        | inr behind ↦
+            overwrite_behind (from + at) bytes content (from + i) fits (omega arith)
+            ∙ sym (get_or-part from n content i below)
+            ∙ sym (overwrite_behind at bytes (part from n content) i (omega (arith, size)) behind)
+      ]
+    ]
+
+pub writes_change_their_region : WritesChangeTheirRegion
+writes_change_their_region geometry region image at bytes room inside =
+    part_written (512 * region_at geometry region) (512 * region_sectors geometry region) at bytes image inside (omega (arith, regions_inside geometry region))

@@ -1,11 +1,11 @@
 -- What holds of first sectors, heads and checkpoints. Each statement is the contract of a function.
-use Rattle.std.specs.Prelude.{◌≡◌, ◌↔◌, ℕ, ◌≤◌, List, length, Some, Ok, Err}
+use Rattle.std.specs.Prelude.{◌≡◌, ◌↔◌, ℕ, ◌<◌, ◌≤◌, ◌^◌, List, length, take, Some, Ok, Err}
 use Rattle.byte_lists.specs.Content.{AreBytes, overwrite}
 use Rattle.byte_lists.specs.Sectors.{whole_sectors}
 use Rattle.image_laws.specs.Layout.{Geometry, IsGeometry, image_sectors}
 use Rattle.image_laws.specs.FirstSector.{first_sector, IsStore, geometry_in}
-use Rattle.image_laws.specs.StoreFormat.{RowsFormat}
-use Rattle.image_laws.specs.Checkpoint.{Head, Checkpoint, checkpoint_encoding, CanBeCheckpoint, IsHead, IsCheckpoint}
+use Rattle.image_laws.specs.StoreFormat.{RowsFormat, StoreFormat}
+use Rattle.image_laws.specs.Checkpoint.{Head, Checkpoint, checkpoint_encoding, first_checkpoint, CanBeCheckpoint, IsHead, IsCheckpoint}
 use Rattle.image_laws.specs.CheckpointReading.{PairRefusal, head_in, IsHeadRefusal, checkpoint_in}
 
 -- an image is read as a store's just where it is one, with these sizes
@@ -28,6 +28,10 @@ IsHeadReadSo =
 abbrev pub IsHeadRefusedSo : Type 0
 IsHeadRefusedSo = (latest : ℕ) (area : List ℕ) (refusal : PairRefusal) → (head_in latest area ≡ Err refusal) ↔ IsHeadRefusal refusal latest area
 
+-- a head goes by the 24 bytes in front, so the first sector of its area is enough
+abbrev pub HeadGoesByItsFront : Type 0
+HeadGoesByItsFront = (latest : ℕ) (area : List ℕ) (n : ℕ) → 24 ≤ n → head_in latest (take n area) ≡ head_in latest area
+
 -- the same of a whole checkpoint
 abbrev pub IsCheckpointReadSo : Type 0 → Type 0
 IsCheckpointReadSo Db =
@@ -44,3 +48,8 @@ WrittenCheckpointIsThere Db =
     (rows : RowsFormat Db) (area : List ℕ) (checkpoint : Checkpoint Db) → CanBeCheckpoint rows checkpoint
     → length (checkpoint_encoding rows checkpoint) ≤ length area
     → IsCheckpoint rows (overwrite 0 (checkpoint_encoding rows checkpoint) area) checkpoint
+
+-- the checkpoint of a new store is one
+abbrev pub FirstCheckpointCanBe : Type 0 → Type 0 → Type 0
+FirstCheckpointCanBe Db C =
+    (format : StoreFormat Db C) (version : ℕ) → 1 ≤ version → version < 2 ^ 32 → CanBeCheckpoint format.rows (first_checkpoint format version)

@@ -20,3 +20,7 @@ pub mod WhatCounts
 pub mod RegionLaws
 pub mod WhatCountsLaws
 pub mod TakeOver
+pub mod WorkedImages
+pub mod OpeningRefusals
+pub mod StoreGrowth
+pub mod Switch

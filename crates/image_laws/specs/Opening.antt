@@ -46,7 +46,8 @@ IsTail format limits geometry half image journal (Some behind) =
 
 -- A half of a store's image is chosen, and begins with this checkpoint: it is open, of a known version, and the other half is
 -- closed or older.
-pub record IsChosen {Db C : Type 0} (format : StoreFormat Db C) (latest : ℕ) (image : List ℕ) (geometry : Geometry) (half : Half) (checkpoint : Checkpoint Db) : Type 0 where
+pub record IsChosen {Db C : Type 0} (format : StoreFormat Db C) (latest : ℕ) (image : List ℕ) (geometry : Geometry) (half : Half) (checkpoint : Checkpoint Db)
+    : Type 0 where
   pub store : IsStore geometry image
   pub gate : IsOpenGate (gate_of geometry half image)
   pub begins : IsCheckpoint format.rows (area_of geometry half image) checkpoint

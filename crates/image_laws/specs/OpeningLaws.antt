@@ -1,15 +1,22 @@
 -- What holds of openings: the function answers just what the relation holds of. Each statement is the contract of a function.
-use Rattle.std.specs.Prelude.{◌≡◌, ◌↔◌, ℕ, ◌≤◌, List, Ok}
+use Rattle.std.specs.Prelude.{◌≡◌, ◌↔◌, ℕ, ◌≤◌, List, Ok, Err}
 use Rattle.byte_lists.specs.Content.{AreBytes}
 use Rattle.image_laws.specs.StoreFormat.{StoreFormat}
 use Rattle.image_laws.specs.Opening.{Opening, IsOpening, StoreValue, OpensTo}
-use Rattle.image_laws.specs.OpeningReading.{opening_of, store_value}
+use Rattle.image_laws.specs.OpeningReading.{OpenRefusal, opening_of, store_value}
+use Rattle.image_laws.specs.OpeningRefusals.{IsOpenRefusal}
 
 -- an image is read so just where it opens so
 abbrev pub IsOpenedSo : Type 0 → Type 0 → Type 0
 IsOpenedSo Db C =
     (format : StoreFormat Db C) (latest : ℕ) (image : List ℕ) (opening : Opening Db C) → AreBytes image
     → (opening_of format latest image ≡ Ok opening) ↔ IsOpening format latest image opening
+
+-- and it is refused just where the refusal means it
+abbrev pub IsOpenRefusedSo : Type 0 → Type 0 → Type 0
+IsOpenRefusedSo Db C =
+    (format : StoreFormat Db C) (latest : ℕ) (image : List ℕ) (refusal : OpenRefusal) → AreBytes image
+    → (opening_of format latest image ≡ Err refusal) ↔ IsOpenRefusal refusal format latest image
 
 -- its value is read just where it opens to it
 abbrev pub HasValueJustWhere : Type 0 → Type 0 → Type 0

@@ -74,7 +74,8 @@ by_journal geometry half checkpoint other_is_open (Ok journal) behind =
 abbrev pub journal_from : {Db C : Type 0} → StoreFormat Db C → Checkpoint Db → Geometry → Half → List ℕ → ℕ → Result (Reading C) JournalRefusal
 journal_from format checkpoint geometry half image place = journal_scan format.commands (limits_in checkpoint) (journal_of geometry half image) place
 
-abbrev pub by_checkpoint : {Db C : Type 0} → StoreFormat Db C → Geometry → Half → List ℕ → Result (Checkpoint Db) PairRefusal → Result (Opening Db C) OpenRefusal
+abbrev pub by_checkpoint : {Db C : Type 0} → StoreFormat Db C → Geometry → Half → List ℕ → Result (Checkpoint Db) PairRefusal
+    → Result (Opening Db C) OpenRefusal
 by_checkpoint format geometry half image (Err refusal) = Err (BadPair refusal)
 by_checkpoint format geometry half image (Ok checkpoint) =
     by_journal geometry half checkpoint (is_open_gate (gate_of geometry (other half) image))

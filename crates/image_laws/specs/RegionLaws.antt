@@ -2,7 +2,7 @@
 use Rattle.std.specs.Prelude.{◌≡◌, ◌≢◌, ◌⊎◌, ℕ, ◌+◌, ◌*◌, ◌≤◌, List, length}
 use Rattle.byte_lists.specs.Content.{overwrite}
 use Rattle.byte_lists.specs.Sectors.{whole_sectors}
-use Rattle.image_laws.specs.Layout.{Geometry, image_sectors, Region, region_at, region_end, region_of}
+use Rattle.image_laws.specs.Layout.{Geometry, image_sectors, Region, region_at, region_sectors, region_end, region_of}
 
 -- two regions are apart, and each is in the image
 abbrev pub RegionsAreApart : Type 0
@@ -27,3 +27,10 @@ WritesLeaveOtherRegions =
     → image_sectors geometry ≤ whole_sectors image
     → 512 * region_at geometry written ≤ at → at + length bytes ≤ 512 * region_end geometry written
     → region_of geometry region (overwrite at bytes image) ≡ region_of geometry region image
+
+-- and within a region it changes just that
+abbrev pub WritesChangeTheirRegion : Type 0
+WritesChangeTheirRegion =
+    (geometry : Geometry) (region : Region) (image : List ℕ) (at : ℕ) (bytes : List ℕ) → image_sectors geometry ≤ whole_sectors image
+    → at + length bytes ≤ 512 * region_sectors geometry region
+    → region_of geometry region (overwrite (512 * region_at geometry region + at) bytes image) ≡ overwrite at bytes (region_of geometry region image)

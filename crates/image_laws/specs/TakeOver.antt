@@ -1,6 +1,6 @@
 -- When two images stand for the same: one half takes over from the other. And what a new store is. Each statement is the
 -- contract of a function.
-use Rattle.std.specs.Prelude.{◌≡◌, ℕ, ◌<◌, ◌≤◌, false, List, [], Some, None}
+use Rattle.std.specs.Prelude.{◌≡◌, ℕ, ◌≤◌, false, List, [], Some, None}
 use Rattle.byte_lists.specs.Sectors.{sector_at, IsOpenGate}
 use Rattle.image_laws.specs.declared.half.Half.TheVariants.{First, Second}
 use Rattle.image_laws.specs.Journal.{Reading, IsJournal}
@@ -11,11 +11,10 @@ use Rattle.image_laws.specs.Checkpoint.{Checkpoint, IsCheckpoint, first_checkpoi
 use Rattle.image_laws.specs.Opening.{Opening, limits_in, IsChosen, IsOpening, db_at_seal, value_of, OpensTo}
 
 -- A checkpoint for the other half that has what the chosen one stands for, up to the end of its journal: this database, at the
--- place reached there, in a later epoch and no earlier a version.
+-- place reached there, of no earlier a version.
 pub record FoldsJournal {Db C : Type 0} (format : StoreFormat Db C) (opening : Opening Db C) (next : Checkpoint Db) : Type 0 where
   pub db : next.db ≡ db_at_seal format opening
   pub place : next.head.place ≡ opening.journal.place
-  pub epoch : opening.checkpoint.head.epoch < next.head.epoch
   pub version : opening.checkpoint.head.version ≤ next.head.version
 
 -- what is read once the other half is chosen, with this journal

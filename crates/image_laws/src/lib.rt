@@ -1,17 +1,25 @@
 //! What the regions of a store's image are, as relations and as functions, with the laws that hold of them.
 //!
-//! A journal is told for any format of commands (`CommandFormat`): the crate that has the commands gives theirs.
+//! A journal is told for any format of commands (`CommandFormat`), an image for any format of rows and commands (`StoreFormat`):
+//! the crates that have these give theirs.
 #![tactic(auto)]
 
 mod checkpoint_laws;
+mod growth_laws;
 mod half;
 mod journal_laws;
 mod opening_laws;
 mod regions;
 mod worked;
+mod worked_images;
 
 pub use checkpoint_laws::{
-    checkpoints_are_read, first_sectors_are_read, heads_are_read, written_checkpoints_are_read,
+    checkpoints_are_read, checkpoints_are_written, first_checkpoints_can_be,
+    first_sectors_are_read, heads_are_read,
+};
+pub use growth_laws::{
+    halves_switch_by_their_gate, halves_take_over_the_same, older_halves_may_change,
+    stores_are_sealed_by_their_gate, stores_go_by_their_last_journal, stores_grow_by_their_gate,
 };
 pub use half::Half;
 pub use journal_laws::{
@@ -20,8 +28,11 @@ pub use journal_laws::{
     journals_stay_within_bounds, later_versions_allow_more, payloads_fill_sectors,
 };
 pub use opening_laws::{
-    halves_take_over_the_same, new_stores_open_empty, openings_are_read,
-    openings_go_by_what_counts, openings_stay_under_later_versions,
+    new_stores_open_empty, openings_are_read, openings_go_by_what_counts,
+    openings_stay_under_later_versions,
 };
 pub use regions::{regions_are_apart, writes_leave_other_regions};
 pub use worked::{worked_journals, worked_payloads, worked_sizes, worked_versions};
+pub use worked_images::{
+    worked_checkpoints, worked_choices, worked_opening, worked_regions, worked_titles,
+};

@@ -1,12 +1,14 @@
 //! Laws of what an image opens to, in any format of databases of type `Db` and commands of type `C`.
 
-ghost use Rattle.image_laws.specs.OpeningLaws.{IsOpenedSo, HasValueJustWhere, HasOneValue, OpensUnderLaterVersions};
+ghost use Rattle.image_laws.specs.OpeningLaws.{IsOpenedSo, IsOpenRefusedSo, HasValueJustWhere, HasOneValue, OpensUnderLaterVersions};
 ghost use Rattle.image_laws.specs.WhatCountsLaws.{GoesByWhatCounts, IsKeptByWritesElsewhere, GoesByTheChosenHalf};
-ghost use Rattle.image_laws.specs.TakeOver.{TakesOverTheSame, TakesOverTheSameAtRest, OpensEmpty};
+ghost use Rattle.image_laws.specs.TakeOver.{OpensEmpty};
 
-/// An image is read as opening just where it opens, to the value for which it stands; and it stands for one value at most.
+/// An image is read as opening just where it opens, to the value for which it stands; it stands for one value at most. And it
+/// is refused just where the refusal means it.
 pub fn openings_are_read<Db, C>()
     ensures read { IsOpenedSo Db C }
+    ensures refused { IsOpenRefusedSo Db C }
     ensures value { HasValueJustWhere Db C }
     ensures one { HasOneValue Db C }
 {}
@@ -22,12 +24,6 @@ pub fn openings_go_by_what_counts<Db, C>()
     ensures same { GoesByWhatCounts Db C }
     ensures kept { IsKeptByWritesElsewhere Db C }
     ensures chosen { GoesByTheChosenHalf Db C }
-{}
-
-/// A half that takes over from a sealed one, or from one at rest, stands for the same.
-pub fn halves_take_over_the_same<Db, C>()
-    ensures sealed { TakesOverTheSame Db C }
-    ensures rest { TakesOverTheSameAtRest Db C }
 {}
 
 /// A store that was formatted opens to the empty database, at place 0.

@@ -1,6 +1,6 @@
 //! Laws of the regions of an image.
 
-ghost use Rattle.image_laws.specs.RegionLaws.{RegionsAreApart, RegionsAreInside, WritesLeaveRegionsApart, WritesLeaveOtherRegions};
+ghost use Rattle.image_laws.specs.RegionLaws.{RegionsAreApart, RegionsAreInside, WritesLeaveRegionsApart, WritesLeaveOtherRegions, WritesChangeTheirRegion};
 
 /// The regions of an image are apart, and in it.
 pub fn regions_are_apart()
@@ -8,8 +8,9 @@ pub fn regions_are_apart()
     ensures inside { RegionsAreInside }
 {}
 
-/// What is written in one region leaves the others. What is written in several leaves those that are apart from it.
+/// What is written in one region changes it alone. What is written in several leaves those that are apart from it.
 pub fn writes_leave_other_regions()
     ensures beside { WritesLeaveRegionsApart }
     ensures others { WritesLeaveOtherRegions }
+    ensures within { WritesChangeTheirRegion }
 {}

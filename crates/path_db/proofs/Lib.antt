@@ -13,10 +13,13 @@ mod Canon
 mod Newest
 mod Kept
 mod Counts
+mod RowsRead
+mod Writable
+mod Refused
+mod RefusedCommands
 mod Records
 mod Spelled
 mod ReadBack
-mod RowsBack
-mod RowsRead
-mod Writable
+pub mod RowsBack
+mod RowPieces
 pub mod Exports

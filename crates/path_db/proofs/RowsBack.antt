@@ -15,7 +15,7 @@ use Rattle.path_db.specs.declared.error.DbError.TheVariants.{Order}
 use Rattle.path_db.specs.Database.{RowView, key_order, IsRising, AreWhole, row_len, rows_len}
 use Rattle.path_db.specs.RecordSteps.{◌>>=◌, check}
 use Rattle.path_db.specs.RowRecord.{row_record, rows_encoding, row_size, row_decoding, is_above, rows_within, rows_decoding}
-use Rattle.path_db.specs.RecordLaws.{WrittenRowsAreRead, ReadRowsAreSpelled}
+use Rattle.path_db.specs.RecordLaws.{WrittenRowsAreRead, WrittenRowsAreCounted, ReadRowsAreSpelled}
 use Rattle.path_db.proofs.Order.{AllAbove, above_less}
 use Rattle.path_db.proofs.Spelled.{went, segment_back, has_room, row_steps, row_spelled, row_whole, bytes_drop}
 use Rattle.path_db.proofs.ReadBack.{row_back, record_len}
@@ -23,7 +23,7 @@ use Rattle.path_db.proofs.ReadBack.{row_back, record_len}
 -- ---- rising keys, one after the other
 
 -- each key is strictly above the one before
-abbrev Rises : Option RowView → List RowView → Type 0
+abbrev pub Rises : Option RowView → List RowView → Type 0
 Rises before [] = Unit {0}
 Rises before (row ∷ rows) = (is_above before row ≡ true) × Rises (Some row) rows
 
@@ -31,7 +31,7 @@ rises_behind : (row : RowView) (rows : List RowView) → AllAbove row rows → I
 rises_behind row [] all rising = tt
 rises_behind row (next ∷ rows) all rising = (ap is_lt all.0, rises_behind next rows rising.0 rising.1)
 
-rises : (rows : List RowView) → IsRising rows → Rises None rows
+pub rises : (rows : List RowView) → IsRising rows → Rises None rows
 rises [] rising = tt
 rises (row ∷ rows) rising = (refl, rises_behind row rows rising.0 rising.1)
 
@@ -47,7 +47,7 @@ rising_behind row (next ∷ rows) all =
     let below = less_from (key_order row next) all.0 in
     ((below, above_less row next rows below later.0), later)
 
-rising : (rows : List RowView) → Rises None rows → IsRising rows
+pub rising : (rows : List RowView) → Rises None rows → IsRising rows
 rising [] all = tt
 rising (row ∷ rows) all = rising_behind row rows all.1
 
@@ -113,6 +113,13 @@ within_back (suc n) before (row ∷ rows) le all whole =
     ∙ ap (λ h. check h Order >>= λ _. rows_within n (Some row) (drop (row_size bytes) bytes) >>= λ others. Ok (row ∷ others)) all.0
     ∙ ap (λ (t : List ℕ). rows_within n (Some row) t >>= λ others. Ok (row ∷ others)) one.1
     ∙ ap (λ r. r >>= λ others. Ok (row ∷ others)) (within_back n (Some row) rows short all.1 whole.1)
+
+-- the records of rows have the bytes that are counted of them
+pub rows_counted : WrittenRowsAreCounted
+rows_counted [] = refl
+rows_counted (row ∷ rows) =
+    let split = ap length (flat_map-cons row_record row rows) ∙ length-append (row_record row) (rows_encoding rows) in
+    omega (arith, split, record_len row, rows_counted rows, sum_by-cons row_len row rows)
 
 pub rows_back : WrittenRowsAreRead
 unfolding rows_decoding

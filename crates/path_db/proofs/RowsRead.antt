@@ -22,7 +22,7 @@ pub above_seen : (rows : List Row) (found : Option (Bor Row)) (before : Bor Row)
 above_seen rows found before row is there =
     ap (λ (o : Option RowView). is_above o row) (ap (option_map row_view) (ap option_copied (sym is) ∙ there) ∙ last_seen row_view rows)
 
-last_behind : (rows : List RowView) (row : RowView) → last_of (rows ++ row ∷ []) ≡ Some row
+pub last_behind : (rows : List RowView) (row : RowView) → last_of (rows ++ row ∷ []) ≡ Some row
 last_behind [] row = refl
 last_behind (first ∷ rows) row = ap (λ (o : Option RowView). option_or o (Some first)) (last_behind rows row)
 

@@ -12,3 +12,5 @@ pub mod RecordSteps
 pub mod RowRecord
 pub mod CommandRecord
 pub mod RecordLaws
+pub mod RecordRefusals
+pub mod RowsReader

@@ -4,7 +4,7 @@ use Rattle.byte_lists.specs.Content.{AreBytes}
 use Rattle.path_db.specs.declared.command.Command.{Command}
 use Rattle.path_db.specs.declared.command.Command.TheVariants.{Register, Purge, Remove}
 use Rattle.path_db.specs.Command.{HasWholeSegments}
-use Rattle.path_db.specs.Database.{RowView, IsDatabase}
+use Rattle.path_db.specs.Database.{RowView, IsDatabase, rows_len}
 use Rattle.path_db.specs.RowRecord.{rows_encoding, rows_decoding}
 use Rattle.path_db.specs.CommandRecord.{IsWithinLimits, command_encoding, command_decoding}
 
@@ -54,6 +54,10 @@ ReadCommandsCanBeWritten =
 -- What is written of a database is read as its rows.
 abbrev pub WrittenRowsAreRead : Type 0
 WrittenRowsAreRead = (rows : List RowView) → IsDatabase rows → rows_decoding (rows_encoding rows) ≡ Ok rows
+
+-- The records of rows have as many bytes as are counted of the rows.
+abbrev pub WrittenRowsAreCounted : Type 0
+WrittenRowsAreCounted = (rows : List RowView) → length (rows_encoding rows) ≡ rows_len rows
 
 -- The bytes that are read as rows are their records, and the rows are a database.
 abbrev pub ReadRowsAreSpelled : Type 0

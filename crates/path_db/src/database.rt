@@ -195,7 +195,7 @@ impl PathDb {
 }
 
 /// The bytes of these rows.
-fn bytes_of(rows: &[Row]) -> u128
+pub(crate) fn bytes_of(rows: &[Row]) -> u128
     ensures { result ≡ rows_len (row_views rows.now) }
 {
     rows.iter().map(|row| u128::from(row.len())).sum()

@@ -19,6 +19,7 @@ mod record_laws;
 mod row;
 mod row_list;
 mod row_records;
+mod rows_reader;
 
 pub use command::{Command, Registration};
 pub use command_laws::{
@@ -31,9 +32,11 @@ pub use error::DbError;
 pub use outcome::Outcome;
 pub use outcome_laws::{each_put_is_counted, rows_are_counted};
 pub use record_laws::{
-    commands_are_read_on, read_commands_are_spelled, read_commands_can_be_written,
-    read_rows_are_spelled, written_commands_are_read, written_rows_are_read,
+    command_refusals_are_exact, commands_are_read_on, read_commands_are_spelled,
+    read_commands_can_be_written, read_rows_are_spelled, row_refusals_are_exact,
+    written_commands_are_read, written_rows_are_counted, written_rows_are_read,
 };
 pub use row::Row;
 pub use row_list::Rows;
 pub use row_records::{read_rows, write_rows};
+pub use rows_reader::RowsReader;

@@ -1,6 +1,7 @@
 //! Laws of commands and rows as records: the functions do nothing, and their contracts say them.
 
-ghost use Rattle.path_db.specs.RecordLaws.{ReadCommandsAreSpelled, CommandsAreReadOn, WrittenCommandsAreRead, ReadCommandsCanBeWritten, WrittenRowsAreRead, ReadRowsAreSpelled};
+ghost use Rattle.path_db.specs.RecordLaws.{ReadCommandsAreSpelled, CommandsAreReadOn, WrittenCommandsAreRead, ReadCommandsCanBeWritten, WrittenRowsAreRead, WrittenRowsAreCounted, ReadRowsAreSpelled};
+ghost use Rattle.path_db.specs.RecordRefusals.{BadRecordIsExact, OrderIsExact, RowsWantNoMemory, CommandRefusalIsExact, CommandsHaveOneRefusal};
 
 /// The bytes that are read as a command are its record.
 pub fn read_commands_are_spelled()
@@ -29,7 +30,26 @@ pub fn written_rows_are_read()
     ensures { WrittenRowsAreRead }
 {}
 
+/// The records of rows have as many bytes as `PathDb::encoded_len` counts.
+pub fn written_rows_are_counted()
+    ensures { WrittenRowsAreCounted }
+{}
+
 /// The bytes that are read as rows are their records, and the rows are a database.
 pub fn read_rows_are_spelled()
     ensures { ReadRowsAreSpelled }
+{}
+
+/// Bytes are refused as rows just where behind the records of a database there are bytes that begin with no row's record
+/// (`BadRecord`), or the record of a row whose key is not above the last one's (`Order`); and never for want of memory.
+pub fn row_refusals_are_exact()
+    ensures bad { BadRecordIsExact }
+    ensures order { OrderIsExact }
+    ensures memory { RowsWantNoMemory }
+{}
+
+/// Bytes are refused as a command just where they are the record of none that can be written, and for this one reason.
+pub fn command_refusals_are_exact()
+    ensures exact { CommandRefusalIsExact }
+    ensures only { CommandsHaveOneRefusal }
 {}

@@ -178,7 +178,7 @@ fn read_rising(alloc: Global, bytes: &[u8]) -> Result<Vec<Row>, DbError>
 }
 
 /// Whether there is no row, or the key is strictly above that of the last.
-fn is_above_last(rows: &[Row], row: &Row) -> bool
+pub(crate) fn is_above_last(rows: &[Row], row: &Row) -> bool
     ensures { result ≡ is_above (last_of (row_views rows.now)) (row_view row.now) }
 {
     match rows.last() {

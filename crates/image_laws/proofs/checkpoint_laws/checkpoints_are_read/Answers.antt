@@ -1,4 +1,4 @@
-use Rattle.image_laws.proofs.Heads.{is_checkpoint_read_so, begins_with_its_head}
+use Rattle.image_laws.proofs.Checkpoints.{is_checkpoint_read_so, begins_with_its_head}
 use Rattle.image_laws.proofs.checkpoint_laws.checkpoints_are_read.Goals as goal
 
 pub returns-clause-read : goal.returns-clause-read

@@ -1,4 +1,5 @@
 use Rattle.image_laws.proofs.Opened.{is_opened_so, has_value_just_where, has_one_value}
+use Rattle.image_laws.proofs.Refusals.{is_open_refused_so}
 use Rattle.image_laws.proofs.opening_laws.openings_are_read.Goals as goal
 
 pub returns-clause-read : goal.returns-clause-read
@@ -9,3 +10,6 @@ returns-clause-value g c = has_value_just_where _ _
 
 pub returns-clause-one : goal.returns-clause-one
 returns-clause-one g c = has_one_value _ _
+
+pub returns-clause-refused : goal.returns-clause-refused
+returns-clause-refused g c = is_open_refused_so _ _

@@ -1,5 +1,5 @@
 use Rattle.image_laws.proofs.TakeOver.{takes_over_the_same, takes_over_the_same_at_rest}
-use Rattle.image_laws.proofs.opening_laws.halves_take_over_the_same.Goals as goal
+use Rattle.image_laws.proofs.growth_laws.halves_take_over_the_same.Goals as goal
 
 pub returns-clause-sealed : goal.returns-clause-sealed
 returns-clause-sealed g c = takes_over_the_same _ _

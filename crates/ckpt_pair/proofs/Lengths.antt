@@ -1,0 +1,31 @@
+-- How many bytes rows have as records: for `encoding` and `rows_laws`.
+use Rattle.std.proofs.Common.{◌≡◌, ℕ, suc, ◌≤◌, List, [], ◌∷◌, ◌++◌, length, refl, ap, ◌∙◌, arith, append_assoc}
+use Rattle.std.specs.Int.{w32, to_be_bytes}
+use Rattle.std.proofs.lemmas.List.{length-append}
+use Rattle.std.proofs.lemmas.List.Concat.{flat_map-cons}
+use Rattle.std.proofs.lemmas.List.Sums.{sum_by-cons}
+use Rattle.seg_core.specs.Encoding.{segment_encoding}
+use Rattle.path_db.specs.Database.{RowView, row_len, rows_len}
+use Rattle.path_db.specs.RowRecord.{row_record, rows_encoding}
+
+record_len : (row : RowView) → length (row_record row) ≡ row_len row
+unfolding row_record
+record_len row = ap suc (length-append (to_be_bytes w32 (length (segment_encoding row.1))) (segment_encoding row.1)) ∙ omega arith
+
+pub records_len : (rows : List RowView) → length (rows_encoding rows) ≡ rows_len rows
+records_len [] = refl
+records_len (row ∷ rows) =
+    let split = ap length (flat_map-cons row_record row rows) ∙ length-append (row_record row) (rows_encoding rows) in
+    omega (arith, split, record_len row, records_len rows, sum_by-cons row_len row rows)
+
+-- no more rows than bytes
+pub fewer_rows : (rows : List RowView) → length rows ≤ rows_len rows
+fewer_rows [] = omega arith
+fewer_rows (row ∷ rows) = omega (arith, fewer_rows rows, sum_by-cons row_len row rows)
+
+-- bytes put one after the other
+pub three_parts : (out a b c : List ℕ) → ((out ++ a) ++ b) ++ c ≡ out ++ (a ++ (b ++ c))
+three_parts out a b c = append_assoc (out ++ a) b c ∙ append_assoc out a (b ++ c)
+
+pub four_parts : (out a b c d : List ℕ) → (((out ++ a) ++ b) ++ c) ++ d ≡ out ++ (a ++ (b ++ (c ++ d)))
+four_parts out a b c d = three_parts (out ++ a) b c d ∙ append_assoc out a (b ++ (c ++ d))

@@ -1,0 +1,105 @@
+//! Checkpoints as they are read.
+
+ghost use Rattle.std.specs.Prelude.{◌≡◌, ◌≤◌, ◌+◌, ◌==◌, length, IfOk, IfErr};
+ghost use Rattle.byte_lists.specs.Content.{part};
+ghost use Rattle.path_db.specs.Database.{IsDatabase};
+ghost use Rattle.path_db.specs.RowRecord.{rows_decoding, HasOutline};
+ghost use Rattle.image_laws.specs.CheckpointReading.{checkpoint_in};
+ghost use Rattle.ckpt_pair.specs.declared.error.PairError.TheVariants.{NoMemory};
+ghost use Rattle.ckpt_pair.specs.Refusals.{Reads, Gives};
+ghost use Rattle.ckpt_pair.specs.Heads.{latest};
+ghost use Rattle.ckpt_pair.specs.Rows.{rows_format, as_counted};
+ghost use Rattle.ckpt_pair.specs.Reading.{front_view, front_in, checkpoint_view, or_bad, HasRowsToRead};
+
+use crate::encoding::BEFORE_ROWS;
+use crate::error::PairError;
+use crate::head::{Head, open_head};
+use byte_lists::read_u32;
+use path_db::{DbError, PathDb, read_rows};
+use std::alloc::Global;
+
+/// What stands before the rows of a checkpoint: its head, how many bytes the rows have, and how many they are.
+#[derive(Clone, Copy, Debug, PartialEq, Eq)]
+pub struct Front {
+    pub head: Head,
+    pub size: u32,
+    pub count: u32,
+}
+
+/// A checkpoint that was read: its head, and its rows as a database.
+#[derive(Drop)]
+pub struct Checkpoint {
+    pub head: Head,
+    pub db: PathDb,
+}
+
+/// Reads the front of an area of so many bytes. An area with another magic or version 0 is `BadCheckpoint`, a version above
+/// `LATEST` is `NewerFormat`, and then rows that don't end within the area are `BadCheckpoint`.
+pub fn read_front(bytes: &[u8], area: u64) -> Result<Front, PairError>
+    requires { 32 ≤ length bytes.now }
+    ensures { Reads front_view result (front_in latest area bytes.now) }
+{
+    let head = open_head(bytes)?;
+    let size = read_u32(bytes, 24);
+    let count = read_u32(bytes, 28);
+    if BEFORE_ROWS as u64 + u64::from(size) > area {
+        return Err(PairError::BadCheckpoint);
+    }
+    Ok(Front { head, size, count })
+}
+
+/// Reads the checkpoint that a half's area begins with. First its front is judged, as `read_front` does. Then rows that aren't
+/// just as many in just as many bytes as they are said to be, or that aren't in the order of their keys, are `BadCheckpoint`.
+/// Bytes behind the rows aren't read. To read takes memory from the first row on whose segment has an outline.
+pub fn read_half(alloc: Global, area: &[u8]) -> Result<Checkpoint, PairError>
+    requires { 32 ≤ length area.now }
+    ensures checkpoint { Gives checkpoint_view result (checkpoint_in rows_format latest area.now) }
+    ensures whole { IfOk result (λ checkpoint. IsDatabase checkpoint.db) }
+    ensures memory { IfErr result (λ e. e ≡ NoMemory → HasRowsToRead area.now) }
+{
+    let front = read_front(area, area.len() as u64)?;
+    let db = read_counted(alloc, rows_bytes(area, front.size), front.count)?;
+    Ok(Checkpoint {
+        head: front.head,
+        db,
+    })
+}
+
+/// The bytes of the rows behind a front.
+fn rows_bytes(area: &[u8], size: u32) -> &[u8]
+    requires { 32 + size ≤ length area.now }
+    ensures { result.now ≡ part 32 size area.now }
+{
+    &area[BEFORE_ROWS..BEFORE_ROWS + size as usize]
+}
+
+/// Reads just so many rows, all of these bytes.
+fn read_counted(alloc: Global, bytes: &[u8], count: u32) -> Result<PathDb, PairError>
+    ensures decoding { Gives (λ rows. rows) result (or_bad (as_counted count (rows_decoding bytes.now))) }
+    ensures whole { IfOk result IsDatabase }
+    ensures memory { IfErr result (λ e. e ≡ NoMemory → HasOutline bytes.now) }
+{
+    let db = match read_rows(alloc, bytes) {
+        Ok(db) => db,
+        Err(DbError::NoMemory) => return Err(PairError::NoMemory),
+        Err(_) => return Err(PairError::BadCheckpoint),
+    };
+    if !has_count(&db, count) {
+        return Err(PairError::BadCheckpoint);
+    }
+    Ok(db)
+}
+
+/// Whether there are just so many rows.
+pub(crate) fn has_count(db: &PathDb, count: u32) -> bool
+    ensures { result ≡ (length db.now == count) }
+{
+    let mut left = count;
+    for _row in db.rows() {
+        if left == 0 {
+            return false;
+        }
+        left -= 1;
+    }
+    left == 0
+}

@@ -1,0 +1,54 @@
+-- How one half takes over from the other: its gate decides, and then the old half may be anything that is older. Each statement
+-- is the contract of a function.
+use Rattle.std.specs.Prelude.{◌≡◌, ℕ, ◌+◌, ◌*◌, ◌<◌, ◌≤◌, List, [], ◌∷◌, length, Some, None}
+use Rattle.std.specs.List.{AllByRecursion}
+use Rattle.byte_lists.specs.Content.{overwrite}
+use Rattle.byte_lists.specs.Sectors.{sector_at, IsOpenGate}
+use Rattle.image_laws.specs.Journal.{Reading}
+use Rattle.image_laws.specs.Layout.{other, area_at, gate_at, area_of, journal_of}
+use Rattle.image_laws.specs.StoreFormat.{StoreFormat}
+use Rattle.image_laws.specs.Checkpoint.{Checkpoint, IsCheckpoint}
+use Rattle.image_laws.specs.Opening.{Opening, HasOlderHead, IsOpening, value_of}
+use Rattle.image_laws.specs.WhatCounts.{span, chosen_spans, IsApart}
+use Rattle.image_laws.specs.TakeOver.{FoldsJournal, taken_over, empty_journal}
+
+-- the other half's area has the checkpoint that folds the chosen half's journal, of a later epoch
+pub record IsLaid {Db C : Type 0} (format : StoreFormat Db C) (latest : ℕ) (image : List ℕ) (opening : Opening Db C) (next : Checkpoint Db) : Type 0 where
+  pub folds : FoldsJournal format opening next
+  pub begins : IsCheckpoint format.rows (area_of opening.geometry (other opening.chosen) image) next
+  pub known : next.head.version ≤ latest
+  pub newer : opening.checkpoint.head.epoch < next.head.epoch
+
+-- The gate of the other half, in whose journal the tail is, is written with any bytes: where that opens it that half is chosen,
+-- and stands for the same; and else the image opens as it did.
+abbrev pub SwitchesByTheGate : Type 0 → Type 0 → Type 0
+SwitchesByTheGate Db C =
+    (format : StoreFormat Db C) (latest : ℕ) (image : List ℕ) (opening : Opening Db C) (next : Checkpoint Db) (behind : Reading C) (gate : List ℕ)
+    → IsOpening format latest image opening → opening.tail ≡ Some behind → IsLaid format latest image opening next → length gate ≡ 512
+    → let written = overwrite (512 * gate_at opening.geometry (other opening.chosen)) gate image in
+    (IsOpenGate gate → IsOpening format latest written (taken_over opening next behind))
+    × (¬ IsOpenGate gate → IsOpening format latest written opening)
+    × (value_of format (taken_over opening next behind) ≡ value_of format opening)
+
+-- The same at rest, where no journal is sealed, and the first gate of the other half's is closed.
+abbrev pub SwitchesByTheGateAtRest : Type 0 → Type 0 → Type 0
+SwitchesByTheGateAtRest Db C =
+    (format : StoreFormat Db C) (latest : ℕ) (image : List ℕ) (opening : Opening Db C) (next : Checkpoint Db) (gate : List ℕ)
+    → IsOpening format latest image opening → opening.tail ≡ None → IsLaid format latest image opening next
+    → ¬ IsOpenGate (sector_at 0 (journal_of opening.geometry (other opening.chosen) image)) → length gate ≡ 512
+    → let written = overwrite (512 * gate_at opening.geometry (other opening.chosen)) gate image in
+    let fresh = taken_over opening next (empty_journal next.head.place) in
+    (IsOpenGate gate → IsOpening format latest written fresh)
+    × (¬ IsOpenGate gate → IsOpening format latest written opening)
+    × (value_of format fresh ≡ value_of format opening)
+
+-- Then the other half's head is older, and no journal is sealed: whatever is written apart from that head, and from what counts
+-- of the chosen half, as over the gates of the other one, leaves the opening.
+abbrev pub OlderHalfMayChange : Type 0 → Type 0 → Type 0
+OlderHalfMayChange Db C =
+    (format : StoreFormat Db C) (latest : ℕ) (image : List ℕ) (opening : Opening Db C) (at : ℕ) (bytes : List ℕ)
+    → IsOpening format latest image opening → opening.tail ≡ None
+    → HasOlderHead latest (area_of opening.geometry (other opening.chosen) image) opening.checkpoint.head.epoch
+    → at + length bytes ≤ length image
+    → AllByRecursion (IsApart at (length bytes)) (chosen_spans format opening (span (512 * area_at opening.geometry (other opening.chosen)) 24 ∷ []))
+    → IsOpening format latest (overwrite at bytes image) opening

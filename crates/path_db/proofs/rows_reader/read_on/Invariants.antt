@@ -1,0 +1,17 @@
+use Rattle.std.proofs.Common.{◌≡◌, ◌≤◌, ◌-◌, ◌++◌, length, drop}
+use Rattle.path_db.specs.Database.{IsDatabase}
+use Rattle.path_db.specs.Row.{row_views}
+use Rattle.path_db.specs.RowRecord.{rows_encoding}
+use Rattle.path_db.proofs.rows_reader.read_on.Given as goal
+
+-- The rows so far are a database, and with what is left they are spelled as all is.
+abbrev pub invariant-loop-alloc : goal.invariant-loop-alloc
+invariant-loop-alloc l = record {
+  database : IsDatabase (row_views l.rows.items);
+  same : rows_encoding (row_views l.rows.items) ++ l.left ≡ rows_encoding (row_views l.fn.rows.items) ++ l.bytes;
+  within : length l.left ≤ length l.bytes;
+  behind : l.left ≡ drop (length l.bytes - length l.left) l.bytes;
+}
+
+abbrev pub decreases-loop-alloc : goal.decreases-loop-alloc
+decreases-loop-alloc l = length l.left
