@@ -1,4 +1,6 @@
+pub mod PathStores
 pub mod Looking
 pub mod Closing
+pub mod Refusals
 pub mod Geometry
 pub mod NewStore

@@ -6,13 +6,16 @@
 
 mod closing;
 mod closing_laws;
+mod error;
 mod first_sector;
 mod geometry;
 mod new_store;
 mod new_store_laws;
+mod scanning;
 mod sectors;
 
 pub use closing_laws::openings_are_kept_by_closing;
+pub use error::OpenError;
 pub use first_sector::read_geometry;
 pub use geometry::Geometry;
 pub use new_store::{FormatError, format};
