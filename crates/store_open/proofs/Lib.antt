@@ -3,3 +3,4 @@ pub mod NewStores
 pub mod FirstSectors
 pub mod Gates
 pub mod Kept
+pub mod Journals
