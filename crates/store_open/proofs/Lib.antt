@@ -4,3 +4,4 @@ pub mod FirstSectors
 pub mod Gates
 pub mod Kept
 pub mod Journals
+pub mod Fronts

@@ -4,3 +4,4 @@ pub mod Closing
 pub mod Refusals
 pub mod Geometry
 pub mod NewStore
+pub mod Heads

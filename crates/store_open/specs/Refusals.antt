@@ -10,6 +10,8 @@ use Rattle.gate_journal.specs.declared.error.JournalError.TheVariants as journal
 use Rattle.gate_journal.specs.declared.scanner.Scan.{Scan}
 use Rattle.gate_journal.specs.Reading.{Refuses}
 use Rattle.gate_journal.specs.Scanning.{reading_of}
+use Rattle.image_laws.specs.CheckpointReading.{PairRefusal}
+use Rattle.ckpt_pair.specs.Refusals.{error_of}
 use Rattle.ckpt_pair.specs.declared.error.PairError.{PairError}
 use Rattle.ckpt_pair.specs.declared.error.PairError.TheVariants as pair
 use Rattle.store_open.specs.declared.error.OpenError.{OpenError}
@@ -46,6 +48,12 @@ pub record LooksFor {T : Type 0} (result : Result T OpenError) (old new : Disk) 
   pub faults : new.faults ≡ faults_after result old.faults
   pub history : IsHonest old → new.history ≡ old.history
 
+-- the reading is a refusal, of which this is the error
+pub record Refused {Y : Type 0} (e : PairError) (reading : Result Y PairRefusal) : Type 0 where
+  pub refusal : PairRefusal
+  pub is : reading ≡ Err refusal
+  pub told : e ≡ error_of refusal
+
 -- A journal is scanned: it has this reading, or is refused so, unless the device failed or memory ran out.
 abbrev pub ScansSo : Result Scan OpenError → Result (Reading Command) JournalRefusal → Type 0
 ScansSo (Ok scan) reading = reading ≡ Ok (reading_of scan)
@@ -54,3 +62,12 @@ ScansSo (Err Device) reading = Unit {0}
 ScansSo (Err (Pair e)) reading = ⊥
 ScansSo (Err (Journal e)) reading = (e ≢ journal.NoMemory) × Refuses e reading
 ScansSo (Err NoMemory) reading = Unit {0}
+
+-- A part of a pair of halves is read so, or is refused so, unless the device failed or memory ran out.
+abbrev pub PairSo : {X Y : Type 0} → (X → Y) → Result X OpenError → Result Y PairRefusal → Type 0
+PairSo view (Ok x) reading = reading ≡ Ok (view x)
+PairSo view (Err NotAStore) reading = ⊥
+PairSo view (Err Device) reading = Unit {0}
+PairSo view (Err (Pair e)) reading = (e ≢ pair.NoMemory) × Refused e reading
+PairSo view (Err (Journal e)) reading = ⊥
+PairSo view (Err NoMemory) reading = Unit {0}

@@ -11,6 +11,7 @@ ghost use Rattle.store_open.specs.Looking.{LooksAt};
 ghost use Rattle.store_open.specs.Closing.{IsClosing, HasClosedGates};
 
 use crate::Geometry;
+use crate::reading::read_sector;
 use byte_lists::is_open;
 use image_laws::Half;
 use sector_dev::{DevError, Device, SECTOR};
@@ -50,7 +51,5 @@ pub(crate) fn is_open_at<D: Device>(device: &mut D, at: u64) -> Result<bool, Dev
     ensures looks { LooksAt result (D.disk device.old) (D.disk device.new) }
     ensures open { IfOk result (λ opened. IsHonest (D.disk device.old) → opened ≡ is_open_gate (sector_at at (reads_of (D.disk device.old)))) }
 {
-    let mut sector = [0; SECTOR];
-    device.read(at, &mut sector)?;
-    Ok(is_open(&sector))
+    Ok(is_open(&read_sector(device, at)?))
 }

@@ -8,9 +8,12 @@ mod closing;
 mod closing_laws;
 mod error;
 mod first_sector;
+mod folding;
 mod geometry;
+mod heads;
 mod new_store;
 mod new_store_laws;
+mod reading;
 mod scanning;
 mod sectors;
 
