@@ -5,3 +5,5 @@ pub mod Gates
 pub mod Kept
 pub mod Journals
 pub mod Fronts
+pub mod Feeds
+pub mod Checkpoints

@@ -5,3 +5,4 @@ pub mod Refusals
 pub mod Geometry
 pub mod NewStore
 pub mod Heads
+pub mod Rows

@@ -14,6 +14,7 @@ mod heads;
 mod new_store;
 mod new_store_laws;
 mod reading;
+mod rows;
 mod scanning;
 mod sectors;
 
