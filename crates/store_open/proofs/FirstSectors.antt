@@ -10,7 +10,7 @@ use Rattle.image_laws.specs.Layout.{Geometry, IsGeometry, image_sectors}
 use Rattle.image_laws.specs.FirstSector.{store_magic, layout_number, sizes_in, is_geometry, is_store, geometry_in}
 
 -- a part within the front of a list
-part_in_front : (at n size : ℕ) (xs : List ℕ) → at + n ≤ size → part at n (take size xs) ≡ part at n xs
+pub part_in_front : (at n size : ℕ) (xs : List ℕ) → at + n ≤ size → part at n (take size xs) ≡ part at n xs
 part_in_front at n size xs inside =
     let split : size ≡ at + (size - at) = omega arith in
     ap (λ (m : ℕ). take n (drop at (take m xs))) split ∙ ap (take n) (drop-take at (size - at) xs) ∙ take-take n (size - at) (drop at xs) (omega arith)

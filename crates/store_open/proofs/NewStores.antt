@@ -7,7 +7,12 @@ use Rattle.image_laws.specs.declared.half.Half.TheVariants.{First}
 use Rattle.image_laws.specs.Layout.{Geometry, area_of}
 use Rattle.image_laws.specs.Checkpoint.{head_encoding, first_checkpoint, IsCheckpoint, CanBeCheckpoint}
 use Rattle.image_laws.specs.StoreFormat.{StoreFormat}
-use Rattle.store_open.specs.NewStore.{latest, first_head, closed_sector, IsNewStore, IsFormattedInAny}
+use Rattle.store_open.specs.NewStore.{first_head, closed_sector, IsNewStore, IsEmptyStore, IsFormattedInAny}
+use Rattle.ckpt_pair.specs.Heads.{latest}
+use Rattle.image_laws.proofs.TakeOver.{opens_empty}
+use Rattle.path_db.specs.Database.{RowView}
+use Rattle.path_db.specs.declared.command.Command.{Command}
+use Rattle.store_open.specs.PathStores.{store_format}
 
 -- a closed gate isn't open
 closed : (sector : List ℕ) → sector ≡ closed_sector → IsOpenGate sector → ⊥
@@ -48,4 +53,11 @@ formatted_in_any Db C format geometry image is = record {
   begins = begins format geometry image is;
   journal = closed _ is.journal;
   second = closed _ is.second_gate;
+}
+
+-- so it opens to no rows
+pub empty_store : (geometry : Geometry) (image : List ℕ) → IsNewStore geometry image → IsEmptyStore geometry image
+empty_store geometry image is = record {
+  new = is;
+  opens = opens_empty (List RowView) Command store_format latest latest geometry image (omega arith) (formatted_in_any (List RowView) Command store_format geometry image is);
 }

@@ -13,7 +13,8 @@ use Rattle.sector_dev.proofs.Stretches.{honest_after}
 use Rattle.image_laws.specs.declared.half.Half.TheVariants.{First, Second}
 use Rattle.image_laws.specs.Layout.{Geometry, IsGeometry, image_sectors, area_at, gate_at, journal_at}
 use Rattle.image_laws.specs.FirstSector.{first_sector}
-use Rattle.store_open.specs.NewStore.{first_checkpoint_bytes, open_sector, closed_sector, IsNewStore, HoldsNewStore, HasRoomFor}
+use Rattle.store_open.specs.NewStore.{first_checkpoint_bytes, open_sector, closed_sector, IsNewStore, IsEmptyStore, HoldsNewStore, HasRoomFor}
+use Rattle.store_open.proofs.NewStores.{empty_store}
 
 -- a sector is written: it has these bytes, and those before it stay as they were
 record IsPut (at : ℕ) (bytes old new : List ℕ) : Type 0 where
@@ -115,8 +116,8 @@ synced_store E u geometry old new call honest is =
     let so = history_synced E u old new call honest in
     let reads : reads_of new ≡ reads_of old = ap (λ (h : History). h.now.reads) so in
     let clean = ap (λ (h : History). h.now.dirty) so in
-    let there : IsNewStore geometry (reads_of new) = subst (IsNewStore geometry) (sym reads) is in
-    record { every = λ content image. subst (IsNewStore geometry) (sym (image_is_reads new.history.now content clean image)) there; reads = there }
+    let there : IsEmptyStore geometry (reads_of new) = subst (IsEmptyStore geometry) (sym reads) (empty_store geometry (reads_of old) is) in
+    record { every = λ content image. subst (IsEmptyStore geometry) (sym (image_is_reads new.history.now content clean image)) there; reads = there }
 
 module _ {T E : Type 0} (geometry : Geometry) (d0 : Disk) (has : HasRoomFor geometry d0) (whole : IsHonest d0 → IsWhole d0)
     (s2 s3 s4 s5 s6 : ℕ) (b1 b2 b3 b4 b5 b6 : List ℕ)

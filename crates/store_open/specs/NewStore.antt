@@ -1,5 +1,5 @@
 -- What a store is that was just made, to the byte, and what making one answers.
-use Rattle.std.specs.Prelude.{◌≡◌, ◌++◌, ℕ, ◌≤◌, ◌<◌, List, take, replicate, ◌∷◌, Result, Ok, Err}
+use Rattle.std.specs.Prelude.{◌≡◌, ◌++◌, ℕ, ◌≤◌, ◌<◌, List, [], take, replicate, ◌∷◌, Result, Ok, Err}
 use Rattle.std.specs.Int.{w32, to_be_bytes}
 use Rattle.byte_lists.specs.Sectors.{sector_at}
 use Rattle.sector_dev.specs.Disk.{Disk, IsHonest, reads_of}
@@ -11,12 +11,10 @@ use Rattle.image_laws.specs.FirstSector.{IsStore}
 use Rattle.image_laws.specs.Checkpoint.{Head, head_encoding}
 use Rattle.image_laws.specs.StoreFormat.{StoreFormat}
 use Rattle.image_laws.specs.TakeOver.{IsFormatted}
+use Rattle.ckpt_pair.specs.Heads.{latest}
+use Rattle.store_open.specs.PathStores.{IsStoreOf}
 use Rattle.store_open.specs.declared.new_store.FormatError.{FormatError}
 use Rattle.store_open.specs.declared.new_store.FormatError.TheVariants.{BadGeometry, TooSmall, Fault}
-
--- the version in which stores are made, which is the greatest that is known
-abbrev pub latest : ℕ
-latest = 2
 
 -- the head of a new store: epoch 1, place 0
 abbrev pub first_head : Head
@@ -47,10 +45,15 @@ abbrev pub IsFormattedInAny : Type 0 → Type 0 → Type 0
 IsFormattedInAny Db C =
     (format : StoreFormat Db C) (geometry : Geometry) (image : List ℕ) → IsNewStore geometry image → IsFormatted format latest geometry image
 
--- whatever a stop leaves is a new store, and reads give one
+-- a new store, which opens to no rows at place 0
+pub record IsEmptyStore (geometry : Geometry) (image : List ℕ) : Type 0 where
+  pub new : IsNewStore geometry image
+  pub opens : IsStoreOf [] 0 image
+
+-- whatever a stop leaves is such a store, and reads give one
 pub record HoldsNewStore (geometry : Geometry) (disk : Disk) : Type 0 where
-  pub every : EveryImage disk.history.now (IsNewStore geometry)
-  pub reads : IsNewStore geometry (reads_of disk)
+  pub every : EveryImage disk.history.now (IsEmptyStore geometry)
+  pub reads : IsEmptyStore geometry (reads_of disk)
 
 -- these sizes are allowed, and the device has room for a store of them
 pub record HasRoomFor (geometry : Geometry) (disk : Disk) : Type 0 where

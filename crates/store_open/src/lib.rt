@@ -4,12 +4,22 @@
 //! just where an image is one.
 #![tactic(auto)]
 
+mod closing;
+mod closing_laws;
+mod error;
 mod first_sector;
+mod folding;
 mod geometry;
+mod heads;
 mod new_store;
 mod new_store_laws;
+mod reading;
+mod rows;
+mod scanning;
 mod sectors;
 
+pub use closing_laws::openings_are_kept_by_closing;
+pub use error::OpenError;
 pub use first_sector::read_geometry;
 pub use geometry::Geometry;
 pub use new_store::{FormatError, format};

@@ -1,0 +1,13 @@
+-- How many commands are applied.
+use Rattle.std.proofs.Common.{◌≡◌, drop}
+use Rattle.path_db.specs.Database.{IsDatabase}
+use Rattle.image_laws.specs.StoreFormat.{db_after}
+use Rattle.store_open.specs.PathStores.{store_format}
+use Rattle.store_open.proofs.folding.fold.Given as goal
+
+-- The commands that are left lead to the same as all of them from the start.
+abbrev pub invariant-loop-command : goal.invariant-loop-command
+invariant-loop-command l = record {
+  left : db_after store_format l.db (drop l.command-index l.commands) ≡ db_after store_format l.fn.db l.fn.commands;
+  whole : IsDatabase l.db;
+}

@@ -1,0 +1,20 @@
+-- How far the rows are read.
+use Rattle.std.proofs.Common.{◌≡◌, ◌+◌, ◌-◌, ◌*◌, ◌≤◌}
+use Rattle.byte_lists.specs.Content.{part}
+use Rattle.sector_dev.specs.Disk.{IsHonest, reads_of}
+use Rattle.sector_dev.specs.Calls.{Keeps}
+use Rattle.store_open.proofs.rows.feed_area.Given as goal
+
+-- The device is as it was, and the reader was fed with the bytes up to here.
+abbrev pub invariant-pieces : goal.invariant-pieces
+invariant-pieces g l = record {
+  keeps : Keeps (g.D.Device.disk l.fn.device) (g.D.Device.disk l.device);
+  faults : (g.D.Device.disk l.device).faults ≡ (g.D.Device.disk l.fn.device).faults;
+  history : IsHonest (g.D.Device.disk l.fn.device) → (g.D.Device.disk l.device).history ≡ (g.D.Device.disk l.fn.device).history;
+  from : 32 ≤ l.fed;
+  to : l.fed ≤ l.end;
+  read : IsHonest (g.D.Device.disk l.fn.device) → l.reader ≡ part (512 * l.fn.area + 32) (l.fed - 32) (reads_of (g.D.Device.disk l.fn.device));
+}
+
+abbrev pub decreases-pieces : goal.decreases-pieces
+decreases-pieces g l = l.end - l.fed

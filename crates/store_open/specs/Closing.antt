@@ -1,0 +1,28 @@
+-- What closing the gates of a half leaves.
+use Rattle.std.specs.Prelude.{◌≡◌, ◌⊎◌, ℕ, ◌+◌, ◌*◌, ◌≤◌, List, length}
+use Rattle.byte_lists.specs.Content.{part}
+use Rattle.byte_lists.specs.Sectors.{sector_at, IsOpenGate}
+use Rattle.image_laws.specs.declared.half.Half.{Half}
+use Rattle.image_laws.specs.Layout.{Geometry, gate_at, gate_of, journal_of}
+use Rattle.image_laws.specs.StoreFormat.{StoreFormat}
+use Rattle.image_laws.specs.Layout.{other}
+use Rattle.image_laws.specs.Opening.{Opening, IsOpening}
+use Rattle.std.specs.Prelude.{None}
+
+-- A half's gates are being closed: all but the half gate and the journal's first gate, in the sector behind it, is as it was, and
+-- a half gate that was closed is as it was too.
+pub record IsClosing (geometry : Geometry) (half : Half) (old new : List ℕ) : Type 0 where
+  pub size : length new ≡ length old
+  pub outside : (at n : ℕ) → (at + n ≤ 512 * gate_at geometry half) ⊎ (512 * (gate_at geometry half + 2) ≤ at) → part at n new ≡ part at n old
+  pub gate : (¬ IsOpenGate (gate_of geometry half old)) → gate_of geometry half new ≡ gate_of geometry half old
+
+-- both gates of a half are closed
+pub record HasClosedGates (geometry : Geometry) (half : Half) (content : List ℕ) : Type 0 where
+  pub gate : ¬ IsOpenGate (gate_of geometry half content)
+  pub journal : ¬ IsOpenGate (sector_at 0 (journal_of geometry half content))
+
+-- An image that opens without a tail opens so too while the gates of the half that isn't chosen are being closed.
+abbrev pub IsKeptByClosing : Type 0 → Type 0 → Type 0
+IsKeptByClosing Db C =
+    (format : StoreFormat Db C) (latest : ℕ) (old new : List ℕ) (opening : Opening Db C) → opening.tail ≡ None
+    → IsClosing opening.geometry (other opening.chosen) old new → IsOpening format latest old opening → IsOpening format latest new opening

@@ -1,0 +1,22 @@
+-- Which half is chosen, by what reads give of both heads.
+use Rattle.std.specs.Prelude.{◌≡◌, List, ℕ, Result, Ok}
+use Rattle.image_laws.specs.declared.half.Half.{Half}
+use Rattle.image_laws.specs.declared.half.Half.TheVariants.{First, Second}
+use Rattle.image_laws.specs.CheckpointReading.{PairRefusal}
+use Rattle.image_laws.specs.Layout.{Geometry}
+use Rattle.image_laws.specs.OpeningReading.{head_of, choice_of}
+use Rattle.ckpt_pair.specs.Heads.{latest, head_seen}
+use Rattle.ckpt_pair.specs.declared.head.Heads.{Heads}
+use Rattle.store_open.specs.declared.heads.Choice.{Choice}
+
+abbrev pub chosen_half : Choice → Half
+chosen_half choice = choice.half
+
+-- the half that is chosen in an image
+abbrev pub choice_by_heads : Geometry → List ℕ → Result Half PairRefusal
+choice_by_heads geometry image = choice_of (head_of latest geometry First image) (head_of latest geometry Second image)
+
+-- these are the heads of an image
+pub record HasHeads (geometry : Geometry) (image : List ℕ) (heads : Heads) : Type 0 where
+  pub first : head_of latest geometry First image ≡ Ok (head_seen heads.first)
+  pub second : head_of latest geometry Second image ≡ Ok (head_seen heads.second)

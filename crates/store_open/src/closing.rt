@@ -1,0 +1,55 @@
+//! Closing the gates of a half that isn't used.
+
+ghost use Rattle.std.specs.Prelude.{◌≡◌, ◌≤◌, ◌<◌, [], OnOk, IfOk};
+ghost use Rattle.byte_lists.specs.Sectors.{sector_at, is_open_gate};
+ghost use Rattle.sector_dev.specs.Disk.{IsHonest, reads_of};
+ghost use Rattle.sector_dev.specs.Calls.{count_after};
+ghost use Rattle.sector_dev.specs.Stretch.{Stretch};
+ghost use Rattle.image_laws.specs.Layout.{IsGeometry, image_sectors};
+ghost use Rattle.store_open.specs.Geometry.{geometry_view};
+ghost use Rattle.store_open.specs.Looking.{LooksAt};
+ghost use Rattle.store_open.specs.Closing.{IsClosing, HasClosedGates};
+
+use crate::Geometry;
+use crate::reading::read_sector;
+use byte_lists::is_open;
+use image_laws::Half;
+use sector_dev::{DevError, Device, SECTOR};
+
+/// Closes what of a half's two gates reads open: both in one write where the half gate does, and else the journal's first gate
+/// alone. Nothing may be dirty.
+pub(crate) fn close_half<D: Device>(
+    device: &mut D,
+    geometry: Geometry,
+    half: Half,
+) -> Result<(), DevError>
+    requires allowed { IsGeometry (geometry_view geometry) }
+    requires room { image_sectors (geometry_view geometry) ≤ (D.disk device.old).sectors }
+    requires clean { IsHonest (D.disk device.old) → (D.disk device.old).history.now.dirty ≡ [] }
+
+    // At every moment all but these gates is as it was, and a half gate that is closed too.
+    ensures any_moment { Stretch (D.disk device.old) (D.disk device.new) (IsClosing (geometry_view geometry) half (reads_of (D.disk device.old))) }
+
+    ensures closed { OnOk result (IsHonest (D.disk device.old) → HasClosedGates (geometry_view geometry) half (reads_of (D.disk device.new))) }
+
+    // It fails only where the device does.
+    ensures faults { (D.disk device.new).faults ≡ count_after result (D.disk device.old).faults }
+{
+    let gate = geometry.gate_at(half);
+    if is_open_at(device, gate)? {
+        return device.write(gate, &[0; 2 * SECTOR]);
+    }
+    if is_open_at(device, gate + 1)? {
+        return device.write(gate + 1, &[0; SECTOR]);
+    }
+    Ok(())
+}
+
+/// Whether the gate in this sector reads open.
+pub(crate) fn is_open_at<D: Device>(device: &mut D, at: u64) -> Result<bool, DevError>
+    requires { at < (D.disk device.old).sectors }
+    ensures looks { LooksAt result (D.disk device.old) (D.disk device.new) }
+    ensures open { IfOk result (λ opened. IsHonest (D.disk device.old) → opened ≡ is_open_gate (sector_at at (reads_of (D.disk device.old)))) }
+{
+    Ok(is_open(&read_sector(device, at)?))
+}

@@ -1,0 +1,8 @@
+//! Laws of closing gates, in any format of databases of type `Db` and commands of type `C`.
+
+ghost use Rattle.store_open.specs.Closing.{IsKeptByClosing};
+
+/// While the gates of the half that isn't chosen are being closed, an image that opens without a tail opens so too.
+pub fn openings_are_kept_by_closing<Db, C>()
+    ensures { IsKeptByClosing Db C }
+{}

@@ -1,0 +1,85 @@
+//! Reading the rows of a checkpoint from a device.
+
+ghost use Rattle.std.specs.Prelude.{◌≡◌, ◌+◌, ◌*◌, ◌≤◌, IfOk};
+ghost use Rattle.byte_lists.specs.Content.{part};
+ghost use Rattle.sector_dev.specs.Disk.{IsHonest, reads_of};
+ghost use Rattle.path_db.specs.Database.{IsDatabase};
+ghost use Rattle.image_laws.specs.CheckpointReading.{checkpoint_in};
+ghost use Rattle.image_laws.specs.Layout.{IsGeometry, image_sectors, area_of};
+ghost use Rattle.ckpt_pair.specs.Heads.{latest};
+ghost use Rattle.ckpt_pair.specs.Reading.{checkpoint_view};
+ghost use Rattle.ckpt_pair.specs.Rows.{rows_format};
+ghost use Rattle.store_open.specs.Geometry.{geometry_view};
+ghost use Rattle.store_open.specs.Refusals.{LooksFor, PairSo};
+ghost use Rattle.store_open.specs.Rows.{FeedsSo};
+
+use crate::Geometry;
+use crate::error::OpenError;
+use crate::reading::read_sector;
+use crate::scanning::read_piece;
+use ckpt_pair::{
+    Checkpoint, checkpoints_are_read_by_their_fronts, feed_rows, finish_rows, read_front,
+};
+use image_laws::Half;
+use path_db::RowsReader;
+use sector_dev::Device;
+use std::alloc::Global;
+
+/// The most sectors that are read at a time: 1 MiB.
+const PIECE: u64 = 2048;
+
+/// The bytes before the rows of a checkpoint.
+const BEFORE_ROWS: u64 = 32;
+
+/// Reads the rows of the area that begins at a sector, which have so many bytes, in pieces of at most 1 MiB.
+pub(crate) fn feed_area<D: Device>(
+    alloc: Global,
+    device: &mut D,
+    area: u64,
+    size: u32,
+) -> Result<RowsReader, OpenError>
+    requires { 512 * area + 32 + size ≤ 512 * (D.disk device.old).sectors }
+    ensures looks { LooksFor result (D.disk device.old) (D.disk device.new) }
+    ensures rows { IsHonest (D.disk device.old) → FeedsSo (part (512 * area + 32) size (reads_of (D.disk device.old))) result }
+{
+    let end = BEFORE_ROWS + u64::from(size);
+    let sectors = (end + 511) / 512;
+    let mut reader = RowsReader::new(alloc);
+    let mut fed = BEFORE_ROWS;
+    'pieces: while fed < end {
+        let first = fed / 512;
+        let count = (sectors - first).min(PIECE);
+        let piece = read_piece(alloc, device, area + first, count)?;
+        let from = fed - 512 * first;
+        let to = (end - 512 * first).min(512 * count);
+        reader = feed_rows(reader, &piece[from as usize..to as usize])?;
+        fed = 512 * first + to;
+    }
+    Ok(reader)
+}
+
+/// Reads the checkpoint of a half: its front, and no more of its area than its rows.
+pub(crate) fn read_checkpoint<D: Device>(
+    alloc: Global,
+    device: &mut D,
+    geometry: Geometry,
+    half: Half,
+) -> Result<Checkpoint, OpenError>
+    requires allowed { IsGeometry (geometry_view geometry) }
+    requires room { image_sectors (geometry_view geometry) ≤ (D.disk device.old).sectors }
+    ensures looks { LooksFor result (D.disk device.old) (D.disk device.new) }
+    ensures checkpoint { IsHonest (D.disk device.old) → PairSo checkpoint_view result
+        (checkpoint_in rows_format latest (area_of (geometry_view geometry) half (reads_of (D.disk device.old)))) }
+    ensures whole { IfOk result (λ checkpoint. IsDatabase checkpoint.db) }
+{
+    checkpoints_are_read_by_their_fronts();
+    let at = geometry.area_at(half);
+    let sector = read_sector(device, at)?;
+    let front = read_front(&sector, 512 * u64::from(geometry.checkpoint))?;
+    let reader = feed_area(alloc, device, at, front.size)?;
+    let db = finish_rows(reader, front.count)?;
+    Ok(Checkpoint {
+        head: front.head,
+        db,
+    })
+}

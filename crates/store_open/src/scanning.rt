@@ -1,0 +1,65 @@
+//! Reading a journal from a device.
+
+ghost use Rattle.std.specs.Prelude.{◌≡◌, ◌⊎◌, ◌+◌, ◌*◌, ◌≤◌, length, IfOk, IfErr};
+ghost use Rattle.byte_lists.specs.Content.{part};
+ghost use Rattle.sector_dev.specs.Disk.{IsHonest, reads_of};
+ghost use Rattle.image_laws.specs.Limits.{limits_of};
+ghost use Rattle.image_laws.specs.JournalReading.{journal_scan};
+ghost use Rattle.image_laws.specs.Layout.{IsGeometry, image_sectors, journal_of};
+ghost use Rattle.gate_journal.specs.Commands.{command_format};
+ghost use Rattle.store_open.specs.declared.error.OpenError.TheVariants.{Device as IsDevice, NoMemory};
+ghost use Rattle.store_open.specs.Geometry.{geometry_view};
+ghost use Rattle.store_open.specs.Refusals.{LooksFor, ScansSo};
+
+use crate::Geometry;
+use crate::error::OpenError;
+use gate_journal::{Progress, Scan, Scanner};
+use image_laws::Half;
+use sector_dev::{Device, SECTOR};
+use std::alloc::Global;
+
+/// Scans a half's journal by the version of its store. Its first command is to have this place. No more of it is read than what
+/// counts, a gate or a payload at a time.
+pub(crate) fn scan_journal<D: Device>(
+    alloc: Global,
+    device: &mut D,
+    geometry: Geometry,
+    half: Half,
+    place: u64,
+    version: u32,
+) -> Result<Scan, OpenError>
+    requires allowed { IsGeometry (geometry_view geometry) }
+    requires room { image_sectors (geometry_view geometry) ≤ (D.disk device.old).sectors }
+    ensures looks { LooksFor result (D.disk device.old) (D.disk device.new) }
+    ensures scan { IsHonest (D.disk device.old) → ScansSo result
+        (journal_scan command_format (limits_of version) (journal_of (geometry_view geometry) half (reads_of (D.disk device.old))) place) }
+{
+    let start = geometry.journal_at(half);
+    let mut scanner = Scanner::new(alloc, u64::from(geometry.journal), place, version);
+    'pieces: loop {
+        let wanted = scanner.wanted();
+        let piece = read_piece(alloc, device, start + wanted.first, wanted.count)?;
+        match scanner.take(alloc, &piece)? {
+            Progress::Done(scan) => return Ok(scan),
+            Progress::More(next) => scanner = next,
+        }
+    }
+}
+
+/// Reads so many sectors, which the device has.
+pub(crate) fn read_piece<D: Device>(
+    alloc: Global,
+    device: &mut D,
+    at: u64,
+    count: u64,
+) -> Result<Vec<u8>, OpenError>
+    requires { at + count ≤ (D.disk device.old).sectors }
+    ensures looks { LooksFor result (D.disk device.old) (D.disk device.new) }
+    ensures size { IfOk result (λ bytes. length bytes.items ≡ 512 * count) }
+    ensures read { IfOk result (λ bytes. IsHonest (D.disk device.old) → bytes.items ≡ part (512 * at) (512 * count) (reads_of (D.disk device.old))) }
+    ensures refused { IfErr result (λ e. (e ≡ IsDevice) ⊎ (e ≡ NoMemory)) }
+{
+    let mut bytes = vec![in alloc; 0; SECTOR * count as usize]?;
+    device.read(at, &mut bytes)?;
+    Ok(bytes)
+}
