@@ -1,5 +1,5 @@
 -- A checkpoint that is read from a device: its front, and then its rows.
-use Rattle.std.proofs.Common.{◌≡◌, ℕ, ◌+◌, ◌*◌, ◌≤◌, Bool, true, false, leb, leb-true, List, length, take, drop, Result, Ok, Err, Option, Some, None, refl, sym, ◌∙◌, ap, subst, arith}
+use Rattle.std.proofs.Common.{◌≡◌, ◌≢◌, ℕ, ◌+◌, ◌*◌, ◌≤◌, Bool, true, false, leb, leb-true, List, length, take, drop, Result, Ok, Err, Option, Some, None, refl, sym, ◌∙◌, ap, subst, arith}
 use Rattle.std.proofs.lemmas.List.{take-take, drop-drop}
 use Rattle.byte_lists.specs.Content.{part}
 use Rattle.byte_lists.specs.Sectors.{sector_at}
@@ -12,6 +12,7 @@ use Rattle.image_laws.specs.Checkpoint.{Checkpoint, Head}
 use Rattle.image_laws.specs.CheckpointReading.{PairRefusal, BadCheckpoint, head_in, rows_size, rows_count, checkpoint_in}
 use Rattle.image_laws.specs.Layout.{Geometry, IsGeometry, image_sectors, area_at, area_of}
 use Rattle.ckpt_pair.specs.declared.error.PairError.{PairError}
+use Rattle.ckpt_pair.specs.declared.error.PairError.TheVariants as pair
 use Rattle.ckpt_pair.specs.Heads.{latest}
 use Rattle.ckpt_pair.specs.Reading.{FrontView, front_in, with_room, or_bad, with_head, with_rows_behind, rows_behind, AreReadByTheirFronts}
 use Rattle.ckpt_pair.specs.Refusals.{Reads}
@@ -21,7 +22,7 @@ use Rattle.store_open.specs.declared.error.OpenError.TheVariants.{NotAStore, Dev
 use Rattle.store_open.specs.Refusals.{error_of_pair, PairSo}
 use Rattle.store_open.specs.Rows.{FeedsSo}
 use Rattle.store_open.proofs.FirstSectors.{part_in_front}
-use Rattle.store_open.proofs.Fronts.{pair_refused}
+use Rattle.store_open.proofs.Fronts.{pair_refused, pair_given}
 
 area_inside : (geometry : Geometry) (half : Half) → area_at geometry half + geometry.checkpoint ≤ image_sectors geometry
 area_inside geometry First = omega arith
@@ -55,9 +56,11 @@ count_refused : {X : Type 0} (see : X → Checkpoint (List RowView)) (e : PairEr
 count_refused see e head None so = so
 count_refused see e head (Some rows) so = absurd so
 
-counted : (db : List RowView) (head : Head) (found : Option (List RowView)) → Reads (λ (rows : List RowView). rows) (Ok db) (or_bad found) → with_head head found ≡ Ok (record { head = head; db = db })
-counted db head None so = absurd so
-counted db head (Some rows) so = ap (λ (l : List RowView). let r : Result (Checkpoint (List RowView)) PairRefusal = Ok (record { head = head; db = l }) in r) so
+counted : (db : List RowView) (head : Head) (found : Option (List RowView)) → or_bad found ≡ Ok db → with_head head found ≡ Ok (record { head = head; db = db })
+counted db head None so = absurd cc
+counted db head (Some rows) so =
+    let same : rows ≡ db = cc in
+    ap (λ (l : List RowView). let r : Result (Checkpoint (List RowView)) PairRefusal = Ok (record { head = head; db = l }) in r) same
 
 module _ (geometry : Geometry) (half : Half) (reads sector : List ℕ) (at : ℕ) (allowed : IsGeometry geometry) (room : 512 * image_sectors geometry ≤ length reads) (law : AreReadByTheirFronts)
     (place : at ≡ area_at geometry half) (is : sector ≡ sector_at at reads) where
@@ -113,15 +116,16 @@ module _ (geometry : Geometry) (half : Half) (reads sector : List ℕ) (at : ℕ
         subst (PairSo see (Err e)) (sym read_behind) (rows_refused see e (part (512 * at + 32) front.size reads) front.head front.count so)
 
     pub count_refused_so : {X : Type 0} (see : X → Checkpoint (List RowView)) (e : PairError) (fed : List ℕ) → fed ≡ part (512 * at + 32) front.size reads
-        → Reads {X = List RowView} (λ rows. rows) (Err e) (or_bad (as_counted front.count (rows_decoding fed))) → PairSo see (Err (error_of_pair e)) (checkpoint_in rows_format latest Area)
+        → (e ≢ pair.NoMemory → Reads {X = List RowView} (λ rows. rows) (Err e) (or_bad (as_counted front.count (rows_decoding fed))))
+        → PairSo see (Err (error_of_pair e)) (checkpoint_in rows_format latest Area)
     count_refused_so see e fed same so =
         subst (PairSo see (Err (error_of_pair e))) (sym read_behind)
-        (pair_refused see e (with_head front.head (as_counted front.count (rows_decoding (part (512 * at + 32) front.size reads))))
-        (count_refused see e front.head (as_counted front.count (rows_decoding (part (512 * at + 32) front.size reads)))
-        (subst (λ (bytes : List ℕ). Reads {X = List RowView} (λ rows. rows) (Err e) (or_bad (as_counted front.count (rows_decoding bytes)))) same so)))
+        (pair_given see e (with_head front.head (as_counted front.count (rows_decoding (part (512 * at + 32) front.size reads))))
+        (λ other. count_refused see e front.head (as_counted front.count (rows_decoding (part (512 * at + 32) front.size reads)))
+        (subst (λ (bytes : List ℕ). Reads {X = List RowView} (λ rows. rows) (Err e) (or_bad (as_counted front.count (rows_decoding bytes)))) same (so other))))
 
-    pub counted_so : (db : List RowView) (fed : List ℕ) → fed ≡ part (512 * at + 32) front.size reads → Reads (λ (rows : List RowView). rows) (Ok db) (or_bad (as_counted front.count (rows_decoding fed)))
+    pub counted_so : (db : List RowView) (fed : List ℕ) → fed ≡ part (512 * at + 32) front.size reads → or_bad (as_counted front.count (rows_decoding fed)) ≡ Ok db
         → checkpoint_in rows_format latest Area ≡ Ok (record { head = front.head; db = db })
     counted_so db fed same so =
         read_behind ∙ counted db front.head (as_counted front.count (rows_decoding (part (512 * at + 32) front.size reads)))
-        (subst (λ (bytes : List ℕ). Reads (λ (rows : List RowView). rows) (Ok db) (or_bad (as_counted front.count (rows_decoding bytes)))) same so)
+        (subst (λ (bytes : List ℕ). or_bad (as_counted front.count (rows_decoding bytes)) ≡ Ok db) same so)

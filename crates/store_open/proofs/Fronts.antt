@@ -1,5 +1,5 @@
 -- Heads and fronts of areas, by the bytes that areas begin with.
-use Rattle.std.proofs.Common.{◌≡◌, ℕ, ◌*◌, ◌≤◌, eqb, leb, List, take, drop, Result, Ok, Err, refl, sym, ◌∙◌, ap, arith}
+use Rattle.std.proofs.Common.{◌≡◌, ◌≢◌, ℕ, ◌*◌, ◌≤◌, eqb, leb, List, take, drop, Result, Ok, Err, refl, sym, ◌∙◌, ap, arith}
 use Rattle.std.specs.Int.{w32, w64, from_be_bytes}
 use Rattle.byte_lists.specs.Numbers.{four_at, eight_at}
 use Rattle.byte_lists.specs.Sectors.{sector_at, is_open_gate}
@@ -53,6 +53,16 @@ pair_refused view pair.BadCheckpoint (Err refusal) so = (λ same. cc, record { r
 pair_refused view pair.SealedNewer (Err refusal) so = (λ same. cc, record { refusal = refusal; is = refl; told = so })
 pair_refused view (pair.NewerFormat version) (Err refusal) so = (λ same. cc, record { refusal = refusal; is = refl; told = so })
 pair_refused view e (Ok y) so = absurd so
+
+-- of a call that takes memory want of memory says nothing, and else it told what it reads
+pub pair_given : {X Y : Type 0} (view : X → Y) (e : PairError) (reading : Result Y PairRefusal) → (e ≢ pair.NoMemory → Reads view (Err e) reading)
+    → PairSo view (Err (error_of_pair e)) reading
+pair_given view pair.NoMemory reading so = tt
+pair_given view pair.NoHalf reading so = pair_refused view pair.NoHalf reading (so (λ same. cc))
+pair_given view pair.SameEpoch reading so = pair_refused view pair.SameEpoch reading (so (λ same. cc))
+pair_given view pair.BadCheckpoint reading so = pair_refused view pair.BadCheckpoint reading (so (λ same. cc))
+pair_given view pair.SealedNewer reading so = pair_refused view pair.SealedNewer reading (so (λ same. cc))
+pair_given view (pair.NewerFormat version) reading so = pair_refused view (pair.NewerFormat version) reading (so (λ same. cc))
 
 -- what was read of a half's gate and of its area's first sector
 pub head_told : (latest : ℕ) (geometry : Geometry) (half : Half) (reads now gate area : List ℕ) (gate_sector area_sector : ℕ) → IsGeometry geometry → gate_sector ≡ gate_at geometry half → area_sector ≡ area_at geometry half
