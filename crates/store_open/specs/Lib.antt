@@ -6,3 +6,5 @@ pub mod Geometry
 pub mod NewStore
 pub mod Heads
 pub mod Rows
+pub mod Store
+pub mod StoreShape

@@ -17,6 +17,8 @@ mod reading;
 mod rows;
 mod scanning;
 mod sectors;
+mod store;
+mod store_error;
 
 pub use closing_laws::openings_are_kept_by_closing;
 pub use error::OpenError;
@@ -24,3 +26,5 @@ pub use first_sector::read_geometry;
 pub use geometry::Geometry;
 pub use new_store::{FormatError, format};
 pub use new_store_laws::new_stores_are_formatted;
+pub use store::Store;
+pub use store_error::StoreError;

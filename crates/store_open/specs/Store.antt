@@ -1,0 +1,105 @@
+-- What contracts see of a store that was opened, and what its device holds.
+use Rattle.std.specs.Prelude.{◌≡◌, ℕ, ◌+◌, ◌*◌, ◌^◌, ◌-◌, ◌<◌, ◌≤◌, min, Bool, true, false, List, [], Result, Ok, Err}
+use Rattle.path_db.specs.Database.{RowView, rows_len}
+use Rattle.path_db.specs.declared.command.Command.{Command}
+use Rattle.sector_dev.specs.Disk.{Disk, IsHonest}
+use Rattle.sector_dev.specs.Image.{EveryImage}
+use Rattle.sector_dev.specs.Calls.{one_more}
+use Rattle.image_laws.specs.declared.half.Half.{Half}
+use Rattle.image_laws.specs.Layout.{Geometry, other}
+use Rattle.image_laws.specs.Checkpoint.{Head}
+use Rattle.image_laws.specs.Opening.{Opening, IsOpening, db_at_seal, value_of}
+use Rattle.image_laws.specs.StoreGrowth.{last_reading}
+use Rattle.ckpt_pair.specs.Heads.{latest}
+use Rattle.store_open.specs.Closing.{HasClosedGates}
+use Rattle.store_open.specs.PathStores.{store_format, IsStoreOf}
+use Rattle.store_open.specs.declared.store_error.StoreError.{StoreError}
+use Rattle.store_open.specs.declared.store_error.StoreError.TheVariants.{Fault, Sealed, NoMemory, Exhausted, Unfit, Broken}
+
+-- The device; the sizes; the half that is chosen, and its head; whether its journal is sealed, so that the tail goes on in the
+-- other half; the gate at which the last journal ends, in sectors from that journal's start; the place reached, and the rows;
+-- the bytes of the rows that the chosen half stands for; and whether a checkpoint has failed.
+pub record StoreView : Type 0 where
+  pub disk : Disk
+  pub geometry : Geometry
+  pub chosen : Half
+  pub head : Head
+  pub sealed : Bool
+  pub gate : ℕ
+  pub place : ℕ
+  pub rows : List RowView
+  pub sealed_len : ℕ
+  pub broken : Bool
+
+-- the half in which the last journal is
+abbrev pub half_of_tail : Half → Bool → Half
+half_of_tail chosen false = chosen
+half_of_tail chosen true = other chosen
+
+-- bytes of rows, as they are counted
+abbrev pub counted_len : List RowView → ℕ
+counted_len rows = min (rows_len rows) (2 ^ 64 - 1)
+
+-- the store tells what an image opens with
+pub record Tells (view : StoreView) (opening : Opening (List RowView) Command) : Type 0 where
+  pub geometry : opening.geometry ≡ view.geometry
+  pub chosen : opening.chosen ≡ view.chosen
+  pub head : opening.checkpoint.head ≡ view.head
+  pub sealed : opening.journal.sealed ≡ view.sealed
+  pub gate : (last_reading opening).tail ≡ view.gate
+  pub value : value_of store_format opening ≡ record { db = view.rows; place = view.place }
+  pub sealed_len : counted_len (db_at_seal store_format opening) ≡ view.sealed_len
+
+-- At rest nothing is dirty, whatever a stop leaves opens with what the store tells, and the half that isn't used is closed, and
+-- so is its journal's first gate.
+pub record IsAtRest (view : StoreView) : Type 0 where
+  pub opening : Opening (List RowView) Command
+  pub tells : Tells view opening
+  pub settled : view.disk.history.now.dirty ≡ []
+  pub every : EveryImage view.disk.history.now (λ image. IsOpening store_format latest image opening)
+  pub unused : view.sealed ≡ false → EveryImage view.disk.history.now (HasClosedGates view.geometry (other view.chosen))
+
+-- an image opens to the store's rows at its place
+abbrev pub OpensToStore : StoreView → List ℕ → Type 0
+OpensToStore view image = IsStoreOf view.rows view.place image
+
+-- What an honest device holds of a store: it is at rest, unless a checkpoint has failed; and whatever a stop leaves opens to its
+-- rows at its place.
+pub record IsSound (view : StoreView) : Type 0 where
+  pub rest : view.broken ≡ false → IsAtRest view
+  pub every : EveryImage view.disk.history.now (OpensToStore view)
+
+-- the checkpoint of these rows has no room in the area
+abbrev pub HasNoRoomInArea : StoreView → Type 0
+HasNoRoomInArea view = 512 * view.geometry.checkpoint < 32 + rows_len view.rows
+
+-- a store that may make a checkpoint: none has failed, no journal is sealed, an epoch is left, and the rows fit the area
+pub record MayCheckpoint (view : StoreView) : Type 0 where
+  pub whole : view.broken ≡ false
+  pub unsealed : view.sealed ≡ false
+  pub epoch : view.head.epoch < 2 ^ 64 - 1
+  pub fits : 32 + rows_len view.rows ≤ 512 * view.geometry.checkpoint
+
+-- the same store, once the other half has its rows and an empty journal, in the version that is written
+abbrev pub checkpointed : StoreView → Disk → StoreView
+checkpointed old disk = record old {
+  disk = disk;
+  chosen = other old.chosen;
+  head = record { version = latest; epoch = old.head.epoch + 1; place = old.place };
+  gate = 0;
+  sealed_len = counted_len old.rows;
+}
+
+-- What a checkpoint at rest answers. Where it is refused without a call of the device nothing has changed; where the device
+-- fails the store is broken for good.
+abbrev pub Checkpoints : Result (Unit {0}) StoreError → StoreView → StoreView → Type 0
+Checkpoints (Ok done) old new =
+    MayCheckpoint old × (new ≡ checkpointed old new.disk) × (new.disk.faults ≡ old.disk.faults) × (IsHonest old.disk → IsAtRest new)
+Checkpoints (Err Broken) old new = (old.broken ≡ true) × (new ≡ old)
+Checkpoints (Err Sealed) old new = (old.broken ≡ false) × (old.sealed ≡ true) × (new ≡ old)
+Checkpoints (Err Exhausted) old new = (old.broken ≡ false) × (old.sealed ≡ false) × (old.head.epoch ≡ 2 ^ 64 - 1) × (new ≡ old)
+Checkpoints (Err Unfit) old new =
+    (old.broken ≡ false) × (old.sealed ≡ false) × (old.head.epoch < 2 ^ 64 - 1) × HasNoRoomInArea old × (new ≡ old)
+Checkpoints (Err Fault) old new =
+    MayCheckpoint old × (new ≡ record old { disk = new.disk; broken = true }) × (new.disk.faults ≡ one_more old.disk.faults)
+Checkpoints (Err NoMemory) old new = MayCheckpoint old × (new ≡ old)

@@ -1,0 +1,173 @@
+//! Stores that were opened.
+
+ghost use Rattle.std.specs.Prelude.{◌≡◌};
+ghost use Rattle.path_db.specs.Database.{IsDatabase};
+ghost use Rattle.store_open.specs.Geometry.{geometry_view};
+ghost use Rattle.store_open.specs.Store.{half_of_tail};
+ghost use Rattle.store_open.specs.StoreShape.{IsStoreWhole};
+
+use crate::Geometry;
+use ckpt_pair::Head;
+use image_laws::Half;
+use path_db::PathDb;
+use sector_dev::Device;
+use std::alloc::Global;
+use std::marker::Model;
+
+/// A store on a device that was opened. All its rows are in memory.
+pub struct Store<D: Device> {
+    pub(crate) alloc: Global,
+    pub(crate) device: D,
+    pub(crate) geometry: Geometry,
+    pub(crate) chosen: Half,
+    pub(crate) head: Head,
+    pub(crate) sealed: bool,
+    pub(crate) gate: u64,
+    pub(crate) place: u64,
+    pub(crate) db: PathDb,
+    pub(crate) sealed_len: u64,
+    pub(crate) broken: bool,
+}
+
+impl<D: Device> Model for Store<D> {
+    ghost use Rattle.ckpt_pair.specs.Heads.{head_view};
+    ghost use Rattle.store_open.specs.Geometry.{geometry_view};
+    ghost use Rattle.store_open.specs.Store.{StoreView};
+    ghost use Rattle.store_open.specs.StoreShape.{IsStoreWhole};
+
+    ghost Value = { StoreView };
+
+    ghost view = { λ s. record {
+      disk = D.disk s.device;
+      geometry = geometry_view s.geometry;
+      chosen = s.chosen;
+      head = head_view s.head;
+      sealed = s.sealed;
+      gate = s.gate;
+      place = s.place;
+      rows = s.db;
+      sealed_len = s.sealed_len;
+      broken = s.broken;
+    } };
+
+    ghost invariant = { λ s. IsStoreWhole (record {
+      disk = D.disk s.device;
+      geometry = geometry_view s.geometry;
+      chosen = s.chosen;
+      head = head_view s.head;
+      sealed = s.sealed;
+      gate = s.gate;
+      place = s.place;
+      rows = s.db;
+      sealed_len = s.sealed_len;
+      broken = s.broken;
+    }) };
+}
+
+impl<D: Device> Store<D> {
+    /// All rows.
+    pub fn db(&self) -> &PathDb
+        ensures rows { result.now ≡ self.now.rows }
+        ensures whole { IsDatabase self.now.rows }
+    {
+        &self.db
+    }
+
+    /// How many commands have made these rows.
+    pub fn place(&self) -> u64
+        ensures { result ≡ self.now.place }
+    {
+        self.place
+    }
+
+    /// The epoch of the half that is chosen.
+    pub fn epoch(&self) -> u64
+        ensures { result ≡ self.now.head.epoch }
+    {
+        self.head.epoch
+    }
+
+    /// The version of the format that counts: that of the half that is chosen.
+    pub fn version(&self) -> u32
+        ensures { result ≡ self.now.head.version }
+    {
+        self.head.version
+    }
+
+    /// The sizes of both halves.
+    pub fn geometry(&self) -> Geometry
+        ensures { geometry_view result ≡ self.now.geometry }
+    {
+        self.geometry
+    }
+
+    /// Whether the chosen half's journal is sealed, and waits for its checkpoint.
+    pub fn is_sealed(&self) -> bool
+        ensures { result ≡ self.now.sealed }
+    {
+        self.sealed
+    }
+
+    /// The half in which the last journal is: the chosen one, and behind a seal the other one.
+    pub fn tail_half(&self) -> Half
+        ensures { result ≡ half_of_tail self.now.chosen self.now.sealed }
+    {
+        if self.sealed {
+            return self.chosen.other();
+        }
+        self.chosen
+    }
+
+    /// The gate at which that journal ends, in sectors from its start.
+    pub fn tail_gate(&self) -> u64
+        ensures { result ≡ self.now.gate }
+    {
+        self.gate
+    }
+
+    /// The bytes, as records, of the rows that the chosen half stands for, up to the end of its journal. A greater count is
+    /// told as 2^64 - 1.
+    pub fn sealed_len(&self) -> u64
+        ensures { result ≡ self.now.sealed_len }
+    {
+        self.sealed_len
+    }
+
+    /// Whether a checkpoint has failed.
+    pub fn is_broken(&self) -> bool
+        ensures broken { result ≡ self.now.broken }
+        ensures sound { IsStoreWhole self.now }
+    {
+        self.broken
+    }
+
+    /// The device.
+    pub fn into_device(self) -> D
+        ensures { D.disk result ≡ self.disk }
+    {
+        let (device, _rows) = self.into_parts();
+        device
+    }
+
+    /// The device, and all rows.
+    pub fn into_parts(self) -> (D, PathDb)
+        ensures device { D.disk result.0 ≡ self.disk }
+        ensures rows { result.1 ≡ self.rows }
+        ensures sound { IsStoreWhole self }
+    {
+        let Store {
+            alloc: _alloc,
+            device,
+            geometry: _geometry,
+            chosen: _chosen,
+            head: _head,
+            sealed: _sealed,
+            gate: _gate,
+            place: _place,
+            db,
+            sealed_len: _sealed_len,
+            broken: _broken,
+        } = self;
+        (device, db)
+    }
+}

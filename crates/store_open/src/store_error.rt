@@ -1,0 +1,27 @@
+//! Why no checkpoint is made.
+
+use thiserror::Error;
+
+/// Why no checkpoint is made at rest. The first that holds is answered, in this order: `Broken`, `Sealed`, `Exhausted`,
+/// `Unfit`, and then `Fault` or `NoMemory`.
+#[derive(Clone, Copy, Debug, PartialEq, Eq, Error)]
+pub enum StoreError {
+    /// The device failed. The store is broken for good: its device is to be opened again.
+    #[error("the device failed")]
+    Fault = 1,
+    /// The journal is sealed: only a checkpointer at work folds it.
+    #[error("the journal is sealed")]
+    Sealed = 2,
+    /// Memory ran out, and nothing was written.
+    #[error("out of memory")]
+    NoMemory = 3,
+    /// The epoch is 2^64 - 1.
+    #[error("no epoch is left")]
+    Exhausted = 4,
+    /// The rows have more bytes than a checkpoint area has room for.
+    #[error("the rows do not fit the checkpoint area")]
+    Unfit = 5,
+    /// An earlier checkpoint of this store has failed.
+    #[error("an earlier checkpoint failed")]
+    Broken = 6,
+}
