@@ -24,7 +24,7 @@ gates_inside geometry First some = omega arith
 gates_inside geometry Second some = omega arith
 
 -- the first gate of a journal is the sector behind the half gate
-first_gate : (geometry : Geometry) (half : Half) (content : List ℕ) → 1 ≤ geometry.journal → sector_at 0 (journal_of geometry half content) ≡ sector_at (gate_at geometry half + 1) content
+pub first_gate : (geometry : Geometry) (half : Half) (content : List ℕ) → 1 ≤ geometry.journal → sector_at 0 (journal_of geometry half content) ≡ sector_at (gate_at geometry half + 1) content
 first_gate geometry half content some = take-take 512 (512 * geometry.journal) (drop (512 * journal_at geometry half) content) (omega (arith, some))
 
 module _ (geometry : Geometry) (half : Half) (old : List ℕ) (inside : 512 * (gate_at geometry half + 2) ≤ length old) where
@@ -32,7 +32,7 @@ module _ (geometry : Geometry) (half : Half) (old : List ℕ) (inside : 512 * (g
   closing_none = record { size = refl; outside = λ at n apart. refl; gate = λ closed. refl }
 
   -- whatever lands in both gates, where the half gate was open
-  closing_both : IsOpenGate (gate_of geometry half old) → (torn : List ℕ) → length torn ≡ 1024 → IsClosing geometry half old (overwrite (512 * gate_at geometry half) torn old)
+  pub closing_both : IsOpenGate (gate_of geometry half old) → (torn : List ℕ) → length torn ≡ 1024 → IsClosing geometry half old (overwrite (512 * gate_at geometry half) torn old)
   closing_both opened torn size = record {
     size = length-overwrite (512 * gate_at geometry half) torn old (omega (arith, size));
     outside = λ at n apart. elim apart [
@@ -54,7 +54,7 @@ module _ (geometry : Geometry) (half : Half) (old : List ℕ) (inside : 512 * (g
   }
 
 -- a sector whose first byte was written as zero is no open gate
-zero_there : (at n sector : ℕ) (old : List ℕ) → at ≤ 512 * sector → 512 * sector < at + n → at + n ≤ length old → IsOpenGate (sector_at sector (overwrite at (replicate n 0) old)) → ⊥
+pub zero_there : (at n sector : ℕ) (old : List ℕ) → at ≤ 512 * sector → 512 * sector < at + n → at + n ≤ length old → IsOpenGate (sector_at sector (overwrite at (replicate n 0) old)) → ⊥
 zero_there at n sector old from to fits opened =
     let long = length-replicate {A = ℕ} n 0 in
     let zero_byte : get_or (sector_at sector (overwrite at (replicate n 0) old)) 0 0 ≡ 0 =

@@ -7,3 +7,6 @@ pub mod Journals
 pub mod Fronts
 pub mod Feeds
 pub mod Checkpoints
+pub mod TakingOver
+pub mod Switching
+pub mod AtRest

@@ -8,3 +8,5 @@ pub mod Heads
 pub mod Rows
 pub mod Store
 pub mod StoreShape
+pub mod Allowing
+pub mod TakingOver

@@ -4,6 +4,7 @@
 //! just where an image is one.
 #![tactic(auto)]
 
+mod checkpoint;
 mod closing;
 mod closing_laws;
 mod error;
@@ -19,6 +20,7 @@ mod scanning;
 mod sectors;
 mod store;
 mod store_error;
+mod taking_over;
 
 pub use closing_laws::openings_are_kept_by_closing;
 pub use error::OpenError;

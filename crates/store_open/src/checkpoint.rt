@@ -1,0 +1,71 @@
+//! A checkpoint at rest.
+
+ghost use Rattle.sector_dev.specs.Stretch.{Stretch};
+ghost use Rattle.store_open.specs.Allowing.{AllowsCheckpoint};
+ghost use Rattle.store_open.specs.Store.{Checkpoints, OpensToStore};
+
+use crate::store::Store;
+use crate::store_error::StoreError;
+use crate::taking_over::take_over;
+use ckpt_pair::{Head, LATEST, encode_checkpoint};
+use path_db::written_rows_are_counted;
+use sector_dev::{Device, SECTOR};
+
+/// The bytes of a checkpoint before its rows.
+const BEFORE_ROWS: u64 = 32;
+
+impl<D: Device> Store<D> {
+    /// Writes all rows to the other half, with the next epoch, in the version that is written; syncs, opens that half, syncs,
+    /// closes the old one and its journal in one write, and syncs. A store whose device fails meanwhile is broken for good.
+    pub fn checkpoint(&mut self) -> Result<(), StoreError>
+        ensures answer { Checkpoints result self.old self.new }
+
+        // At every moment what a stop leaves opens to these rows at this place.
+        ensures any_moment { Stretch self.old.disk self.new.disk (OpensToStore self.old) }
+    {
+        written_rows_are_counted();
+        self.may_checkpoint()?;
+        let (epoch, place) = (self.head.epoch + 1, self.place);
+        let Ok(checkpoint) = encode_checkpoint(self.alloc, &self.db, epoch, place) else {
+            return Err(StoreError::NoMemory);
+        };
+        match take_over(&mut self.device, self.geometry, self.chosen, &checkpoint) {
+            Ok(()) => {
+                self.chosen = self.chosen.other();
+                self.head = Head {
+                    version: LATEST,
+                    epoch,
+                    place,
+                };
+                self.gate = 0;
+                self.sealed_len = self.db.encoded_len();
+                Ok(())
+            }
+            Err(_) => {
+                self.broken = true;
+                Err(StoreError::Fault)
+            }
+        }
+    }
+
+    /// Whether a checkpoint may be made, and if not, the first reason why.
+    fn may_checkpoint(&self) -> Result<(), StoreError>
+        ensures { AllowsCheckpoint result self.now }
+    {
+        if self.broken {
+            return Err(StoreError::Broken);
+        }
+        if self.sealed {
+            return Err(StoreError::Sealed);
+        }
+        if self.head.epoch == u64::MAX {
+            return Err(StoreError::Exhausted);
+        }
+        if self.db.encoded_len()
+            > SECTOR as u64 * u64::from(self.geometry.checkpoint) - BEFORE_ROWS
+        {
+            return Err(StoreError::Unfit);
+        }
+        Ok(())
+    }
+}

@@ -1,0 +1,67 @@
+//! One half takes over from the other, at rest.
+
+ghost use Rattle.std.specs.Prelude.{◌≡◌, ◌%◌, ◌*◌, ◌+◌, ◌≤◌, [], length, OnOk};
+ghost use Rattle.byte_lists.specs.Content.{overwrite};
+ghost use Rattle.sector_dev.specs.Disk.{IsHonest, reads_of};
+ghost use Rattle.sector_dev.specs.Calls.{Keeps, count_after};
+ghost use Rattle.sector_dev.specs.Stretch.{Stretch};
+ghost use Rattle.image_laws.specs.Layout.{IsGeometry, image_sectors};
+ghost use Rattle.store_open.specs.Geometry.{geometry_view};
+ghost use Rattle.store_open.specs.TakingOver.{IsTornAt, IsTakingOver, taken};
+
+use crate::Geometry;
+use crate::sectors::open_gate;
+use image_laws::Half;
+use sector_dev::{DevError, Device, SECTOR};
+
+/// Writes a checkpoint to the other half's area, opens that half, and closes the old one and its journal in one write. Each
+/// write is synced before the next one. Nothing may be dirty.
+pub(crate) fn take_over<D: Device>(
+    device: &mut D,
+    geometry: Geometry,
+    half: Half,
+    checkpoint: &[u8],
+) -> Result<(), DevError>
+    requires allowed { IsGeometry (geometry_view geometry) }
+    requires room { image_sectors (geometry_view geometry) ≤ (D.disk device.old).sectors }
+    requires whole { length checkpoint.now % 512 ≡ 0 }
+    requires fits { length checkpoint.now ≤ 512 * geometry.checkpoint }
+    requires clean { IsHonest (D.disk device.old) → (D.disk device.old).history.now.dirty ≡ [] }
+
+    // At every moment one of the three writes may be torn, and those before it are whole.
+    ensures any_moment { Stretch (D.disk device.old) (D.disk device.new)
+        (IsTakingOver (geometry_view geometry) half checkpoint.now (reads_of (D.disk device.old))) }
+
+    ensures settled { OnOk result (IsHonest (D.disk device.old) → (D.disk device.new).history.now.dirty ≡ []) }
+    ensures taken { OnOk result (IsHonest (D.disk device.old)
+        → reads_of (D.disk device.new) ≡ taken (geometry_view geometry) half checkpoint.now (reads_of (D.disk device.old))) }
+
+    // It fails only where the device does.
+    ensures faults { (D.disk device.new).faults ≡ count_after result (D.disk device.old).faults }
+{
+    let new = half.other();
+    write_through(device, geometry.area_at(new), checkpoint)?;
+    write_through(device, geometry.gate_at(new), &open_gate())?;
+    write_through(device, geometry.gate_at(half), &[0; 2 * SECTOR])
+}
+
+/// Writes whole sectors, and syncs. Nothing may be dirty.
+fn write_through<D: Device>(device: &mut D, at: u64, bytes: &[u8]) -> Result<(), DevError>
+    requires whole { length bytes.now % 512 ≡ 0 }
+    requires inside { 512 * at + length bytes.now ≤ 512 * (D.disk device.old).sectors }
+    requires clean { IsHonest (D.disk device.old) → (D.disk device.old).history.now.dirty ≡ [] }
+
+    // At every moment all but these sectors is as it was.
+    ensures any_moment { Stretch (D.disk device.old) (D.disk device.new)
+        (IsTornAt (512 * at) (length bytes.now) (reads_of (D.disk device.old))) }
+
+    ensures settled { OnOk result (IsHonest (D.disk device.old) → (D.disk device.new).history.now.dirty ≡ []) }
+    ensures written { OnOk result (IsHonest (D.disk device.old)
+        → reads_of (D.disk device.new) ≡ overwrite (512 * at) bytes.now (reads_of (D.disk device.old))) }
+
+    // It fails only where the device does.
+    ensures faults { (D.disk device.new).faults ≡ count_after result (D.disk device.old).faults }
+{
+    device.write(at, bytes)?;
+    device.sync()
+}
