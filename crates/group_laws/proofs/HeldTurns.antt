@@ -20,21 +20,16 @@ use Rattle.group_laws.proofs.FlusherSteps.{publishes_group}
 use Rattle.group_laws.proofs.CheckpointerSteps.{stays_under_larger_limits, takes_the_new_version, publishes_seal, begins_plan}
 
 -- what is in flight, by how many commands are
-load_some : {C : Type 0} (taken : ℕ) (pending : List C) → 1 ≤ taken → load_by taken pending ≡ Commands (take taken pending)
+pub load_some : {C : Type 0} (taken : ℕ) (pending : List C) → 1 ≤ taken → load_by taken pending ≡ Commands (take taken pending)
 load_some zero pending some = absurd (omega arith)
 load_some (suc n) pending some = refl
 
 pub held_when_group_is_published : (Db C : Type 0) → HeldWhenGroupIsPublished Db C
-held_when_group_is_published Db C setting standing moment is some held = record {
-  groups = held.groups ++ group ∷ [];
-  new = held.new;
-  old = held.old;
-  old_groups = held.old_groups;
-  old_gate = held.old_gate;
+held_when_group_is_published Db C setting standing behind moment is some held = record {
   title = held.title;
   taken = omega arith;
-  place = omega (arith, ap length more, length-append (all_of held.groups) group, held.place);
-  db = ap (db_after setting.format held.new.db) more ∙ folds_in_parts Db C setting.format held.new.db (all_of held.groups) group ∙ ap (λ (db : Db). db_after setting.format db group) held.db;
+  place = omega (arith, ap length more, length-append (all_of behind.groups) group, held.place);
+  db = ap (db_after setting.format behind.new.db) more ∙ folds_in_parts Db C setting.format behind.new.db (all_of behind.groups) group ∙ ap (λ (db : Db). db_after setting.format db group) held.db;
   flusher = publishes_group C setting.format.commands (limits_of standing.version) setting.geometry tail group moment held.title durable;
   base = held.base;
   seal = unsealed_may standing.check;
@@ -44,10 +39,10 @@ held_when_group_is_published Db C setting standing moment is some held = record 
     group = take standing.taken standing.pending
 
     tail : Tail C
-    tail = tail_of standing held.new.head.place held.groups
+    tail = tail_of standing behind
 
-    more : all_of (held.groups ++ group ∷ []) ≡ all_of held.groups ++ group
-    more = all_of_more setting.format.commands (limits_of standing.version) held.groups group
+    more : all_of (behind.groups ++ group ∷ []) ≡ all_of behind.groups ++ group
+    more = all_of_more setting.format.commands (limits_of standing.version) behind.groups group
 
     durable : FlusherPart Durable setting.format.commands (limits_of standing.version) setting.geometry tail (Commands group) moment
     durable =
@@ -55,12 +50,7 @@ held_when_group_is_published Db C setting standing moment is some held = record 
         (subst (λ (p : Flush). FlusherPart p setting.format.commands (limits_of standing.version) setting.geometry tail (load_of standing) moment) is held.flusher)
 
 pub held_when_seal_is_published : (Db C : Type 0) → HeldWhenSealIsPublished Db C
-held_when_seal_is_published Db C setting standing moment next is none turn held folds = record {
-  groups = [];
-  new = next;
-  old = held.new;
-  old_groups = held.groups;
-  old_gate = standing.gate;
+held_when_seal_is_published Db C setting standing behind moment next is none turn held folds = record {
   title = held.title;
   taken = held.taken;
   place = omega (arith, folds.place, held.place);
@@ -73,10 +63,10 @@ held_when_seal_is_published Db C setting standing moment next is none turn held 
 }
   where
     tail : Tail C
-    tail = tail_of standing held.new.head.place held.groups
+    tail = tail_of standing behind
 
     base : Base Db C
-    base = base_of standing held.new held.old held.old_groups held.old_gate
+    base = base_of standing behind
 
     tail_of_next : ℕ → Tail C
     tail_of_next start = record { half = other standing.half; start = start; groups = []; gate = 0 }
@@ -97,55 +87,45 @@ held_when_seal_is_published Db C setting standing moment next is none turn held 
     published = publishes_seal Db C setting base tail next standing.written moment refl refl folds held.title ready durable
 
 pub held_when_plan_begins : (Db C : Type 0) → HeldWhenPlanBegins Db C
-held_when_plan_begins Db C setting standing moment next is held folds can = record {
-  groups = held.groups;
-  new = next;
-  old = held.old;
-  old_groups = held.old_groups;
-  old_gate = held.old_gate;
+held_when_plan_begins Db C setting standing behind moment next is held folds can = record {
   title = held.title;
   taken = held.taken;
   place = omega (arith, same_place, held.place);
-  db = ap (λ (db : Db). db_after setting.format db (all_of held.groups)) (sym folds.db ∙ sealed.0.folds.db) ∙ held.db;
-  flusher = subst (λ (start : ℕ). FlusherPart standing.flush setting.format.commands (limits_of standing.version) setting.geometry (tail_of standing start held.groups) (load_of standing) moment) same_place held.flusher;
+  db = ap (λ (db : Db). db_after setting.format db (all_of behind.groups)) (sym folds.db ∙ sealed.0.folds.db) ∙ held.db;
+  flusher = subst (λ (start : ℕ). FlusherPart standing.flush setting.format.commands (limits_of standing.version) setting.geometry (record { half = standing.half; start = start; groups = behind.groups; gate = standing.gate }) (load_of standing) moment) same_place held.flusher;
   base = begins_plan Db C setting base next standing.written moment folds can sealed;
   seal = held_seal;
 }
   where
     base : Base Db C
-    base = base_of standing held.new held.old held.old_groups held.old_gate
+    base = base_of standing behind
 
     sealed : BasePart Sealed setting base standing.written moment
     sealed = subst (λ (p : Check). BasePart p setting base standing.written moment) is held.base
 
-    same_place : held.new.head.place ≡ next.head.place
+    same_place : behind.new.head.place ≡ next.head.place
     same_place = sym sealed.0.folds.place ∙ folds.place
 
     held_seal : seals standing.flush (load_of standing) ≡ false
     held_seal = subst (λ (p : Check). MayBeSealed p (seals standing.flush (load_of standing))) is held.seal
 
 pub held_under_the_new_version : (Db C : Type 0) → HeldUnderTheNewVersion Db C
-held_under_the_new_version Db C setting standing moment is held = record {
-  groups = held.groups;
-  new = held.new;
-  old = held.old;
-  old_groups = held.old_groups;
-  old_gate = held.old_gate;
+held_under_the_new_version Db C setting standing behind moment is held = record {
   title = held.title;
   taken = held.taken;
   place = held.place;
   db = held.db;
-  flusher = stays_under_larger_limits C standing.flush setting.format.commands (limits_of standing.version) (limits_of held.new.head.version) setting.geometry
-      (tail_of standing held.new.head.place held.groups) (load_of standing) moment (later_allow_more standing.version held.new.head.version live.tail) held.flusher;
+  flusher = stays_under_larger_limits C standing.flush setting.format.commands (limits_of standing.version) (limits_of behind.new.head.version) setting.geometry
+      (tail_of standing behind) (load_of standing) moment (later_allow_more standing.version behind.new.head.version live.tail) held.flusher;
   base = subst (λ (p : Check). BasePart p setting later standing.written moment) (sym is) (takes_the_new_version Db C setting base standing.written moment live);
   seal = held.seal;
 }
   where
     base : Base Db C
-    base = base_of standing held.new held.old held.old_groups held.old_gate
+    base = base_of standing behind
 
     later : Base Db C
-    later = record base { version = held.new.head.version }
+    later = record base { version = behind.new.head.version }
 
     live : BasePart Live setting base standing.written moment
     live = subst (λ (p : Check). BasePart p setting base standing.written moment) is held.base

@@ -11,3 +11,4 @@ pub mod CheckpointerSteps
 pub mod HeldSteps
 pub mod HeldChecks
 pub mod HeldTurns
+pub mod HeldCommands

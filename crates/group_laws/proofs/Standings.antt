@@ -2,7 +2,6 @@
 use Rattle.std.proofs.Common.{◌≡◌, inl, inr, ℕ, zero, suc, ◌+◌, false, List, [], length, take, refl, sym, ◌∙◌, ap, subst, arith}
 use Rattle.image_laws.specs.Journal.{Reading, all_of}
 use Rattle.image_laws.specs.StoreFormat.{db_after}
-use Rattle.image_laws.specs.Opening.{OpensTo}
 use Rattle.image_laws.specs.StoreGrowth.{value_after}
 use Rattle.image_laws.specs.Limits.{limits_of}
 use Rattle.image_laws.proofs.Exports.{folds_in_parts}
@@ -13,7 +12,7 @@ use Rattle.group_laws.specs.declared.phases.Check.TheVariants.{Ready, Sealed, Pl
 use Rattle.group_laws.specs.Tail.{Load, Commands, Seal, commands_of, Tail, without_load, with_load}
 use Rattle.group_laws.specs.FlusherPart.{ReadsAs, MayRead}
 use Rattle.group_laws.specs.BasePart.{Base, MayBeSealed}
-use Rattle.group_laws.specs.Standing.{load_by, load_of, is_seal, seals, tail_of, base_of, MayKeep, OpensToFront}
+use Rattle.group_laws.specs.Standing.{load_by, load_of, is_seal, seals, tail_of, base_of, MayKeep, OpensSince, OpensToFront}
 use Rattle.group_laws.specs.StandingLaws.{OpensByBothParts}
 use Rattle.group_laws.proofs.TailReads.{reads_by_its_part}
 use Rattle.group_laws.proofs.Openings.{base_images}
@@ -36,39 +35,39 @@ load_front (suc n) pending = refl
 
 pub opens_by_both_parts : (Db C : Type 0) → OpensByBothParts Db C
 opens_by_both_parts Db C setting standing moment held image is =
-    by_phase standing.flush refl (reads_by_its_part C standing.flush setting.format.commands (limits_of standing.version) setting.geometry tail (load_of standing) moment held.title held.flusher image is) held.seal
+    by_phase standing.flush refl (reads_by_its_part C standing.flush setting.format.commands (limits_of standing.version) setting.geometry tail (load_of standing) moment held.by.title held.by.flusher image is) held.by.seal
   where
     tail : Tail C
-    tail = tail_of standing held.new.head.place held.groups
+    tail = tail_of standing held.behind
 
     base : Base Db C
-    base = base_of standing held.new held.old held.old_groups held.old_gate
+    base = base_of standing held.behind
 
     -- by what the tail's journal reads as
     opens : (journal : Reading C) → ReadsAs setting.format.commands (limits_of standing.version) setting.geometry tail image journal → MayBeSealed standing.check journal.sealed
-        → OpensTo setting.format setting.latest image (record { db = db_after setting.format held.new.db journal.commands; place = journal.place })
-    opens journal reads may = base_images setting base moment held.title image is journal reads standing.check standing.written held.base may
+        → OpensSince setting standing.version image (record { db = db_after setting.format held.behind.new.db journal.commands; place = journal.place })
+    opens journal reads may = base_images setting base moment held.by.title image is journal reads standing.check standing.written held.by.base may
 
     -- nothing of what is in flight
     before : ReadsAs setting.format.commands (limits_of standing.version) setting.geometry tail image (without_load tail)
-        → OpensTo setting.format setting.latest image (value_after setting.format standing.value [])
+        → OpensSince setting standing.version image (value_after setting.format standing.value [])
     before reads =
         let here : standing.value.place ≡ standing.value.place + 0 = omega arith in
-        subst (OpensTo setting.format setting.latest image) (λ i. record { db = held.db i; place = (held.place ∙ here) i }) (opens (without_load tail) reads (unsealed_may standing.check))
+        subst (OpensSince setting standing.version image) (λ i. record { db = held.by.db i; place = (held.by.place ∙ here) i }) (opens (without_load tail) reads (unsealed_may standing.check))
 
     -- or all of it
     after : (load : Load C) → ReadsAs setting.format.commands (limits_of standing.version) setting.geometry tail image (with_load setting.format.commands tail load)
-        → MayBeSealed standing.check (is_seal load) → OpensTo setting.format setting.latest image (value_after setting.format standing.value (commands_of load))
+        → MayBeSealed standing.check (is_seal load) → OpensSince setting standing.version image (value_after setting.format standing.value (commands_of load))
     after (Commands commands) reads may =
-        subst (OpensTo setting.format setting.latest image)
+        subst (OpensSince setting standing.version image)
         (λ i. record {
-          db = (folds_in_parts Db C setting.format held.new.db (all_of held.groups) commands ∙ ap (λ (db : Db). db_after setting.format db commands) held.db) i;
-          place = held.place i + length commands;
+          db = (folds_in_parts Db C setting.format held.behind.new.db (all_of held.behind.groups) commands ∙ ap (λ (db : Db). db_after setting.format db commands) held.by.db) i;
+          place = held.by.place i + length commands;
         })
         (opens (with_load setting.format.commands tail (Commands commands)) reads (unsealed_may standing.check))
     after Seal reads may =
         let here : standing.value.place ≡ standing.value.place + 0 = omega arith in
-        subst (OpensTo setting.format setting.latest image) (λ i. record { db = held.db i; place = (held.place ∙ here) i })
+        subst (OpensSince setting standing.version image) (λ i. record { db = held.by.db i; place = (held.by.place ∙ here) i })
         (opens (with_load setting.format.commands tail Seal) reads may)
 
     none : MayKeep standing.flush standing.taken 0 → ReadsAs setting.format.commands (limits_of standing.version) setting.geometry tail image (without_load tail) → OpensToFront setting standing image
@@ -79,8 +78,8 @@ opens_by_both_parts Db C setting standing moment held image is =
     all may reads sealed = record {
       kept = standing.taken;
       may = may;
-      inside = held.taken;
-      opens = subst (λ (list : List C). OpensTo setting.format setting.latest image (value_after setting.format standing.value list)) (load_front standing.taken standing.pending) (after (load_of standing) reads sealed);
+      inside = held.by.taken;
+      opens = subst (λ (list : List C). OpensSince setting standing.version image (value_after setting.format standing.value list)) (load_front standing.taken standing.pending) (after (load_of standing) reads sealed);
     }
 
     may_at : (p : Flush) (kept : ℕ) → standing.flush ≡ p → MayKeep p standing.taken kept → MayKeep standing.flush standing.taken kept

@@ -1,6 +1,6 @@
 -- What a state makes of what its device holds without a call: a group or a seal that is durable is published, a plan begins, and
 -- the new half's version counts. Each statement is the contract of a function.
-use Rattle.std.specs.Prelude.{◌≡◌, ◌≤◌, take, drop}
+use Rattle.std.specs.Prelude.{◌≡◌, ◌≤◌, [], ◌∷◌, ◌++◌, take, drop}
 use Rattle.sector_dev.specs.Disk.{Moment}
 use Rattle.image_laws.specs.Journal.{gate_behind}
 use Rattle.image_laws.specs.Layout.{other}
@@ -11,7 +11,7 @@ use Rattle.group_laws.specs.declared.phases.Check.TheVariants.{Ready, Sealed, Pl
 use Rattle.group_laws.specs.Setting.{Setting}
 use Rattle.group_laws.specs.BasePart.{FoldsTo, CanBeWritten}
 use Rattle.group_laws.specs.CheckpointerSteps.{base_switched, with_new}
-use Rattle.group_laws.specs.Standing.{Standing, tail_of, base_of, IsHeld}
+use Rattle.group_laws.specs.Standing.{Standing, Behind, tail_of, base_of, IsHeldBy}
 use Rattle.group_laws.specs.HeldChecks.{checked}
 
 -- a group that is durable is committed
@@ -24,34 +24,49 @@ group_published setting standing = record standing {
   gate = gate_behind setting.format.commands standing.gate (take standing.taken standing.pending);
 }
 
+abbrev pub behind_group : {Db C : Type 0} → Standing Db C → Behind Db C → Behind Db C
+behind_group standing behind = record behind { groups = behind.groups ++ take standing.taken standing.pending ∷ [] }
+
 abbrev pub HeldWhenGroupIsPublished : Type 0 → Type 0 → Type 0
 HeldWhenGroupIsPublished Db C =
-    (setting : Setting Db C) (standing : Standing Db C) (moment : Moment) → standing.flush ≡ Durable → 1 ≤ standing.taken
-    → IsHeld setting standing moment → IsHeld setting (group_published setting standing) moment
+    (setting : Setting Db C) (standing : Standing Db C) (behind : Behind Db C) (moment : Moment) → standing.flush ≡ Durable → 1 ≤ standing.taken
+    → IsHeldBy setting standing behind moment → IsHeldBy setting (group_published setting standing) (behind_group standing behind) moment
 
 -- behind a seal that is durable the tail goes on in the other half, and the sealed half awaits its checkpoint
 abbrev pub seal_published : {Db C : Type 0} → Standing Db C → Standing Db C
 seal_published standing = record standing { flush = Resting; check = Sealed; half = other standing.half; gate = 0 }
 
+abbrev pub behind_seal : {Db C : Type 0} → Standing Db C → Behind Db C → Checkpoint Db → Behind Db C
+behind_seal standing behind next = record {
+  groups = [];
+  new = next;
+  old = behind.new;
+  old_groups = behind.groups;
+  old_gate = standing.gate;
+}
+
 abbrev pub HeldWhenSealIsPublished : Type 0 → Type 0 → Type 0
 HeldWhenSealIsPublished Db C =
-    (setting : Setting Db C) (standing : Standing Db C) (moment : Moment) (next : Checkpoint Db)
+    (setting : Setting Db C) (standing : Standing Db C) (behind : Behind Db C) (moment : Moment) (next : Checkpoint Db)
     → standing.flush ≡ Durable → standing.taken ≡ 0 → standing.check ≡ Ready
-    → (held : IsHeld setting standing moment)
-    → FoldsTo setting.format
-    (base_switched (base_of standing held.new held.old held.old_groups held.old_gate) (tail_of standing held.new.head.place held.groups) next)
-    → IsHeld setting (seal_published standing) moment
+    → IsHeldBy setting standing behind moment
+    → FoldsTo setting.format (base_switched (base_of standing behind) (tail_of standing behind) next)
+    → IsHeldBy setting (seal_published standing) (behind_seal standing behind next) moment
 
 -- a plan begins, of which nothing is written yet
+abbrev pub behind_plan : {Db C : Type 0} → Behind Db C → Checkpoint Db → Behind Db C
+behind_plan behind next = record behind { new = next }
+
 abbrev pub HeldWhenPlanBegins : Type 0 → Type 0 → Type 0
 HeldWhenPlanBegins Db C =
-    (setting : Setting Db C) (standing : Standing Db C) (moment : Moment) (next : Checkpoint Db) → standing.check ≡ Sealed
-    → (held : IsHeld setting standing moment)
-    → FoldsTo setting.format (with_new (base_of standing held.new held.old held.old_groups held.old_gate) next) → CanBeWritten setting next
-    → IsHeld setting (checked standing Planned 0) moment
+    (setting : Setting Db C) (standing : Standing Db C) (behind : Behind Db C) (moment : Moment) (next : Checkpoint Db)
+    → standing.check ≡ Sealed → IsHeldBy setting standing behind moment
+    → FoldsTo setting.format (with_new (base_of standing behind) next) → CanBeWritten setting next
+    → IsHeldBy setting (checked standing Planned 0) (behind_plan behind next) moment
 
 -- the new half counts, and so does its version
 abbrev pub HeldUnderTheNewVersion : Type 0 → Type 0 → Type 0
 HeldUnderTheNewVersion Db C =
-    (setting : Setting Db C) (standing : Standing Db C) (moment : Moment) → standing.check ≡ Live
-    → (held : IsHeld setting standing moment) → IsHeld setting (record standing { version = held.new.head.version }) moment
+    (setting : Setting Db C) (standing : Standing Db C) (behind : Behind Db C) (moment : Moment) → standing.check ≡ Live
+    → IsHeldBy setting standing behind moment
+    → IsHeldBy setting (record standing { version = behind.new.head.version }) behind moment

@@ -13,3 +13,4 @@ pub mod CheckpointerSteps
 pub mod HeldSteps
 pub mod HeldChecks
 pub mod HeldTurns
+pub mod HeldCommands

@@ -52,29 +52,45 @@ seals Opened load = is_seal load
 seals Doubtful load = is_seal load
 seals Durable load = is_seal load
 
--- the tail, and what stands before it, by what no field of a state holds
-abbrev pub tail_of : {Db C : Type 0} → Standing Db C → ℕ → List (List C) → Tail C
-tail_of standing start groups = record { half = standing.half; start = start; groups = groups; gate = standing.gate }
-
-abbrev pub base_of : {Db C : Type 0} → Standing Db C → Checkpoint Db → Checkpoint Db → List (List C) → ℕ → Base Db C
-base_of standing new old groups gate =
-    record { half = standing.half; version = standing.version; new = new; old = old; groups = groups; gate = gate }
-
--- The device holds what such a state stands for: the title, each actor's part, and what joins them.
-pub record IsHeld {Db C : Type 0} (setting : Setting Db C) (standing : Standing Db C) (moment : Moment) : Type 0 where
+-- What stands behind a state, and no field of it holds: the groups of the tail's journal; the checkpoint of the half that has the
+-- tail, there or to be there; and the other half's, with the groups of its journal and the gate of the seal that ends it.
+pub record Behind (Db C : Type 0) : Type 0 where
   pub groups : List (List C)
   pub new : Checkpoint Db
   pub old : Checkpoint Db
   pub old_groups : List (List C)
   pub old_gate : ℕ
+
+-- the tail, and what stands before it
+abbrev pub tail_of : {Db C : Type 0} → Standing Db C → Behind Db C → Tail C
+tail_of standing behind =
+    record { half = standing.half; start = behind.new.head.place; groups = behind.groups; gate = standing.gate }
+
+abbrev pub base_of : {Db C : Type 0} → Standing Db C → Behind Db C → Base Db C
+base_of standing behind = record {
+  half = standing.half;
+  version = standing.version;
+  new = behind.new;
+  old = behind.old;
+  groups = behind.old_groups;
+  gate = behind.old_gate;
+}
+
+-- The device holds what such a state stands for, with this behind it: the title, each actor's part, and what joins them.
+pub record IsHeldBy {Db C : Type 0} (setting : Setting Db C) (standing : Standing Db C) (behind : Behind Db C) (moment : Moment) : Type 0 where
   pub title : HasTitle setting.geometry moment
   pub taken : standing.taken ≤ length standing.pending
-  pub place : place_of (tail_of standing new.head.place groups) ≡ standing.value.place
-  pub db : db_after setting.format new.db (all_of groups) ≡ standing.value.db
-  pub flusher : FlusherPart standing.flush setting.format.commands (limits_of standing.version) setting.geometry (tail_of standing new.head.place groups)
+  pub place : place_of (tail_of standing behind) ≡ standing.value.place
+  pub db : db_after setting.format behind.new.db (all_of behind.groups) ≡ standing.value.db
+  pub flusher : FlusherPart standing.flush setting.format.commands (limits_of standing.version) setting.geometry (tail_of standing behind)
       (load_of standing) moment
-  pub base : BasePart standing.check setting (base_of standing new old old_groups old_gate) standing.written moment
+  pub base : BasePart standing.check setting (base_of standing behind) standing.written moment
   pub seal : MayBeSealed standing.check (seals standing.flush (load_of standing))
+
+-- or with something behind it
+pub record IsHeld {Db C : Type 0} (setting : Setting Db C) (standing : Standing Db C) (moment : Moment) : Type 0 where
+  pub behind : Behind Db C
+  pub by : IsHeldBy setting standing behind moment
 
 -- how many commands of those in flight a stop keeps: none until the gate is written, then none or all, and all once that is synced
 abbrev pub MayKeep : Flush → ℕ → ℕ → Type 0
@@ -86,9 +102,15 @@ MayKeep Opened taken kept = (kept ≡ 0) ⊎ (kept ≡ taken)
 MayKeep Doubtful taken kept = (kept ≡ 0) ⊎ (kept ≡ taken)
 MayKeep Durable taken kept = kept ≡ taken
 
--- the image opens to what is committed, with a front of the pending commands as long as a stop may keep
+-- the image opens to this, by a half of this version or a later one
+pub record OpensSince {Db C : Type 0} (setting : Setting Db C) (version : ℕ) (image : List ℕ) (value : StoreValue Db) : Type 0 where
+  pub opens : OpensTo setting.format setting.latest image value
+  pub since : version ≤ opens.opening.checkpoint.head.version
+
+-- The image opens to what is committed, with a front of the pending commands as long as a stop may keep, and by a half whose
+-- version allows what the tail's limits do.
 pub record OpensToFront {Db C : Type 0} (setting : Setting Db C) (standing : Standing Db C) (image : List ℕ) : Type 0 where
   pub kept : ℕ
   pub may : MayKeep standing.flush standing.taken kept
   pub inside : kept ≤ length standing.pending
-  pub opens : OpensTo setting.format setting.latest image (value_after setting.format standing.value (take kept standing.pending))
+  pub opens : OpensSince setting standing.version image (value_after setting.format standing.value (take kept standing.pending))

@@ -5,6 +5,7 @@ ghost use Rattle.group_laws.specs.declared.phases.Flush.TheVariants.{Written, St
 ghost use Rattle.group_laws.specs.declared.phases.Check.TheVariants.{Ready, Switched, Live, Closing};
 ghost use Rattle.group_laws.specs.HeldChecks.{HeldWhileChunkIsWritten, HeldWhileChunksAreSynced, HeldWhileHalfIsOpened, HeldWhileHalfIsClosed, HeldWhileHalfIsSynced};
 ghost use Rattle.group_laws.specs.HeldTurns.{HeldWhenGroupIsPublished, HeldWhenSealIsPublished, HeldWhenPlanBegins, HeldUnderTheNewVersion};
+ghost use Rattle.group_laws.specs.HeldCommands.{HeldWhenAccepted, HeldWhenGroupIsStaged, HeldWhenSealIsStaged};
 ghost use Rattle.group_laws.specs.HeldSteps.{HeldWhileLoadIsWritten, HeldWhileGateIsOpened, HeldWhileSynced, WritesLeaveFronts, SyncsLeaveFronts};
 
 /// Each call of the flusher leaves a device that holds what the state then stands for, in whatever phase the checkpointer is.
@@ -23,6 +24,13 @@ pub fn checkpointer_calls_are_held<T, E, Db, C>()
     ensures open_sync { HeldWhileHalfIsSynced Switched Live T E Db C }
     ensures close { HeldWhileHalfIsClosed T E Db C }
     ensures close_sync { HeldWhileHalfIsSynced Closing Ready T E Db C }
+{}
+
+/// Accepting a command, and staging a group or a seal, leave what the device holds as what the state then stands for.
+pub fn commands_are_held<Db, C>()
+    ensures accepted { HeldWhenAccepted Db C }
+    ensures group { HeldWhenGroupIsStaged Db C }
+    ensures seal { HeldWhenSealIsStaged Db C }
 {}
 
 /// Publishing a group or a seal that is durable, beginning a plan, and taking the new half's version leave what the device holds

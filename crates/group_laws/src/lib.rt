@@ -20,7 +20,8 @@ pub use flusher_laws::{
     durable_groups_are_published, flusher_calls_go_on, flusher_writes_lie_in_the_journal,
 };
 pub use held_laws::{
-    calls_leave_fronts, checkpointer_calls_are_held, flusher_calls_are_held, turns_are_held,
+    calls_leave_fronts, checkpointer_calls_are_held, commands_are_held, flusher_calls_are_held,
+    turns_are_held,
 };
 pub use kept_laws::{calls_leave_the_other_part, parts_stay_where_untouched};
 pub use phases::{Check, Flush};
