@@ -22,3 +22,4 @@ pub use Rattle.group_laws.proofs.HeldSteps.{held_flushed, held_while_load_is_wri
 pub use Rattle.group_laws.proofs.HeldChecks.{held_checked, held_while_chunk_is_written, held_while_chunks_are_synced, held_while_half_is_opened, held_while_half_is_synced, held_while_half_is_closed, held_while_close_is_synced}
 pub use Rattle.group_laws.proofs.HeldTurns.{held_when_group_is_published, held_when_seal_is_published, held_when_plan_begins, held_under_the_new_version}
 pub use Rattle.group_laws.proofs.HeldCommands.{held_when_accepted, held_when_group_is_staged, held_when_seal_is_staged}
+pub use Rattle.group_laws.proofs.HeldOpened.{held_at_rest, held_behind_seal}

@@ -12,3 +12,4 @@ pub mod HeldSteps
 pub mod HeldChecks
 pub mod HeldTurns
 pub mod HeldCommands
+pub mod HeldOpened

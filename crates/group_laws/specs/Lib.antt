@@ -14,3 +14,4 @@ pub mod HeldSteps
 pub mod HeldChecks
 pub mod HeldTurns
 pub mod HeldCommands
+pub mod HeldOpened

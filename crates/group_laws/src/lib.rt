@@ -29,4 +29,4 @@ pub use range_laws::{
     calls_leave_what_is_around_them, ranges_have_parts, settled_ranges_are_in_every_image,
     syncs_settle, untouched_ranges_stay, writes_leave_what_is_beside,
 };
-pub use standing_laws::images_open_to_fronts;
+pub use standing_laws::{images_open_to_fronts, opened_stores_are_held};

@@ -1,5 +1,6 @@
 //! Laws of a device that holds what a state stands for, in any format of databases of type `Db` and commands of type `C`.
 
+ghost use Rattle.group_laws.specs.HeldOpened.{HeldAtRest, HeldBehindSeal};
 ghost use Rattle.group_laws.specs.StandingLaws.{ReadsByItsPart, OpensByBothParts};
 
 /// The flusher's part tells what the tail's journal may read as in each image, and both parts tell what each image opens to:
@@ -8,4 +9,10 @@ ghost use Rattle.group_laws.specs.StandingLaws.{ReadsByItsPart, OpensByBothParts
 pub fn images_open_to_fronts<Db, C>()
     ensures journal { ReadsByItsPart C }
     ensures opens { OpensByBothParts Db C }
+{}
+
+/// What the device of a store holds that was just opened, at rest or behind a seal: nothing is pending, and nothing in flight.
+pub fn opened_stores_are_held<Db, C>()
+    ensures rest { HeldAtRest Db C }
+    ensures sealed { HeldBehindSeal Db C }
 {}
