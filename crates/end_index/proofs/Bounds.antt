@@ -29,10 +29,10 @@ zeros_first (suc n) [] e = absurd (omega (arith, e))
 zeros_first (suc n) (b ∷ id) e = from_zero (nat_cmp 0 b) (slice_cmp nat_cmp (zeros n) id) b (ranks 0 b) (zeros_first n id (omega (arith, e)))
 
 -- how the next number stands to one that a number stands to so
-abbrev IsNext : Ordering → Ordering → Type 0
+abbrev pub IsNext : Ordering → Ordering → Type 0
 IsNext o p = MatchOrdering o (is_le p ≡ true) (is_le p ≡ false) (Unit {0})
 
-next_rank : (o p : Ordering) (a b : ℕ) → MatchOrdering o (a < b) (a ≡ b) (b < a) → MatchOrdering p (a + 1 < b) (a + 1 ≡ b) (b < a + 1) → IsNext o p
+pub next_rank : (o p : Ordering) (a b : ℕ) → MatchOrdering o (a < b) (a ≡ b) (b < a) → MatchOrdering p (a + 1 < b) (a + 1 ≡ b) (b < a + 1) → IsNext o p
 next_rank Less Less a b one other = refl
 next_rank Less Equal a b one other = refl
 next_rank Less Greater a b one other = absurd (omega (arith, one, other))
@@ -54,7 +54,7 @@ table Equal Equal Equal later e next = absurd (false≢true (sym next))
 table Equal Greater r later e next = refl
 
 -- a number stands to itself alone as equal
-same_number : (o : Ordering) (a b : ℕ) → MatchOrdering o (a < b) (a ≡ b) (b < a) → ((eqb b a ≡ true) × (b ≡ a)) ⊎ ((eqb b a ≡ false) × (b ≢ a)) → is_eq o ≡ (b == a)
+pub same_number : (o : Ordering) (a b : ℕ) → MatchOrdering o (a < b) (a ≡ b) (b < a) → ((eqb b a ≡ true) × (b ≡ a)) ⊎ ((eqb b a ≡ false) × (b ≢ a)) → is_eq o ≡ (b == a)
 same_number Less a b says (inl same) = absurd (omega (arith, says, same.1))
 same_number Less a b says (inr other) = sym other.0
 same_number Equal a b says (inl same) = sym same.0

@@ -1,2 +1,3 @@
 pub mod Tests
 mod Bounds
+pub mod Exports

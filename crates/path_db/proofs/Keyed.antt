@@ -82,7 +82,7 @@ own_removed test (e ∷ es) own = own_tested (test e.0) e es (remove_entry test 
 
 -- ---- a test
 
-passed_first : (b : Bool) (e : RowKey × Row) (rest : List (RowKey × Row)) (later : List RowView) → views_of rest ≡ later → views_of (cond b (e ∷ rest) rest) ≡ cond b (row_view e.1 ∷ later) later
+pub passed_first : (b : Bool) (e : RowKey × Row) (rest : List (RowKey × Row)) (later : List RowView) → views_of rest ≡ later → views_of (cond b (e ∷ rest) rest) ≡ cond b (row_view e.1 ∷ later) later
 passed_first true e rest later same = ap (λ l. row_view e.1 ∷ l) same
 passed_first false e rest later same = same
 

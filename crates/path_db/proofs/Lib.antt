@@ -8,6 +8,7 @@ mod Ends
 mod Found
 mod Drops
 mod Keyed
+mod Typed
 mod Places
 mod Keys
 mod Canon

@@ -29,7 +29,7 @@ use Rattle.path_db.specs.RowMap.{place_key}
 use Rattle.path_db.specs.Saved.{is_key}
 use Rattle.path_db.specs.EndPlaces.{end_of, is_of, ends_at, IsIndex}
 use Rattle.path_db.specs.declared.end.End.TheVariants.{First, Last}
-use Rattle.path_db.specs.Answer.{covers_entry, first_of, matches, is_shown, answer_of}
+use Rattle.path_db.specs.Answer.{covers_entry, first_of, is_of_type, matches, is_shown, answer_of}
 use Rattle.path_db.specs.Command.{is_valid_beyond}
 use Rattle.path_db.specs.Walk.{IsExact, rows_at}
 use Rattle.path_db.proofs.Order.{AllAbove}
@@ -276,3 +276,9 @@ unfolding answer_of
 answer_at_first limit rows places walk kind start end now rising index sorted exact is =
     ap (λ l. take limit (filter (is_shown kind start end now) l)) (ap (rows_at rows) is ∙ walked (end_of First) rows places (type_number kind) start index rising sorted)
     ∙ ap (take limit) (implied_kept (is_shown kind start end now) (λ row. (type_number row.0 == type_number kind) && is_of (first_of row.1.entries) start) (λ row shown. first_shown kind start end now row shown exact) rows)
+
+pub answer_of_type : (limit : ℕ) (rows walk : List RowView) (kind : SegType) (start end now : ℕ) → walk ≡ filter (is_of_type kind) rows → answer_of limit walk kind start end now ≡ answer_of limit rows kind start end now
+unfolding answer_of
+answer_of_type limit rows walk kind start end now is =
+    ap (λ l. take limit (filter (is_shown kind start end now) l)) is
+    ∙ ap (take limit) (implied_kept (is_shown kind start end now) (is_of_type kind) (λ row shown. typed kind start end now row shown) rows)

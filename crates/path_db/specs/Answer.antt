@@ -17,6 +17,10 @@ abbrev pub first_of : List EntryView → Option EntryView
 first_of [] = None
 first_of (e ∷ es) = Some e
 
+-- a row is of this type
+abbrev pub is_of_type : SegType → RowView → Bool
+is_of_type kind row = type_number row.0 == type_number kind
+
 -- A row is of the type, the start covers its first entry, and the end its last.
 abbrev pub matches : SegType → ℕ → ℕ → RowView → Bool
 matches kind start end row =

@@ -53,6 +53,6 @@ pub record IsLeft (orig : List RowView) (saved : List Stood) (now : List RowView
 abbrev pub IsRestoring : List Stood → List RowView → List Stood → List RowView → Type 0
 IsRestoring saved old left now = (orig : List RowView) → IsLeft orig saved old → IsLeft orig left now
 
--- what is saved of rows puts them back
+-- what is saved of rows puts them back, where the keys rise
 abbrev pub RestoresFrom : List Stood → List RowView → List RowView → Type 0
-RestoresFrom saved now after = (orig : List RowView) → IsRising orig → IsLeft orig saved now → after ≡ orig
+RestoresFrom saved now after = (orig : List RowView) → IsRising orig → IsRising now → IsLeft orig saved now → after ≡ orig

@@ -114,11 +114,10 @@ impl PathDb {
         ensures memory { OnErr result (0 < length new.items) }
         ensures whole { IsDatabase self.new }
     {
-        let _count = self.rows.len();
+        let saved = saved_rows(self.alloc, &self.rows, &new)?;
         if new.is_empty() {
             return Ok(Outcome::nothing());
         }
-        let saved = saved_rows(self.alloc, &self.rows, &new)?;
         let firsts = touched_places(self.alloc, End::First, &new, &saved)?;
         let lasts = touched_places(self.alloc, End::Last, &new, &saved)?;
         let added = add_both(&mut self.by_first, &firsts, &mut self.by_last, &lasts);
@@ -206,7 +205,7 @@ impl PathDb {
             let places = self.by_first.places_at(type_byte(kind), start.to_u64());
             return shown_at(self.alloc, &self.rows, places, wanted, limit);
         }
-        first_shown(self.alloc, self.rows.rows(), wanted, limit)
+        first_shown(self.alloc, self.rows.of_type(kind), wanted, limit)
     }
 
     /// The bytes of all rows as records: for each a type in one, a length in four, and the segment's encoding. A greater

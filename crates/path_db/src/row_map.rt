@@ -1,9 +1,10 @@
 //! The rows of a database by their keys.
 
-ghost use Rattle.std.specs.Prelude.{◌≡◌, ◌+◌, ◌*◌, ◌<◌, ◌≤◌, ◌^◌, [], IfOk, OnErr, None, length};
+ghost use Rattle.std.specs.Prelude.{◌≡◌, ◌+◌, ◌*◌, ◌<◌, ◌≤◌, ◌^◌, [], IfOk, OnErr, None, filter, length};
 ghost use Rattle.std.specs.Option.{option_map};
 ghost use Rattle.path_db.specs.Database.{IsRising, key, key_of, row_under, row_len, rows_len};
 ghost use Rattle.path_db.specs.Command.{database_after_purge, database_after_removal};
+ghost use Rattle.path_db.specs.Answer.{is_of_type};
 ghost use Rattle.path_db.specs.Row.{row_view};
 ghost use Rattle.path_db.specs.RowMap.{Holds, bytes_of, len_if_any, place_key};
 
@@ -60,7 +61,23 @@ impl RowMap {
     pub(crate) fn rows(&self) -> Rows<'_>
         ensures { result ≡ self.now }
     {
-        Rows::of(self.rows.values())
+        Rows::of(self.rows.range(..))
+    }
+
+    /// The rows of a type, in the order of their keys. No others are walked.
+    pub(crate) fn of_type(&self, kind: SegType) -> Rows<'_>
+        ensures { result ≡ filter (is_of_type kind) self.now }
+    {
+        let number = type_byte(kind);
+        let low = RowKey {
+            kind: number,
+            id: [0; 32],
+        };
+        let high = RowKey {
+            kind: number + 1,
+            id: [0; 32],
+        };
+        Rows::of(self.rows.range(low..high))
     }
 
     /// An equal map, which shares the segments. A copy of no rows takes no memory.

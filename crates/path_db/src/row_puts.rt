@@ -74,7 +74,6 @@ pub(crate) fn restore(rows: &mut RowMap, saved: Vec<Saved>)
     while let Some(old) = saved.pop() {
         put_back(rows, old);
     }
-    let _count = rows.len();
 }
 
 /// Puts back what stood under one key.
@@ -100,6 +99,7 @@ pub(crate) fn put_after(
     new: Vec<Row>,
     saved: Vec<Saved>,
 ) -> Result<Outcome, AllocError>
+    requires rising { IsRising rows.old }
     requires counted { bytes.old ≡ rows_len rows.old }
     requires saved { map saved_view saved.items ≡ map (λ row. (key_of row, row_under (key_of row) rows.old)) (row_views new.items) }
     ensures added { OnOk result (IsOk added) }
@@ -121,6 +121,7 @@ pub(crate) fn put_all(
     new: Vec<Row>,
     saved: Vec<Saved>,
 ) -> Result<Outcome, AllocError>
+    requires rising { IsRising rows.old }
     requires counted { bytes.old ≡ rows_len rows.old }
     requires saved { map saved_view saved.items ≡ map (λ row. (key_of row, row_under (key_of row) rows.old)) (row_views new.items) }
     ensures rows { OnOk result (rows.new ≡ database_after_puts rows.old (row_views new.items)) }
@@ -128,10 +129,8 @@ pub(crate) fn put_all(
     ensures err { OnErr result (rows.new ≡ rows.old) }
     ensures bytes { bytes.new ≡ rows_len rows.new }
     ensures memory { OnErr result (0 < vec_len new) }
-    ensures rising { IsRising rows.old }
 {
     let before = *bytes;
-    let _count = rows.len();
     match put_rows(rows, bytes, new) {
         Ok(outcome) => Ok(outcome),
         Err(refused) => {

@@ -5,7 +5,7 @@ use Rattle.seg_core.specs.Registration.{type_number}
 use Rattle.end_index.specs.Place.{stands_at}
 use Rattle.path_db.specs.Answer.{segments_of}
 use Rattle.path_db.specs.Walk.{IsExact}
-use Rattle.path_db.proofs.Walked.{answer_at_last, answer_at_first}
+use Rattle.path_db.proofs.Walked.{answer_at_last, answer_at_first, answer_of_type}
 use Rattle.path_db.proofs.database.PathDb.matching.Goals as goal
 
 pub returns-then-is_indexed-clause-same : goal.returns-then-is_indexed-clause-same
@@ -39,3 +39,13 @@ returns-then-is_indexed-2-clause-memory c =
     let walk : c.places_at-places-then-is_indexed-2.result ≡ filter (stands_at (type_number c.args.kind) (number_of c.args.start)) c.self.inside.by_first = rw (← c.type_byte-then-is_indexed-2.ensures, ← c.to_u64-then-is_indexed-2.ensures) c.places_at-places-then-is_indexed-2.ensures.same in
     let answer = answer_at_first c.args.limit rows c.self.inside.by_first c.places_at-places-then-is_indexed-2.result c.args.kind (number_of c.args.start) (number_of c.args.end) c.args.now c.self.invariant.database.rising c.self.invariant.first c.places_at-places-then-is_indexed-2.ensures.rising exact walk in
     rw (← c.self.view_is) (subst (λ a. OnErr c.shown_at-then-is_indexed-2.result (0 < length a)) answer c.shown_at-then-is_indexed-2.ensures.memory)
+
+pub returns-clause-same : goal.returns-clause-same
+returns-clause-same c =
+    let answer = answer_of_type c.args.limit c.self.inside.rows c.of_type.result c.args.kind (number_of c.args.start) (number_of c.args.end) c.args.now c.of_type.ensures in
+    rw (← c.self.view_is) (subst (λ a. IfOk c.first_shown.result (λ found. found.items ≡ segments_of a)) answer c.first_shown.ensures.same)
+
+pub returns-clause-memory : goal.returns-clause-memory
+returns-clause-memory c =
+    let answer = answer_of_type c.args.limit c.self.inside.rows c.of_type.result c.args.kind (number_of c.args.start) (number_of c.args.end) c.args.now c.of_type.ensures in
+    rw (← c.self.view_is) (subst (λ a. OnErr c.first_shown.result (0 < length a)) answer c.first_shown.ensures.memory)
