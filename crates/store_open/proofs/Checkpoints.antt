@@ -1,6 +1,7 @@
 -- A checkpoint that is read from a device: its front, and then its rows.
 use Rattle.std.proofs.Common.{◌≡◌, ◌≢◌, ℕ, ◌+◌, ◌*◌, ◌≤◌, Bool, true, false, leb, leb-true, List, length, take, drop, Result, Ok, Err, Option, Some, None, refl, sym, ◌∙◌, ap, subst, arith}
 use Rattle.std.proofs.lemmas.List.{take-take, drop-drop}
+use Rattle.std.specs.Result.{is_ok, IsOk}
 use Rattle.byte_lists.specs.Content.{part}
 use Rattle.byte_lists.specs.Sectors.{sector_at}
 use Rattle.byte_lists.proofs.Contents.{length-part}
@@ -89,6 +90,18 @@ module _ (geometry : Geometry) (half : Half) (reads sector : List ℕ) (at : ℕ
 
   abbrev Area : List ℕ
   Area = area_of geometry half reads
+
+  -- a front that was read stands in the area
+  pub front_stands : (front : FrontView) (n : ℕ) → n ≡ geometry.checkpoint → front_in latest (512 * n) sector ≡ Ok front → IsOk (front_in latest (512 * geometry.checkpoint) Area)
+  front_stands front n size is_front =
+      let by_front = law Area (omega (arith, long, allowed)) in
+      let there : front_in latest (512 * geometry.checkpoint) Area ≡ Ok front =
+      ap (λ (m : ℕ). front_in latest m Area) (sym long)
+      ∙ sym (by_front.front sector begins)
+      ∙ ap (λ (m : ℕ). front_in latest m sector) long
+      ∙ ap (λ (k : ℕ). front_in latest (512 * k) sector) (sym size)
+      ∙ is_front in
+      ap (λ (r : Result FrontView PairRefusal). is_ok r) there
 
   -- each way out
   pub front_refused : {X Z : Type 0} (see : X → Checkpoint (List RowView)) (view : Z → FrontView) (e : PairError) (n : ℕ) → n ≡ geometry.checkpoint → Reads view (Err e) (front_in latest (512 * n) sector)

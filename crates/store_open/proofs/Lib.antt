@@ -10,3 +10,6 @@ pub mod Checkpoints
 pub mod TakingOver
 pub mod Switching
 pub mod AtRest
+pub mod Steps
+pub mod Rests
+pub mod Back

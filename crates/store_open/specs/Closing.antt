@@ -1,5 +1,5 @@
 -- What closing the gates of a half leaves.
-use Rattle.std.specs.Prelude.{◌≡◌, ◌⊎◌, ℕ, ◌+◌, ◌*◌, ◌≤◌, List, length}
+use Rattle.std.specs.Prelude.{◌≡◌, ◌⊎◌, ℕ, ◌+◌, ◌*◌, ◌≤◌, Bool, true, false, List, length}
 use Rattle.byte_lists.specs.Content.{part}
 use Rattle.byte_lists.specs.Sectors.{sector_at, IsOpenGate}
 use Rattle.image_laws.specs.declared.half.Half.{Half}
@@ -15,6 +15,11 @@ pub record IsClosing (geometry : Geometry) (half : Half) (old new : List ℕ) : 
   pub size : length new ≡ length old
   pub outside : (at n : ℕ) → (at + n ≤ 512 * gate_at geometry half) ⊎ (512 * (gate_at geometry half + 2) ≤ at) → part at n new ≡ part at n old
   pub gate : (¬ IsOpenGate (gate_of geometry half old)) → gate_of geometry half new ≡ gate_of geometry half old
+
+-- A half's gates are being closed that isn't used. Behind a seal it is used, and all is as it was.
+abbrev pub IsClosingUnused : Bool → Geometry → Half → List ℕ → List ℕ → Type 0
+IsClosingUnused false geometry half old new = IsClosing geometry half old new
+IsClosingUnused true geometry half old new = new ≡ old
 
 -- both gates of a half are closed
 pub record HasClosedGates (geometry : Geometry) (half : Half) (content : List ℕ) : Type 0 where

@@ -10,3 +10,5 @@ pub mod Store
 pub mod StoreShape
 pub mod Allowing
 pub mod TakingOver
+pub mod Open
+pub mod Folded

@@ -71,3 +71,12 @@ PairSo view (Err Device) reading = Unit {0}
 PairSo view (Err (Pair e)) reading = (e ≢ pair.NoMemory) × Refused e reading
 PairSo view (Err (Journal e)) reading = ⊥
 PairSo view (Err NoMemory) reading = Unit {0}
+
+-- what holds of a call that came to its end, or for which memory ran out on the way
+abbrev pub OnOkOrNoMemory : {T : Type 0} → Result T OpenError → Type 0 → Type 0
+OnOkOrNoMemory (Ok x) P = P
+OnOkOrNoMemory (Err NotAStore) P = Unit {0}
+OnOkOrNoMemory (Err Device) P = Unit {0}
+OnOkOrNoMemory (Err (Pair e)) P = Unit {0}
+OnOkOrNoMemory (Err (Journal e)) P = Unit {0}
+OnOkOrNoMemory (Err NoMemory) P = P

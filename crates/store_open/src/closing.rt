@@ -1,14 +1,15 @@
 //! Closing the gates of a half that isn't used.
 
-ghost use Rattle.std.specs.Prelude.{◌≡◌, ◌≤◌, ◌<◌, [], OnOk, IfOk};
+ghost use Rattle.std.specs.Prelude.{◌≡◌, ◌≤◌, ◌<◌, [], false, OnOk, IfOk};
 ghost use Rattle.byte_lists.specs.Sectors.{sector_at, is_open_gate};
 ghost use Rattle.sector_dev.specs.Disk.{IsHonest, reads_of};
 ghost use Rattle.sector_dev.specs.Calls.{count_after};
 ghost use Rattle.sector_dev.specs.Stretch.{Stretch};
-ghost use Rattle.image_laws.specs.Layout.{IsGeometry, image_sectors};
+ghost use Rattle.image_laws.specs.Layout.{IsGeometry, image_sectors, other};
 ghost use Rattle.store_open.specs.Geometry.{geometry_view};
 ghost use Rattle.store_open.specs.Looking.{LooksAt};
-ghost use Rattle.store_open.specs.Closing.{IsClosing, HasClosedGates};
+ghost use Rattle.store_open.specs.NewStore.{HasRoomFor};
+ghost use Rattle.store_open.specs.Closing.{IsClosing, IsClosingUnused, HasClosedGates};
 
 use crate::Geometry;
 use crate::reading::read_sector;
@@ -43,6 +44,29 @@ pub(crate) fn close_half<D: Device>(
         return device.write(gate + 1, &[0; SECTOR]);
     }
     Ok(())
+}
+
+/// Closes what of the half that isn't chosen reads open, unless the tail is in it behind a seal, and syncs. Nothing may be dirty.
+pub(crate) fn close_unused<D: Device>(
+    device: &mut D,
+    geometry: Geometry,
+    chosen: Half,
+    sealed: bool,
+) -> Result<(), DevError>
+    requires room { HasRoomFor (geometry_view geometry) (D.disk device.old) }
+    requires clean { IsHonest (D.disk device.old) → (D.disk device.old).history.now.dirty ≡ [] }
+    ensures any_moment { Stretch (D.disk device.old) (D.disk device.new)
+        (IsClosingUnused sealed (geometry_view geometry) (other chosen) (reads_of (D.disk device.old))) }
+    ensures settled { OnOk result (IsHonest (D.disk device.old) → (D.disk device.new).history.now.dirty ≡ []) }
+    ensures closed { OnOk result (IsHonest (D.disk device.old) → sealed ≡ false
+        → HasClosedGates (geometry_view geometry) (other chosen) (reads_of (D.disk device.new))) }
+    ensures faults { (D.disk device.new).faults ≡ count_after result (D.disk device.old).faults }
+{
+    if sealed {
+        return device.sync();
+    }
+    close_half(device, geometry, chosen.other())?;
+    device.sync()
 }
 
 /// Whether the gate in this sector reads open.

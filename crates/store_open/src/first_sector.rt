@@ -1,14 +1,16 @@
 //! Reading the sizes of a store.
 
-ghost use Rattle.std.specs.Prelude.{◌≡◌, ◌↔◌, ℕ, List, length, IsTrue, IfOk};
-ghost use Rattle.std.specs.Option.{option_map};
+ghost use Rattle.std.specs.Prelude.{◌≡◌, ◌↔◌, ℕ, ◌≤◌, List, length, IsTrue, IfOk};
+ghost use Rattle.std.specs.Option.{option_map, IfSome};
 ghost use Rattle.byte_lists.specs.Content.{part};
 ghost use Rattle.byte_lists.specs.Numbers.{four_at, eight_at};
 ghost use Rattle.byte_lists.specs.Sectors.{whole_sectors};
 ghost use Rattle.sector_dev.specs.Disk.{IsHonest, reads_of};
 ghost use Rattle.sector_dev.specs.Calls.{Keeps, count_after};
 ghost use Rattle.image_laws.specs.FirstSector.{store_magic, layout_number, geometry_in};
+ghost use Rattle.image_laws.specs.Layout.{IsGeometry, image_sectors};
 ghost use Rattle.store_open.specs.Geometry.{geometry_view};
+ghost use Rattle.store_open.specs.NewStore.{HasRoomFor};
 
 use crate::Geometry;
 use crate::sectors::{LAYOUT, STORE_MAGIC};
@@ -20,6 +22,7 @@ pub fn read_geometry<D: Device>(device: &mut D) -> Result<Option<Geometry>, DevE
     ensures keeps { Keeps (D.disk device.old) (D.disk device.new) }
     ensures faults { (D.disk device.new).faults ≡ count_after result (D.disk device.old).faults }
     ensures history { IsHonest (D.disk device.old) → (D.disk device.new).history ≡ (D.disk device.old).history }
+    ensures room { IfOk result (λ found. IfSome found (λ geometry. HasRoomFor (geometry_view geometry) (D.disk device.new))) }
     ensures read { IfOk result (λ found. IsHonest (D.disk device.old) → option_map geometry_view found ≡ geometry_in (reads_of (D.disk device.old))) }
 {
     let sectors = device.sectors();
@@ -34,7 +37,8 @@ pub fn read_geometry<D: Device>(device: &mut D) -> Result<Option<Geometry>, DevE
 /// The sizes that sector 0 tells, where it is that of a store that so many sectors have room for.
 fn geometry_of(sector: &[u8], sectors: u64) -> Option<Geometry>
     requires { length sector.now ≡ 512 }
-    ensures { (image : List ℕ) → part 0 512 image ≡ sector.now → whole_sectors image ≡ sectors → option_map geometry_view result ≡ geometry_in image }
+    ensures room { IfSome result (λ geometry. IsGeometry (geometry_view geometry) × (image_sectors (geometry_view geometry) ≤ sectors)) }
+    ensures read { (image : List ℕ) → part 0 512 image ≡ sector.now → whole_sectors image ≡ sectors → option_map geometry_view result ≡ geometry_in image }
 {
     if !is_named(sector) {
         return None;

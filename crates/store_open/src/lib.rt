@@ -1,7 +1,7 @@
 //! Stores on devices: how one is made, and what is read of it.
 //!
-//! To the layer above: after `format` every image of the device is a new store, and `read_geometry` tells the sizes of a store
-//! just where an image is one.
+//! To the layer above: after `format` every image of the device is a new store, `read_geometry` tells the sizes of a store just
+//! where an image is one, and `open` answers what the image opens with, and leaves at every moment what opened before.
 #![tactic(auto)]
 
 mod checkpoint;
@@ -9,11 +9,14 @@ mod closing;
 mod closing_laws;
 mod error;
 mod first_sector;
+mod folded;
 mod folding;
 mod geometry;
 mod heads;
 mod new_store;
 mod new_store_laws;
+mod open_store;
+mod opening;
 mod reading;
 mod rows;
 mod scanning;
@@ -28,5 +31,6 @@ pub use first_sector::read_geometry;
 pub use geometry::Geometry;
 pub use new_store::{FormatError, format};
 pub use new_store_laws::new_stores_are_formatted;
+pub use open_store::open;
 pub use store::Store;
 pub use store_error::StoreError;

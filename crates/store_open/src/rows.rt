@@ -1,16 +1,16 @@
 //! Reading the rows of a checkpoint from a device.
 
-ghost use Rattle.std.specs.Prelude.{◌≡◌, ◌+◌, ◌*◌, ◌≤◌, IfOk};
+ghost use Rattle.std.specs.Prelude.{◌≡◌, ◌+◌, ◌*◌, ◌≤◌, IfOk, IsOk};
 ghost use Rattle.byte_lists.specs.Content.{part};
 ghost use Rattle.sector_dev.specs.Disk.{IsHonest, reads_of};
 ghost use Rattle.path_db.specs.Database.{IsDatabase};
 ghost use Rattle.image_laws.specs.CheckpointReading.{checkpoint_in};
 ghost use Rattle.image_laws.specs.Layout.{IsGeometry, image_sectors, area_of};
 ghost use Rattle.ckpt_pair.specs.Heads.{latest};
-ghost use Rattle.ckpt_pair.specs.Reading.{checkpoint_view};
+ghost use Rattle.ckpt_pair.specs.Reading.{checkpoint_view, front_in};
 ghost use Rattle.ckpt_pair.specs.Rows.{rows_format};
 ghost use Rattle.store_open.specs.Geometry.{geometry_view};
-ghost use Rattle.store_open.specs.Refusals.{LooksFor, PairSo};
+ghost use Rattle.store_open.specs.Refusals.{LooksFor, PairSo, OnOkOrNoMemory};
 ghost use Rattle.store_open.specs.Rows.{FeedsSo};
 
 use crate::Geometry;
@@ -70,6 +70,8 @@ pub(crate) fn read_checkpoint<D: Device>(
     ensures looks { LooksFor result (D.disk device.old) (D.disk device.new) }
     ensures checkpoint { IsHonest (D.disk device.old) → PairSo checkpoint_view result
         (checkpoint_in rows_format latest (area_of (geometry_view geometry) half (reads_of (D.disk device.old)))) }
+    ensures memory { IsHonest (D.disk device.old) → OnOkOrNoMemory result
+        (IsOk (front_in latest (512 * (geometry_view geometry).checkpoint) (area_of (geometry_view geometry) half (reads_of (D.disk device.old))))) }
     ensures whole { IfOk result (λ checkpoint. IsDatabase checkpoint.db) }
 {
     checkpoints_are_read_by_their_fronts();

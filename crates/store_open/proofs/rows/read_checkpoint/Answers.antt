@@ -15,7 +15,8 @@ use Rattle.store_open.specs.declared.error.OpenError.{OpenError}
 use Rattle.store_open.specs.Refusals.{error_of_pair, PairSo}
 use Rattle.store_open.specs.Rows.{FeedsSo}
 use Rattle.store_open.proofs.Fronts.{pair_told}
-use Rattle.store_open.proofs.Checkpoints.{front_refused, feed_refused_so, count_refused_so, counted_so}
+use Rattle.store_open.proofs.Checkpoints.{front_stands, front_refused, feed_refused_so, count_refused_so, counted_so}
+use Rattle.store_open.proofs.Steps.{memory_from}
 use Rattle.store_open.proofs.rows.read_checkpoint.Goals as goal
 
 pub returns-in_err-front-clause-checkpoint : goal.returns-in_err-front-clause-checkpoint
@@ -57,3 +58,23 @@ returns-clause-checkpoint g c honest =
     (let whole = g.met.D.Device.whole c.args.device.now honest in omega (arith, whole.size, c.requires.room)) c.checkpoints_are_read_by_their_fronts.ensures c.area_at-at.ensures (c.in_ok-sector.ensures.read honest)
     (front_view c.in_ok-front.front) c.from.result c.from.ensures (pair_told front_view c.in_ok-front.front _ c.in_ok-front.ensures) c.in_ok-db.db c.in_ok-reader.reader
     (c.in_ok-reader.ensures.rows (honest_after _ _ c.in_ok-sector.ensures.looks.keeps honest) ∙ ap (λ (h : History). part (512 * c.area_at-at.result + 32) c.in_ok-front.front.size h.now.reads) (c.in_ok-sector.ensures.looks.history honest)) c.in_ok-db.ensures.decoding
+
+pub returns-in_err-reader-clause-memory : goal.returns-in_err-reader-clause-memory
+returns-in_err-reader-clause-memory g c honest =
+    memory_from _ c.from_residual-in_err-reader.result
+    (front_stands (geometry_view c.args.geometry) c.args.half (reads_of (g.D.Device.disk c.args.device.now)) c.in_ok-sector.sector c.area_at-at.result c.requires.allowed
+    (let whole = g.met.D.Device.whole c.args.device.now honest in omega (arith, whole.size, c.requires.room)) c.checkpoints_are_read_by_their_fronts.ensures c.area_at-at.ensures (c.in_ok-sector.ensures.read honest)
+    (front_view c.in_ok-front.front) c.from.result c.from.ensures (pair_told front_view c.in_ok-front.front _ c.in_ok-front.ensures))
+
+pub returns-in_err-db-clause-memory : goal.returns-in_err-db-clause-memory
+returns-in_err-db-clause-memory g c honest =
+    memory_from _ c.from_residual-in_err-db.result
+    (front_stands (geometry_view c.args.geometry) c.args.half (reads_of (g.D.Device.disk c.args.device.now)) c.in_ok-sector.sector c.area_at-at.result c.requires.allowed
+    (let whole = g.met.D.Device.whole c.args.device.now honest in omega (arith, whole.size, c.requires.room)) c.checkpoints_are_read_by_their_fronts.ensures c.area_at-at.ensures (c.in_ok-sector.ensures.read honest)
+    (front_view c.in_ok-front.front) c.from.result c.from.ensures (pair_told front_view c.in_ok-front.front _ c.in_ok-front.ensures))
+
+pub returns-clause-memory : goal.returns-clause-memory
+returns-clause-memory g c honest =
+    front_stands (geometry_view c.args.geometry) c.args.half (reads_of (g.D.Device.disk c.args.device.now)) c.in_ok-sector.sector c.area_at-at.result c.requires.allowed
+    (let whole = g.met.D.Device.whole c.args.device.now honest in omega (arith, whole.size, c.requires.room)) c.checkpoints_are_read_by_their_fronts.ensures c.area_at-at.ensures (c.in_ok-sector.ensures.read honest)
+    (front_view c.in_ok-front.front) c.from.result c.from.ensures (pair_told front_view c.in_ok-front.front _ c.in_ok-front.ensures)

@@ -1,0 +1,195 @@
+-- A device that is opened: what a stop leaves while it is brought to rest, and what it then tells.
+use Rattle.std.proofs.Common.{◌≡◌, ℕ, Bool, true, false, List, [], Result, Ok, Err, Option, Some, None, OnOk, refl, sym, ◌∙◌, ap, subst}
+use Rattle.path_db.specs.Database.{RowView}
+use Rattle.path_db.specs.declared.command.Command.{Command}
+use Rattle.sector_dev.specs.Disk.{History, Disk, IsHonest, IsWhole, reads_of}
+use Rattle.sector_dev.specs.Image.{IsFromImage}
+use Rattle.sector_dev.specs.Calls.{Keeps, SyncCall}
+use Rattle.sector_dev.specs.Stretch.{Leaves, Stretch}
+use Rattle.sector_dev.proofs.Images.{image_of_reads, image_is_reads}
+use Rattle.sector_dev.proofs.Results.{success}
+use Rattle.sector_dev.proofs.Parts.{history_synced, reads_synced}
+use Rattle.sector_dev.proofs.Stretches.{honest_after, honest_before, leaves_here, at_exit, stretch_here, stretch_then, stretch_sync, stretch_weaker, from_here}
+use Rattle.image_laws.specs.declared.half.Half.{Half}
+use Rattle.image_laws.specs.Limits.{Limits}
+use Rattle.image_laws.specs.Journal.{Reading}
+use Rattle.image_laws.specs.Layout.{Geometry, other}
+use Rattle.image_laws.specs.Opening.{Opening, limits_in, IsTail, IsOpening}
+use Rattle.image_laws.specs.OpeningReading.{opening_of}
+use Rattle.image_laws.proofs.Exports.{opening_read, opening_from}
+use Rattle.gate_journal.specs.Commands.{command_format}
+use Rattle.ckpt_pair.specs.Heads.{latest}
+use Rattle.store_open.specs.Closing.{IsClosing, IsClosingUnused, HasClosedGates}
+use Rattle.store_open.specs.declared.folded.Folded.{Folded}
+use Rattle.store_open.specs.Folded.{store_on, TellsOnAny}
+use Rattle.store_open.specs.Geometry.{geometry_view}
+use Rattle.store_open.specs.Open.{OpensAlike, IsOpened}
+use Rattle.store_open.specs.PathStores.{store_format}
+use Rattle.store_open.specs.Store.{StoreView, IsAtRest, IsSound}
+use Rattle.store_open.proofs.Kept.{kept_opening}
+
+-- What follows on an honest device alone.
+pub stretch_honest : (P Q : List ℕ → Type 0) (old new : Disk) → (IsHonest old → (content : List ℕ) → P content → Q content) → Stretch old new P → Stretch old new Q
+stretch_honest P Q old new follows so_far = record {
+  keeps = so_far.keeps;
+  leaves = λ honest. (stretch_weaker P Q old new (follows honest) so_far).leaves honest;
+}
+
+-- A device on which nothing is dirty was only looked at: what a stop leaves is what reads give.
+pub stretch_looked : (P : List ℕ → Type 0) (start mid : Disk) → Keeps start mid → (IsHonest start → mid.history ≡ start.history) → (IsHonest start → start.history.now.dirty ≡ [])
+    → (IsHonest start → P (reads_of start)) → Stretch start mid P
+stretch_looked P start mid keeps same clean holds = record {
+  keeps = keeps;
+  leaves = λ honest. subst (λ (h : History). Leaves start.history h P) (sym (same honest))
+      (leaves_here P start.history (λ content image. subst P (sym (image_is_reads start.history.now content (clean honest) image)) (holds honest)));
+}
+
+-- what is read alike is the same, and opens alike to itself
+pub alike_itself : (content : List ℕ) → OpensAlike content content
+alike_itself content opening is = is
+
+-- ---- closing the half that isn't used
+
+module _ (geometry : Geometry) (chosen : Half) (sealed : Bool) (start : Disk) where
+  abbrev Unused : List ℕ → Type 0
+  Unused = IsClosingUnused sealed geometry (other chosen) (reads_of start)
+
+  -- behind a seal nothing is closed
+  pub left_alone : {S F : Type 0} (answer : Result S F) (two : Disk) → sealed ≡ true → (IsHonest start → start.history.now.dirty ≡ []) → SyncCall answer start two → Stretch start two Unused
+  left_alone answer two is clean call =
+      stretch_sync Unused start start two answer
+      (stretch_here Unused start
+      (λ honest content image. subst (λ (b : Bool). IsClosingUnused b geometry (other chosen) (reads_of start) content) (sym is) (image_is_reads start.history.now content (clean honest) image)))
+      call
+
+  pub being_closed : (half : Half) (one : Disk) → half ≡ other chosen → sealed ≡ false → Stretch start one (IsClosing geometry half (reads_of start)) → Stretch start one Unused
+  being_closed half one same is so =
+      stretch_weaker (IsClosing geometry half (reads_of start)) Unused start one
+      (λ content closing. subst (λ (b : Bool). IsClosingUnused b geometry (other chosen) (reads_of start) content) (sym is)
+      (subst (λ (h : Half). IsClosing geometry h (reads_of start) content) same closing))
+      so
+
+  pub closed_and_synced : {S F : Type 0} (answer : Result S F) (half : Half) (one two : Disk) → half ≡ other chosen → sealed ≡ false → Stretch start one (IsClosing geometry half (reads_of start)) → SyncCall answer one two
+      → Stretch start two Unused
+  closed_and_synced answer half one two same is so call = stretch_sync Unused start one two answer (being_closed half one same is so) call
+
+-- a sync that succeeds leaves nothing dirty
+pub settled_by_sync : {S F : Type 0} (answer : Result S F) (start one two : Disk) → Keeps start one → SyncCall answer one two → OnOk answer (IsHonest start → two.history.now.dirty ≡ [])
+settled_by_sync (Err _) start one two keeps call = tt
+settled_by_sync {S} {F} (Ok u) start one two keeps call = λ honest. ap (λ (h : History). h.now.dirty) (history_synced F u one two call (honest_after start one keeps honest))
+
+-- and what was closed stays so
+pub closed_by_sync : {S F : Type 0} (answer : Result S F) (sealed : Bool) (geometry : Geometry) (half unused : Half) (start one two : Disk) → half ≡ unused → Keeps start one → SyncCall answer one two
+    → (IsHonest start → HasClosedGates geometry half (reads_of one)) → OnOk answer (IsHonest start → sealed ≡ false → HasClosedGates geometry unused (reads_of two))
+closed_by_sync (Err _) sealed geometry half unused start one two same keeps call closed = tt
+closed_by_sync {S} {F} (Ok u) sealed geometry half unused start one two same keeps call closed = λ honest unsealed.
+    subst (λ (h : Half). HasClosedGates geometry h (reads_of two)) same
+    (subst (HasClosedGates geometry half) (sym (reads_synced (success F u) one two call (honest_after start one keeps honest))) (closed honest))
+
+pub sealed_by_sync : {S F : Type 0} (answer : Result S F) (sealed : Bool) (geometry : Geometry) (unused : Half) (start two : Disk) → sealed ≡ true
+    → OnOk answer (IsHonest start → sealed ≡ false → HasClosedGates geometry unused (reads_of two))
+sealed_by_sync (Err _) sealed geometry unused start two is = tt
+sealed_by_sync (Ok u) sealed geometry unused start two is = λ honest unsealed. absurd (let clash = sym is ∙ unsealed in cc)
+
+-- ---- an opening while that is done
+
+-- a journal that isn't sealed has no tail
+no_tail_behind : (limits : Limits) (geometry : Geometry) (half : Half) (image : List ℕ) (journal : Reading Command) (tail : Option (Reading Command)) → journal.sealed ≡ false
+    → IsTail command_format limits geometry half image journal tail → tail ≡ None
+no_tail_behind limits geometry half image journal None unsealed is = refl
+no_tail_behind limits geometry half image journal (Some behind) unsealed is = absurd (let clash = sym unsealed ∙ is.1.sealed in cc)
+
+module _ (reads image : List ℕ) (opening : Opening (List RowView) Command) (is : IsOpening store_format latest reads opening) where
+  kept_alone : opening.journal.sealed ≡ false → IsClosing opening.geometry (other opening.chosen) reads image → IsOpening store_format latest image opening
+  kept_alone unsealed closing =
+      kept_opening store_format latest reads image opening closing is
+      (no_tail_behind (limits_in opening.checkpoint) opening.geometry (other opening.chosen) reads opening.journal opening.tail unsealed is.tail)
+
+  kept : (sealed : Bool) → opening.journal.sealed ≡ sealed → IsClosingUnused sealed opening.geometry (other opening.chosen) reads image → IsOpening store_format latest image opening
+  kept false so closing = kept_alone so closing
+  kept true so same = subst (λ (content : List ℕ). IsOpening store_format latest content opening) (sym same) is
+
+-- an image opens with one opening at most
+same_opening : (reads : List ℕ) (one two : Opening (List RowView) Command) → IsOpening store_format latest reads one → IsOpening store_format latest reads two → one ≡ two
+same_opening reads one two is_one is_two =
+    let a = opening_read store_format latest reads one is_one in
+    let b = opening_read store_format latest reads two is_two in
+    cc
+
+pub alike : (reads image : List ℕ) (o : Opening (List RowView) Command) (geometry : Geometry) (chosen : Half) (sealed : Bool) → IsOpening store_format latest reads o
+    → o.geometry ≡ geometry → o.chosen ≡ chosen → o.journal.sealed ≡ sealed → IsClosingUnused sealed geometry (other chosen) reads image → OpensAlike reads image
+alike reads image o geometry chosen sealed found its_geometry its_half its_seal closing = λ opening is.
+    subst (IsOpening store_format latest image) (same_opening reads o opening found is)
+    (kept reads image o found sealed its_seal
+    (subst (λ (g : Geometry). IsClosingUnused sealed g (other o.chosen) reads image) (sym its_geometry)
+    (subst (λ (h : Half). IsClosingUnused sealed geometry (other h) reads image) (sym its_half) closing)))
+
+-- ---- brought to rest
+
+module _ (start mid new : Disk) (o : Opening (List RowView) Command) (folded : Folded) (keeps : Keeps start mid) (same : IsHonest start → mid.history ≡ start.history) (clean : IsHonest start → start.history.now.dirty ≡ [])
+    (whole : IsHonest start → IsWhole start) (opens : IsHonest start → opening_of store_format latest (reads_of start) ≡ Ok o) (tells : TellsOnAny folded o)
+    (closing : Stretch mid new (IsClosingUnused folded.sealed (geometry_view folded.geometry) (other folded.half) (reads_of mid))) where
+  found : IsHonest start → IsOpening store_format latest (reads_of start) o
+  found honest = opening_from store_format latest (reads_of start) o (whole honest).bytes (opens honest)
+
+  reads_same : IsHonest start → reads_of mid ≡ reads_of start
+  reads_same honest = ap (λ (h : History). h.now.reads) (same honest)
+
+  pub rested : Stretch start new (OpensAlike (reads_of start))
+  rested =
+      stretch_then (OpensAlike (reads_of start)) start mid new
+      (stretch_looked (OpensAlike (reads_of start)) start mid keeps same clean (λ honest. alike_itself (reads_of start)))
+      (stretch_honest (IsClosingUnused folded.sealed (geometry_view folded.geometry) (other folded.half) (reads_of mid)) (OpensAlike (reads_of start)) mid new
+      (λ honest_mid content so.
+      let honest = honest_before start mid keeps honest_mid in
+      alike (reads_of start) content o (geometry_view folded.geometry) folded.half folded.sealed (found honest) (tells start).geometry (tells start).chosen (tells start).sealed
+      (subst (λ (list : List ℕ). IsClosingUnused folded.sealed (geometry_view folded.geometry) (other folded.half) list content) (reads_same honest) so))
+      closing)
+
+  pub opened_so : (IsHonest mid → new.history.now.dirty ≡ []) → (IsHonest mid → folded.sealed ≡ false → HasClosedGates (geometry_view folded.geometry) (other folded.half) (reads_of new))
+      → IsHonest start → IsOpened (reads_of start) (store_on new folded)
+  opened_so settled closed honest =
+      let honest_mid = honest_after start mid keeps honest in
+      record {
+        rest = record {
+          opening = o;
+          tells = tells new;
+          settled = settled honest_mid;
+          every = λ image is. at_exit (OpensAlike (reads_of start)) start new rested honest image is o (found honest);
+          unused = λ unsealed image is. subst (HasClosedGates (geometry_view folded.geometry) (other folded.half)) (sym (image_is_reads new.history.now image (settled honest_mid) is)) (closed honest_mid unsealed);
+        };
+        same = found honest;
+      }
+
+-- ---- from the first sync on
+
+module _ (start mid new : Disk) (whole : IsHonest start → IsWhole start) {S F : Type 0} (answer : Result S F) (call : SyncCall answer start mid) where
+  abbrev FromStart : List ℕ → Type 0
+  FromStart = IsFromImage start.history.now OpensAlike
+
+  pub only_synced : Stretch start mid FromStart
+  only_synced = stretch_sync FromStart start start mid answer (from_here OpensAlike start alike_itself) call
+
+  reads_stay : IsHonest start → reads_of mid ≡ reads_of start
+  reads_stay honest = reads_synced answer start mid call honest
+
+  pub synced_then : Stretch mid new (OpensAlike (reads_of mid)) → Stretch start new FromStart
+  synced_then behind =
+      stretch_then FromStart start mid new only_synced
+      (stretch_honest (OpensAlike (reads_of mid)) FromStart mid new
+      (λ honest_mid content related.
+      let honest = honest_before start mid call.keeps honest_mid in
+      record {
+        before = reads_of start;
+        image = image_of_reads start.history.now (whole honest).bytes;
+        related = subst (λ (list : List ℕ). OpensAlike list content) (reads_stay honest) related;
+      })
+      behind)
+
+-- ---- a store that was opened is sound
+
+pub sound_at_rest : (view : StoreView) → IsAtRest view → IsSound view
+sound_at_rest view rest = record {
+  rest = λ whole. rest;
+  every = λ image is. record { opening = rest.opening; is = rest.every image is; stands_for = rest.tells.value };
+}

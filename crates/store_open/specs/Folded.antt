@@ -1,0 +1,29 @@
+-- What a store comes to whose commands were folded.
+use Rattle.std.specs.Prelude.{false, List}
+use Rattle.path_db.specs.Database.{RowView}
+use Rattle.path_db.specs.declared.command.Command.{Command}
+use Rattle.sector_dev.specs.Disk.{Disk}
+use Rattle.image_laws.specs.Opening.{Opening}
+use Rattle.ckpt_pair.specs.Heads.{head_view}
+use Rattle.store_open.specs.declared.folded.Folded.{Folded}
+use Rattle.store_open.specs.Geometry.{geometry_view}
+use Rattle.store_open.specs.Store.{StoreView, Tells}
+
+-- the store that it is on a device
+abbrev pub store_on : Disk → Folded → StoreView
+store_on disk folded = record {
+  disk = disk;
+  geometry = geometry_view folded.geometry;
+  chosen = folded.half;
+  head = head_view folded.head;
+  sealed = folded.sealed;
+  gate = folded.gate;
+  place = folded.place;
+  rows = folded.db;
+  sealed_len = folded.sealed_len;
+  broken = false;
+}
+
+-- on any device it tells what an image opens with
+abbrev pub TellsOnAny : Folded → Opening (List RowView) Command → Type 0
+TellsOnAny folded opening = (disk : Disk) → Tells (store_on disk folded) opening

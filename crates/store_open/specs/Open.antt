@@ -1,0 +1,119 @@
+-- What opening a device answers: by what is read of it, and what it leaves.
+use Rattle.std.specs.Prelude.{◌≡◌, ℕ, ◌*◌, List, Result, Ok, Err, IsOk, Option, Some}
+use Rattle.std.specs.Option.{option_map}
+use Rattle.path_db.specs.Database.{RowView}
+use Rattle.path_db.specs.declared.command.Command.{Command}
+use Rattle.sector_dev.specs.Disk.{Disk, IsHonest, reads_of}
+use Rattle.image_laws.specs.declared.half.Half.{Half}
+use Rattle.image_laws.specs.GroupReading.{JournalRefusal}
+use Rattle.image_laws.specs.GroupReading as refusals
+use Rattle.image_laws.specs.Checkpoint.{Checkpoint}
+use Rattle.image_laws.specs.Journal.{Reading}
+use Rattle.image_laws.specs.Layout.{Geometry, area_of}
+use Rattle.image_laws.specs.FirstSector.{geometry_in}
+use Rattle.image_laws.specs.Opening.{Opening, IsOpening}
+use Rattle.image_laws.specs.OpeningReading.{OpenRefusal, BadPair, BadJournal, opening_of}
+use Rattle.image_laws.specs.OpeningReading as laws
+use Rattle.gate_journal.specs.declared.error.JournalError.{JournalError}
+use Rattle.gate_journal.specs.declared.error.JournalError.TheVariants as journal
+use Rattle.gate_journal.specs.declared.scanner.Scan.{Scan}
+use Rattle.gate_journal.specs.Scanning.{reading_of}
+use Rattle.ckpt_pair.specs.Heads.{latest}
+use Rattle.ckpt_pair.specs.Reading.{checkpoint_view, front_in}
+use Rattle.ckpt_pair.specs.Refusals.{error_of}
+use Rattle.store_open.specs.declared.opening.Found.{Found}
+use Rattle.store_open.specs.declared.error.OpenError.{OpenError}
+use Rattle.store_open.specs.declared.error.OpenError.TheVariants.{NotAStore, Device, Pair, Journal, NoMemory}
+use Rattle.store_open.specs.Geometry.{geometry_view}
+use Rattle.store_open.specs.Heads.{choice_by_heads}
+use Rattle.store_open.specs.PathStores.{store_format}
+use Rattle.store_open.specs.Refusals.{faults_after}
+use Rattle.store_open.specs.Store.{StoreView, IsAtRest}
+
+-- what was found on a device, as what an image opens with
+abbrev pub opening_view : Found → Opening (List RowView) Command
+opening_view found = record {
+  geometry = geometry_view found.geometry;
+  chosen = found.half;
+  checkpoint = checkpoint_view found.checkpoint;
+  journal = reading_of found.journal;
+  tail = option_map reading_of found.tail;
+}
+
+-- the error of a journal's refusal
+abbrev pub journal_error_of : JournalRefusal → JournalError
+journal_error_of refusals.BadHeader = journal.BadHeader
+journal_error_of refusals.BadRecord = journal.BadRecord
+journal_error_of (refusals.Gap place) = journal.Gap place
+journal_error_of refusals.PastEnd = journal.PastEnd
+
+-- and of an image's
+abbrev pub open_error_of : OpenRefusal → OpenError
+open_error_of laws.NotAStore = NotAStore
+open_error_of (BadPair refusal) = Pair (error_of refusal)
+open_error_of (BadJournal refusal) = Journal (journal_error_of refusal)
+
+-- the reading is a refusal, of which this is the error
+pub record IsRefusedFor {Y : Type 0} (e : OpenError) (reading : Result Y OpenRefusal) : Type 0 where
+  pub refusal : OpenRefusal
+  pub is : reading ≡ Err refusal
+  pub told : e ≡ open_error_of refusal
+
+-- an error that tells of the image, of an image that is read so; one that tells of the device or of memory says nothing of it
+abbrev pub RefusesOpening : {Y : Type 0} → OpenError → Result Y OpenRefusal → Type 0
+RefusesOpening NotAStore reading = IsRefusedFor NotAStore reading
+RefusesOpening Device reading = Unit {0}
+RefusesOpening (Pair e) reading = IsRefusedFor (Pair e) reading
+RefusesOpening (Journal e) reading = IsRefusedFor (Journal e) reading
+RefusesOpening NoMemory reading = Unit {0}
+
+-- An image is read so, or is refused so, unless the device failed or memory ran out.
+abbrev pub OpensSo : {X Y : Type 0} → (X → Y) → Result X OpenError → Result Y OpenRefusal → Type 0
+OpensSo view (Ok x) reading = reading ≡ Ok (view x)
+OpensSo view (Err e) reading = RefusesOpening e reading
+
+-- what is found with a tail or without one, once the chosen half's journal is read
+abbrev pub with_tail_seen : Geometry → Half → Checkpoint (List RowView) → Reading Command → Option Scan → Opening (List RowView) Command
+with_tail_seen geometry half checkpoint journal tail = record {
+  geometry = geometry;
+  chosen = half;
+  checkpoint = checkpoint;
+  journal = journal;
+  tail = option_map reading_of tail;
+}
+
+-- A half is chosen by the heads, and the front of its checkpoint stands.
+pub record HasFront (geometry : Geometry) (image : List ℕ) : Type 0 where
+  pub half : Half
+  pub chosen : choice_by_heads geometry image ≡ Ok half
+  pub front : IsOk (front_in latest (512 * geometry.checkpoint) (area_of geometry half image))
+
+-- What is judged without memory is in order: it is a store's image, a half is chosen by the heads, and the front of its
+-- checkpoint stands.
+pub record WantsMemoryToOpen (image : List ℕ) : Type 0 where
+  pub geometry : Geometry
+  pub store : geometry_in image ≡ Some geometry
+  pub half : Half
+  pub chosen : choice_by_heads geometry image ≡ Ok half
+  pub front : IsOk (front_in latest (512 * geometry.checkpoint) (area_of geometry half image))
+
+-- whatever the one opens with, the other does
+abbrev pub OpensAlike : List ℕ → List ℕ → Type 0
+OpensAlike before behind =
+    (opening : Opening (List RowView) Command) → IsOpening store_format latest before opening → IsOpening store_format latest behind opening
+
+-- A store was opened: it is at rest, and tells what reads gave then.
+pub record IsOpened (reads : List ℕ) (view : StoreView) : Type 0 where
+  pub rest : IsAtRest view
+  pub same : IsOpening store_format latest reads rest.opening
+
+-- A device that isn't opened comes back with an error; one that tells of the image tells of what reads gave.
+pub record ComesBack (e : OpenError) (old new : Disk) : Type 0 where
+  pub refused : IsHonest old → RefusesOpening e (opening_of store_format latest (reads_of old))
+  pub memory : IsHonest old → e ≡ NoMemory → WantsMemoryToOpen (reads_of old)
+  pub faults : new.faults ≡ faults_after {T = Unit {0}} (Err e) old.faults
+
+-- the device afterwards, in the store or come back
+abbrev pub disk_after : {A : Type 0} → (A → Disk) → Result StoreView (A × OpenError) → Disk
+disk_after disk (Ok store) = store.disk
+disk_after disk (Err back) = disk back.0

@@ -1,0 +1,57 @@
+//! What a store comes to whose commands are folded.
+
+ghost use Rattle.std.specs.Prelude.{IfOk};
+ghost use Rattle.path_db.specs.Database.{IsDatabase};
+ghost use Rattle.store_open.specs.Folded.{TellsOnAny};
+ghost use Rattle.store_open.specs.Open.{opening_view};
+
+use crate::Geometry;
+use crate::folding::fold;
+use crate::opening::Found;
+use ckpt_pair::{Checkpoint, Head};
+use image_laws::Half;
+use path_db::PathDb;
+use std::alloc::AllocError;
+
+/// A store but for its device: the sizes, the half that is chosen and its head, whether its journal is sealed, the gate at which
+/// the last journal ends, the place reached, all rows, and the bytes of the rows that the chosen half stands for.
+#[derive(Drop)]
+pub(crate) struct Folded {
+    pub(crate) geometry: Geometry,
+    pub(crate) half: Half,
+    pub(crate) head: Head,
+    pub(crate) sealed: bool,
+    pub(crate) gate: u64,
+    pub(crate) place: u64,
+    pub(crate) db: PathDb,
+    pub(crate) sealed_len: u64,
+}
+
+/// Folds the commands of the journal, and then those of the tail, into the rows of the checkpoint.
+pub(crate) fn fold_found(found: Found) -> Result<Folded, AllocError>
+    requires { IsDatabase found.checkpoint.db }
+    ensures tells { IfOk result (λ folded. TellsOnAny folded (opening_view found)) }
+    ensures whole { IfOk result (λ folded. IsDatabase folded.db) }
+{
+    let Checkpoint { head, db } = found.checkpoint;
+    let mut db = db;
+    fold(&mut db, &found.journal.commands)?;
+    let sealed_len = db.encoded_len();
+    let (gate, place) = match &found.tail {
+        None => (found.journal.tail, found.journal.place),
+        Some(behind) => {
+            fold(&mut db, &behind.commands)?;
+            (behind.tail, behind.place)
+        }
+    };
+    Ok(Folded {
+        geometry: found.geometry,
+        half: found.half,
+        head,
+        sealed: found.journal.sealed,
+        gate,
+        place,
+        db,
+        sealed_len,
+    })
+}

@@ -1,0 +1,81 @@
+//! Opening a store.
+
+ghost use Rattle.std.specs.Prelude.{◌≡◌, [], false, IfOk, IfErr};
+ghost use Rattle.path_db.specs.Database.{IsDatabase};
+ghost use Rattle.sector_dev.specs.Disk.{IsHonest, reads_of};
+ghost use Rattle.sector_dev.specs.Image.{IsFromImage};
+ghost use Rattle.sector_dev.specs.Stretch.{Stretch};
+ghost use Rattle.store_open.specs.Folded.{store_on};
+ghost use Rattle.store_open.specs.Geometry.{geometry_view};
+ghost use Rattle.store_open.specs.NewStore.{HasRoomFor};
+ghost use Rattle.store_open.specs.Open.{OpensAlike, IsOpened, ComesBack, disk_after};
+
+use crate::closing::close_unused;
+use crate::error::OpenError;
+use crate::folded::{Folded, fold_found};
+use crate::opening::read_opening;
+use crate::store::Store;
+use sector_dev::Device;
+use std::alloc::Global;
+
+/// Opens a device that holds a store, after any stop: syncs, reads what the image opens with, folds it, closes what of the half
+/// that isn't used reads open, and syncs. No more of the device is read than counts, in pieces of at most 1 MiB. A device that
+/// isn't opened comes back.
+pub fn open<D: Device>(alloc: Global, device: D) -> Result<Store<D>, (D, OpenError)>
+    ensures opened { IfOk result (λ store. IsHonest (D.disk device) → IsOpened (reads_of (D.disk device)) store) }
+    ensures faults { IfOk result (λ store. store.disk.faults ≡ (D.disk device).faults) }
+    ensures whole { IfOk result (λ store. store.broken ≡ false) }
+    ensures refused { IfErr result (λ back. ComesBack back.1 (D.disk device) (D.disk back.0)) }
+
+    // At every moment what a stop leaves opens with all that some image of the start opens with.
+    ensures any_moment { Stretch (D.disk device) (disk_after D.disk result) (IsFromImage (D.disk device).history.now OpensAlike) }
+{
+    let mut device = device;
+    match settle(alloc, &mut device) {
+        Ok(folded) => Ok(Store {
+            alloc,
+            device,
+            geometry: folded.geometry,
+            chosen: folded.half,
+            head: folded.head,
+            sealed: folded.sealed,
+            gate: folded.gate,
+            place: folded.place,
+            db: folded.db,
+            sealed_len: folded.sealed_len,
+            broken: false,
+        }),
+        Err(e) => Err((device, e)),
+    }
+}
+
+/// Syncs, so that what a stop leaves is what reads give, and brings that to rest.
+fn settle<D: Device>(alloc: Global, device: &mut D) -> Result<Folded, OpenError>
+    ensures opened { IfOk result (λ folded. IsHonest (D.disk device.old) →
+        IsOpened (reads_of (D.disk device.old)) (store_on (D.disk device.new) folded)) }
+    ensures faults { IfOk result (λ folded. (D.disk device.new).faults ≡ (D.disk device.old).faults) }
+    ensures room { IfOk result (λ folded. HasRoomFor (geometry_view folded.geometry) (D.disk device.new)) }
+    ensures whole { IfOk result (λ folded. IsDatabase folded.db) }
+    ensures refused { IfErr result (λ e. ComesBack e (D.disk device.old) (D.disk device.new)) }
+    ensures any_moment { Stretch (D.disk device.old) (D.disk device.new) (IsFromImage (D.disk device.old).history.now OpensAlike) }
+{
+    device.sync()?;
+    bring_to_rest(alloc, device)
+}
+
+/// Reads what a device opens with on which nothing is dirty, folds it, and closes the half that isn't used.
+fn bring_to_rest<D: Device>(alloc: Global, device: &mut D) -> Result<Folded, OpenError>
+    requires { IsHonest (D.disk device.old) → (D.disk device.old).history.now.dirty ≡ [] }
+    ensures opened { IfOk result (λ folded. IsHonest (D.disk device.old) →
+        IsOpened (reads_of (D.disk device.old)) (store_on (D.disk device.new) folded)) }
+    ensures faults { IfOk result (λ folded. (D.disk device.new).faults ≡ (D.disk device.old).faults) }
+    ensures room { IfOk result (λ folded. HasRoomFor (geometry_view folded.geometry) (D.disk device.new)) }
+    ensures whole { IfOk result (λ folded. IsDatabase folded.db) }
+    ensures refused { IfErr result (λ e. ComesBack e (D.disk device.old) (D.disk device.new)) }
+    ensures any_moment { Stretch (D.disk device.old) (D.disk device.new) (OpensAlike (reads_of (D.disk device.old))) }
+{
+    let found = read_opening(alloc, device)?;
+    let folded = fold_found(found)?;
+    close_unused(device, folded.geometry, folded.half, folded.sealed)?;
+    Ok(folded)
+}
