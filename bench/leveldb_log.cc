@@ -1,8 +1,10 @@
 // What LevelDB's write-ahead log takes for as many groups of records: each group is one batch of 8 puts, none synced. Then the
-// store is opened again, which reads the log back. It prints the bytes of the values and the seconds of processor time of both.
+// store is opened again, which reads the log back. It prints the bytes of the values, and of both the seconds of processor time
+// and those of the clock.
 #include <leveldb/db.h>
 #include <leveldb/write_batch.h>
 
+#include <chrono>
 #include <cstdio>
 #include <cstdlib>
 #include <ctime>
@@ -12,6 +14,10 @@
 
 static double seconds() {
   return static_cast<double>(clock()) / CLOCKS_PER_SEC;
+}
+
+static double clock_seconds() {
+  return std::chrono::duration<double>(std::chrono::steady_clock::now().time_since_epoch()).count();
 }
 
 int main(int argc, char **argv) {
@@ -26,7 +32,7 @@ int main(int argc, char **argv) {
   options.compression = leveldb::kNoCompression;
   leveldb::DB *db = nullptr;
   if (!leveldb::DB::Open(options, folder, &db).ok()) return 1;
-  double start = seconds();
+  double start = seconds(), start_clock = clock_seconds();
   for (int group = 0; group < groups; group++) {
     leveldb::WriteBatch batch;
     for (int command = 0; command < 8; command++) {
@@ -37,12 +43,12 @@ int main(int argc, char **argv) {
     }
     if (!db->Write(leveldb::WriteOptions(), &batch).ok()) return 1;
   }
-  const double written = seconds() - start;
+  const double written = seconds() - start, written_clock = clock_seconds() - start_clock;
   delete db;
-  start = seconds();
+  start = seconds(), start_clock = clock_seconds();
   if (!leveldb::DB::Open(options, folder, &db).ok()) return 1;
-  const double read = seconds() - start;
+  const double read = seconds() - start, read_clock = clock_seconds() - start_clock;
   delete db;
-  printf("%zu %.6f %.6f\n", value.size() * 8 * groups, written, read);
+  printf("%zu %.6f %.6f %.6f %.6f\n", value.size() * 8 * groups, written, written_clock, read, read_clock);
   return 0;
 }
