@@ -11,4 +11,6 @@ mod memory;
 #[cfg(test)]
 mod refusals;
 #[cfg(test)]
+mod refused;
+#[cfg(test)]
 mod worked;

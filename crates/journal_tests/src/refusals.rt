@@ -7,7 +7,7 @@ use std::alloc::Global;
 use std::test::Fail;
 
 /// A journal of seven sectors: a purge and a registration of the worked segment at place 0, and behind them a seal.
-fn journal(alloc: Global) -> Result<Vec<u8>, Fail> {
+pub(crate) fn journal(alloc: Global) -> Result<Vec<u8>, Fail> {
     let mut bytes = bytes_of(alloc, &[Open])?;
     bytes.extend_from_slice(&[1, 2, 0, 0, 0, 0, 0, 112, 0, 0, 0, 0, 0, 0, 0, 0])?;
     bytes.extend_from_slice(&[0, 0, 0, 9, 2, 0, 0, 0, 0, 0, 0, 0, 5])?;
@@ -21,7 +21,7 @@ fn journal(alloc: Global) -> Result<Vec<u8>, Fail> {
     Ok(bytes)
 }
 
-const WHOLE: Seen = Ok((2, 2, true, 2));
+pub(crate) const WHOLE: Seen = Ok((2, 2, true, 2));
 
 // Which byte is changed, what to, and what the journal then reads as.
 const CHANGES: [(usize, u8, Seen); 46] = [

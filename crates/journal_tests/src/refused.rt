@@ -1,0 +1,120 @@
+//! Want of memory while groups are written or journals read. Each test is run with each of its allocations refused in turn: a
+//! refused call succeeds when it is tried again, and no answer is another for the refusal.
+
+use crate::refusals::{WHOLE, journal};
+use crate::worked::{SEGMENT, Seen, drawn, purges, read_as, register, segment};
+use gate_journal::{JournalError, Progress, Scanner, can_be_group, encode_group};
+use path_db::Command;
+use seg_core::SegType;
+use std::alloc::Global;
+use std::process::Abort;
+use std::test::Fail;
+
+/// Sees that commands are written as this payload at place 0, and tried again where memory is refused.
+fn assert_written(
+    rt: &impl Abort,
+    alloc: Global,
+    commands: &[Command],
+    payload: &[u8],
+) -> Result<(), Fail> {
+    assert!(rt; can_be_group(commands, 0));
+    let written = match encode_group(alloc, commands, 0) {
+        Ok(written) => written,
+        Err(_) => {
+            assert!(rt; can_be_group(commands, 0));
+            encode_group(alloc, commands, 0)?
+        }
+    };
+    assert_eq!(rt; written.as_slice(), payload);
+    Ok(())
+}
+
+#[test]
+fn refused_memory_of_written_groups(rt: HostRuntime) -> Result<(), Fail> {
+    let purges = purges(rt.alloc(), 32)?;
+    assert_written(&rt, rt.alloc(), &purges, &drawn(rt.alloc(), 32, 0)?)?;
+    // The payload of a purge and a registration stands behind the gate of a journal.
+    let registration = register(rt.alloc(), SegType::Down, segment(rt.alloc())?)?;
+    let whole = journal(rt.alloc())?;
+    let payload = whole.get(512..1024).unwrap_or(&SEGMENT);
+    assert_written(&rt, rt.alloc(), &[Command::Purge(5), registration], payload)
+}
+
+/// The worked journal as it is, and with a byte changed: of the closed gate, of the header, of the registration's type and of
+/// the seal. Only from the records on memory may be wanted.
+const CHANGES: [(usize, u8, bool, Seen); 6] = [
+    (1, 1, true, WHOLE),
+    (0, 0, false, Ok((0, 0, false, 0))),
+    (513, 9, false, Err(JournalError::BadHeader)),
+    (547, 4, true, Err(JournalError::BadRecord)),
+    (1551, 3, true, Err(JournalError::Gap(2))),
+    (1552, 1, true, Err(JournalError::BadRecord)),
+];
+
+/// The worked journal with another byte at a place.
+fn changed(alloc: Global, at: usize, byte: u8) -> Result<Vec<u8>, Fail> {
+    let mut bytes = journal(alloc)?;
+    if let Some(old) = bytes.get_mut(at) {
+        *old = byte;
+    }
+    Ok(bytes)
+}
+
+#[test]
+fn refused_memory_of_scans(rt: HostRuntime) -> Result<(), Fail> {
+    for (at, byte, takes_memory, expected) in CHANGES {
+        let bytes = changed(rt.alloc(), at, byte)?;
+        let answer = match read_as(&rt, rt.alloc(), &bytes, 0, 1) {
+            Err(JournalError::NoMemory) => {
+                assert!(rt; takes_memory);
+                read_as(&rt, rt.alloc(), &bytes, 0, 1)
+            }
+            answer => answer,
+        };
+        assert_eq!(rt; answer, expected, "{byte} at {at}");
+    }
+    Ok(())
+}
+
+/// What a journal reads as that is taken piece by piece. Only a group's payload may want memory, which is the third piece.
+fn taken(rt: &impl Abort, alloc: Global, bytes: &[u8]) -> Seen {
+    let mut scanner = Scanner::new(alloc, 7, 0, 1);
+    for number in 0..7u8 {
+        let wanted = scanner.wanted();
+        assert!(rt; wanted.first < 7 && wanted.count < 7);
+        let first = 512 * wanted.first as usize;
+        let count = 512 * wanted.count as usize;
+        let piece = bytes.get(first..first + count).unwrap_or(&[]);
+        assert!(rt; piece.len() == count);
+        let progress = match scanner.take(alloc, piece) {
+            Ok(progress) => progress,
+            Err(refusal) => {
+                assert!(rt; refusal != JournalError::NoMemory || number == 2);
+                return Err(refusal);
+            }
+        };
+        match progress {
+            Progress::Done(scan) => {
+                return Ok((scan.commands.len(), scan.tail, scan.sealed, scan.place));
+            }
+            Progress::More(next) => scanner = next,
+        }
+    }
+    Err(JournalError::PastEnd)
+}
+
+#[test]
+fn refused_memory_of_pieces(rt: HostRuntime) -> Result<(), Fail> {
+    for (at, byte, takes_memory, expected) in CHANGES {
+        let bytes = changed(rt.alloc(), at, byte)?;
+        let answer = match taken(&rt, rt.alloc(), &bytes) {
+            Err(JournalError::NoMemory) => {
+                assert!(rt; takes_memory);
+                taken(&rt, rt.alloc(), &bytes)
+            }
+            answer => answer,
+        };
+        assert_eq!(rt; answer, expected, "{byte} at {at}");
+    }
+    Ok(())
+}
