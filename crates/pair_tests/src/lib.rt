@@ -9,4 +9,6 @@ mod halves;
 #[cfg(test)]
 mod pieces;
 #[cfg(test)]
+mod refused;
+#[cfg(test)]
 mod worked;
