@@ -13,4 +13,6 @@ mod reads;
 #[cfg(test)]
 mod records;
 #[cfg(test)]
+mod refused;
+#[cfg(test)]
 mod worked;

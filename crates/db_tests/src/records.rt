@@ -19,7 +19,7 @@ fn put_row(bytes: &mut Vec<u8>, kind: u8, egress: u8) -> Result<(), Fail> {
 }
 
 /// Rows of the worked segment under the types of these numbers.
-fn rows_of(alloc: Global, kinds: &[u8]) -> Result<Vec<u8>, Fail> {
+pub(crate) fn rows_of(alloc: Global, kinds: &[u8]) -> Result<Vec<u8>, Fail> {
     let mut bytes = Vec::new(alloc);
     for kind in kinds {
         put_row(&mut bytes, *kind, 1)?;
@@ -28,7 +28,7 @@ fn rows_of(alloc: Global, kinds: &[u8]) -> Result<Vec<u8>, Fail> {
 }
 
 /// The bytes with another one at its place.
-fn changed(alloc: Global, bytes: &[u8], at: usize, byte: u8) -> Result<Vec<u8>, Fail> {
+pub(crate) fn changed(alloc: Global, bytes: &[u8], at: usize, byte: u8) -> Result<Vec<u8>, Fail> {
     let mut changed = Vec::from_slice(alloc, bytes)?;
     if let Some(old) = changed.get_mut(at) {
         *old = byte;
@@ -141,7 +141,7 @@ fn changed_rows(rt: HostRuntime) -> Result<(), Fail> {
 // ---- commands
 
 /// A record that registers the worked segment so many times, as down segments.
-fn registration(alloc: Global, count: u8) -> Result<Vec<u8>, Fail> {
+pub(crate) fn registration(alloc: Global, count: u8) -> Result<Vec<u8>, Fail> {
     let mut bytes = Vec::from_slice(alloc, &[1, count])?;
     for _ in 0..count {
         put_row(&mut bytes, 2, 1)?;
