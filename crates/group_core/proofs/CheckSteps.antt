@@ -1,0 +1,253 @@
+-- The checkpointer's steps on a state.
+use Rattle.std.proofs.Common.{◌≡◌, ℕ, ◌+◌, ◌*◌, ◌≤◌, ◌++◌, Bool, true, false, List, [], ◌∷◌, length, Result, refl, sym, ◌∙◌, ap, subst, arith}
+use Rattle.std.specs.List.{AllByRecursion}
+use Rattle.byte_lists.specs.Content.{part}
+use Rattle.path_db.specs.Database.{RowView}
+use Rattle.path_db.specs.declared.command.Command.{Command}
+use Rattle.sector_dev.specs.Disk.{Disk, IsHonest}
+use Rattle.sector_dev.specs.Calls.{Keeps, WriteCall, SyncCall}
+use Rattle.sector_dev.proofs.Stretches.{honest_before}
+use Rattle.image_laws.specs.Limits.{AreAsLarge, limits_of}
+use Rattle.image_laws.specs.CommandFormat.{IsAllowed}
+use Rattle.image_laws.specs.Layout.{Geometry, other, area_at, gate_at}
+use Rattle.image_laws.specs.Checkpoint.{checkpoint_encoding}
+use Rattle.image_laws.proofs.Exports.{later_allow_more}
+use Rattle.gate_journal.specs.Commands.{command_format}
+use Rattle.ckpt_pair.specs.Heads.{latest}
+use Rattle.ckpt_pair.specs.Rows.{rows_format}
+use Rattle.group_laws.specs.declared.phases.Check.{Check}
+use Rattle.group_laws.specs.declared.phases.Check.TheVariants.{Ready, Planned, Laid, Switched, SwitchFailed, Live, Closing, CloseFailed}
+use Rattle.group_laws.specs.Tail.{Load, Commands, Seal, open_gate, closed_gate}
+use Rattle.group_laws.specs.Standing.{load_of, IsHeldBy}
+use Rattle.group_laws.specs.HeldChecks as held
+use Rattle.group_laws.proofs.Exports.{held_while_chunk_is_written, held_while_chunks_are_synced, held_while_half_is_opened, held_while_half_is_synced, held_while_half_is_closed, held_while_close_is_synced, held_under_the_new_version}
+use Rattle.group_core.specs.declared.bookkeeping.Turn.{Turn}
+use Rattle.group_core.specs.StateView.{StateView, setting_of, standing_of}
+use Rattle.group_core.specs.Invariant.{Hidden, FitsLoad, MayBePending, HasPlan, HasNextEpoch, CountsAt, Shape, Sound, IsState}
+use Rattle.group_core.proofs.FlushSteps.{success, failure}
+
+-- the state after a call of the checkpointer
+abbrev pub checked : StateView → Disk → Check → ℕ → Turn → Bool → StateView
+checked old disk check written plan stopped = record old { disk = disk; check = check; written = written; plan = plan; stopped = stopped }
+
+-- what limits allow, larger ones do
+module _ (small large : ℕ) (grows : small ≤ large) where
+  larger : AreAsLarge (limits_of small) (limits_of large)
+  larger = later_allow_more small large grows
+
+  pub pending_larger : (commands : List Command) → AllByRecursion (MayBePending small) commands → AllByRecursion (MayBePending large) commands
+  pending_larger [] all = tt
+  pending_larger (command ∷ more) all = (
+    record { within = all.0.within; allowed = command_format.grows (limits_of small) (limits_of large) (command_format.encoding command) command larger all.0.allowed },
+    pending_larger more all.1,
+  )
+
+  allowed_larger : (commands : List Command) → AllByRecursion (IsAllowed command_format (limits_of small)) commands → AllByRecursion (IsAllowed command_format (limits_of large)) commands
+  allowed_larger [] all = tt
+  allowed_larger (command ∷ more) all =
+      (command_format.grows (limits_of small) (limits_of large) (command_format.encoding command) command larger all.0, allowed_larger more all.1)
+
+  pub load_larger : (geometry : Geometry) (place gate : ℕ) (load : Load Command) → FitsLoad (limits_of small) geometry place gate load → FitsLoad (limits_of large) geometry place gate load
+  load_larger geometry place gate (Commands commands) fits = (
+    record {
+      some = fits.0.some;
+      most = omega (arith, fits.0.most, larger.most);
+      short = fits.0.short;
+      last = fits.0.last;
+      allowed = allowed_larger commands fits.0.allowed;
+    },
+    fits.1,
+  )
+  load_larger geometry place gate Seal fits = tt
+
+module _ (old : StateView) (hidden : Hidden) (has : IsState old hidden) where
+  module _ (disk : Disk) (check : Check) (written : ℕ) (plan : Turn) (stopped : Bool) (going : stopped ≡ false → old.stopped ≡ false) where
+    checked_shape : disk.sectors ≡ old.disk.sectors → HasPlan old.geometry (record { bytes = old.checkpoint; written = written }) → HasNextEpoch check old.epoch
+        → Shape (checked old disk check written plan stopped) hidden
+    checked_shape same has_plan epoch = record {
+      limits = has.shape.limits;
+      sectors = omega (arith, has.shape.sectors, same);
+      room = has.shape.room;
+      place = has.shape.place;
+      last = has.shape.last;
+      few = has.shape.few;
+      commands = has.shape.commands;
+      tip = has.shape.tip;
+      fits = λ is. has.shape.fits (going is);
+      known = has.shape.known;
+      taken = has.shape.taken;
+      rests = has.shape.rests;
+      load = has.shape.load;
+      staged = has.shape.staged;
+      plan = has_plan;
+      epoch = epoch;
+    }
+
+    checked_state : Keeps old.disk disk → HasPlan old.geometry (record { bytes = old.checkpoint; written = written }) → HasNextEpoch check old.epoch
+        → ((sound : Sound old) → CountsAt check old.epoch old.checkpoint sound.behind.old sound.behind.new)
+        → ((sound : Sound old) → IsHonest old.disk → IsHeldBy (setting_of old) (held.checked (standing_of old) check written) sound.behind disk.history.now)
+        → IsState (checked old disk check written plan stopped) hidden
+    checked_state keeps has_plan epoch counts holds = record {
+      shape = checked_shape keeps.sectors has_plan epoch;
+      sound = λ honest.
+          let before = honest_before old.disk disk keeps honest in
+          let sound = has.sound before in
+          record { behind = sound.behind; held = holds sound before; counts = counts sound; fits = λ is. sound.fits (going is) };
+    }
+
+  -- the value is spent, and no call is made
+  pub plan_spent : (plan : Turn) → IsState (record old { plan = plan }) hidden
+  plan_spent plan = record {
+    shape = checked_shape old.disk old.check old.written plan old.stopped (λ is. is) refl has.shape.plan has.shape.epoch;
+    sound = λ honest. let sound = has.sound honest in record { behind = sound.behind; held = sound.held; counts = sound.counts; fits = sound.fits };
+  }
+
+  -- what is known at a phase
+  epoch_at : (check : Check) → old.check ≡ check → HasNextEpoch check old.epoch
+  epoch_at check turn = subst (λ (p : Check). HasNextEpoch p old.epoch) turn has.shape.epoch
+
+  counts_at : (check : Check) → old.check ≡ check → (sound : Sound old) → CountsAt check old.epoch old.checkpoint sound.behind.old sound.behind.new
+  counts_at check turn sound = subst (λ (p : Check). CountsAt p old.epoch old.checkpoint sound.behind.old sound.behind.new) turn sound.counts
+
+  -- a call that fails leaves its phase
+  module _ (disk : Disk) (plan : Turn) (check : Check) (turn : old.check ≡ check) where
+    stays : Keeps old.disk disk
+        → ((sound : Sound old) → IsHonest old.disk → IsHeldBy (setting_of old) (held.checked (standing_of old) check old.written) sound.behind disk.history.now)
+        → IsState (checked old disk old.check old.written plan true) hidden
+    stays keeps holds =
+        checked_state disk old.check old.written plan true (λ (is : true ≡ false). cc) keeps has.shape.plan has.shape.epoch (λ sound. sound.counts)
+        (λ sound honest. subst (λ (p : Check). IsHeldBy (setting_of old) (held.checked (standing_of old) p old.written) sound.behind disk.history.now) (sym turn) (holds sound honest))
+
+  module _ (disk : Disk) where
+    -- the chunks are synced
+    module _ (turn : old.check ≡ Planned) (done : 512 * old.written ≡ length old.checkpoint) where
+      all_written : (sound : Sound old) → 512 * old.written ≡ length (checkpoint_encoding rows_format sound.behind.new)
+      all_written sound = done ∙ ap length (counts_at Planned turn sound).1
+
+      pub chunks_synced : {T : Type 0} (E : Type 0) (v : T) → SyncCall (success E v) old.disk disk → IsState (checked old disk Laid old.written old.plan old.stopped) hidden
+      chunks_synced {T} E v call =
+          checked_state disk Laid old.written old.plan old.stopped (λ is. is) call.keeps has.shape.plan (epoch_at Planned turn) (λ sound. (counts_at Planned turn sound).0)
+          (λ sound honest. held_while_chunks_are_synced T E (List RowView) Command (setting_of old) (standing_of old) sound.behind (success E v) old.disk disk turn sound.held (all_written sound) call honest)
+
+      pub chunks_not_synced : {E : Type 0} (T : Type 0) (e : E) (plan : Turn) → SyncCall (failure T e) old.disk disk → IsState (checked old disk old.check old.written plan true) hidden
+      chunks_not_synced {E} T e plan call =
+          stays disk plan Planned turn call.keeps
+          (λ sound honest. held_while_chunks_are_synced T E (List RowView) Command (setting_of old) (standing_of old) sound.behind (failure T e) old.disk disk turn sound.held (all_written sound) call honest)
+
+    -- the new half's gate
+    module _ (sector : ℕ) (given : List ℕ) (turn : old.check ≡ Laid) (at : sector ≡ gate_at old.geometry old.half) (bytes : given ≡ open_gate) where
+      gate_so : {T E : Type 0} (result : Result T E) → WriteCall sector given result old.disk disk → WriteCall (gate_at old.geometry old.half) open_gate result old.disk disk
+      gate_so result call = subst (λ (content : List ℕ). WriteCall (gate_at old.geometry old.half) content result old.disk disk) bytes
+          (subst (λ (n : ℕ). WriteCall n given result old.disk disk) at call)
+
+      pub half_opened : {T : Type 0} (E : Type 0) (v : T) → WriteCall sector given (success E v) old.disk disk → IsState (checked old disk Switched old.written old.plan old.stopped) hidden
+      half_opened {T} E v call =
+          checked_state disk Switched old.written old.plan old.stopped (λ is. is) call.keeps has.shape.plan (epoch_at Laid turn) (counts_at Laid turn)
+          (λ sound honest. held_while_half_is_opened T E (List RowView) Command (setting_of old) (standing_of old) sound.behind (success E v) old.disk disk turn (gate_so (success E v) call) honest sound.held)
+
+      pub half_doubtful : {E : Type 0} (T : Type 0) (e : E) (plan : Turn) → WriteCall sector given (failure T e) old.disk disk → IsState (checked old disk SwitchFailed old.written plan true) hidden
+      half_doubtful {E} T e plan call =
+          checked_state disk SwitchFailed old.written plan true (λ (is : true ≡ false). cc) call.keeps has.shape.plan tt (counts_at Laid turn)
+          (λ sound honest. held_while_half_is_opened T E (List RowView) Command (setting_of old) (standing_of old) sound.behind (failure T e) old.disk disk turn (gate_so (failure T e) call) honest sound.held)
+
+    -- it is synced
+    pub half_not_synced : {E : Type 0} (T : Type 0) (e : E) (plan : Turn) → old.check ≡ Switched → SyncCall (failure T e) old.disk disk → IsState (checked old disk old.check old.written plan true) hidden
+    half_not_synced {E} T e plan turn call =
+        stays disk plan Switched turn call.keeps
+        (λ sound honest. held_while_half_is_synced T E (List RowView) Command (setting_of old) (standing_of old) sound.behind (failure T e) old.disk disk turn call honest sound.held)
+
+    pub half_synced : {T : Type 0} (E : Type 0) (v : T) (version : ℕ) → version ≡ latest → old.check ≡ Switched → SyncCall (success E v) old.disk disk
+        → IsState (record old { disk = disk; check = Live; epoch = old.epoch + 1; version = version }) hidden
+    half_synced {T} E v version last turn call =
+        subst (λ (n : ℕ). IsState (record old { disk = disk; check = Live; epoch = old.epoch + 1; version = n }) hidden) (sym last)
+        (record {
+          shape = record {
+            limits = has.shape.limits;
+            sectors = omega (arith, has.shape.sectors, call.keeps.sectors);
+            room = has.shape.room;
+            place = has.shape.place;
+            last = has.shape.last;
+            few = has.shape.few;
+            commands = pending_larger old.version latest has.shape.known old.pending has.shape.commands;
+            tip = has.shape.tip;
+            fits = has.shape.fits;
+            known = omega arith;
+            taken = has.shape.taken;
+            rests = has.shape.rests;
+            load = load_larger old.version latest has.shape.known old.geometry old.value.place old.gate (load_of (standing_of old)) has.shape.load;
+            staged = has.shape.staged;
+            plan = has.shape.plan;
+            epoch = tt;
+          };
+          sound = λ honest.
+              let before = honest_before old.disk disk call.keeps honest in
+              let sound = has.sound before in
+              let next = counts_at Switched turn sound in
+              let live = held_while_half_is_synced T E (List RowView) Command (setting_of old) (standing_of old) sound.behind (success E v) old.disk disk turn call before sound.held in
+              record {
+                behind = sound.behind;
+                held = subst (λ (n : ℕ). IsHeldBy (setting_of old) (record (held.checked (standing_of old) Live old.written) { version = n }) sound.behind disk.history.now) next.version
+                    (held_under_the_new_version (List RowView) Command (setting_of old) (held.checked (standing_of old) Live old.written) sound.behind disk.history.now refl live);
+                counts = next.new;
+                fits = sound.fits;
+              };
+        })
+
+    -- the old half's gates
+    module _ (sector : ℕ) (given : List ℕ) (turn : old.check ≡ Live) (at : sector ≡ gate_at old.geometry (other old.half)) (bytes : given ≡ closed_gate ++ closed_gate) where
+      gates_so : {T E : Type 0} (result : Result T E) → WriteCall sector given result old.disk disk → WriteCall (gate_at old.geometry (other old.half)) (closed_gate ++ closed_gate) result old.disk disk
+      gates_so result call = subst (λ (content : List ℕ). WriteCall (gate_at old.geometry (other old.half)) content result old.disk disk) bytes
+          (subst (λ (n : ℕ). WriteCall n given result old.disk disk) at call)
+
+      pub half_closed : {T : Type 0} (E : Type 0) (v : T) → WriteCall sector given (success E v) old.disk disk → IsState (checked old disk Closing old.written old.plan old.stopped) hidden
+      half_closed {T} E v call =
+          checked_state disk Closing old.written old.plan old.stopped (λ is. is) call.keeps has.shape.plan tt (counts_at Live turn)
+          (λ sound honest. held_while_half_is_closed T E (List RowView) Command (setting_of old) (standing_of old) sound.behind (success E v) old.disk disk turn (gates_so (success E v) call) honest sound.held)
+
+      pub half_not_closed : {E : Type 0} (T : Type 0) (e : E) (plan : Turn) → WriteCall sector given (failure T e) old.disk disk → IsState (checked old disk CloseFailed old.written plan true) hidden
+      half_not_closed {E} T e plan call =
+          checked_state disk CloseFailed old.written plan true (λ (is : true ≡ false). cc) call.keeps has.shape.plan tt (counts_at Live turn)
+          (λ sound honest. held_while_half_is_closed T E (List RowView) Command (setting_of old) (standing_of old) sound.behind (failure T e) old.disk disk turn (gates_so (failure T e) call) honest sound.held)
+
+    -- and their sync
+    pub close_synced : {T : Type 0} (E : Type 0) (v : T) (plan : Turn) → old.check ≡ Closing → SyncCall (success E v) old.disk disk → IsState (checked old disk Ready old.written plan old.stopped) hidden
+    close_synced {T} E v plan turn call =
+        checked_state disk Ready old.written plan old.stopped (λ is. is) call.keeps has.shape.plan tt (counts_at Closing turn)
+        (λ sound honest. held_while_close_is_synced T E (List RowView) Command (setting_of old) (standing_of old) sound.behind (success E v) old.disk disk turn call honest sound.held)
+
+    pub close_not_synced : {E : Type 0} (T : Type 0) (e : E) (plan : Turn) → old.check ≡ Closing → SyncCall (failure T e) old.disk disk → IsState (checked old disk old.check old.written plan true) hidden
+    close_not_synced {E} T e plan turn call =
+        stays disk plan Closing turn call.keeps
+        (λ sound honest. held_while_close_is_synced T E (List RowView) Command (setting_of old) (standing_of old) sound.behind (failure T e) old.disk disk turn call honest sound.held)
+
+    -- the next sectors
+    module _ (sector : ℕ) (given : List ℕ) (turn : old.check ≡ Planned) (at : sector ≡ area_at old.geometry old.half + old.written)
+        (more : ℕ) (bytes : given ≡ part (512 * old.written) (512 * more) old.checkpoint) (inside : 512 * (old.written + more) ≤ length old.checkpoint) where
+      chunk_so : {T E : Type 0} (result : Result T E) (sound : Sound old) → WriteCall sector given result old.disk disk
+          → WriteCall (area_at old.geometry old.half + old.written) (part (512 * old.written) (512 * more) (checkpoint_encoding rows_format sound.behind.new)) result old.disk disk
+      chunk_so result sound call =
+          subst (λ (content : List ℕ). WriteCall (area_at old.geometry old.half + old.written) content result old.disk disk)
+          (bytes ∙ ap (part (512 * old.written) (512 * more)) (counts_at Planned turn sound).1)
+          (subst (λ (n : ℕ). WriteCall n given result old.disk disk) at call)
+
+      inside_so : (sound : Sound old) → 512 * (old.written + more) ≤ length (checkpoint_encoding rows_format sound.behind.new)
+      inside_so sound = omega (arith, inside, ap length (counts_at Planned turn sound).1)
+
+      plan_after : HasPlan old.geometry (record { bytes = old.checkpoint; written = old.written + more })
+      plan_after = record {
+        sectors = has.shape.plan.sectors;
+        whole = has.shape.plan.whole;
+        inside = has.shape.plan.inside;
+        written = omega (arith, inside, has.shape.plan.whole);
+      }
+
+      pub chunk_written : {T : Type 0} (E : Type 0) (v : T) → WriteCall sector given (success E v) old.disk disk → IsState (checked old disk old.check (old.written + more) old.plan old.stopped) hidden
+      chunk_written {T} E v call =
+          checked_state disk old.check (old.written + more) old.plan old.stopped (λ is. is) call.keeps plan_after has.shape.epoch (λ sound. sound.counts)
+          (λ sound honest. subst (λ (p : Check). IsHeldBy (setting_of old) (held.checked (standing_of old) p (old.written + more)) sound.behind disk.history.now) (sym turn)
+          (held_while_chunk_is_written T E (List RowView) Command (setting_of old) (standing_of old) sound.behind more (success E v) old.disk disk turn sound.held (inside_so sound) (chunk_so (success E v) sound call) honest))
+
+      pub chunk_not_written : {E : Type 0} (T : Type 0) (e : E) (plan : Turn) → WriteCall sector given (failure T e) old.disk disk → IsState (checked old disk old.check old.written plan true) hidden
+      chunk_not_written {E} T e plan call =
+          stays disk plan Planned turn call.keeps
+          (λ sound honest. held_while_chunk_is_written T E (List RowView) Command (setting_of old) (standing_of old) sound.behind more (failure T e) old.disk disk turn sound.held (inside_so sound) (chunk_so (failure T e) sound call) honest)

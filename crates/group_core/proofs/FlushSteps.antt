@@ -1,0 +1,137 @@
+-- The flusher's steps on a state.
+use Rattle.std.proofs.Common.{◌≡◌, ◌≢◌, ℕ, ◌+◌, Bool, true, false, List, Result, Ok, Err, refl, sym, ◌∙◌, subst, arith}
+use Rattle.path_db.specs.Database.{RowView}
+use Rattle.path_db.specs.declared.command.Command.{Command}
+use Rattle.sector_dev.specs.Disk.{Disk, IsHonest}
+use Rattle.sector_dev.specs.Calls.{Keeps, WriteCall, SyncCall}
+use Rattle.sector_dev.proofs.Stretches.{honest_before}
+use Rattle.image_laws.specs.Layout.{journal_at}
+use Rattle.gate_journal.specs.Commands.{command_format}
+use Rattle.group_laws.specs.declared.phases.Flush.{Flush}
+use Rattle.group_laws.specs.declared.phases.Flush.TheVariants.{Resting, Staged, Written, Stable, Opened, Doubtful, Durable}
+use Rattle.group_laws.specs.Tail.{load_bytes, open_gate}
+use Rattle.group_laws.specs.Standing.{load_of, IsHeldBy}
+use Rattle.group_laws.specs.HeldSteps as held
+use Rattle.group_laws.proofs.Exports.{held_while_load_is_written, held_while_gate_is_opened, held_while_load_is_synced, held_while_gate_is_synced}
+use Rattle.group_core.specs.declared.bookkeeping.Turn.{Turn}
+use Rattle.group_core.specs.StateView.{StateView, setting_of, standing_of}
+use Rattle.group_core.specs.Invariant.{Hidden, Shape, Sound, IsState}
+
+-- a result, of which only the kind counts
+abbrev pub failure : {E : Type 0} (T : Type 0) → E → Result T E
+failure T e = Err e
+
+abbrev pub success : {T : Type 0} (E : Type 0) → T → Result T E
+success E v = Ok v
+
+-- the state after a call of the flusher
+abbrev pub flushed : StateView → Disk → Flush → Turn → Bool → StateView
+flushed old disk flush group stopped = record old { disk = disk; flush = flush; group = group; stopped = stopped }
+
+module _ (old : StateView) (hidden : Hidden) (has : IsState old hidden) where
+  -- a phase behind which no bytes are to be written, and something is in flight; and whether the state may go on
+  pub record IsLater (flush : Flush) (stopped : Bool) : Type 0 where
+    pub staged : flush ≢ Resting → old.flush ≢ Resting
+    pub rests : flush ≡ Resting → old.flush ≡ Resting
+    pub going : stopped ≡ false → old.stopped ≡ false
+
+  -- something is in flight
+  in_flight : (phase : Flush) → old.flush ≡ phase → phase ≢ Resting → old.flush ≢ Resting
+  in_flight phase turn other = subst (λ (p : Flush). p ≢ Resting) (sym turn) other
+
+  module _ (disk : Disk) (flush : Flush) (group : Turn) (stopped : Bool) (later : IsLater flush stopped) where
+    pub flushed_shape : disk.sectors ≡ old.disk.sectors → Shape (flushed old disk flush group stopped) hidden
+    flushed_shape same = record {
+      limits = has.shape.limits;
+      sectors = omega (arith, has.shape.sectors, same);
+      room = has.shape.room;
+      place = has.shape.place;
+      last = has.shape.last;
+      few = has.shape.few;
+      commands = has.shape.commands;
+      tip = has.shape.tip;
+      fits = λ going. has.shape.fits (later.going going);
+      known = has.shape.known;
+      taken = has.shape.taken;
+      rests = λ rests. has.shape.rests (later.rests rests);
+      load = has.shape.load;
+      staged = λ staged. has.shape.staged (later.staged staged);
+      plan = has.shape.plan;
+      epoch = has.shape.epoch;
+    }
+
+    -- a call that leaves what the state then stands for
+    flushed_state : Keeps old.disk disk
+        → ((sound : Sound old) → IsHonest old.disk → IsHeldBy (setting_of old) (held.flushed (standing_of old) flush) sound.behind disk.history.now)
+        → IsState (flushed old disk flush group stopped) hidden
+    flushed_state keeps holds = record {
+      shape = flushed_shape keeps.sectors;
+      sound = λ honest.
+          let before = honest_before old.disk disk keeps honest in
+          let sound = has.sound before in
+          record { behind = sound.behind; held = holds sound before; counts = sound.counts; fits = λ going. sound.fits (later.going going) };
+    }
+
+  -- the value is spent, and no call is made
+  pub value_spent : (group : Turn) → IsState (record old { group = group }) hidden
+  value_spent group = record {
+    shape = flushed_shape old.disk old.flush group old.stopped (record { staged = λ is. is; rests = λ is. is; going = λ is. is }) refl;
+    sound = λ honest. let sound = has.sound honest in record { behind = sound.behind; held = sound.held; counts = sound.counts; fits = sound.fits };
+  }
+
+  module _ (disk : Disk) (sector : ℕ) (given : List ℕ) where
+    -- the bytes that are written, and where
+    module _ (turn : old.flush ≡ Staged) (at : sector ≡ journal_at old.geometry old.half + (old.gate + 1)) (bytes : given ≡ hidden.staged) where
+      call_so : {T E : Type 0} (result : Result T E) → WriteCall sector given result old.disk disk
+          → WriteCall (journal_at old.geometry old.half + (old.gate + 1)) (load_bytes command_format old.value.place (load_of (standing_of old))) result old.disk disk
+      call_so result call = subst (λ (content : List ℕ). WriteCall (journal_at old.geometry old.half + (old.gate + 1)) content result old.disk disk) (bytes ∙ has.shape.staged (in_flight Staged turn (λ (is : Staged ≡ Resting). cc)))
+          (subst (λ (n : ℕ). WriteCall n given result old.disk disk) at call)
+
+      pub load_written : {T : Type 0} (E : Type 0) (v : T) → WriteCall sector given (success E v) old.disk disk → IsState (flushed old disk Written old.group old.stopped) hidden
+      load_written {T} E v call =
+          flushed_state disk Written old.group old.stopped (record { staged = λ _. in_flight Staged turn (λ (is : Staged ≡ Resting). cc); rests = λ (is : Written ≡ Resting). cc; going = λ is. is }) call.keeps
+          (λ sound honest. held_while_load_is_written T E (List RowView) Command (setting_of old) (standing_of old) sound.behind (success E v) old.disk disk turn (call_so (success E v) call) honest sound.held)
+
+      pub load_not_written : {E : Type 0} (T : Type 0) (e : E) (group : Turn) → WriteCall sector given (failure T e) old.disk disk → IsState (flushed old disk old.flush group true) hidden
+      load_not_written {E} T e group call =
+          flushed_state disk old.flush group true (record { staged = λ is. is; rests = λ is. is; going = λ (is : true ≡ false). cc }) call.keeps
+          (λ sound honest. subst (λ (p : Flush). IsHeldBy (setting_of old) (held.flushed (standing_of old) p) sound.behind disk.history.now) (sym turn)
+          (held_while_load_is_written T E (List RowView) Command (setting_of old) (standing_of old) sound.behind (failure T e) old.disk disk turn (call_so (failure T e) call) honest sound.held))
+
+    module _ (turn : old.flush ≡ Stable) (at : sector ≡ journal_at old.geometry old.half + old.gate) (bytes : given ≡ open_gate) where
+      gate_so : {T E : Type 0} (result : Result T E) → WriteCall sector given result old.disk disk → WriteCall (journal_at old.geometry old.half + old.gate) open_gate result old.disk disk
+      gate_so result call = subst (λ (content : List ℕ). WriteCall (journal_at old.geometry old.half + old.gate) content result old.disk disk) bytes
+          (subst (λ (n : ℕ). WriteCall n given result old.disk disk) at call)
+
+      pub gate_opened : {T : Type 0} (E : Type 0) (v : T) → WriteCall sector given (success E v) old.disk disk → IsState (flushed old disk Opened old.group old.stopped) hidden
+      gate_opened {T} E v call =
+          flushed_state disk Opened old.group old.stopped (record { staged = λ _. in_flight Stable turn (λ (is : Stable ≡ Resting). cc); rests = λ (is : Opened ≡ Resting). cc; going = λ is. is }) call.keeps
+          (λ sound honest. held_while_gate_is_opened T E (List RowView) Command (setting_of old) (standing_of old) sound.behind (success E v) old.disk disk turn (gate_so (success E v) call) honest sound.held)
+
+      pub gate_doubtful : {E : Type 0} (T : Type 0) (e : E) (group : Turn) → WriteCall sector given (failure T e) old.disk disk → IsState (flushed old disk Doubtful group true) hidden
+      gate_doubtful {E} T e group call =
+          flushed_state disk Doubtful group true (record { staged = λ _. in_flight Stable turn (λ (is : Stable ≡ Resting). cc); rests = λ (is : Doubtful ≡ Resting). cc; going = λ (is : true ≡ false). cc }) call.keeps
+          (λ sound honest. held_while_gate_is_opened T E (List RowView) Command (setting_of old) (standing_of old) sound.behind (failure T e) old.disk disk turn (gate_so (failure T e) call) honest sound.held)
+
+  module _ (disk : Disk) where
+    pub load_synced : {T : Type 0} (E : Type 0) (v : T) → old.flush ≡ Written → SyncCall (success E v) old.disk disk → IsState (flushed old disk Stable old.group old.stopped) hidden
+    load_synced {T} E v turn call =
+        flushed_state disk Stable old.group old.stopped (record { staged = λ _. in_flight Written turn (λ (is : Written ≡ Resting). cc); rests = λ (is : Stable ≡ Resting). cc; going = λ is. is }) call.keeps
+        (λ sound honest. held_while_load_is_synced T E (List RowView) Command (setting_of old) (standing_of old) sound.behind (success E v) old.disk disk turn call honest sound.held)
+
+    pub gate_synced : {T : Type 0} (E : Type 0) (v : T) → old.flush ≡ Opened → SyncCall (success E v) old.disk disk → IsState (flushed old disk Durable old.group old.stopped) hidden
+    gate_synced {T} E v turn call =
+        flushed_state disk Durable old.group old.stopped (record { staged = λ _. in_flight Opened turn (λ (is : Opened ≡ Resting). cc); rests = λ (is : Durable ≡ Resting). cc; going = λ is. is }) call.keeps
+        (λ sound honest. held_while_gate_is_synced T E (List RowView) Command (setting_of old) (standing_of old) sound.behind (success E v) old.disk disk turn call honest sound.held)
+
+    pub load_not_synced : {E : Type 0} (T : Type 0) (e : E) (group : Turn) → old.flush ≡ Written → SyncCall (failure T e) old.disk disk → IsState (flushed old disk old.flush group true) hidden
+    load_not_synced {E} T e group turn call =
+        flushed_state disk old.flush group true (record { staged = λ is. is; rests = λ is. is; going = λ (is : true ≡ false). cc }) call.keeps
+        (λ sound honest. subst (λ (p : Flush). IsHeldBy (setting_of old) (held.flushed (standing_of old) p) sound.behind disk.history.now) (sym turn)
+        (held_while_load_is_synced T E (List RowView) Command (setting_of old) (standing_of old) sound.behind (failure T e) old.disk disk turn call honest sound.held))
+
+    pub gate_not_synced : {E : Type 0} (T : Type 0) (e : E) (group : Turn) → old.flush ≡ Opened → SyncCall (failure T e) old.disk disk → IsState (flushed old disk old.flush group true) hidden
+    gate_not_synced {E} T e group turn call =
+        flushed_state disk old.flush group true (record { staged = λ is. is; rests = λ is. is; going = λ (is : true ≡ false). cc }) call.keeps
+        (λ sound honest. subst (λ (p : Flush). IsHeldBy (setting_of old) (held.flushed (standing_of old) p) sound.behind disk.history.now) (sym turn)
+        (held_while_gate_is_synced T E (List RowView) Command (setting_of old) (standing_of old) sound.behind (failure T e) old.disk disk turn call honest sound.held))

@@ -1,0 +1,6 @@
+pub mod States
+pub mod FlushSteps
+pub mod CheckSteps
+pub mod Regions
+pub mod Publish
+pub mod Redeem

@@ -1,0 +1,59 @@
+-- What a call leaves, from state to state.
+use Rattle.std.proofs.Common.{◌≡◌, inl, ℕ, List, Result, sym, subst}
+use Rattle.path_db.specs.Database.{RowView}
+use Rattle.path_db.specs.declared.command.Command.{Command}
+use Rattle.sector_dev.specs.Disk.{Disk, IsHonest}
+use Rattle.sector_dev.specs.Image.{EveryImage}
+use Rattle.sector_dev.specs.Calls.{WriteCall, SyncCall}
+use Rattle.sector_dev.specs.Stretch.{Stretch}
+use Rattle.sector_dev.proofs.Stretches.{stretch_here}
+use Rattle.image_laws.specs.Layout.{Geometry}
+use Rattle.ckpt_pair.specs.Heads.{latest}
+use Rattle.store_open.specs.PathStores.{store_format}
+use Rattle.group_laws.specs.Standing.{IsHeld}
+use Rattle.group_laws.specs.HeldSteps.{OpensAroundCall}
+use Rattle.group_laws.proofs.Exports.{opens_by_both_parts, writes_leave_fronts, sync_moments}
+use Rattle.group_core.specs.StateView.{StateView, setting_of, standing_of, MayOpen, StepLeaves}
+use Rattle.group_core.specs.Invariant.{Hidden, IsState}
+
+-- the device of a sound state holds what it stands for, and every image is as that says
+pub held : (view : StateView) (hidden : Hidden) → IsState view hidden → IsHonest view.disk → IsHeld (setting_of view) (standing_of view) view.disk.history.now
+held view hidden has honest = let sound = has.sound honest in record { behind = sound.behind; by = sound.held }
+
+pub may_open : (view : StateView) (hidden : Hidden) → IsState view hidden → IsHonest view.disk → EveryImage view.disk.history.now (MayOpen view)
+may_open view hidden has honest = opens_by_both_parts (List RowView) Command (setting_of view) (standing_of view) view.disk.history.now (held view hidden has honest)
+
+-- What a call leaves, where the state before it is seen as `view`, and the sizes stay.
+module _ {old view : StateView} {old_hidden : Hidden} (is : old ≡ view) (has : IsState old old_hidden) where
+  around : (new : StateView) → IsHonest old.disk → EveryImage old.disk.history.now (OpensAroundCall (setting_of old) (standing_of old) (standing_of new))
+  around new honest image left = inl (may_open old old_hidden has honest image left)
+
+  pub leaves_none : StepLeaves view view
+  leaves_none = subst (λ (v : StateView). StepLeaves v v) is (record {
+    moments = stretch_here (OpensAroundCall (setting_of old) (standing_of old) (standing_of old)) old.disk (around old);
+    exit = may_open old old_hidden has;
+  })
+
+  module _ {new : StateView} {new_hidden : Hidden} (now : IsState new new_hidden) where
+    -- no call of the device
+    pub leaves_pure : new.disk ≡ old.disk → StepLeaves view new
+    leaves_pure same = subst (λ (v : StateView). StepLeaves v new) is (record {
+      moments = subst (λ (d : Disk). Stretch old.disk d (OpensAroundCall (setting_of old) (standing_of old) (standing_of new))) (sym same)
+          (stretch_here (OpensAroundCall (setting_of old) (standing_of old) (standing_of new)) old.disk (around new));
+      exit = may_open new new_hidden now;
+    })
+
+    -- a write, and a sync
+    pub leaves_write : {T E : Type 0} {sector : ℕ} {bytes : List ℕ} {result : Result T E} → new.geometry ≡ old.geometry → WriteCall sector bytes result old.disk new.disk → StepLeaves view new
+    leaves_write {T} {E} {sector} {bytes} {result} same call = subst (λ (v : StateView). StepLeaves v new) is (record {
+      moments =
+          writes_leave_fronts T E (List RowView) Command (setting_of old) (standing_of old) (standing_of new) sector bytes result old.disk new.disk call (held old old_hidden has)
+          (λ honest. subst (λ (g : Geometry). IsHeld (record { format = store_format; latest = latest; geometry = g }) (standing_of new) new.disk.history.now) same (held new new_hidden now honest));
+      exit = may_open new new_hidden now;
+    })
+
+    pub leaves_sync : {T E : Type 0} {result : Result T E} → SyncCall result old.disk new.disk → StepLeaves view new
+    leaves_sync {T} {E} {result} call = subst (λ (v : StateView). StepLeaves v new) is (record {
+      moments = sync_moments (OpensAroundCall (setting_of old) (standing_of old) (standing_of new)) result old.disk new.disk call (around new);
+      exit = may_open new new_hidden now;
+    })

@@ -1,0 +1,25 @@
+use Rattle.std.proofs.Common.{false, refl}
+use Rattle.group_core.proofs.States.{leaves_none, leaves_pure, leaves_write}
+use Rattle.group_core.proofs.CheckSteps.{plan_spent, half_opened, half_doubtful}
+use Rattle.group_core.proofs.state.State.open_half.Goals as goal
+
+pub invariant_of-self : goal.invariant_of-self
+invariant_of-self g c = plan_spent _ _ c.self.invariant (record { number = c.self.inside.plan.number; out = false })
+
+pub invariant_of-self-in-Ok : goal.invariant_of-self-in-Ok
+invariant_of-self-in-Ok g c = half_opened _ _ c.self.invariant _ c.gate_at-at.result _ c.in-Laid.is c.gate_at-at.ensures c.open_gate.ensures _ _ c.in-Ok.ensures.write
+
+pub invariant_of-self-in-Err : goal.invariant_of-self-in-Err
+invariant_of-self-in-Err g c = half_doubtful _ _ c.self.invariant _ c.gate_at-at.result _ c.in-Laid.is c.gate_at-at.ensures c.open_gate.ensures _ _ (record { number = c.self.inside.plan.number; out = false }) c.in-Err.ensures.write
+
+pub returns-in_default-clause-any_moment : goal.returns-in_default-clause-any_moment
+returns-in_default-clause-any_moment g c = leaves_none c.self.view_is c.self.invariant
+
+pub returns-then-self-clause-any_moment : goal.returns-then-self-clause-any_moment
+returns-then-self-clause-any_moment g c = leaves_pure c.self.view_is c.self.invariant (invariant_of-self g c) refl
+
+pub returns-in-Ok-clause-any_moment : goal.returns-in-Ok-clause-any_moment
+returns-in-Ok-clause-any_moment g c = leaves_write c.self.view_is c.self.invariant (invariant_of-self-in-Ok g c) refl c.write.ensures.write
+
+pub returns-in-Err-clause-any_moment : goal.returns-in-Err-clause-any_moment
+returns-in-Err-clause-any_moment g c = leaves_write c.self.view_is c.self.invariant (invariant_of-self-in-Err g c) refl c.write.ensures.write

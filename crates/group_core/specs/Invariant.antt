@@ -1,0 +1,127 @@
+-- What is true of every state.
+use Rattle.std.specs.Prelude.{◌≡◌, ◌≢◌, ℕ, ◌+◌, ◌*◌, ◌^◌, ◌<◌, ◌≤◌, false, List, length, take}
+use Rattle.std.specs.List.{AllByRecursion}
+use Rattle.path_db.specs.Database.{RowView}
+use Rattle.path_db.specs.declared.command.Command.{Command}
+use Rattle.path_db.specs.CommandRecord.{IsWithinLimits}
+use Rattle.sector_dev.specs.Disk.{IsHonest}
+use Rattle.image_laws.specs.Limits.{Limits, limits_of}
+use Rattle.image_laws.specs.CommandFormat.{IsAllowed}
+use Rattle.image_laws.specs.Group.{last_place, group_sectors, HasRoom, CanBeGroup}
+use Rattle.image_laws.specs.Layout.{Geometry, IsGeometry, image_sectors}
+use Rattle.image_laws.specs.StoreFormat.{db_after}
+use Rattle.image_laws.specs.Checkpoint.{Checkpoint, checkpoint_encoding, checkpoint_size}
+use Rattle.gate_journal.specs.Commands.{command_format}
+use Rattle.ckpt_pair.specs.Heads.{latest}
+use Rattle.ckpt_pair.specs.Rows.{rows_format}
+use Rattle.store_open.specs.PathStores.{store_format}
+use Rattle.group_laws.specs.declared.phases.Flush.TheVariants.{Resting}
+use Rattle.group_laws.specs.declared.phases.Check.{Check}
+use Rattle.group_laws.specs.declared.phases.Check.TheVariants.{Ready, Sealed, Planned, Laid, Switched, SwitchFailed, Live, Closing, CloseFailed}
+use Rattle.group_laws.specs.Tail.{Load, Commands, Seal, load_bytes}
+use Rattle.group_laws.specs.Standing.{load_of, Behind, IsHeldBy}
+use Rattle.group_core.specs.StateView.{StateView, setting_of, standing_of}
+
+-- what no clause sees: the bytes that are to be written of what is in flight, the rows after all commands that are accepted, and
+-- the place of the first of these
+pub record Hidden : Type 0 where
+  pub staged : List ℕ
+  pub tip : List RowView
+  pub place : ℕ
+
+-- what is in flight may stand behind the tail's gate
+abbrev pub FitsLoad : Limits → Geometry → ℕ → ℕ → Load Command → Type 0
+FitsLoad limits geometry place gate (Commands commands) =
+    CanBeGroup command_format limits place commands × HasRoom gate (group_sectors command_format commands) geometry.journal
+FitsLoad limits geometry place gate Seal = Unit {0}
+
+-- a command that was accepted is within its limits, and allowed by the state's version
+pub record MayBePending (version : ℕ) (command : Command) : Type 0 where
+  pub within : IsWithinLimits command
+  pub allowed : IsAllowed command_format (limits_of version) command
+
+-- rows have room in a checkpoint area
+abbrev pub FitArea : StateView → List RowView → Type 0
+FitArea view rows = 32 + length (rows_format.encoding rows) ≤ 512 * view.geometry.checkpoint
+
+-- whatever front of the accepted commands is committed next, the rows have room
+abbrev pub EveryFrontFits : StateView → Type 0
+EveryFrontFits view = (n : ℕ) → n ≤ length view.pending → FitArea view (db_after store_format view.value.db (take n view.pending))
+
+-- the bytes of the new checkpoint, and how many sectors of it are written
+pub record Checkpointing : Type 0 where
+  pub bytes : List ℕ
+  pub written : ℕ
+
+abbrev pub checkpointing_of : StateView → Checkpointing
+checkpointing_of view = record { bytes = view.checkpoint; written = view.written }
+
+-- they are whole sectors, no more than the area has, and no more are written than there are
+pub record HasPlan (geometry : Geometry) (plan : Checkpointing) : Type 0 where
+  pub sectors : ℕ
+  pub whole : length plan.bytes ≡ 512 * sectors
+  pub inside : sectors ≤ geometry.checkpoint
+  pub written : plan.written ≤ sectors
+
+-- until the new half counts there is an epoch for it
+abbrev pub HasNextEpoch : Check → ℕ → Type 0
+HasNextEpoch Ready epoch = Unit {0}
+HasNextEpoch Sealed epoch = Unit {0}
+HasNextEpoch Planned epoch = epoch + 1 < 2 ^ 64
+HasNextEpoch Laid epoch = epoch + 1 < 2 ^ 64
+HasNextEpoch Switched epoch = epoch + 1 < 2 ^ 64
+HasNextEpoch SwitchFailed epoch = Unit {0}
+HasNextEpoch Live epoch = Unit {0}
+HasNextEpoch Closing epoch = Unit {0}
+HasNextEpoch CloseFailed epoch = Unit {0}
+
+-- What holds whatever the device does: all is inside it, what is in flight may be and its bytes are made, and while the state goes
+-- on every front fits the area.
+pub record Shape (view : StateView) (hidden : Hidden) : Type 0 where
+  pub limits : IsGeometry view.geometry
+  pub sectors : image_sectors view.geometry ≤ view.disk.sectors
+  pub room : view.gate + 2 ≤ view.geometry.journal
+  pub place : hidden.place ≡ view.value.place
+  pub last : view.value.place + length view.pending ≤ last_place
+  pub few : length view.pending ≤ 256
+  pub commands : AllByRecursion (MayBePending view.version) view.pending
+  pub tip : hidden.tip ≡ db_after store_format view.value.db view.pending
+  pub fits : view.stopped ≡ false → EveryFrontFits view
+  pub known : view.version ≤ latest
+  pub taken : view.taken ≤ length view.pending
+  pub rests : view.flush ≡ Resting → view.taken ≡ 0
+  pub load : FitsLoad (limits_of view.version) view.geometry view.value.place view.gate (load_of (standing_of view))
+  pub staged : view.flush ≢ Resting → hidden.staged ≡ load_bytes command_format view.value.place (load_of (standing_of view))
+  pub plan : HasPlan view.geometry (checkpointing_of view)
+  pub epoch : HasNextEpoch view.check view.epoch
+
+-- the checkpoint to be there is of the next epoch, in the version that is written
+pub record IsNext (epoch : ℕ) (before next : Checkpoint (List RowView)) : Type 0 where
+  pub old : before.head.epoch ≡ epoch
+  pub new : next.head.epoch ≡ epoch + 1
+  pub version : next.head.version ≡ latest
+
+-- which half counts, by its epoch, and what the new checkpoint's bytes are, phase by phase: the other half's checkpoint, and that
+-- of the half with the tail, there or to be there
+abbrev pub CountsAt : Check → ℕ → List ℕ → Checkpoint (List RowView) → Checkpoint (List RowView) → Type 0
+CountsAt Ready epoch bytes before next = next.head.epoch ≡ epoch
+CountsAt Sealed epoch bytes before next = before.head.epoch ≡ epoch
+CountsAt Planned epoch bytes before next = IsNext epoch before next × (bytes ≡ checkpoint_encoding rows_format next)
+CountsAt Laid epoch bytes before next = IsNext epoch before next
+CountsAt Switched epoch bytes before next = IsNext epoch before next
+CountsAt SwitchFailed epoch bytes before next = IsNext epoch before next
+CountsAt Live epoch bytes before next = next.head.epoch ≡ epoch
+CountsAt Closing epoch bytes before next = next.head.epoch ≡ epoch
+CountsAt CloseFailed epoch bytes before next = next.head.epoch ≡ epoch
+
+-- What holds over an honest device: it holds what the state stands for, and while the state goes on the fold up to a seal fits the
+-- area.
+pub record Sound (view : StateView) : Type 0 where
+  pub behind : Behind (List RowView) Command
+  pub held : IsHeldBy (setting_of view) (standing_of view) behind view.disk.history.now
+  pub counts : CountsAt view.check view.epoch view.checkpoint behind.old behind.new
+  pub fits : view.stopped ≡ false → checkpoint_size rows_format behind.new ≤ 512 * view.geometry.checkpoint
+
+pub record IsState (view : StateView) (hidden : Hidden) : Type 0 where
+  pub shape : Shape view hidden
+  pub sound : IsHonest view.disk → Sound view

@@ -1,0 +1,60 @@
+//! The end of a state.
+
+ghost use Rattle.sector_dev.specs.Disk.{IsHonest};
+ghost use Rattle.sector_dev.specs.Image.{EveryImage};
+ghost use Rattle.std.specs.Prelude.{◌≡◌, OnOk};
+ghost use Rattle.group_core.specs.StateView.{MayOpen};
+ghost use Rattle.group_core.specs.Ending.{HandsOut};
+
+use crate::showcase::Showcase;
+use crate::state::State;
+use sector_dev::Device;
+
+impl<D: Device, S: Showcase> State<D, S> {
+    /// Hands the device out, unless an outcome is still kept or a commit value is still out: then the state comes back. It makes
+    /// no call of the device, and takes no memory.
+    pub fn into_device(self) -> Result<D, State<D, S>>
+    where
+        S: Drop,
+        ensures answer { HandsOut D.disk result self }
+        ensures left { OnOk result (IsHonest self.disk → EveryImage self.disk.history.now (MayOpen self)) }
+    {
+        if !self.kept.is_empty() || self.group.out || self.plan.out {
+            return Err(self);
+        }
+        let (device, _show) = self.into_parts();
+        Ok(device)
+    }
+
+    /// Ends the state, whatever is kept or out: the device, and what shows the rows. It makes no call of the device.
+    pub fn into_parts(self) -> (D, S)
+        ensures device { D.disk result.0 ≡ self.disk }
+        ensures show { S.value result.1 ≡ self.value }
+    {
+        let State {
+            alloc: _alloc,
+            device,
+            geometry: _geometry,
+            home: _home,
+            show,
+            place: _place,
+            tip: _tip,
+            pending: _pending,
+            kept: _kept,
+            taken: _taken,
+            staged: _staged,
+            flush: _flush,
+            group: _group,
+            check: _check,
+            plan: _plan,
+            half: _half,
+            gate: _gate,
+            epoch: _epoch,
+            version: _version,
+            checkpoint: _checkpoint,
+            written: _written,
+            stopped: _stopped,
+        } = self;
+        (device, show)
+    }
+}

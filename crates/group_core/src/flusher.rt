@@ -1,0 +1,132 @@
+//! The flusher's steps on the device.
+
+ghost use Rattle.group_laws.specs.declared.phases.Flush.TheVariants.{Staged as staged, Written as written, Stable as stable, Opened as opened, Doubtful as doubtful, Durable as durable};
+ghost use Rattle.group_core.specs.StateView.{StepLeaves};
+ghost use Rattle.group_core.specs.Steps.{FlushStep};
+
+use crate::error::StepError;
+use crate::gates::open_gate;
+use crate::phases::{AtDurable, AtOpened, AtStable, AtStaged, AtWritten};
+use crate::places::journal_at;
+use crate::showcase::Showcase;
+use crate::state::State;
+use crate::values::{Durable, Opened, Stable, Staged, Written};
+use group_laws::Flush;
+use sector_dev::Device;
+
+impl<D: Device, S: Showcase> State<D, S> {
+    /// Writes what is staged behind the tail's gate, and behind a group the closed gate that follows, in one write.
+    pub fn write_group(&mut self, value: Staged) -> Result<Written, StepError<AtStaged>>
+        ensures step { FlushStep staged written staged value result self.old self.new }
+        ensures any_moment { StepLeaves self.old self.new }
+    {
+        match self.flush {
+            Flush::Staged if value.is_of(self.home, self.group.number) => {}
+            _ => return Err(StepError::Stranger(value)),
+        }
+        if self.stopped {
+            self.group.out = false;
+            value.spend();
+            return Err(StepError::Stopped);
+        }
+        let at = journal_at(self.geometry, self.half) + (self.gate + 1);
+        match self.device.write(at, &self.staged) {
+            Ok(()) => {
+                self.flush = Flush::Written;
+                Ok(value.at(AtWritten))
+            }
+            Err(_) => {
+                self.group.out = false;
+                self.stopped = true;
+                value.spend();
+                Err(StepError::Fault)
+            }
+        }
+    }
+
+    /// Syncs what was written.
+    pub fn sync_group(&mut self, value: Written) -> Result<Stable, StepError<AtWritten>>
+        ensures step { FlushStep written stable written value result self.old self.new }
+        ensures any_moment { StepLeaves self.old self.new }
+    {
+        match self.flush {
+            Flush::Written if value.is_of(self.home, self.group.number) => {}
+            _ => return Err(StepError::Stranger(value)),
+        }
+        if self.stopped {
+            self.group.out = false;
+            value.spend();
+            return Err(StepError::Stopped);
+        }
+        match self.device.sync() {
+            Ok(()) => {
+                self.flush = Flush::Stable;
+                Ok(value.at(AtStable))
+            }
+            Err(_) => {
+                self.group.out = false;
+                self.stopped = true;
+                value.spend();
+                Err(StepError::Fault)
+            }
+        }
+    }
+
+    /// Writes the tail's gate open.
+    pub fn open_gate(&mut self, value: Stable) -> Result<Opened, StepError<AtStable>>
+        ensures step { FlushStep stable opened doubtful value result self.old self.new }
+        ensures any_moment { StepLeaves self.old self.new }
+    {
+        match self.flush {
+            Flush::Stable if value.is_of(self.home, self.group.number) => {}
+            _ => return Err(StepError::Stranger(value)),
+        }
+        if self.stopped {
+            self.group.out = false;
+            value.spend();
+            return Err(StepError::Stopped);
+        }
+        let at = journal_at(self.geometry, self.half) + self.gate;
+        match self.device.write(at, &open_gate()) {
+            Ok(()) => {
+                self.flush = Flush::Opened;
+                Ok(value.at(AtOpened))
+            }
+            Err(_) => {
+                self.flush = Flush::Doubtful;
+                self.group.out = false;
+                self.stopped = true;
+                value.spend();
+                Err(StepError::Fault)
+            }
+        }
+    }
+
+    /// Syncs the gate: from then on every stop keeps what was in flight.
+    pub fn sync_gate(&mut self, value: Opened) -> Result<Durable, StepError<AtOpened>>
+        ensures step { FlushStep opened durable opened value result self.old self.new }
+        ensures any_moment { StepLeaves self.old self.new }
+    {
+        match self.flush {
+            Flush::Opened if value.is_of(self.home, self.group.number) => {}
+            _ => return Err(StepError::Stranger(value)),
+        }
+        if self.stopped {
+            self.group.out = false;
+            value.spend();
+            return Err(StepError::Stopped);
+        }
+        match self.device.sync() {
+            Ok(()) => {
+                self.flush = Flush::Durable;
+                Ok(value.at(AtDurable))
+            }
+            Err(_) => {
+                self.group.out = false;
+                self.stopped = true;
+                value.spend();
+                Err(StepError::Fault)
+            }
+        }
+    }
+}

@@ -1,0 +1,36 @@
+//! The state of a store at work: commands that are accepted, a flusher that commits them in groups, and a checkpointer that
+//! folds a sealed journal into the other half. One call makes at most one write or one sync of the device.
+//!
+//! To the layer above: each step is exact, and says what a stop within it leaves: what is committed, with a front of the
+//! accepted commands as long as the phase of the flusher allows.
+#![tactic(auto)]
+
+mod bookkeeping;
+mod checkpointer;
+mod ending;
+mod error;
+mod flusher;
+mod gates;
+mod phases;
+mod places;
+mod plain_show;
+mod publishing;
+mod redeeming;
+mod showcase;
+mod state;
+mod ticket;
+mod values;
+
+pub use bookkeeping::Turn;
+pub use error::{PublishError, StepError};
+pub use phases::{
+    AtClosing, AtDurable, AtLaid, AtLive, AtOpened, AtPlan, AtStable, AtStaged, AtSwitched,
+    AtWritten,
+};
+pub use plain_show::PlainShow;
+pub use showcase::Showcase;
+pub use state::State;
+pub use ticket::{Receipt, Redeemed, Ticket};
+pub use values::{
+    Closing, Commit, Durable, Laid, Live, Opened, Plan, Stable, Staged, Switched, Written,
+};

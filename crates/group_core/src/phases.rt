@@ -1,0 +1,44 @@
+//! The phases of commit values: each is the type of its value.
+
+/// A group or a seal is staged.
+#[derive(Clone, Copy)]
+pub struct AtStaged;
+
+/// It was written behind the tail's gate.
+#[derive(Clone, Copy)]
+pub struct AtWritten;
+
+/// It was synced.
+#[derive(Clone, Copy)]
+pub struct AtStable;
+
+/// The tail's gate was written open.
+#[derive(Clone, Copy)]
+pub struct AtOpened;
+
+/// That was synced.
+#[derive(Clone, Copy)]
+pub struct AtDurable;
+
+/// A checkpoint is being written.
+#[derive(Clone, Copy)]
+pub struct AtPlan {
+    /// Whether all of it is.
+    pub done: bool,
+}
+
+/// A checkpoint is synced.
+#[derive(Clone, Copy)]
+pub struct AtLaid;
+
+/// The new half's gate was written open.
+#[derive(Clone, Copy)]
+pub struct AtSwitched;
+
+/// That was synced.
+#[derive(Clone, Copy)]
+pub struct AtLive;
+
+/// The old half's gates were written closed.
+#[derive(Clone, Copy)]
+pub struct AtClosing;

@@ -1,0 +1,81 @@
+//! A showcase that shows its rows to whoever holds it.
+
+ghost use Rattle.std.specs.Prelude.{◌≡◌, OnOk};
+ghost use Rattle.image_laws.specs.StoreFormat.{db_after};
+ghost use Rattle.store_open.specs.PathStores.{store_format};
+
+use crate::showcase::Showcase;
+use path_db::{Command, PathDb};
+use std::alloc::AllocError;
+use std::marker::Model;
+
+/// The committed rows, and the place that is reached.
+#[derive(Drop)]
+pub struct PlainShow {
+    db: PathDb,
+    place: u64,
+}
+
+impl Model for PlainShow {
+    ghost use Rattle.std.specs.Prelude.{List};
+    ghost use Rattle.path_db.specs.Database.{RowView};
+    ghost use Rattle.image_laws.specs.Opening.{StoreValue};
+
+    ghost Value = { StoreValue (List RowView) };
+
+    ghost view = { λ s. record { db = s.db; place = s.place } };
+}
+
+impl PlainShow {
+    /// Shows these rows, at this place.
+    pub fn new(db: PathDb, place: u64) -> PlainShow
+        ensures db { result.db ≡ db }
+        ensures place { result.place ≡ place }
+    {
+        PlainShow { db, place }
+    }
+
+    /// The rows.
+    pub fn db(&self) -> &PathDb
+        ensures { result.now ≡ self.now.db }
+    {
+        &self.db
+    }
+
+    /// The place: how many commands made them.
+    pub fn place(&self) -> u64
+        ensures { result ≡ self.now.place }
+    {
+        self.place
+    }
+}
+
+impl Showcase for PlainShow {
+    ghost use Rattle.std.specs.Prelude.{◌≡◌, ◌+◌, ◌≤◌, length, OnOk, OnErr};
+
+    type Note = ();
+
+    ghost value = { λ s. s };
+
+    ghost tells = { λ value note. Unit {0} };
+
+    fn show(&mut self, group: &[Command]) -> Result<(), AllocError> {
+        let mut db = self.db.try_clone()?;
+        apply_all(&mut db, group)?;
+        self.db = db;
+        self.place += group.len() as u64;
+        Ok(())
+    }
+
+    fn tell(&mut self) {}
+}
+
+/// Applies commands one after the other. Where memory runs out some of them may be applied.
+fn apply_all(db: &mut PathDb, commands: &[Command]) -> Result<(), AllocError>
+    ensures { OnOk result (db.new ≡ db_after store_format db.old commands.now) }
+{
+    for command in commands {
+        db.apply(command)?;
+    }
+    Ok(())
+}

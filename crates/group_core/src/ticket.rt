@@ -1,0 +1,51 @@
+//! Tickets and receipts.
+
+ghost use Rattle.std.specs.Prelude.{◌≡◌};
+
+use path_db::Outcome;
+
+/// What `submit` gives for a command: the home of its state, and its place. It can't be copied or dropped: it is redeemed.
+pub struct Ticket {
+    pub(crate) home: u64,
+    pub(crate) place: u64,
+}
+
+impl Ticket {
+    /// The place of its command.
+    pub fn place(&self) -> u64
+        ensures { result ≡ self.now.place }
+    {
+        self.place
+    }
+
+    /// It is no more.
+    pub(crate) fn spend(self) {
+        let Ticket {
+            home: _home,
+            place: _place,
+        } = self;
+    }
+}
+
+/// What a ticket is redeemed for once its command is committed.
+#[derive(Drop)]
+pub struct Receipt<N> {
+    /// The place of the command.
+    pub place: u64,
+    /// What it did.
+    pub outcome: Outcome,
+    /// What the showcase told then; there is one.
+    pub note: Option<N>,
+}
+
+/// What a ticket was redeemed for.
+pub enum Redeemed<N> {
+    /// Its command is committed.
+    Committed(Receipt<N>),
+    /// It isn't yet: here is the ticket.
+    Waiting(Ticket),
+    /// The state has stopped before it was: whether a stop of the device keeps the command of this place isn't known.
+    Unknown(u64),
+    /// It is another state's ticket, or nothing is kept for it: here it is.
+    Stranger(Ticket),
+}
