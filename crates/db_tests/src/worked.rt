@@ -47,6 +47,15 @@ pub(crate) fn leaving_by(alloc: Global, egress: u8) -> Result<Segment, Fail> {
     Ok(read_segment(alloc, &message)?)
 }
 
+/// The worked segment with another timestamp, below 128, and left by this interface, below 128.
+pub(crate) fn dated_by(alloc: Global, timestamp: u8, egress: u8) -> Result<Segment, Fail> {
+    let mut message = Vec::from_slice(alloc, &[0x0a, 0x04, 0x08, timestamp, 0x10, 7])?;
+    message.extend_from_slice(&SEGMENT[10..39])?;
+    message.push(egress)?;
+    message.extend_from_slice(&SEGMENT[40..])?;
+    Ok(read_segment(alloc, &message)?)
+}
+
 /// The command that registers this segment.
 pub(crate) fn register(alloc: Global, kind: SegType, segment: Segment) -> Result<Command, Fail> {
     let mut rows = Vec::new(alloc);
