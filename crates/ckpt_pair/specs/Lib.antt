@@ -3,3 +3,4 @@ pub mod Heads
 pub mod Rows
 pub mod Checkpoint
 pub mod Reading
+pub mod ErrorNumber

@@ -1,5 +1,7 @@
 //! Why a pair of halves is refused.
 
+ghost use Rattle.std.specs.Prelude.{◌≡◌};
+
 use thiserror::Error;
 
 /// Why the halves of a store are refused. They are numbered from 0 in this order.
@@ -23,4 +25,22 @@ pub enum PairError {
     /// The version of an open half is greater than those that are known.
     #[error("version {0} of the format is not known")]
     NewerFormat(u32),
+}
+
+impl PairError {
+    ghost use Rattle.ckpt_pair.specs.ErrorNumber.{number_of};
+
+    /// Its number.
+    pub fn number(self) -> u8
+        ensures { result ≡ number_of self }
+    {
+        match self {
+            PairError::NoMemory => 0,
+            PairError::NoHalf => 1,
+            PairError::SameEpoch => 2,
+            PairError::BadCheckpoint => 3,
+            PairError::SealedNewer => 4,
+            PairError::NewerFormat(_) => 5,
+        }
+    }
 }

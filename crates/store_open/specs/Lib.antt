@@ -12,3 +12,4 @@ pub mod Allowing
 pub mod TakingOver
 pub mod Open
 pub mod Folded
+pub mod ErrorNumbers

@@ -30,6 +30,23 @@ pub enum OpenError {
     NoMemory,
 }
 
+impl OpenError {
+    ghost use Rattle.store_open.specs.ErrorNumbers.{number_of};
+
+    /// Its number.
+    pub fn number(self) -> u8
+        ensures { result ≡ number_of self }
+    {
+        match self {
+            OpenError::NotAStore => 1,
+            OpenError::Device => 2,
+            OpenError::Pair(_) => 3,
+            OpenError::Journal(_) => 4,
+            OpenError::NoMemory => 5,
+        }
+    }
+}
+
 impl From<DevError> for OpenError {
     ghost from_gives = { λ _ e. e ≡ Device };
 

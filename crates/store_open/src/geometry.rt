@@ -39,7 +39,7 @@ impl Geometry {
     }
 
     /// The sector where a half's checkpoint area begins.
-    pub(crate) fn area_at(self, half: Half) -> u64
+    pub fn area_at(self, half: Half) -> u64
         ensures { result ≡ area_at (geometry_view self) half }
     {
         match half {
@@ -49,14 +49,14 @@ impl Geometry {
     }
 
     /// The sector of a half's gate.
-    pub(crate) fn gate_at(self, half: Half) -> u64
+    pub fn gate_at(self, half: Half) -> u64
         ensures { result ≡ gate_at (geometry_view self) half }
     {
         self.area_at(half) + self.checkpoint as u64
     }
 
     /// The sector where a half's journal begins, which is the journal's first gate.
-    pub(crate) fn journal_at(self, half: Half) -> u64
+    pub fn journal_at(self, half: Half) -> u64
         ensures { result ≡ journal_at (geometry_view self) half }
     {
         self.gate_at(half) + 1

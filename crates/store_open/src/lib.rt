@@ -32,5 +32,6 @@ pub use geometry::Geometry;
 pub use new_store::{FormatError, format};
 pub use new_store_laws::new_stores_are_formatted;
 pub use open_store::open;
+pub use reading::read_sector;
 pub use store::Store;
 pub use store_error::StoreError;

@@ -8,7 +8,7 @@ ghost use Rattle.store_open.specs.Looking.{LooksAt};
 use sector_dev::{DevError, Device, SECTOR};
 
 /// Reads a sector, which the device has.
-pub(crate) fn read_sector<D: Device>(device: &mut D, at: u64) -> Result<[u8; 512], DevError>
+pub fn read_sector<D: Device>(device: &mut D, at: u64) -> Result<[u8; 512], DevError>
     requires { at < (D.disk device.old).sectors }
     ensures looks { LooksAt result (D.disk device.old) (D.disk device.new) }
     ensures read { IfOk result (λ sector. IsHonest (D.disk device.old) → sector ≡ sector_at at (reads_of (D.disk device.old))) }
