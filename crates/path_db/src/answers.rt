@@ -13,8 +13,8 @@ ghost use Rattle.path_db.specs.Wanted.{answer_to};
 ghost use Rattle.path_db.specs.Walk.{IsExact, rows_at};
 
 use crate::row::Row;
-use crate::row_list::Rows;
 use crate::row_map::RowMap;
+use crate::row_range::RowRange;
 use end_index::Places;
 use isd_as::{IsdAs, covers};
 use seg_check::expiry;
@@ -84,7 +84,7 @@ pub(crate) fn is_indexed(pattern: IsdAs) -> bool
 /// The segments of the first rows that are wanted, at most so many.
 pub(crate) fn first_shown(
     alloc: Global,
-    rows: Rows<'_>,
+    rows: RowRange<'_>,
     wanted: Wanted,
     limit: usize,
 ) -> Result<Vec<Segment>, AllocError>

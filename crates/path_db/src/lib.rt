@@ -22,6 +22,7 @@ mod row_key;
 mod row_list;
 mod row_map;
 mod row_puts;
+mod row_range;
 mod row_records;
 mod rows_reader;
 

@@ -2,34 +2,33 @@
 
 ghost use Rattle.std.specs.Prelude.{◌≡◌, length};
 ghost use Rattle.std.specs.Iterator.{YieldsFirstBy, at_most};
-ghost use Rattle.path_db.specs.Row.{row_view};
-ghost use Rattle.path_db.specs.RowMap.{views_of};
+ghost use Rattle.path_db.specs.Row.{row_view, row_views};
 
 use crate::row::Row;
 use crate::row_key::RowKey;
-use std::collections::btree_map::Range;
+use std::collections::btree_map::Values;
 use std::marker::Model;
 
 /// The rows that are left, in the order of their keys.
 #[derive(Drop)]
 pub struct Rows<'a> {
-    rows: Range<'a, RowKey, Row>,
+    rows: Values<'a, RowKey, Row>,
 }
 
 impl<'a> Model for Rows<'a> {
     ghost use Rattle.std.specs.Prelude.{List};
     ghost use Rattle.path_db.specs.Database.{RowView};
-    ghost use Rattle.path_db.specs.RowMap.{views_of};
+    ghost use Rattle.path_db.specs.Row.{row_views};
 
     ghost Value = { List RowView };
 
-    ghost view = { λ s. views_of s.rows };
+    ghost view = { λ s. row_views s.rows };
 }
 
 impl<'a> Rows<'a> {
     /// All of these.
-    pub(crate) fn of(rows: Range<'a, RowKey, Row>) -> Rows<'a>
-        ensures { result ≡ views_of rows.entry }
+    pub(crate) fn of(rows: Values<'a, RowKey, Row>) -> Rows<'a>
+        ensures { result ≡ row_views rows.entry }
     {
         Rows { rows }
     }
@@ -43,9 +42,6 @@ impl<'a> Iterator for Rows<'a> {
     ghost remaining = { λ s. at_most (length s) };
 
     fn next(&mut self) -> Option<&'a Row> {
-        match self.rows.next() {
-            Some((_, row)) => Some(row),
-            None => None,
-        }
+        self.rows.next()
     }
 }

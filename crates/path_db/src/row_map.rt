@@ -11,6 +11,7 @@ ghost use Rattle.path_db.specs.RowMap.{Holds, bytes_of, len_if_any, place_key};
 use crate::row::Row;
 use crate::row_key::RowKey;
 use crate::row_list::Rows;
+use crate::row_range::RowRange;
 use crate::row_records::type_byte;
 use end_index::Place;
 use seg_check::expiry;
@@ -61,11 +62,11 @@ impl RowMap {
     pub(crate) fn rows(&self) -> Rows<'_>
         ensures { result ≡ self.now }
     {
-        Rows::of(self.rows.range(..))
+        Rows::of(self.rows.values())
     }
 
     /// The rows of a type, in the order of their keys. No others are walked.
-    pub(crate) fn of_type(&self, kind: SegType) -> Rows<'_>
+    pub(crate) fn of_type(&self, kind: SegType) -> RowRange<'_>
         ensures { result ≡ filter (is_of_type kind) self.now }
     {
         let number = type_byte(kind);
@@ -77,7 +78,7 @@ impl RowMap {
             kind: number + 1,
             id: [0; 32],
         };
-        Rows::of(self.rows.range(low..high))
+        RowRange::of(self.rows.range(low..high))
     }
 
     /// An equal map, which shares the segments. A copy of no rows takes no memory.
