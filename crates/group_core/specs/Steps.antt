@@ -5,7 +5,7 @@ use Rattle.sector_dev.specs.Calls.{one_more}
 use Rattle.ckpt_pair.specs.Heads.{latest}
 use Rattle.group_laws.specs.declared.phases.Flush.{Flush}
 use Rattle.group_laws.specs.declared.phases.Check.{Check}
-use Rattle.group_laws.specs.declared.phases.Check.TheVariants.{Ready, Planned, Live}
+use Rattle.group_laws.specs.declared.phases.Check.TheVariants.{Ready, Planned, Laid, Switched, Live, Closing}
 use Rattle.group_core.specs.declared.bookkeeping.Turn.{Turn}
 use Rattle.group_core.specs.declared.error.StepError.{StepError}
 use Rattle.group_core.specs.declared.error.StepError.TheVariants.{Fault, Stopped, Stranger, NoMemory, Damaged}
@@ -59,7 +59,8 @@ FlushStep from to failed value (Err Damaged) old new = ⊥
 
 -- A step of the checkpointer with its value, where it is that value's turn just by `turn`: what its answer gives, and the state
 -- after it but for the device; and the phase where the device fails. It is refused as a step of the flusher is.
-abbrev pub CheckStep : {P N : Type 0} → Type 0 → Commit P → (N → Type 0) → StateView → Check → Result N (StepError P) → StateView → StateView → Type 0
+abbrev pub CheckStep : {P N : Type 0} → Type 0 → Commit P → (N → Type 0) → StateView → Check → Result N (StepError P)
+    → StateView → StateView → Type 0
 CheckStep turn value gives after failed (Ok next) old new =
     turn × (old.stopped ≡ false) × gives next
     × (new.disk.faults ≡ old.disk.faults) × (new ≡ record after { disk = new.disk })
@@ -90,3 +91,25 @@ half_counts old = record old { check = Live; epoch = old.epoch + 1; version = la
 
 abbrev pub half_ready : StateView → StateView
 half_ready old = record old { check = Ready; plan = spent old.plan }
+
+-- The steps one by one: the next sectors are written; all of them are synced; a gate is written, which leads to a phase, or to
+-- another where the device fails; the new half's gate is synced; and the old half's gates are synced.
+abbrev pub WritesChunk : Commit AtPlan → Result (Commit AtPlan) (StepError AtPlan) → StateView → StateView → Type 0
+WritesChunk value result old new =
+    CheckStep (IsPlanTurn value old) value (GivesPlan value (chunk_written old)) (chunk_written old) Planned result old new
+
+abbrev pub SyncsChunks : {Q : Type 0} → Commit AtPlan → Result (Commit Q) (StepError AtPlan) → StateView → StateView → Type 0
+SyncsChunks value result old new =
+    CheckStep (IsPlanTurn value old) value (IsSame value) (at_phase Laid old) Planned result old new
+
+abbrev pub WritesGate : {P Q : Type 0} → Check → Check → Check → Commit P → Result (Commit Q) (StepError P) → StateView → StateView → Type 0
+WritesGate from to failed value result old new =
+    CheckStep (IsCheckTurn from value old) value (IsSame value) (at_phase to old) failed result old new
+
+abbrev pub SyncsHalf : {P Q : Type 0} → Commit P → Result (Commit Q) (StepError P) → StateView → StateView → Type 0
+SyncsHalf value result old new =
+    CheckStep (IsCheckTurn Switched value old) value (IsSame value) (half_counts old) Switched result old new
+
+abbrev pub SyncsClose : {P : Type 0} → Commit P → Result (Unit {0}) (StepError P) → StateView → StateView → Type 0
+SyncsClose value result old new =
+    CheckStep (IsCheckTurn Closing value old) value (λ _. Unit {0}) (half_ready old) Closing result old new

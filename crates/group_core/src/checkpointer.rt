@@ -1,10 +1,10 @@
 //! The checkpointer's steps on the device.
 
 ghost use Rattle.std.specs.Prelude.{◌≡◌, true, false};
-ghost use Rattle.group_laws.specs.declared.phases.Check.TheVariants.{Planned as at_plan, Laid as at_laid, Switched as at_switched, SwitchFailed as switch_failed, Live as at_live, Closing as at_closing, CloseFailed as close_failed};
-ghost use Rattle.group_core.specs.Values.{IsSame};
+ghost use Rattle.group_laws.specs.declared.phases.Check.TheVariants.{Laid as laid, Switched as switched, SwitchFailed as switch_failed};
+ghost use Rattle.group_laws.specs.declared.phases.Check.TheVariants.{Live as live, Closing as closing, CloseFailed as close_failed};
 ghost use Rattle.group_core.specs.StateView.{StepLeaves};
-ghost use Rattle.group_core.specs.Steps.{CheckStep, IsCheckTurn, IsPlanTurn, GivesPlan, chunk_written, at_phase, half_counts, half_ready};
+ghost use Rattle.group_core.specs.Steps.{WritesChunk, SyncsChunks, WritesGate, SyncsHalf, SyncsClose};
 
 use crate::error::StepError;
 use crate::gates::{closed_gates, open_gate};
@@ -24,7 +24,7 @@ impl<D: Device, S: Showcase> State<D, S> {
     /// Writes the next sectors of the new checkpoint, at most 256.
     pub fn write_chunk(&mut self, value: Plan) -> Result<Plan, StepError<AtPlan>>
         requires { value.phase.done ≡ false }
-        ensures step { CheckStep (IsPlanTurn value self.old) value (GivesPlan value (chunk_written self.old)) (chunk_written self.old) at_plan result self.old self.new }
+        ensures step { WritesChunk value result self.old self.new }
         ensures any_moment { StepLeaves self.old self.new }
     {
         let size = self.checkpoint.len() as u64;
@@ -61,7 +61,7 @@ impl<D: Device, S: Showcase> State<D, S> {
     /// Syncs the new checkpoint, once all of it is written.
     pub fn sync_chunks(&mut self, value: Plan) -> Result<Laid, StepError<AtPlan>>
         requires { value.phase.done ≡ true }
-        ensures step { CheckStep (IsPlanTurn value self.old) value (IsSame value) (at_phase at_laid self.old) at_plan result self.old self.new }
+        ensures step { SyncsChunks value result self.old self.new }
         ensures any_moment { StepLeaves self.old self.new }
     {
         let size = self.checkpoint.len() as u64;
@@ -91,7 +91,7 @@ impl<D: Device, S: Showcase> State<D, S> {
 
     /// Writes the new half's gate open.
     pub fn open_half(&mut self, value: Laid) -> Result<Switched, StepError<AtLaid>>
-        ensures step { CheckStep (IsCheckTurn at_laid value self.old) value (IsSame value) (at_phase at_switched self.old) switch_failed result self.old self.new }
+        ensures step { WritesGate laid switched switch_failed value result self.old self.new }
         ensures any_moment { StepLeaves self.old self.new }
     {
         match self.check {
@@ -121,7 +121,7 @@ impl<D: Device, S: Showcase> State<D, S> {
 
     /// Syncs that gate: from then on the new half counts, with its epoch and its version.
     pub fn sync_half(&mut self, value: Switched) -> Result<Live, StepError<AtSwitched>>
-        ensures step { CheckStep (IsCheckTurn at_switched value self.old) value (IsSame value) (half_counts self.old) at_switched result self.old self.new }
+        ensures step { SyncsHalf value result self.old self.new }
         ensures any_moment { StepLeaves self.old self.new }
     {
         match self.check {
@@ -151,7 +151,7 @@ impl<D: Device, S: Showcase> State<D, S> {
 
     /// Writes the old half's gate and the first gate of its journal closed, in one write.
     pub fn close_half(&mut self, value: Live) -> Result<Closing, StepError<AtLive>>
-        ensures step { CheckStep (IsCheckTurn at_live value self.old) value (IsSame value) (at_phase at_closing self.old) close_failed result self.old self.new }
+        ensures step { WritesGate live closing close_failed value result self.old self.new }
         ensures any_moment { StepLeaves self.old self.new }
     {
         match self.check {
@@ -181,7 +181,7 @@ impl<D: Device, S: Showcase> State<D, S> {
 
     /// Syncs these gates: from then on the old half is ready.
     pub fn sync_close(&mut self, value: Closing) -> Result<(), StepError<AtClosing>>
-        ensures step { CheckStep (IsCheckTurn at_closing value self.old) value (λ _. Unit {0}) (half_ready self.old) at_closing result self.old self.new }
+        ensures step { SyncsClose value result self.old self.new }
         ensures any_moment { StepLeaves self.old self.new }
     {
         match self.check {
