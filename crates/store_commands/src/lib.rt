@@ -1,0 +1,22 @@
+//! The commands of the program over a device with a store: what each does and prints.
+//!
+//! To the layer above, `format` makes a store, `show` prints the rows and the place that a device opens to, `upgrade` has the
+//! store in the version that is written, and `show_layout` draws what stands on a device and changes nothing.
+#![tactic(auto)]
+
+mod drawing;
+mod error;
+mod formatting;
+mod halves;
+mod layout;
+mod showing;
+mod text;
+mod upgrading;
+mod walking;
+mod writing;
+
+pub use error::Fault;
+pub use formatting::format;
+pub use layout::show_layout;
+pub use showing::show;
+pub use upgrading::upgrade;

@@ -1,0 +1,66 @@
+//! Having a store in the version that is written.
+
+ghost use Rattle.std.specs.Prelude.{◌≡◌, OnOk, OnErr, IfOk, IfErr};
+ghost use Rattle.std.specs.Io.KnownBytes.{Appends};
+ghost use Rattle.sector_dev.specs.Disk.{IsHonest};
+ghost use Rattle.store_commands.specs.Devices.{device_after, faults_left};
+ghost use Rattle.store_commands.specs.Text.{version_line};
+ghost use Rattle.store_commands.specs.Upgrading.{IsUpgraded, FailsToUpgrade, BecomesLatest};
+ghost use Rattle.store_commands.specs.Writing.{IsWrittenInPart};
+
+use crate::error::Fault;
+use crate::writing::write_all;
+use sector_dev::Device;
+use std::alloc::Global;
+use std::io::Write;
+use store_open::{Store, StoreError, open};
+
+/// Opens a device, makes a checkpoint at rest where its store is of version 1, and prints the version, which is 2 then. The
+/// device comes back.
+pub fn upgrade<D: Device, W: Write>(
+    alloc: Global,
+    device: D,
+    writer: &mut W,
+) -> Result<D, (D, Fault)>
+    ensures ok { IfOk result (λ after. IsHonest (D.disk device) → IsUpgraded (D.disk device) (D.disk after)) }
+    ensures printed { OnOk result (Appends (W.contents writer.old) (W.contents writer.new) version_line) }
+    ensures err { IfErr result (λ back. FailsToUpgrade back.1 (D.disk device) (D.disk back.0) (W.contents writer.old) (W.contents writer.new)) }
+
+    // It answers that the device failed just where it did.
+    ensures faults { (D.disk (device_after result)).faults ≡ faults_left result (D.disk device).faults }
+{
+    match open(alloc, device) {
+        Ok(mut store) => {
+            let made = make_latest(&mut store);
+            let device = store.into_device();
+            match made {
+                Ok(()) => print_version(device, writer),
+                Err(error) => Err((device, Fault::from(error))),
+            }
+        }
+        Err((device, error)) => Err((device, Fault::from(error))),
+    }
+}
+
+/// Makes a checkpoint of a store of version 1.
+fn make_latest<D: Device>(store: &mut Store<D>) -> Result<(), StoreError>
+    ensures { BecomesLatest result store.old store.new }
+{
+    if store.version() == 1 {
+        return store.checkpoint();
+    }
+    Ok(())
+}
+
+/// Prints the version of the store on a device.
+fn print_version<D, W: Write>(device: D, writer: &mut W) -> Result<D, (D, Fault)>
+    ensures ok { IfOk result (λ after. after ≡ device) }
+    ensures printed { OnOk result (Appends (W.contents writer.old) (W.contents writer.new) version_line) }
+    ensures err { IfErr result (λ back. (back.0 ≡ device) × (back.1 ≡ Fault.Output)) }
+    ensures part { OnErr result (IsWrittenInPart (W.contents writer.old) (W.contents writer.new) version_line) }
+{
+    match write_all(writer, b"version 2\n") {
+        Ok(()) => Ok(device),
+        Err(fault) => Err((device, fault)),
+    }
+}
