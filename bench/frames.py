@@ -82,4 +82,5 @@ def main():
         sys.stdout.buffer.write(it)
 
 
-main()
+if __name__ == "__main__":
+    main()

@@ -1,0 +1,85 @@
+#!/usr/bin/env bash
+# A store of 20,000 rows of 4-entry segments with 2,000 more in its journal, in a file: the seconds of opening it, beside LevelDB
+# and SQLite opening stores of as many values and reading them; the seconds of a checkpoint at rest of it, beside the same writes
+# and syncs alone; and the most memory. Medians of nine rounds by the clock. It needs Python 3, g++, bc and Debian's
+# libleveldb-dev and libsqlite3-dev. It proves and builds a program in a temporary folder, and leaves no file behind.
+#
+#     bench/store.sh [ROWS MORE]
+set -euo pipefail
+root=$(cd "$(dirname "$0")/.." && pwd)
+rows=${1:-20000}
+more=${2:-2000}
+work=$(mktemp -d)
+trap 'rm -rf "$work"' EXIT
+mkdir -p "$work/crates/stores/src"
+for crate in isd_as byte_lists end_index pw_wire seg_core seg_check path_db image_laws gate_journal ckpt_pair sector_dev store_open; do
+  cp -r "$root/crates/$crate" "$work/crates/" # with what was proved of it, if it was
+  grep "^$crate:" "$root/crates.txt"
+done > "$work/crates.txt"
+echo 'stores: store_open sector_dev path_db' >> "$work/crates.txt"
+cat > "$work/crates/stores/src/main.rt" <<'SOURCE'
+#![tactic(auto)]
+
+use sector_dev::{FileDevice, SystemFile};
+use std::fs;
+use std::fs::OpenOptions;
+use std::io;
+use std::time::Instant;
+use store_open::open;
+
+// The line of the system that tells the most memory so far.
+fn tell_memory(rt: &HostRuntime) -> io::Result<()> {
+    let status = fs::read_to_string(rt, "/proc/self/status")?;
+    for line in status.lines() {
+        if line.starts_with("VmHWM:") {
+            println!(rt; "{line}")?;
+        }
+    }
+    Ok(())
+}
+
+fn main(rt: HostRuntime) -> io::Result<()> {
+    let start = Instant::now(&rt)?;
+    let file = OpenOptions::new().read(true).write(true).open(&rt, "store")?;
+    let device = FileDevice::new(SystemFile::new(file))?;
+    let Ok(mut store) = open(rt.alloc(), device) else {
+        return Ok(());
+    };
+    let opened = Instant::now(&rt);
+    let bytes = store.db().encoded_len();
+    let place = store.place();
+    let done = store.checkpoint().is_ok();
+    let ended = Instant::now(&rt);
+    let _device = store.into_device();
+    let opened = opened?;
+    let opening = opened.duration_since(start).as_secs_f64();
+    let checkpoint = ended?.duration_since(opened).as_secs_f64();
+    println!(rt; "{opening} {checkpoint} {bytes} {place} {done}")?;
+    tell_memory(&rt)
+}
+SOURCE
+git init -q "$work"
+python3 "$root/bench/store_image.py" "$work/image" "$rows" "$more"
+g++ -O2 "$root/bench/store_rivals.cc" -o "$work/rivals" -lleveldb -lsqlite3
+gcc -O2 "$root/bench/write_same.c" -o "$work/write_same"
+"$work/rivals" fill leveldb "$work/image.values" "$work/leveldb"
+"$work/rivals" fill sqlite "$work/image.values" "$work/sqlite"
+cd "$work/crates/stores"
+cp "$work/image" store
+rt run > "$work/log" 2>&1 || { cat "$work/log"; exit 1; }
+for _ in 1 2 3 4 5 6 7 8 9; do
+  cp "$work/image" store
+  sync store
+  out/stores > "$work/ours"
+  read -r opened checkpointed bytes place done < "$work/ours"
+  [ "$done" = true ] && [ "$place" = $((rows + more)) ]
+  size=$(((32 + bytes + 511) / 512 * 512))
+  alone=$("$work/write_same" store "$size")
+  memory=$(grep VmHWM "$work/ours" | tr -dc 0-9)
+  leveldb=$("$work/rivals" read leveldb "$work/leveldb" | cut -d' ' -f2)
+  sqlite=$("$work/rivals" read sqlite "$work/sqlite" | cut -d' ' -f2)
+  echo "$opened $leveldb $sqlite $(echo "$opened / $leveldb" | bc -l) $(echo "$opened / $sqlite" | bc -l)" \
+    "$checkpointed $alone $(echo "$checkpointed / $alone" | bc -l) $memory $(echo "1024 * $memory / $bytes" | bc -l)"
+done > "$work/rounds"
+echo "seconds to open: ours, LevelDB, SQLite, ratios; of a checkpoint, of its writes alone, ratio; KiB of memory, over the rows' bytes"
+python3 "$root/bench/median.py" < "$work/rounds"
