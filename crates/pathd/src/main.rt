@@ -1,49 +1,68 @@
 //! `pathd`, a path segment server for the core ASes of a SCION network.
 //!
-//! Words are read by `path_words`, and what they ask for is done by `path_commands`; here are the program's input,
-//! output and status alone.
+//! Words are read by `path_words`, and what they ask for is done by `path_commands` and `store_commands`; here are the
+//! program's input, output, files and status alone.
 #![tactic(auto)]
 
+mod stores;
+
+use crate::stores::{format_file, show_file, upgrade_file};
 use clap::error::ErrorKind;
 use clap::{ArgMatches, Error};
 use path_commands::{Fault, cores_of, key_of, once, once_in_hex};
-use path_words::{CORES, HEX, KEY, NOW, ONCE, command};
+use path_words::{CORES, FORMAT, HEX, KEY, NOW, ONCE, SHOW, UPGRADE, command};
 use seg_check::{TrustAll, Verifier};
 use seg_lookup::Roster;
 use std::env;
+use std::fs::File;
 use std::io::{BufWriter, Read, Write};
 use std::process::ExitCode;
-use std::rt::Env;
+use std::rt::{Env, Files};
 
 /// How many reads a session takes at most.
 const TURNS: u64 = 1_000_000_000;
 
+/// What ends the program. It prints these words behind `error: `.
+#[derive(Clone, Copy, Debug, thiserror::Error)]
+enum Ended {
+    #[error(transparent)]
+    Session(#[from] Fault),
+    #[error(transparent)]
+    Store(#[from] store_commands::Fault),
+}
+
 fn main(rt: HostRuntime) -> ExitCode {
     match run(&rt, &mut rt.stdin(), rt.stdout()) {
         Ok(code) => code,
-        Err(fault) => {
-            let _ = eprintln!(rt; "error: {fault}");
+        Err(ended) => {
+            let _ = eprintln!(rt; "error: {ended}");
             ExitCode::from(1)
         }
     }
 }
 
 /// Reads the words of the command line, and does what they ask for.
-fn run<R: Env + Print + Eprint + AllocGlobal, I: Read, O: Write + Drop>(
+fn run<R: Env + Print + Eprint + AllocGlobal + Files<File = File>, I: Read, O: Write + Drop>(
     rt: &R,
     input: &mut I,
-    output: O,
-) -> Result<ExitCode, Fault> {
+    mut output: O,
+) -> Result<ExitCode, Ended> {
     let Ok(words) = env::args(rt) else {
-        return Err(Fault::Memory);
+        return Err(Ended::Session(Fault::Memory));
     };
     let words: Vec<String> = words.collect(rt.alloc()).map_err(|_| Fault::Memory)?;
     let command = command(rt.alloc()).map_err(|_| Fault::Memory)?;
     let matches = match command.try_get_matches_from(words.as_slice()) {
         Ok(matches) => matches,
-        Err(error) => return refuse(rt, &error),
+        Err(error) => return Ok(refuse(rt, &error)?),
     };
-    if let Some(options) = matches.subcommand_matches(ONCE) {
+    if let Some(options) = matches.subcommand_matches(FORMAT) {
+        format_file(rt, options, &mut output)?;
+    } else if let Some(options) = matches.subcommand_matches(UPGRADE) {
+        upgrade_file(rt, options, &mut output)?;
+    } else if let Some(options) = matches.subcommand_matches(SHOW) {
+        show_file(rt, options, output)?;
+    } else if let Some(options) = matches.subcommand_matches(ONCE) {
         answer(rt, options, input, output)?;
     }
     Ok(ExitCode::SUCCESS)
