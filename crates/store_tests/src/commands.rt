@@ -1,0 +1,161 @@
+//! The commands over a device in memory.
+
+use crate::writers::with_room;
+use sector_dev::{Device, FaultDevice, MemDevice, SECTOR};
+use std::alloc::Global;
+use std::test::Fail;
+use store_commands::{Fault, format, show, show_layout, upgrade};
+use store_open::{Geometry, OpenError};
+
+// The least sizes that are allowed: a store of them takes 1,039 sectors.
+const LEAST: Geometry = Geometry {
+    checkpoint: 2,
+    journal: 516,
+};
+
+const SECTORS: u64 = 1039;
+
+// How an area of a second checkpoint begins: epoch 2, no rows, place 0.
+const SECOND_AREA: &[u8] = b"PCKP\x00\x00\x00\x02\x00\x00\x00\x00\x00\x00\x00\x02\
+\x00\x00\x00\x00\x00\x00\x00\x00\x00\x00\x00\x00\x00\x00\x00\x00";
+
+// A new store.
+fn formatted(alloc: Global) -> Result<MemDevice, Fail> {
+    let mut device = MemDevice::new(alloc, SECTORS)?;
+    format(alloc, &mut device, LEAST, &mut with_room(alloc, 100))?;
+    Ok(device)
+}
+
+// A new store of version 1.
+fn formatted_old(alloc: Global) -> Result<MemDevice, Fail> {
+    let mut device = formatted(alloc)?;
+    let mut area = read_sector(&mut device, 1);
+    area[7] = 1;
+    if 1 < device.sectors() {
+        device.write(1, &area)?;
+    }
+    Ok(device)
+}
+
+// The device of a command that was done.
+fn done(ended: Result<MemDevice, (MemDevice, Fault)>) -> Result<MemDevice, Fault> {
+    match ended {
+        Ok(device) => Ok(device),
+        Err((_device, fault)) => Err(fault),
+    }
+}
+
+// The device in memory below one that failed, and what the command told. One that was done is told as a fault of a print.
+fn failed(
+    ended: Result<FaultDevice, (FaultDevice, Fault)>,
+) -> Result<(MemDevice, Fault), Fault> {
+    match ended {
+        Ok(_device) => Err(Fault::Output),
+        Err((device, fault)) => Ok((device.into_mem(), fault)),
+    }
+}
+
+// A sector that the device has; zeros where the read fails.
+fn read_sector(device: &mut MemDevice, at: u64) -> [u8; 512] {
+    let mut sector = [0; SECTOR];
+    if at < device.sectors() && device.read(at, &mut sector).is_err() {
+        return [0; SECTOR];
+    }
+    sector
+}
+
+#[test]
+fn format_and_show(rt: HostRuntime) -> Result<(), Fail> {
+    let alloc = rt.alloc();
+    let mut device = MemDevice::new(alloc, SECTORS)?;
+    let mut output = with_room(alloc, 100);
+    assert_eq!(rt; format(alloc, &mut device, LEAST, &mut output), Ok(()));
+    assert_eq!(rt; output.text()?, "formatted 1039 sectors\n");
+    let mut output = with_room(alloc, 100);
+    assert!(rt; show(alloc, device, &mut output).is_ok());
+    assert_eq!(rt; output.text()?, "place 0\n");
+    Ok(())
+}
+
+#[test]
+fn zeros_are_no_store(rt: HostRuntime) -> Result<(), Fail> {
+    let alloc = rt.alloc();
+    let mut output = with_room(alloc, 100);
+    match show(alloc, MemDevice::new(alloc, SECTORS)?, &mut output) {
+        Ok(_) => assert!(rt; false),
+        Err((_, fault)) => assert_eq!(rt; fault, Fault::Open(OpenError::NotAStore)),
+    }
+    assert_eq!(rt; output.text()?, "");
+    Ok(())
+}
+
+#[test]
+fn old_stores_are_upgraded(rt: HostRuntime) -> Result<(), Fail> {
+    let alloc = rt.alloc();
+    let mut output = with_room(alloc, 100);
+    let device = done(show(alloc, formatted_old(alloc)?, &mut output))?;
+    let mut device = done(upgrade(alloc, device, &mut output))?;
+    let area = read_sector(&mut device, 520);
+    assert!(rt; area.as_slice().starts_with(SECOND_AREA));
+    assert_eq!(rt; read_sector(&mut device, 522)[0], 0xa7);
+    assert_eq!(rt; read_sector(&mut device, 3)[0], 0);
+    assert_eq!(rt; read_sector(&mut device, 4)[0], 0);
+    // Of version 2 it stays as it is.
+    let mut device = done(upgrade(alloc, device, &mut output))?;
+    let area = read_sector(&mut device, 520);
+    assert!(rt; area.as_slice().starts_with(SECOND_AREA));
+    assert_eq!(rt; read_sector(&mut device, 3)[0], 0);
+    assert!(rt; show(alloc, device, &mut output).is_ok());
+    assert_eq!(rt; output.text()?, "place 0\nversion 2\nversion 2\nplace 0\n");
+    Ok(())
+}
+
+#[test]
+fn full_writers_have_a_front(rt: HostRuntime) -> Result<(), Fail> {
+    let alloc = rt.alloc();
+    for room in 0..8 {
+        let mut output = with_room(alloc, room);
+        match show(alloc, formatted(alloc)?, &mut output) {
+            Ok(_) => assert!(rt; false, "{room}"),
+            Err((_, fault)) => assert_eq!(rt; fault, Fault::Output, "{room}"),
+        }
+        assert_eq!(rt; output.taken.as_slice(), b"place 0\n".split_at(room).0);
+    }
+    Ok(())
+}
+
+#[test]
+fn faults_of_devices_are_told(rt: HostRuntime) -> Result<(), Fail> {
+    let alloc = rt.alloc();
+    for number in 0..4 {
+        let mut output = with_room(alloc, 100);
+        let failing = FaultDevice::new(formatted(alloc)?, number);
+        let (device, fault) = failed(show(alloc, failing, &mut output))?;
+        assert_eq!(rt; fault, Fault::Open(OpenError::Device), "{number}");
+        assert!(rt; show(alloc, device, &mut output).is_ok(), "{number}");
+        assert_eq!(rt; output.text()?, "place 0\n");
+    }
+    Ok(())
+}
+
+#[test]
+fn layouts_are_drawn(rt: HostRuntime) -> Result<(), Fail> {
+    let alloc = rt.alloc();
+    let mut output = with_room(alloc, 2000);
+    let mut device = formatted(alloc)?;
+    assert_eq!(rt; show_layout(alloc, &mut device, &mut output), Ok(()));
+    assert_eq!(rt;
+        output.text()?,
+        "\
+0               store         checkpoint 2, journal 516 sectors
+1-2             checkpoint 1  version 2, epoch 1, place 0, rows: 0, bytes: 0
+3               gate 1        open
+4-519           journal 1     groups: 0, ends at the closed gate in sector 4
+520-521         checkpoint 2  free
+522             gate 2        closed
+523-1038        journal 2     groups: 0, ends at the closed gate in sector 523
+half 1 is chosen, and the tail is in journal 1, at sector 4
+"
+    );
+    Ok(())
+}

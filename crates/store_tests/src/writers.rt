@@ -1,0 +1,41 @@
+//! A writer that is full at some point.
+
+use std::alloc::Global;
+use std::io;
+use std::io::Write;
+use std::test::Fail;
+
+/// Takes so many bytes, at most three at a time, and then none.
+#[derive(Drop)]
+pub struct Room {
+    pub taken: Vec<u8>,
+    pub room: usize,
+}
+
+/// A writer with room for so many bytes.
+pub fn with_room(alloc: Global, room: usize) -> Room {
+    Room {
+        taken: Vec::new(alloc),
+        room,
+    }
+}
+
+impl Write for Room {
+    fn write(&mut self, buf: &[u8]) -> io::Result<usize> {
+        let count = self.room.min(buf.len()).min(3);
+        self.taken.extend_from_slice(buf.split_at(count).0)?;
+        self.room -= count;
+        Ok(count)
+    }
+
+    fn flush(&mut self) -> io::Result<()> {
+        Ok(())
+    }
+}
+
+impl Room {
+    /// What was written, as text.
+    pub fn text(&self) -> Result<&str, Fail> {
+        Ok(std::str::from_utf8(&self.taken)?)
+    }
+}
