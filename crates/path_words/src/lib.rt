@@ -134,7 +134,9 @@ fn format_command<'a>(alloc: Global) -> Result<Command<'a>, AllocError>
         .required(true)
         .action(ArgAction::Set);
     Command::new(alloc, FORMAT)
-        .about("Makes a file of 1 + 2 * (C + 1 + J) sectors with an empty store; one that is there is lost")
+        .about(
+            "Makes a file of 1 + 2 * (C + 1 + J) sectors with an empty store; one that is there is lost",
+        )
         .arg(device_argument(alloc))?
         .arg(checkpoint)?
         .arg(journal)

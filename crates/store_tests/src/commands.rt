@@ -46,9 +46,7 @@ fn done(ended: Result<MemDevice, (MemDevice, Fault)>) -> Result<MemDevice, Fault
 }
 
 // The device in memory below one that failed, and what the command told. One that was done is told as a fault of a print.
-fn failed(
-    ended: Result<FaultDevice, (FaultDevice, Fault)>,
-) -> Result<(MemDevice, Fault), Fault> {
+fn failed(ended: Result<FaultDevice, (FaultDevice, Fault)>) -> Result<(MemDevice, Fault), Fault> {
     match ended {
         Ok(_device) => Err(Fault::Output),
         Err((device, fault)) => Ok((device.into_mem(), fault)),
