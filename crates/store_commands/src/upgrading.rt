@@ -16,7 +16,7 @@ use std::io::Write;
 use store_open::{Store, StoreError, open};
 
 /// Opens a device, makes a checkpoint at rest where its store is of version 1, and prints the version, which is 2 then. The
-/// device comes back.
+/// device comes back. What a stop within it leaves is said of `open` and of `checkpoint`, and by no clause here.
 pub fn upgrade<D: Device, W: Write>(
     alloc: Global,
     device: D,
