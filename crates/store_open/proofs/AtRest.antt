@@ -28,6 +28,7 @@ use Rattle.store_open.specs.StoreShape.{IsStoreWhole}
 use Rattle.store_open.specs.TakingOver.{IsTakingOver, taken}
 use Rattle.store_open.proofs.Switching.{MayTakeOver, same_value, taken_opens, taken_closed, opens_meanwhile}
 use Rattle.store_open.proofs.TakingOver.{stretch_honest}
+use Rattle.store_open.proofs.Rests.{sound_at_rest}
 
 -- nothing was done
 pub left_alone : (old : StoreView) → IsStoreWhole old → (view : StoreView) → old ≡ view → Stretch view.disk view.disk (OpensToStore view)
@@ -131,10 +132,14 @@ module _ (old : StoreView) (whole : IsStoreWhole old) (device : IsHonest old.dis
     -- what a stop leaves meanwhile opens to the same rows
     meanwhile : (content : List ℕ) → IsTakingOver old.geometry old.chosen bytes (reads_of old.disk) content → OpensToStore old content
     meanwhile content is =
-        subst (λ (v : StoreValue (List RowView)). OpensTo store_format latest content v) tells.value
-        (opens_meanwhile store_format latest (reads_of old.disk) opening next bytes may_take_over content
+        let after =
+        opens_meanwhile store_format latest (reads_of old.disk) opening next bytes may_take_over content
         (subst (λ (g : Geometry). IsTakingOver g opening.chosen bytes (reads_of old.disk) content) (sym tells.geometry)
-        (subst (λ (h : Half). IsTakingOver old.geometry h bytes (reads_of old.disk) content) (sym tells.chosen) is)))
+        (subst (λ (h : Half). IsTakingOver old.geometry h bytes (reads_of old.disk) content) (sym tells.chosen) is)) in
+        record {
+          opens = record { opening = after.opens.opening; is = after.opens.is; stands_for = after.opens.stands_for ∙ tells.value };
+          since = omega (arith, after.since, ap (λ (h : Head). h.version) tells.head);
+        }
 
     -- and then the other half alone is there
     module _ (new : Disk) (settled : new.history.now.dirty ≡ []) (is : reads_of new ≡ taken old.geometry old.chosen bytes (reads_of old.disk)) where
@@ -185,7 +190,10 @@ module _ (old : StoreView) (whole : IsStoreWhole old) (device : IsHonest old.dis
     broken_store = record {
       rows = whole.rows;
       room = still_room;
-      sound = λ honest. record { rest = λ is. absurd (true_is_false is); every = every_later honest };
+      sound = λ honest. record {
+        rest = λ is. absurd (true_is_false is);
+        every = λ image is. let opens = every_later honest image is in record { opens = opens.opens; since = opens.since };
+      };
     }
       where
         true_is_false : true ≡ false → ⊥
@@ -207,7 +215,7 @@ module _ (old : StoreView) (whole : IsStoreWhole old) (device : IsHonest old.dis
       whole_store = record {
         rows = whole.rows;
         room = still_room;
-        sound = λ honest. record { rest = λ _. at_rest (honest_before old.disk new moments.keeps honest); every = every_later honest };
+        sound = λ honest. sound_at_rest made (at_rest (honest_before old.disk new moments.keeps honest));
       }
 
       pub made_so : (done : Unit {0}) → new.faults ≡ old.disk.faults → Checkpoints (Ok done) view made

@@ -1,5 +1,5 @@
 -- A device that is opened: what a stop leaves while it is brought to rest, and what it then tells.
-use Rattle.std.proofs.Common.{◌≡◌, ℕ, Bool, true, false, List, [], Result, Ok, Err, Option, Some, None, OnOk, refl, sym, ◌∙◌, ap, subst}
+use Rattle.std.proofs.Common.{◌≡◌, ℕ, Bool, true, false, List, [], Result, Ok, Err, Option, Some, None, OnOk, refl, sym, ◌∙◌, ap, subst, arith}
 use Rattle.path_db.specs.Database.{RowView}
 use Rattle.path_db.specs.declared.command.Command.{Command}
 use Rattle.sector_dev.specs.Disk.{History, Disk, IsHonest, IsWhole, reads_of}
@@ -18,6 +18,7 @@ use Rattle.image_laws.specs.Opening.{Opening, limits_in, IsTail, IsOpening}
 use Rattle.image_laws.specs.OpeningReading.{opening_of}
 use Rattle.image_laws.proofs.Exports.{opening_read, opening_from}
 use Rattle.gate_journal.specs.Commands.{command_format}
+use Rattle.image_laws.specs.Checkpoint.{Head}
 use Rattle.ckpt_pair.specs.Heads.{latest}
 use Rattle.store_open.specs.Closing.{IsClosing, IsClosingUnused, HasClosedGates}
 use Rattle.store_open.specs.declared.folded.Folded.{Folded}
@@ -191,5 +192,8 @@ module _ (start mid new : Disk) (whole : IsHonest start → IsWhole start) {S F 
 pub sound_at_rest : (view : StoreView) → IsAtRest view → IsSound view
 sound_at_rest view rest = record {
   rest = λ whole. rest;
-  every = λ image is. record { opening = rest.opening; is = rest.every image is; stands_for = rest.tells.value };
+  every = λ image is. record {
+    opens = record { opening = rest.opening; is = rest.every image is; stands_for = rest.tells.value };
+    since = omega (arith, ap (λ (h : Head). h.version) rest.tells.head);
+  };
 }

@@ -133,14 +133,24 @@ module _ {Db C : Type 0} (format : StoreFormat Db C) (latest : ℕ) (image : Lis
         (subst IsOpenGate (first_gate geometry opening.chosen three (omega (arith, may.is.half.store.limits))) opened);
   })
 
-  -- what a stop leaves meanwhile opens to the same
-  pub opens_meanwhile : (content : List ℕ) → IsTakingOver geometry opening.chosen bytes image content → OpensTo format latest content (value_of format opening)
-  opens_meanwhile content (inl tear) = subst (λ (list : List ℕ). OpensTo format latest list (value_of format opening)) (sym tear.is)
-      (record { opening = opening; is = laying tear.torn tear.size; stands_for = refl })
-  opens_meanwhile content (inr (inl tear)) = subst (λ (list : List ℕ). OpensTo format latest list (value_of format opening)) (sym tear.is)
+  -- an image opens to the same, by a half of this version or a later one
+  pub record OpensAfter (content : List ℕ) : Type 0 where
+    pub opens : OpensTo format latest content (value_of format opening)
+    pub since : opening.checkpoint.head.version ≤ opens.opening.checkpoint.head.version
+
+  by_old : (content : List ℕ) → IsOpening format latest content opening → OpensAfter content
+  by_old content is = record { opens = record { opening = opening; is = is; stands_for = refl }; since = omega arith }
+
+  by_new : (content : List ℕ) → IsOpening format latest content fresh → OpensAfter content
+  by_new content is = record { opens = record { opening = fresh; is = is; stands_for = same_value }; since = may.folds.version }
+
+  -- and so does what a stop leaves meanwhile
+  pub opens_meanwhile : (content : List ℕ) → IsTakingOver geometry opening.chosen bytes image content → OpensAfter content
+  opens_meanwhile content (inl tear) = subst OpensAfter (sym tear.is) (by_old (overwrite area tear.torn image) (laying tear.torn tear.size))
+  opens_meanwhile content (inr (inl tear)) = subst OpensAfter (sym tear.is)
       (elim (cases_eq (get_or tear.torn 0 0) 0xA7) [
-        | inl opened ↦ record { opening = fresh; is = (switching tear.torn tear.size).0 opened; stands_for = same_value }
-        | inr closed ↦ record { opening = opening; is = (switching tear.torn tear.size).1 closed; stands_for = refl }
+        | inl opened ↦ by_new (overwrite (512 * gate_at geometry new) tear.torn one) ((switching tear.torn tear.size).0 opened)
+        | inr closed ↦ by_old (overwrite (512 * gate_at geometry new) tear.torn one) ((switching tear.torn tear.size).1 closed)
       ])
-  opens_meanwhile content (inr (inr tear)) = subst (λ (list : List ℕ). OpensTo format latest list (value_of format opening)) (sym tear.is)
-      (record { opening = fresh; is = closing tear.torn tear.size; stands_for = same_value })
+  opens_meanwhile content (inr (inr tear)) = subst OpensAfter (sym tear.is)
+      (by_new (overwrite (512 * gate_at geometry opening.chosen) tear.torn two) (closing tear.torn tear.size))

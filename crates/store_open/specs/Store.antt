@@ -59,9 +59,10 @@ pub record IsAtRest (view : StoreView) : Type 0 where
   pub every : EveryImage view.disk.history.now (λ image. IsOpening store_format latest image opening)
   pub unused : view.sealed ≡ false → EveryImage view.disk.history.now (HasClosedGates view.geometry (other view.chosen))
 
--- an image opens to the store's rows at its place
-abbrev pub OpensToStore : StoreView → List ℕ → Type 0
-OpensToStore view image = IsStoreOf view.rows view.place image
+-- an image opens to the store's rows at its place, by a half of the store's version or a later one
+pub record OpensToStore (view : StoreView) (image : List ℕ) : Type 0 where
+  pub opens : IsStoreOf view.rows view.place image
+  pub since : view.head.version ≤ opens.opening.checkpoint.head.version
 
 -- What an honest device holds of a store: it is at rest, unless a checkpoint has failed; and whatever a stop leaves opens to its
 -- rows at its place.
