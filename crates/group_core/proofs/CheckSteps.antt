@@ -1,5 +1,5 @@
 -- The checkpointer's steps on a state.
-use Rattle.std.proofs.Common.{◌≡◌, ℕ, ◌+◌, ◌*◌, ◌≤◌, ◌++◌, Bool, true, false, List, [], ◌∷◌, length, Result, refl, sym, ◌∙◌, ap, subst, arith}
+use Rattle.std.proofs.Common.{◌≡◌, ◌≢◌, inl, inr, ℕ, ◌+◌, ◌*◌, ◌≤◌, ◌++◌, Bool, true, false, List, [], ◌∷◌, length, Result, refl, sym, ◌∙◌, ap, subst, arith}
 use Rattle.std.specs.List.{AllByRecursion}
 use Rattle.byte_lists.specs.Content.{part}
 use Rattle.path_db.specs.Database.{RowView}
@@ -24,6 +24,7 @@ use Rattle.group_laws.proofs.Exports.{held_while_chunk_is_written, held_while_ch
 use Rattle.group_core.specs.declared.bookkeeping.Turn.{Turn}
 use Rattle.group_core.specs.StateView.{StateView, setting_of, standing_of}
 use Rattle.group_core.specs.Invariant.{Hidden, FitsLoad, MayBePending, HasPlan, HasNextEpoch, CountsAt, Shape, Sound, IsState}
+use Rattle.group_core.proofs.Soundness.{sound_at_work, either_stays}
 use Rattle.group_core.proofs.FlushSteps.{success, failure}
 
 -- the state after a call of the checkpointer
@@ -61,6 +62,10 @@ module _ (small large : ℕ) (grows : small ≤ large) where
   load_larger geometry place gate Seal fits = tt
 
 module _ (old : StateView) (hidden : Hidden) (has : IsState old hidden) where
+  -- the checkpointer is at work
+  away : (phase : Check) → old.check ≡ phase → phase ≢ Ready → old.check ≢ Ready
+  away phase turn other = subst (λ (p : Check). p ≢ Ready) (sym turn) other
+
   module _ (disk : Disk) (check : Check) (written : ℕ) (plan : Turn) (stopped : Bool) (going : stopped ≡ false → old.stopped ≡ false) where
     checked_shape : disk.sectors ≡ old.disk.sectors → HasPlan old.geometry (record { bytes = old.checkpoint; written = written }) → HasNextEpoch check old.epoch
         → Shape (checked old disk check written plan stopped) hidden
@@ -76,6 +81,7 @@ module _ (old : StateView) (hidden : Hidden) (has : IsState old hidden) where
       fits = λ is. has.shape.fits (going is);
       known = has.shape.known;
       taken = has.shape.taken;
+      owed = has.shape.owed;
       rests = has.shape.rests;
       load = has.shape.load;
       staged = has.shape.staged;
@@ -83,23 +89,25 @@ module _ (old : StateView) (hidden : Hidden) (has : IsState old hidden) where
       epoch = epoch;
     }
 
-    checked_state : Keeps old.disk disk → HasPlan old.geometry (record { bytes = old.checkpoint; written = written }) → HasNextEpoch check old.epoch
+    checked_state : (phase : Check) → old.check ≡ phase → phase ≢ Ready → Keeps old.disk disk → HasPlan old.geometry (record { bytes = old.checkpoint; written = written }) → HasNextEpoch check old.epoch
         → ((sound : Sound old) → CountsAt check old.epoch old.checkpoint sound.behind.old sound.behind.new)
         → ((sound : Sound old) → IsHonest old.disk → IsHeldBy (setting_of old) (held.checked (standing_of old) check written) sound.behind disk.history.now)
         → IsState (checked old disk check written plan stopped) hidden
-    checked_state keeps has_plan epoch counts holds = record {
+    checked_state phase turn other keeps has_plan epoch counts holds = record {
       shape = checked_shape keeps.sectors has_plan epoch;
       sound = λ honest.
           let before = honest_before old.disk disk keeps honest in
-          let sound = has.sound before in
-          record { behind = sound.behind; held = holds sound before; counts = counts sound; fits = λ is. sound.fits (going is) };
+          let sound = sound_at_work old hidden has (inr (away phase turn other)) before in
+          inl (record { behind = sound.behind; held = holds sound before; counts = counts sound; fits = λ is. sound.fits (going is) });
     }
 
   -- the value is spent, and no call is made
   pub plan_spent : (plan : Turn) → IsState (record old { plan = plan }) hidden
   plan_spent plan = record {
     shape = checked_shape old.disk old.check old.written plan old.stopped (λ is. is) refl has.shape.plan has.shape.epoch;
-    sound = λ honest. let sound = has.sound honest in record { behind = sound.behind; held = sound.held; counts = sound.counts; fits = sound.fits };
+    sound = λ honest. either_stays old (record old { plan = plan })
+        (λ sound. record { behind = sound.behind; held = sound.held; counts = sound.counts; fits = sound.fits })
+        (λ broken. record { stopped = broken.stopped; rests = broken.rests; ready = broken.ready; images = broken.images }) (has.sound honest);
   }
 
   -- what is known at a phase
@@ -110,12 +118,12 @@ module _ (old : StateView) (hidden : Hidden) (has : IsState old hidden) where
   counts_at check turn sound = subst (λ (p : Check). CountsAt p old.epoch old.checkpoint sound.behind.old sound.behind.new) turn sound.counts
 
   -- a call that fails leaves its phase
-  module _ (disk : Disk) (plan : Turn) (check : Check) (turn : old.check ≡ check) where
+  module _ (disk : Disk) (plan : Turn) (check : Check) (turn : old.check ≡ check) (other : check ≢ Ready) where
     stays : Keeps old.disk disk
         → ((sound : Sound old) → IsHonest old.disk → IsHeldBy (setting_of old) (held.checked (standing_of old) check old.written) sound.behind disk.history.now)
         → IsState (checked old disk old.check old.written plan true) hidden
     stays keeps holds =
-        checked_state disk old.check old.written plan true (λ (is : true ≡ false). cc) keeps has.shape.plan has.shape.epoch (λ sound. sound.counts)
+        checked_state disk old.check old.written plan true (λ (is : true ≡ false). cc) check turn other keeps has.shape.plan has.shape.epoch (λ sound. sound.counts)
         (λ sound honest. subst (λ (p : Check). IsHeldBy (setting_of old) (held.checked (standing_of old) p old.written) sound.behind disk.history.now) (sym turn) (holds sound honest))
 
   module _ (disk : Disk) where
@@ -126,12 +134,12 @@ module _ (old : StateView) (hidden : Hidden) (has : IsState old hidden) where
 
       pub chunks_synced : {T : Type 0} (E : Type 0) (v : T) → SyncCall (success E v) old.disk disk → IsState (checked old disk Laid old.written old.plan old.stopped) hidden
       chunks_synced {T} E v call =
-          checked_state disk Laid old.written old.plan old.stopped (λ is. is) call.keeps has.shape.plan (epoch_at Planned turn) (λ sound. (counts_at Planned turn sound).0)
+          checked_state disk Laid old.written old.plan old.stopped (λ is. is) Planned turn (λ (is : Planned ≡ Ready). cc) call.keeps has.shape.plan (epoch_at Planned turn) (λ sound. (counts_at Planned turn sound).0)
           (λ sound honest. held_while_chunks_are_synced T E (List RowView) Command (setting_of old) (standing_of old) sound.behind (success E v) old.disk disk turn sound.held (all_written sound) call honest)
 
       pub chunks_not_synced : {E : Type 0} (T : Type 0) (e : E) (plan : Turn) → SyncCall (failure T e) old.disk disk → IsState (checked old disk old.check old.written plan true) hidden
       chunks_not_synced {E} T e plan call =
-          stays disk plan Planned turn call.keeps
+          stays disk plan Planned turn (λ (is : Planned ≡ Ready). cc) call.keeps
           (λ sound honest. held_while_chunks_are_synced T E (List RowView) Command (setting_of old) (standing_of old) sound.behind (failure T e) old.disk disk turn sound.held (all_written sound) call honest)
 
     -- the new half's gate
@@ -142,18 +150,18 @@ module _ (old : StateView) (hidden : Hidden) (has : IsState old hidden) where
 
       pub half_opened : {T : Type 0} (E : Type 0) (v : T) → WriteCall sector given (success E v) old.disk disk → IsState (checked old disk Switched old.written old.plan old.stopped) hidden
       half_opened {T} E v call =
-          checked_state disk Switched old.written old.plan old.stopped (λ is. is) call.keeps has.shape.plan (epoch_at Laid turn) (counts_at Laid turn)
+          checked_state disk Switched old.written old.plan old.stopped (λ is. is) Laid turn (λ (is : Laid ≡ Ready). cc) call.keeps has.shape.plan (epoch_at Laid turn) (counts_at Laid turn)
           (λ sound honest. held_while_half_is_opened T E (List RowView) Command (setting_of old) (standing_of old) sound.behind (success E v) old.disk disk turn (gate_so (success E v) call) honest sound.held)
 
       pub half_doubtful : {E : Type 0} (T : Type 0) (e : E) (plan : Turn) → WriteCall sector given (failure T e) old.disk disk → IsState (checked old disk SwitchFailed old.written plan true) hidden
       half_doubtful {E} T e plan call =
-          checked_state disk SwitchFailed old.written plan true (λ (is : true ≡ false). cc) call.keeps has.shape.plan tt (counts_at Laid turn)
+          checked_state disk SwitchFailed old.written plan true (λ (is : true ≡ false). cc) Laid turn (λ (is : Laid ≡ Ready). cc) call.keeps has.shape.plan tt (counts_at Laid turn)
           (λ sound honest. held_while_half_is_opened T E (List RowView) Command (setting_of old) (standing_of old) sound.behind (failure T e) old.disk disk turn (gate_so (failure T e) call) honest sound.held)
 
     -- it is synced
     pub half_not_synced : {E : Type 0} (T : Type 0) (e : E) (plan : Turn) → old.check ≡ Switched → SyncCall (failure T e) old.disk disk → IsState (checked old disk old.check old.written plan true) hidden
     half_not_synced {E} T e plan turn call =
-        stays disk plan Switched turn call.keeps
+        stays disk plan Switched turn (λ (is : Switched ≡ Ready). cc) call.keeps
         (λ sound honest. held_while_half_is_synced T E (List RowView) Command (setting_of old) (standing_of old) sound.behind (failure T e) old.disk disk turn call honest sound.held)
 
     pub half_synced : {T : Type 0} (E : Type 0) (v : T) (version : ℕ) → version ≡ latest → old.check ≡ Switched → SyncCall (success E v) old.disk disk
@@ -173,6 +181,7 @@ module _ (old : StateView) (hidden : Hidden) (has : IsState old hidden) where
             fits = has.shape.fits;
             known = omega arith;
             taken = has.shape.taken;
+            owed = has.shape.owed;
             rests = has.shape.rests;
             load = load_larger old.version latest has.shape.known old.geometry old.value.place old.gate (load_of (standing_of old)) has.shape.load;
             staged = has.shape.staged;
@@ -181,16 +190,16 @@ module _ (old : StateView) (hidden : Hidden) (has : IsState old hidden) where
           };
           sound = λ honest.
               let before = honest_before old.disk disk call.keeps honest in
-              let sound = has.sound before in
+              let sound = sound_at_work old hidden has (inr (away Switched turn (λ (is : Switched ≡ Ready). cc))) before in
               let next = counts_at Switched turn sound in
               let live = held_while_half_is_synced T E (List RowView) Command (setting_of old) (standing_of old) sound.behind (success E v) old.disk disk turn call before sound.held in
-              record {
+              inl (record {
                 behind = sound.behind;
                 held = subst (λ (n : ℕ). IsHeldBy (setting_of old) (record (held.checked (standing_of old) Live old.written) { version = n }) sound.behind disk.history.now) next.version
                     (held_under_the_new_version (List RowView) Command (setting_of old) (held.checked (standing_of old) Live old.written) sound.behind disk.history.now refl live);
                 counts = next.new;
                 fits = sound.fits;
-              };
+              });
         })
 
     -- the old half's gates
@@ -201,23 +210,23 @@ module _ (old : StateView) (hidden : Hidden) (has : IsState old hidden) where
 
       pub half_closed : {T : Type 0} (E : Type 0) (v : T) → WriteCall sector given (success E v) old.disk disk → IsState (checked old disk Closing old.written old.plan old.stopped) hidden
       half_closed {T} E v call =
-          checked_state disk Closing old.written old.plan old.stopped (λ is. is) call.keeps has.shape.plan tt (counts_at Live turn)
+          checked_state disk Closing old.written old.plan old.stopped (λ is. is) Live turn (λ (is : Live ≡ Ready). cc) call.keeps has.shape.plan tt (counts_at Live turn)
           (λ sound honest. held_while_half_is_closed T E (List RowView) Command (setting_of old) (standing_of old) sound.behind (success E v) old.disk disk turn (gates_so (success E v) call) honest sound.held)
 
       pub half_not_closed : {E : Type 0} (T : Type 0) (e : E) (plan : Turn) → WriteCall sector given (failure T e) old.disk disk → IsState (checked old disk CloseFailed old.written plan true) hidden
       half_not_closed {E} T e plan call =
-          checked_state disk CloseFailed old.written plan true (λ (is : true ≡ false). cc) call.keeps has.shape.plan tt (counts_at Live turn)
+          checked_state disk CloseFailed old.written plan true (λ (is : true ≡ false). cc) Live turn (λ (is : Live ≡ Ready). cc) call.keeps has.shape.plan tt (counts_at Live turn)
           (λ sound honest. held_while_half_is_closed T E (List RowView) Command (setting_of old) (standing_of old) sound.behind (failure T e) old.disk disk turn (gates_so (failure T e) call) honest sound.held)
 
     -- and their sync
     pub close_synced : {T : Type 0} (E : Type 0) (v : T) (plan : Turn) → old.check ≡ Closing → SyncCall (success E v) old.disk disk → IsState (checked old disk Ready old.written plan old.stopped) hidden
     close_synced {T} E v plan turn call =
-        checked_state disk Ready old.written plan old.stopped (λ is. is) call.keeps has.shape.plan tt (counts_at Closing turn)
+        checked_state disk Ready old.written plan old.stopped (λ is. is) Closing turn (λ (is : Closing ≡ Ready). cc) call.keeps has.shape.plan tt (counts_at Closing turn)
         (λ sound honest. held_while_close_is_synced T E (List RowView) Command (setting_of old) (standing_of old) sound.behind (success E v) old.disk disk turn call honest sound.held)
 
     pub close_not_synced : {E : Type 0} (T : Type 0) (e : E) (plan : Turn) → old.check ≡ Closing → SyncCall (failure T e) old.disk disk → IsState (checked old disk old.check old.written plan true) hidden
     close_not_synced {E} T e plan turn call =
-        stays disk plan Closing turn call.keeps
+        stays disk plan Closing turn (λ (is : Closing ≡ Ready). cc) call.keeps
         (λ sound honest. held_while_close_is_synced T E (List RowView) Command (setting_of old) (standing_of old) sound.behind (failure T e) old.disk disk turn call honest sound.held)
 
     -- the next sectors
@@ -243,11 +252,11 @@ module _ (old : StateView) (hidden : Hidden) (has : IsState old hidden) where
 
       pub chunk_written : {T : Type 0} (E : Type 0) (v : T) → WriteCall sector given (success E v) old.disk disk → IsState (checked old disk old.check (old.written + more) old.plan old.stopped) hidden
       chunk_written {T} E v call =
-          checked_state disk old.check (old.written + more) old.plan old.stopped (λ is. is) call.keeps plan_after has.shape.epoch (λ sound. sound.counts)
+          checked_state disk old.check (old.written + more) old.plan old.stopped (λ is. is) Planned turn (λ (is : Planned ≡ Ready). cc) call.keeps plan_after has.shape.epoch (λ sound. sound.counts)
           (λ sound honest. subst (λ (p : Check). IsHeldBy (setting_of old) (held.checked (standing_of old) p (old.written + more)) sound.behind disk.history.now) (sym turn)
           (held_while_chunk_is_written T E (List RowView) Command (setting_of old) (standing_of old) sound.behind more (success E v) old.disk disk turn sound.held (inside_so sound) (chunk_so (success E v) sound call) honest))
 
       pub chunk_not_written : {E : Type 0} (T : Type 0) (e : E) (plan : Turn) → WriteCall sector given (failure T e) old.disk disk → IsState (checked old disk old.check old.written plan true) hidden
       chunk_not_written {E} T e plan call =
-          stays disk plan Planned turn call.keeps
+          stays disk plan Planned turn (λ (is : Planned ≡ Ready). cc) call.keeps
           (λ sound honest. held_while_chunk_is_written T E (List RowView) Command (setting_of old) (standing_of old) sound.behind more (failure T e) old.disk disk turn sound.held (inside_so sound) (chunk_so (failure T e) sound call) honest)

@@ -1,5 +1,5 @@
 -- The flusher's steps on a state.
-use Rattle.std.proofs.Common.{◌≡◌, ◌≢◌, ℕ, ◌+◌, Bool, true, false, List, Result, Ok, Err, refl, sym, ◌∙◌, subst, arith}
+use Rattle.std.proofs.Common.{◌≡◌, ◌≢◌, inl, ℕ, ◌+◌, Bool, true, false, List, Result, Ok, Err, refl, sym, ◌∙◌, subst, arith}
 use Rattle.path_db.specs.Database.{RowView}
 use Rattle.path_db.specs.declared.command.Command.{Command}
 use Rattle.sector_dev.specs.Disk.{Disk, IsHonest}
@@ -16,6 +16,7 @@ use Rattle.group_laws.proofs.Exports.{held_while_load_is_written, held_while_gat
 use Rattle.group_core.specs.declared.bookkeeping.Turn.{Turn}
 use Rattle.group_core.specs.StateView.{StateView, setting_of, standing_of}
 use Rattle.group_core.specs.Invariant.{Hidden, Shape, Sound, IsState}
+use Rattle.group_core.proofs.Soundness.{sound_at_work, either_stays}
 
 -- a result, of which only the kind counts
 abbrev pub failure : {E : Type 0} (T : Type 0) → E → Result T E
@@ -53,6 +54,7 @@ module _ (old : StateView) (hidden : Hidden) (has : IsState old hidden) where
       fits = λ going. has.shape.fits (later.going going);
       known = has.shape.known;
       taken = has.shape.taken;
+      owed = has.shape.owed;
       rests = λ rests. has.shape.rests (later.rests rests);
       load = has.shape.load;
       staged = λ staged. has.shape.staged (later.staged staged);
@@ -61,22 +63,24 @@ module _ (old : StateView) (hidden : Hidden) (has : IsState old hidden) where
     }
 
     -- a call that leaves what the state then stands for
-    flushed_state : Keeps old.disk disk
+    flushed_state : old.flush ≢ Resting → Keeps old.disk disk
         → ((sound : Sound old) → IsHonest old.disk → IsHeldBy (setting_of old) (held.flushed (standing_of old) flush) sound.behind disk.history.now)
         → IsState (flushed old disk flush group stopped) hidden
-    flushed_state keeps holds = record {
+    flushed_state work keeps holds = record {
       shape = flushed_shape keeps.sectors;
       sound = λ honest.
           let before = honest_before old.disk disk keeps honest in
-          let sound = has.sound before in
-          record { behind = sound.behind; held = holds sound before; counts = sound.counts; fits = λ going. sound.fits (later.going going) };
+          let sound = sound_at_work old hidden has (inl work) before in
+          inl (record { behind = sound.behind; held = holds sound before; counts = sound.counts; fits = λ going. sound.fits (later.going going) });
     }
 
   -- the value is spent, and no call is made
   pub value_spent : (group : Turn) → IsState (record old { group = group }) hidden
   value_spent group = record {
     shape = flushed_shape old.disk old.flush group old.stopped (record { staged = λ is. is; rests = λ is. is; going = λ is. is }) refl;
-    sound = λ honest. let sound = has.sound honest in record { behind = sound.behind; held = sound.held; counts = sound.counts; fits = sound.fits };
+    sound = λ honest. either_stays old (record old { group = group })
+        (λ sound. record { behind = sound.behind; held = sound.held; counts = sound.counts; fits = sound.fits })
+        (λ broken. record { stopped = broken.stopped; rests = broken.rests; ready = broken.ready; images = broken.images }) (has.sound honest);
   }
 
   module _ (disk : Disk) (sector : ℕ) (given : List ℕ) where
@@ -89,12 +93,12 @@ module _ (old : StateView) (hidden : Hidden) (has : IsState old hidden) where
 
       pub load_written : {T : Type 0} (E : Type 0) (v : T) → WriteCall sector given (success E v) old.disk disk → IsState (flushed old disk Written old.group old.stopped) hidden
       load_written {T} E v call =
-          flushed_state disk Written old.group old.stopped (record { staged = λ _. in_flight Staged turn (λ (is : Staged ≡ Resting). cc); rests = λ (is : Written ≡ Resting). cc; going = λ is. is }) call.keeps
+          flushed_state disk Written old.group old.stopped (record { staged = λ _. in_flight Staged turn (λ (is : Staged ≡ Resting). cc); rests = λ (is : Written ≡ Resting). cc; going = λ is. is }) (in_flight Staged turn (λ (is : Staged ≡ Resting). cc)) call.keeps
           (λ sound honest. held_while_load_is_written T E (List RowView) Command (setting_of old) (standing_of old) sound.behind (success E v) old.disk disk turn (call_so (success E v) call) honest sound.held)
 
       pub load_not_written : {E : Type 0} (T : Type 0) (e : E) (group : Turn) → WriteCall sector given (failure T e) old.disk disk → IsState (flushed old disk old.flush group true) hidden
       load_not_written {E} T e group call =
-          flushed_state disk old.flush group true (record { staged = λ is. is; rests = λ is. is; going = λ (is : true ≡ false). cc }) call.keeps
+          flushed_state disk old.flush group true (record { staged = λ is. is; rests = λ is. is; going = λ (is : true ≡ false). cc }) (in_flight Staged turn (λ (is : Staged ≡ Resting). cc)) call.keeps
           (λ sound honest. subst (λ (p : Flush). IsHeldBy (setting_of old) (held.flushed (standing_of old) p) sound.behind disk.history.now) (sym turn)
           (held_while_load_is_written T E (List RowView) Command (setting_of old) (standing_of old) sound.behind (failure T e) old.disk disk turn (call_so (failure T e) call) honest sound.held))
 
@@ -105,33 +109,33 @@ module _ (old : StateView) (hidden : Hidden) (has : IsState old hidden) where
 
       pub gate_opened : {T : Type 0} (E : Type 0) (v : T) → WriteCall sector given (success E v) old.disk disk → IsState (flushed old disk Opened old.group old.stopped) hidden
       gate_opened {T} E v call =
-          flushed_state disk Opened old.group old.stopped (record { staged = λ _. in_flight Stable turn (λ (is : Stable ≡ Resting). cc); rests = λ (is : Opened ≡ Resting). cc; going = λ is. is }) call.keeps
+          flushed_state disk Opened old.group old.stopped (record { staged = λ _. in_flight Stable turn (λ (is : Stable ≡ Resting). cc); rests = λ (is : Opened ≡ Resting). cc; going = λ is. is }) (in_flight Stable turn (λ (is : Stable ≡ Resting). cc)) call.keeps
           (λ sound honest. held_while_gate_is_opened T E (List RowView) Command (setting_of old) (standing_of old) sound.behind (success E v) old.disk disk turn (gate_so (success E v) call) honest sound.held)
 
       pub gate_doubtful : {E : Type 0} (T : Type 0) (e : E) (group : Turn) → WriteCall sector given (failure T e) old.disk disk → IsState (flushed old disk Doubtful group true) hidden
       gate_doubtful {E} T e group call =
-          flushed_state disk Doubtful group true (record { staged = λ _. in_flight Stable turn (λ (is : Stable ≡ Resting). cc); rests = λ (is : Doubtful ≡ Resting). cc; going = λ (is : true ≡ false). cc }) call.keeps
+          flushed_state disk Doubtful group true (record { staged = λ _. in_flight Stable turn (λ (is : Stable ≡ Resting). cc); rests = λ (is : Doubtful ≡ Resting). cc; going = λ (is : true ≡ false). cc }) (in_flight Stable turn (λ (is : Stable ≡ Resting). cc)) call.keeps
           (λ sound honest. held_while_gate_is_opened T E (List RowView) Command (setting_of old) (standing_of old) sound.behind (failure T e) old.disk disk turn (gate_so (failure T e) call) honest sound.held)
 
   module _ (disk : Disk) where
     pub load_synced : {T : Type 0} (E : Type 0) (v : T) → old.flush ≡ Written → SyncCall (success E v) old.disk disk → IsState (flushed old disk Stable old.group old.stopped) hidden
     load_synced {T} E v turn call =
-        flushed_state disk Stable old.group old.stopped (record { staged = λ _. in_flight Written turn (λ (is : Written ≡ Resting). cc); rests = λ (is : Stable ≡ Resting). cc; going = λ is. is }) call.keeps
+        flushed_state disk Stable old.group old.stopped (record { staged = λ _. in_flight Written turn (λ (is : Written ≡ Resting). cc); rests = λ (is : Stable ≡ Resting). cc; going = λ is. is }) (in_flight Written turn (λ (is : Written ≡ Resting). cc)) call.keeps
         (λ sound honest. held_while_load_is_synced T E (List RowView) Command (setting_of old) (standing_of old) sound.behind (success E v) old.disk disk turn call honest sound.held)
 
     pub gate_synced : {T : Type 0} (E : Type 0) (v : T) → old.flush ≡ Opened → SyncCall (success E v) old.disk disk → IsState (flushed old disk Durable old.group old.stopped) hidden
     gate_synced {T} E v turn call =
-        flushed_state disk Durable old.group old.stopped (record { staged = λ _. in_flight Opened turn (λ (is : Opened ≡ Resting). cc); rests = λ (is : Durable ≡ Resting). cc; going = λ is. is }) call.keeps
+        flushed_state disk Durable old.group old.stopped (record { staged = λ _. in_flight Opened turn (λ (is : Opened ≡ Resting). cc); rests = λ (is : Durable ≡ Resting). cc; going = λ is. is }) (in_flight Opened turn (λ (is : Opened ≡ Resting). cc)) call.keeps
         (λ sound honest. held_while_gate_is_synced T E (List RowView) Command (setting_of old) (standing_of old) sound.behind (success E v) old.disk disk turn call honest sound.held)
 
     pub load_not_synced : {E : Type 0} (T : Type 0) (e : E) (group : Turn) → old.flush ≡ Written → SyncCall (failure T e) old.disk disk → IsState (flushed old disk old.flush group true) hidden
     load_not_synced {E} T e group turn call =
-        flushed_state disk old.flush group true (record { staged = λ is. is; rests = λ is. is; going = λ (is : true ≡ false). cc }) call.keeps
+        flushed_state disk old.flush group true (record { staged = λ is. is; rests = λ is. is; going = λ (is : true ≡ false). cc }) (in_flight Written turn (λ (is : Written ≡ Resting). cc)) call.keeps
         (λ sound honest. subst (λ (p : Flush). IsHeldBy (setting_of old) (held.flushed (standing_of old) p) sound.behind disk.history.now) (sym turn)
         (held_while_load_is_synced T E (List RowView) Command (setting_of old) (standing_of old) sound.behind (failure T e) old.disk disk turn call honest sound.held))
 
     pub gate_not_synced : {E : Type 0} (T : Type 0) (e : E) (group : Turn) → old.flush ≡ Opened → SyncCall (failure T e) old.disk disk → IsState (flushed old disk old.flush group true) hidden
     gate_not_synced {E} T e group turn call =
-        flushed_state disk old.flush group true (record { staged = λ is. is; rests = λ is. is; going = λ (is : true ≡ false). cc }) call.keeps
+        flushed_state disk old.flush group true (record { staged = λ is. is; rests = λ is. is; going = λ (is : true ≡ false). cc }) (in_flight Opened turn (λ (is : Opened ≡ Resting). cc)) call.keeps
         (λ sound honest. subst (λ (p : Flush). IsHeldBy (setting_of old) (held.flushed (standing_of old) p) sound.behind disk.history.now) (sym turn)
         (held_while_gate_is_synced T E (List RowView) Command (setting_of old) (standing_of old) sound.behind (failure T e) old.disk disk turn call honest sound.held))

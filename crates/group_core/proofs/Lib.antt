@@ -1,3 +1,4 @@
+pub mod Soundness
 pub mod States
 pub mod FlushSteps
 pub mod CheckSteps

@@ -1,5 +1,5 @@
 -- Publishing on a state.
-use Rattle.std.proofs.Common.{◌≡◌, ◌≢◌, ℕ, zero, suc, ◌+◌, ◌*◌, ◌/◌, ◌≤◌, true, List, [], ◌∷◌, ◌++◌, length, take, drop, refl, sym, ◌∙◌, ap, subst, arith, length-take, length-drop}
+use Rattle.std.proofs.Common.{◌≡◌, ◌≢◌, inl, ℕ, zero, suc, ◌+◌, ◌*◌, ◌/◌, ◌≤◌, true, List, [], ◌∷◌, ◌++◌, length, take, drop, refl, sym, ◌∙◌, ap, subst, arith, length-take, length-drop}
 use Rattle.std.specs.List.{AllByRecursion}
 use Rattle.path_db.specs.Database.{RowView}
 use Rattle.path_db.specs.declared.command.Command.{Command}
@@ -31,6 +31,8 @@ use Rattle.group_core.specs.StateView.{StateView, setting_of, standing_of}
 use Rattle.group_core.specs.Steps.{spent}
 use Rattle.group_core.specs.Publishing.{with_group}
 use Rattle.group_core.specs.Invariant.{Hidden, FitsLoad, MayBePending, FitArea, CountsAt, Shape, Sound, IsState}
+use Rattle.group_core.specs.Showing.{IsFront}
+use Rattle.group_core.proofs.Soundness.{sound_at_work}
 
 -- a list in two parts
 take_drop : {A : Type 0} (n : ℕ) (list : List A) → take n list ++ drop n list ≡ list
@@ -103,7 +105,10 @@ module _ (old : StateView) (hidden : Hidden) (has : IsState old hidden) (turn : 
     long : length front ≡ old.taken
     long = omega (arith, length-take old.taken old.pending, has.shape.taken)
 
-    group_shape : Shape (published shown_exactly) (record hidden { place = hidden.place + old.taken })
+    abbrev after : Hidden
+    after = record hidden { place = hidden.place + old.taken; owed = [] }
+
+    group_shape : Shape (published shown_exactly) after
     group_shape = record {
       limits = has.shape.limits;
       sectors = has.shape.sectors;
@@ -118,6 +123,7 @@ module _ (old : StateView) (hidden : Hidden) (has : IsState old hidden) (turn : 
           (has.shape.fits going (old.taken + n) (omega (arith, inside, length-drop old.taken old.pending, has.shape.taken)));
       known = has.shape.known;
       taken = omega arith;
+      owed = refl;
       rests = λ _. refl;
       load = tt;
       staged = λ (other : Resting ≢ Resting). absurd (other refl);
@@ -125,25 +131,27 @@ module _ (old : StateView) (hidden : Hidden) (has : IsState old hidden) (turn : 
       epoch = has.shape.epoch;
     }
 
-    group_state : IsState (published shown_exactly) (record hidden { place = hidden.place + old.taken })
+    group_state : IsState (published shown_exactly) after
     group_state = record {
       shape = group_shape;
       sound = λ honest.
-          let sound = has.sound honest in
-          record {
+          let sound = sound_at_work old hidden has (inl in_flight) honest in
+          inl (record {
             behind = behind_group (standing_of old) sound.behind;
             held = held_when_group_is_published (List RowView) Command (setting_of old) (standing_of old) sound.behind old.disk.history.now turn some sound.held;
             counts = sound.counts;
             fits = sound.fits;
-          };
+          });
     }
 
-    pub group_state_so : (value : StoreValue (List RowView)) (pending : List Command) (gate place : ℕ) → value ≡ value_after store_format old.value front → pending ≡ rest
-        → gate ≡ old.gate + length hidden.staged / 512 → place ≡ hidden.place + old.taken
-        → IsState (published (record { value = value; pending = pending; gate = gate; place = place })) (record hidden { place = place })
-    group_state_so value pending gate place value_is pending_is gate_is place_is =
-        subst (λ (shown : Shown). IsState (published shown) (record hidden { place = shown.place }))
-        (λ i. record { value = sym value_is i; pending = sym pending_is i; gate = sym gate_so i; place = sym place_is i }) group_state
+    pub group_state_so : (value : StoreValue (List RowView)) (pending owed : List Command) (gate place : ℕ) → value ≡ value_after store_format old.value front → pending ≡ rest
+        → gate ≡ old.gate + length hidden.staged / 512 → place ≡ hidden.place + old.taken → owed ≡ []
+        → IsState (published (record { value = value; pending = pending; gate = gate; place = place })) (record hidden { place = place; owed = owed })
+    group_state_so value pending owed gate place value_is pending_is gate_is place_is owed_is =
+        subst (λ (list : List Command). IsState (published (record { value = value; pending = pending; gate = gate; place = place })) (record hidden { place = place; owed = list }))
+        (sym owed_is)
+        (subst (λ (shown : Shown). IsState (published shown) (record hidden { place = shown.place; owed = [] }))
+        (λ i. record { value = sym value_is i; pending = sym pending_is i; gate = sym gate_so i; place = sym place_is i }) group_state)
       where
         gate_so : gate ≡ gate_behind command_format old.gate front
         gate_so = omega (arith, gate_is, sectors_staged)
@@ -217,6 +225,7 @@ module _ (old : StateView) (hidden : Hidden) (has : IsState old hidden) (turn : 
         fits = has.shape.fits;
         known = has.shape.known;
         taken = has.shape.taken;
+        owed = has.shape.owed;
         rests = λ _. none;
         load = subst (FitsLoad (limits_of old.version) old.geometry old.value.place 0) (sym load_none) tt;
         staged = λ (not_resting : Resting ≢ Resting). absurd (not_resting refl);
@@ -224,11 +233,11 @@ module _ (old : StateView) (hidden : Hidden) (has : IsState old hidden) (turn : 
         epoch = tt;
       };
       sound = λ honest.
-          let sound = has.sound honest in
-          record {
+          let sound = sound_at_work old hidden has (inl in_flight) honest in
+          inl (record {
             behind = behind_seal (standing_of old) sound.behind (next_of sound);
             held = held_when_seal_is_published (List RowView) Command (setting_of old) (standing_of old) sound.behind old.disk.history.now (next_of sound) turn none (ready sound) sound.held (folds sound);
             counts = subst (λ (p : Check). CountsAt p old.epoch old.checkpoint sound.behind.old sound.behind.new) (ready sound) sound.counts;
             fits = λ going. has.shape.fits going 0 (omega arith);
-          };
+          });
     })

@@ -1,5 +1,5 @@
 -- What a call leaves, from state to state.
-use Rattle.std.proofs.Common.{◌≡◌, inl, ℕ, List, Result, sym, subst}
+use Rattle.std.proofs.Common.{◌≡◌, ◌⊎◌, inl, inr, ℕ, List, Result, sym, subst}
 use Rattle.path_db.specs.Database.{RowView}
 use Rattle.path_db.specs.declared.command.Command.{Command}
 use Rattle.sector_dev.specs.Disk.{Disk, IsHonest}
@@ -14,14 +14,22 @@ use Rattle.group_laws.specs.Standing.{IsHeld}
 use Rattle.group_laws.specs.HeldSteps.{OpensAroundCall}
 use Rattle.group_laws.proofs.Exports.{opens_by_both_parts, writes_leave_fronts, sync_moments}
 use Rattle.group_core.specs.StateView.{StateView, setting_of, standing_of, MayOpen, StepLeaves}
-use Rattle.group_core.specs.Invariant.{Hidden, IsState}
+use Rattle.group_core.specs.Invariant.{Hidden, Sound, IsBroken, IsState}
+use Rattle.group_core.proofs.Soundness.{AtWork, sound_at_work}
 
 -- the device of a sound state holds what it stands for, and every image is as that says
-pub held : (view : StateView) (hidden : Hidden) → IsState view hidden → IsHonest view.disk → IsHeld (setting_of view) (standing_of view) view.disk.history.now
-held view hidden has honest = let sound = has.sound honest in record { behind = sound.behind; by = sound.held }
+held_so : (view : StateView) → Sound view → IsHeld (setting_of view) (standing_of view) view.disk.history.now
+held_so view sound = record { behind = sound.behind; by = sound.held }
+
+pub held : (view : StateView) (hidden : Hidden) → IsState view hidden → AtWork view.flush view.check → IsHonest view.disk → IsHeld (setting_of view) (standing_of view) view.disk.history.now
+held view hidden has work honest = held_so view (sound_at_work view hidden has work honest)
 
 pub may_open : (view : StateView) (hidden : Hidden) → IsState view hidden → IsHonest view.disk → EveryImage view.disk.history.now (MayOpen view)
-may_open view hidden has honest = opens_by_both_parts (List RowView) Command (setting_of view) (standing_of view) view.disk.history.now (held view hidden has honest)
+may_open view hidden has honest = by_case (has.sound honest)
+  where
+    by_case : Sound view ⊎ IsBroken view → EveryImage view.disk.history.now (MayOpen view)
+    by_case (inl sound) = opens_by_both_parts (List RowView) Command (setting_of view) (standing_of view) view.disk.history.now (held_so view sound)
+    by_case (inr broken) = broken.images
 
 -- What a call leaves, where the state before it is seen as `view`, and the sizes stay.
 module _ {old view : StateView} {old_hidden : Hidden} (is : old ≡ view) (has : IsState old old_hidden) where
@@ -44,11 +52,12 @@ module _ {old view : StateView} {old_hidden : Hidden} (is : old ≡ view) (has :
     })
 
     -- a write, and a sync
-    pub leaves_write : {T E : Type 0} {sector : ℕ} {bytes : List ℕ} {result : Result T E} → new.geometry ≡ old.geometry → WriteCall sector bytes result old.disk new.disk → StepLeaves view new
-    leaves_write {T} {E} {sector} {bytes} {result} same call = subst (λ (v : StateView). StepLeaves v new) is (record {
+    pub leaves_write : {T E : Type 0} {sector : ℕ} {bytes : List ℕ} {result : Result T E} → AtWork old.flush old.check → AtWork new.flush new.check → new.geometry ≡ old.geometry → WriteCall sector bytes result old.disk new.disk
+        → StepLeaves view new
+    leaves_write {T} {E} {sector} {bytes} {result} was work same call = subst (λ (v : StateView). StepLeaves v new) is (record {
       moments =
-          writes_leave_fronts T E (List RowView) Command (setting_of old) (standing_of old) (standing_of new) sector bytes result old.disk new.disk call (held old old_hidden has)
-          (λ honest. subst (λ (g : Geometry). IsHeld (record { format = store_format; latest = latest; geometry = g }) (standing_of new) new.disk.history.now) same (held new new_hidden now honest));
+          writes_leave_fronts T E (List RowView) Command (setting_of old) (standing_of old) (standing_of new) sector bytes result old.disk new.disk call (held old old_hidden has was)
+          (λ honest. subst (λ (g : Geometry). IsHeld (record { format = store_format; latest = latest; geometry = g }) (standing_of new) new.disk.history.now) same (held new new_hidden now work honest));
       exit = may_open new new_hidden now;
     })
 

@@ -1,10 +1,11 @@
 -- What is true of every state.
-use Rattle.std.specs.Prelude.{◌≡◌, ◌≢◌, ℕ, ◌+◌, ◌*◌, ◌^◌, ◌<◌, ◌≤◌, false, List, length, take}
+use Rattle.std.specs.Prelude.{◌≡◌, ◌≢◌, ℕ, ◌+◌, ◌*◌, ◌^◌, ◌<◌, ◌≤◌, ◌⊎◌, true, false, List, [], length, take}
 use Rattle.std.specs.List.{AllByRecursion}
 use Rattle.path_db.specs.Database.{RowView}
 use Rattle.path_db.specs.declared.command.Command.{Command}
 use Rattle.path_db.specs.CommandRecord.{IsWithinLimits}
 use Rattle.sector_dev.specs.Disk.{IsHonest}
+use Rattle.sector_dev.specs.Image.{EveryImage}
 use Rattle.image_laws.specs.Limits.{Limits, limits_of}
 use Rattle.image_laws.specs.CommandFormat.{IsAllowed}
 use Rattle.image_laws.specs.Group.{last_place, group_sectors, HasRoom, CanBeGroup}
@@ -20,14 +21,16 @@ use Rattle.group_laws.specs.declared.phases.Check.{Check}
 use Rattle.group_laws.specs.declared.phases.Check.TheVariants.{Ready, Sealed, Planned, Laid, Switched, SwitchFailed, Live, Closing, CloseFailed}
 use Rattle.group_laws.specs.Tail.{Load, Commands, Seal, load_bytes}
 use Rattle.group_laws.specs.Standing.{load_of, Behind, IsHeldBy}
-use Rattle.group_core.specs.StateView.{StateView, setting_of, standing_of}
+use Rattle.group_core.specs.StateView.{StateView, setting_of, standing_of, MayOpen}
+use Rattle.group_core.specs.Showing.{IsFront}
 
--- what no clause sees: the bytes that are to be written of what is in flight, the rows after all commands that are accepted, and
--- the place of the first of these
+-- what no clause sees: the bytes that are to be written of what is in flight, the rows after all commands that are accepted, the
+-- place of the first of these, and what the showcase has in hand already of the group that it is to show
 pub record Hidden : Type 0 where
   pub staged : List ℕ
   pub tip : List RowView
   pub place : ℕ
+  pub owed : List Command
 
 -- what is in flight may stand behind the tail's gate
 abbrev pub FitsLoad : Limits → Geometry → ℕ → ℕ → Load Command → Type 0
@@ -89,6 +92,7 @@ pub record Shape (view : StateView) (hidden : Hidden) : Type 0 where
   pub fits : view.stopped ≡ false → EveryFrontFits view
   pub known : view.version ≤ latest
   pub taken : view.taken ≤ length view.pending
+  pub owed : IsFront hidden.owed (take view.taken view.pending)
   pub rests : view.flush ≡ Resting → view.taken ≡ 0
   pub load : FitsLoad (limits_of view.version) view.geometry view.value.place view.gate (load_of (standing_of view))
   pub staged : view.flush ≢ Resting → hidden.staged ≡ load_bytes command_format view.value.place (load_of (standing_of view))
@@ -122,6 +126,14 @@ pub record Sound (view : StateView) : Type 0 where
   pub counts : CountsAt view.check view.epoch view.checkpoint behind.old behind.new
   pub fits : view.stopped ≡ false → checkpoint_size rows_format behind.new ≤ 512 * view.geometry.checkpoint
 
+-- What is held instead by the device of a store whose checkpoint had failed: the state has stopped before anything began, and
+-- every image opens to what it shows.
+pub record IsBroken (view : StateView) : Type 0 where
+  pub stopped : view.stopped ≡ true
+  pub rests : view.flush ≡ Resting
+  pub ready : view.check ≡ Ready
+  pub images : EveryImage view.disk.history.now (MayOpen view)
+
 pub record IsState (view : StateView) (hidden : Hidden) : Type 0 where
   pub shape : Shape view hidden
-  pub sound : IsHonest view.disk → Sound view
+  pub sound : IsHonest view.disk → Sound view ⊎ IsBroken view

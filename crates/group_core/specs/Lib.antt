@@ -1,3 +1,4 @@
+pub mod Showing
 pub mod Values
 pub mod StateView
 pub mod Invariant

@@ -32,9 +32,10 @@ pub record IsOwn (ticket : Ticket) (view : StateView) : Type 0 where
 abbrev pub redeemed : Ticket → StateView → StateView
 redeemed ticket old = record old { kept = kept_without ticket.place old.kept }
 
--- a receipt of the kept outcome, with what the showcase told of what is committed
+-- a receipt of the ticket's command and of the kept outcome, with what the showcase told of what is committed
 pub record IsReceipt {N : Type 0} (tells : StoreValue (List RowView) → N → Type 0) (ticket : Ticket) (view : StateView) (receipt : Receipt N) : Type 0 where
   pub place : receipt.place ≡ ticket.place
+  pub command : receipt.command.value ≡ ticket.command.value
   pub outcome : HasOutcome ticket view receipt.outcome
   pub note : MatchOption receipt.note ⊥ (tells view.value)
 

@@ -51,11 +51,13 @@ impl PlainShow {
 }
 
 impl Showcase for PlainShow {
-    ghost use Rattle.std.specs.Prelude.{◌≡◌, ◌+◌, ◌≤◌, length, OnOk, OnErr};
+    ghost use Rattle.std.specs.Prelude.{◌≡◌, ◌+◌, ◌≤◌, [], length, OnOk, OnErr};
 
     type Note = ();
 
     ghost value = { λ s. s };
+
+    ghost owed = { λ s. [] };
 
     ghost tells = { λ value note. Unit {0} };
 

@@ -28,13 +28,14 @@ impl<D: Device, S: Showcase> State<D, S> {
             return Redeemed::Waiting(ticket);
         }
         self.kept.remove(&place);
-        ticket.spend();
+        let command = ticket.into_command();
         if !is_committed {
             return Redeemed::Unknown(place);
         }
         let note = Some(self.show.tell());
         Redeemed::Committed(Receipt {
             place,
+            command,
             outcome,
             note,
         })

@@ -84,5 +84,5 @@ impl<D: Device, S: Showcase> Model for State<D, S> {
       checkpoint = s.checkpoint.items;
       written = s.written;
       stopped = s.stopped;
-    }) (record { staged = s.staged.items; tip = s.tip; place = s.place }) };
+    }) (record { staged = s.staged.items; tip = s.tip; place = s.place; owed = S.owed s.show }) };
 }

@@ -2,12 +2,15 @@
 
 ghost use Rattle.std.specs.Prelude.{◌≡◌};
 
-use path_db::Outcome;
+use path_db::{Command, Outcome};
+use std::snapshot::Snapshot;
 
 /// What `submit` gives for a command: the home of its state, and its place. It can't be copied or dropped: it is redeemed.
 pub struct Ticket {
     pub(crate) home: u64,
     pub(crate) place: u64,
+    /// The command, to clauses alone.
+    pub(crate) command: Snapshot<Command>,
 }
 
 impl Ticket {
@@ -18,12 +21,16 @@ impl Ticket {
         self.place
     }
 
-    /// It is no more.
-    pub(crate) fn spend(self) {
+    /// Its command, as clauses see it. The ticket is no more.
+    pub(crate) fn into_command(self) -> Snapshot<Command>
+        ensures { result.value ≡ self.command.value }
+    {
         let Ticket {
             home: _home,
             place: _place,
+            command,
         } = self;
+        command
     }
 }
 
@@ -32,6 +39,8 @@ impl Ticket {
 pub struct Receipt<N> {
     /// The place of the command.
     pub place: u64,
+    /// The command, to clauses alone: that of the ticket.
+    pub command: Snapshot<Command>,
     /// What it did.
     pub outcome: Outcome,
     /// What the showcase told then; there is one.

@@ -1,6 +1,8 @@
-use Rattle.std.proofs.Common.{false, refl, ◌∙◌, ap, arith}
+use Rattle.std.proofs.Common.{◌≡◌, inr, false, refl, ◌∙◌, ap, arith}
 use Rattle.image_laws.specs.Layout.{gate_at}
 use Rattle.store_open.specs.Geometry.{geometry_view}
+use Rattle.group_laws.specs.declared.phases.Check.TheVariants.{Ready as ready, CloseFailed as close_failed, Closing as closing, Live as live}
+use Rattle.group_core.proofs.Soundness.{checking}
 use Rattle.group_core.proofs.States.{leaves_none, leaves_pure, leaves_write}
 use Rattle.group_core.proofs.CheckSteps.{plan_spent, half_closed, half_not_closed}
 use Rattle.group_core.proofs.Regions.{gates_inside}
@@ -22,10 +24,10 @@ pub returns-then-self-clause-any_moment : goal.returns-then-self-clause-any_mome
 returns-then-self-clause-any_moment g c = leaves_pure c.self.view_is c.self.invariant (invariant_of-self g c) refl
 
 pub returns-in-Ok-clause-any_moment : goal.returns-in-Ok-clause-any_moment
-returns-in-Ok-clause-any_moment g c = leaves_write c.self.view_is c.self.invariant (invariant_of-self-in-Ok g c) refl c.write.ensures.write
+returns-in-Ok-clause-any_moment g c = leaves_write c.self.view_is c.self.invariant (invariant_of-self-in-Ok g c) (checking live c.in-Live.is (λ (is : live ≡ ready). cc)) (inr (λ (is : closing ≡ ready). cc)) refl c.write.ensures.write
 
 pub returns-in-Err-clause-any_moment : goal.returns-in-Err-clause-any_moment
-returns-in-Err-clause-any_moment g c = leaves_write c.self.view_is c.self.invariant (invariant_of-self-in-Err g c) refl c.write.ensures.write
+returns-in-Err-clause-any_moment g c = leaves_write c.self.view_is c.self.invariant (invariant_of-self-in-Err g c) (checking live c.in-Live.is (λ (is : live ≡ ready). cc)) (inr (λ (is : close_failed ≡ ready). cc)) refl c.write.ensures.write
 
 pub write-requires-clause-inside : goal.write-requires-clause-inside
 write-requires-clause-inside g c =

@@ -1,4 +1,6 @@
-use Rattle.std.proofs.Common.{◌+◌, false, refl, arith}
+use Rattle.std.proofs.Common.{◌≡◌, inl, ◌+◌, false, refl, arith}
+use Rattle.group_laws.specs.declared.phases.Flush.TheVariants.{Resting as resting, Doubtful as doubtful, Opened as opened, Stable as stable}
+use Rattle.group_core.proofs.Soundness.{flushing}
 use Rattle.group_core.proofs.States.{leaves_none, leaves_pure, leaves_write}
 use Rattle.group_core.proofs.FlushSteps.{value_spent, gate_opened, gate_doubtful}
 use Rattle.group_core.proofs.state.State.open_gate.Goals as goal
@@ -22,7 +24,7 @@ pub returns-then-self-clause-any_moment : goal.returns-then-self-clause-any_mome
 returns-then-self-clause-any_moment g c = leaves_pure c.self.view_is c.self.invariant (invariant_of-self g c) refl
 
 pub returns-in-Ok-clause-any_moment : goal.returns-in-Ok-clause-any_moment
-returns-in-Ok-clause-any_moment g c = leaves_write c.self.view_is c.self.invariant (invariant_of-self-in-Ok g c) refl c.write.ensures.write
+returns-in-Ok-clause-any_moment g c = leaves_write c.self.view_is c.self.invariant (invariant_of-self-in-Ok g c) (flushing stable c.in-Stable.is (λ (is : stable ≡ resting). cc)) (inl (λ (is : opened ≡ resting). cc)) refl c.write.ensures.write
 
 pub returns-in-Err-clause-any_moment : goal.returns-in-Err-clause-any_moment
-returns-in-Err-clause-any_moment g c = leaves_write c.self.view_is c.self.invariant (invariant_of-self-in-Err g c) refl c.write.ensures.write
+returns-in-Err-clause-any_moment g c = leaves_write c.self.view_is c.self.invariant (invariant_of-self-in-Err g c) (flushing stable c.in-Stable.is (λ (is : stable ≡ resting). cc)) (inl (λ (is : doubtful ≡ resting). cc)) refl c.write.ensures.write

@@ -1,4 +1,6 @@
-use Rattle.std.proofs.Common.{false, refl}
+use Rattle.std.proofs.Common.{◌≡◌, inr, false, refl}
+use Rattle.group_laws.specs.declared.phases.Check.TheVariants.{Ready as ready, Laid as laid, SwitchFailed as switch_failed, Switched as switched}
+use Rattle.group_core.proofs.Soundness.{checking}
 use Rattle.group_core.proofs.States.{leaves_none, leaves_pure, leaves_write}
 use Rattle.group_core.proofs.CheckSteps.{plan_spent, half_opened, half_doubtful}
 use Rattle.group_core.proofs.state.State.open_half.Goals as goal
@@ -19,7 +21,7 @@ pub returns-then-self-clause-any_moment : goal.returns-then-self-clause-any_mome
 returns-then-self-clause-any_moment g c = leaves_pure c.self.view_is c.self.invariant (invariant_of-self g c) refl
 
 pub returns-in-Ok-clause-any_moment : goal.returns-in-Ok-clause-any_moment
-returns-in-Ok-clause-any_moment g c = leaves_write c.self.view_is c.self.invariant (invariant_of-self-in-Ok g c) refl c.write.ensures.write
+returns-in-Ok-clause-any_moment g c = leaves_write c.self.view_is c.self.invariant (invariant_of-self-in-Ok g c) (checking laid c.in-Laid.is (λ (is : laid ≡ ready). cc)) (inr (λ (is : switched ≡ ready). cc)) refl c.write.ensures.write
 
 pub returns-in-Err-clause-any_moment : goal.returns-in-Err-clause-any_moment
-returns-in-Err-clause-any_moment g c = leaves_write c.self.view_is c.self.invariant (invariant_of-self-in-Err g c) refl c.write.ensures.write
+returns-in-Err-clause-any_moment g c = leaves_write c.self.view_is c.self.invariant (invariant_of-self-in-Err g c) (checking laid c.in-Laid.is (λ (is : laid ≡ ready). cc)) (inr (λ (is : switch_failed ≡ ready). cc)) refl c.write.ensures.write

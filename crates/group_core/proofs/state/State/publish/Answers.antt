@@ -1,10 +1,11 @@
 use Rattle.path_db.specs.declared.command.Command.{Command}
 use Rattle.image_laws.specs.StoreGrowth.{value_after}
 use Rattle.store_open.specs.PathStores.{store_format}
-use Rattle.std.proofs.Common.{List, take, false, refl, ◌∙◌, ap, arith}
+use Rattle.std.proofs.Common.{List, take, false, refl, ◌∙◌, ap, subst, arith}
 use Rattle.group_core.proofs.States.{leaves_none, leaves_pure}
 use Rattle.group_core.proofs.Publish.{group_state_so, seal_state}
-use Rattle.group_core.proofs.Redeem.{told_state}
+use Rattle.group_core.proofs.Redeem.{shown_state}
+use Rattle.group_core.specs.Showing.{IsFront}
 use Rattle.group_core.proofs.state.State.publish.Goals as goal
 
 pub invariant_of-self : goal.invariant_of-self
@@ -18,13 +19,15 @@ returns-then-self-eq0-clause-any_moment g c = leaves_pure c.self.view_is c.self.
 
 pub returns-in_default-show-clause-any_moment : goal.returns-in_default-show-clause-any_moment
 returns-in_default-show-clause-any_moment g c =
-    leaves_pure c.self.view_is c.self.invariant (told_state _ _ c.self.invariant _ _ c.in_default-show.ensures.owed) refl
+    leaves_pure c.self.view_is c.self.invariant
+    (shown_state _ _ c.self.invariant _ _ c.in_default-show.ensures.same
+    (subst (λ (list : List Command). IsFront (g.S.Showcase.owed c.show.new.self) (take c.self.inside.taken list)) c.deref.ensures.value c.in_default-show.ensures.owed)) refl
 
 pub invariant_of-self-2 : goal.invariant_of-self-2
 invariant_of-self-2 g c =
-    group_state_so _ _ c.self.invariant c.in-Durable.is (record { number = c.self.inside.group.number; out = false }) (omega arith) _ _ _ _
+    group_state_so _ _ c.self.invariant c.in-Durable.is (record { number = c.self.inside.group.number; out = false }) (omega arith) _ _ _ _ _
     (c.in-Ok.ensures.shown ∙ ap (λ (list : List Command). value_after store_format (g.S.Showcase.value c.self.inside.show) (take c.self.inside.taken list)) c.deref.ensures.value)
-    (c.drop-drain.ensures.items ∙ c.drain.ensures.kept) (omega (arith, c.len.ensures)) refl
+    (c.drop-drain.ensures.items ∙ c.drain.ensures.kept) (omega (arith, c.len.ensures)) refl c.in-Ok.ensures.paid
 
 pub returns-clause-any_moment : goal.returns-clause-any_moment
 returns-clause-any_moment g c = leaves_pure c.self.view_is c.self.invariant (invariant_of-self-2 g c) refl

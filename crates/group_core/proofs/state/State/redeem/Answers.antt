@@ -4,7 +4,7 @@ use Rattle.group_core.proofs.Redeem.{kept_state, told_state}
 use Rattle.group_core.proofs.state.State.redeem.Goals as goal
 
 pub invariant_of-self-2 : goal.invariant_of-self-2
-invariant_of-self-2 g c = told_state _ _ c.self.invariant _ _ c.tell.ensures.same
+invariant_of-self-2 g c = told_state _ _ c.self.invariant _ _ _ c.tell.ensures.same c.tell.ensures.owed
 
 pub returns-then-ticket-self-clause-any_moment : goal.returns-then-ticket-self-clause-any_moment
 returns-then-ticket-self-clause-any_moment g c = leaves_none c.self.view_is c.self.invariant

@@ -1,4 +1,6 @@
-use Rattle.std.proofs.Common.{◌≡◌, ◌+◌, ◌-◌, ◌*◌, false, take, drop, refl, arith}
+use Rattle.std.proofs.Common.{inr, ◌≡◌, ◌+◌, ◌-◌, ◌*◌, false, take, drop, refl, arith}
+use Rattle.group_laws.specs.declared.phases.Check.TheVariants.{Ready as ready, Planned as planned}
+use Rattle.group_core.proofs.Soundness.{checking}
 use Rattle.group_core.proofs.States.{leaves_none, leaves_pure, leaves_write}
 use Rattle.group_core.proofs.CheckSteps.{plan_spent, chunk_written, chunk_not_written}
 use Rattle.group_core.proofs.state.State.write_chunk.Goals as goal
@@ -27,7 +29,7 @@ pub returns-then-self-clause-any_moment : goal.returns-then-self-clause-any_mome
 returns-then-self-clause-any_moment g c = leaves_pure c.self.view_is c.self.invariant (invariant_of-self g c) refl
 
 pub returns-in-Ok-clause-any_moment : goal.returns-in-Ok-clause-any_moment
-returns-in-Ok-clause-any_moment g c = leaves_write c.self.view_is c.self.invariant (invariant_of-self-in-Ok g c) refl c.write.ensures.write
+returns-in-Ok-clause-any_moment g c = leaves_write c.self.view_is c.self.invariant (invariant_of-self-in-Ok g c) (checking planned c.in-Planned.is (λ (is : planned ≡ ready). cc)) (checking planned c.in-Planned.is (λ (is : planned ≡ ready). cc)) refl c.write.ensures.write
 
 pub returns-in-Err-clause-any_moment : goal.returns-in-Err-clause-any_moment
-returns-in-Err-clause-any_moment g c = leaves_write c.self.view_is c.self.invariant (invariant_of-self-in-Err g c) refl c.write.ensures.write
+returns-in-Err-clause-any_moment g c = leaves_write c.self.view_is c.self.invariant (invariant_of-self-in-Err g c) (checking planned c.in-Planned.is (λ (is : planned ≡ ready). cc)) (checking planned c.in-Planned.is (λ (is : planned ≡ ready). cc)) refl c.write.ensures.write
