@@ -17,5 +17,5 @@ pub use command_laws::commands_are_allowed;
 pub use encoding::{can_be_group, encode_group, encode_seal};
 pub use error::JournalError;
 pub use scanner::{Piece, Progress, Scan, Scanner, Stage};
-pub use sizes::{fits, payload_sectors, record_len};
+pub use sizes::{fits, is_within_limits, payload_sectors, record_len};
 pub use whole::scan;

@@ -64,7 +64,7 @@ fn rows_len(rows: &[(SegType, Segment)]) -> usize
 }
 
 /// Whether a command is within its limits: at most 16 segments, which have at most 131,072 bytes together.
-pub(crate) fn is_within_limits(command: &Command) -> bool
+pub fn is_within_limits(command: &Command) -> bool
     ensures { IsTrue result ↔ IsWithinLimits command.now }
 {
     match command {

@@ -1,9 +1,9 @@
--- What a test leaves of rows, and how many it drops: for `purge` and `outcome_laws`.
+-- What a test leaves of rows, and how many it drops: for `purge`, `remove` and `outcome_laws`.
 use Rattle.std.proofs.Common.{◌≡◌, ◌≤◌, ℕ, ◌+◌, ◌-◌, Bool, true, false, not, cond, List, [], ◌∷◌, length, refl, ap, ◌∙◌, arith}
 use Rattle.std.specs.List.{filter, count_by}
 use Rattle.std.proofs.lemmas.List.Sums.{sum_by-cons}
 use Rattle.path_db.specs.declared.row.Row.{Row}
-use Rattle.path_db.specs.Database.{RowView}
+use Rattle.path_db.specs.Database.{RowView, row_len, rows_len}
 use Rattle.path_db.specs.Row.{row_view, row_views}
 
 views_tested : (row : Row) (rows : List Row) (b : Bool) → row_views (cond b (row ∷ rows) rows) ≡ cond b (row_view row ∷ row_views rows) (row_views rows)
@@ -33,3 +33,12 @@ dropped_count p rows = omega (arith, left_and_dropped p rows)
 
 pub fewer_left : (p : RowView → Bool) (rows : List RowView) → length (filter p rows) ≤ length rows
 fewer_left p rows = omega (arith, left_and_dropped p rows)
+
+-- what is left has no more bytes
+bytes_tested : (row : RowView) (left rows : List RowView) (b : Bool) → rows_len left ≤ rows_len rows → rows_len (cond b (row ∷ left) left) ≤ rows_len (row ∷ rows)
+bytes_tested row left rows true so = omega (arith, so, sum_by-cons row_len row left, sum_by-cons row_len row rows)
+bytes_tested row left rows false so = omega (arith, so, sum_by-cons row_len row rows)
+
+pub fewer_bytes : (p : RowView → Bool) (rows : List RowView) → rows_len (filter p rows) ≤ rows_len rows
+fewer_bytes p [] = omega arith
+fewer_bytes p (row ∷ rows) = bytes_tested row (filter p rows) rows (p row) (fewer_bytes p rows)

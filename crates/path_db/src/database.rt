@@ -1,8 +1,9 @@
 //! The database.
 
-ghost use Rattle.std.specs.Prelude.{◌≡◌, ◌-◌, ◌^◌, ◌<◌, ◌≤◌, [], length, min, not, count_by, if◌then◌else◌, IfOk, OnOk, OnErr};
+ghost use Rattle.std.specs.Prelude.{◌≡◌, ◌-◌, ◌^◌, ◌<◌, ◌≤◌, [], length, min, max, not, count_by, if◌then◌else◌, IfOk, IfErr, OnOk, OnErr};
 ghost use Rattle.std.specs.List.{AllByRecursion};
 ghost use Rattle.std.specs.Option.{option_copied, option_map, is_some};
+ghost use Rattle.path_db.specs.declared.error.ApplyError.TheVariants.{Full};
 ghost use Rattle.path_db.specs.Database.{IsDatabase, AreWhole, key, row_under, rows_len};
 ghost use Rattle.path_db.specs.Put.{database_after_puts, changes_of};
 ghost use Rattle.path_db.specs.Outcome.{outcome_of_puts, outcome_of_drops};
@@ -16,6 +17,7 @@ use crate::answers::{Wanted, first_shown, is_indexed, shown_at};
 use crate::command::Command;
 use crate::end::End;
 use crate::end_places::{add_both, keep_standing, place_of, sweep, touched_places};
+use crate::error::ApplyError;
 use crate::outcome::Outcome;
 use crate::row::Row;
 use crate::row_list::Rows;
@@ -72,13 +74,14 @@ impl PathDb {
         ensures memory { OnErr result (0 < length rows.items) }
     {
         let mut db = PathDb::new(alloc);
-        db.put(rows)?;
-        Ok(db)
+        match db.put(rows, u128::MAX) {
+            Ok(_) => Ok(db),
+            Err(_) => Err(AllocError),
+        }
     }
 
     /// Applies a command, whole or, where memory runs out, not at all. A purge, a removal and a registration of nothing take
     /// no memory. A segment that is registered is shared with its row.
-    #[tactic(auto, unfolding(crate::specs::Command::database_after, crate::specs::Command::outcome_of))]
     pub fn apply(&mut self, command: &Command) -> Result<Outcome, AllocError>
         ensures database { OnOk result (self.new ≡ database_after self.old command.now) }
         ensures outcome { IfOk result (λ outcome. outcome ≡ outcome_of self.old command.now) }
@@ -86,31 +89,66 @@ impl PathDb {
         ensures memory { OnErr result (TakesMemory command.now) }
         ensures whole { IsDatabase self.new }
     {
+        match self.apply_up_to(command, u128::MAX) {
+            Ok(outcome) => Ok(outcome),
+            Err(_) => Err(AllocError),
+        }
+    }
+
+    /// Applies a command whole, or not at all where memory runs out or the rows would take more than `most` bytes as records. A
+    /// purge and a removal never take more than there was, and are applied whatever the limit, as is a registration of nothing.
+    pub fn apply_within(&mut self, command: &Command, most: u64) -> Result<Outcome, ApplyError>
+        ensures database { OnOk result (self.new ≡ database_after self.old command.now) }
+        ensures outcome { IfOk result (λ outcome. outcome ≡ outcome_of self.old command.now) }
+        ensures within { OnOk result (rows_len self.new ≤ max most (rows_len self.old)) }
+        ensures refused { OnErr result (self.new ≡ self.old) }
+        ensures full { IfErr result (λ e. e ≡ Full → most < rows_len (database_after self.old command.now)) }
+        ensures registers { OnErr result (TakesMemory command.now) }
+        ensures whole { IsDatabase self.new }
+    {
+        self.apply_up_to(command, u128::from(most))
+    }
+
+    /// Applies a command whole, or not at all.
+    #[tactic(auto, unfolding(crate::specs::Command::database_after, crate::specs::Command::outcome_of))]
+    fn apply_up_to(&mut self, command: &Command, most: u128) -> Result<Outcome, ApplyError>
+        ensures database { OnOk result (self.new ≡ database_after self.old command.now) }
+        ensures outcome { IfOk result (λ outcome. outcome ≡ outcome_of self.old command.now) }
+        ensures within { OnOk result (rows_len self.new ≤ max most (rows_len self.old)) }
+        ensures refused { OnErr result (self.new ≡ self.old) }
+        ensures full { IfErr result (λ e. e ≡ Full → most < rows_len (database_after self.old command.now)) }
+        ensures registers { OnErr result (TakesMemory command.now) }
+        ensures whole { IsDatabase self.new }
+    {
         match command {
-            Command::Register(registration) => self.register(registration.as_slice()),
+            Command::Register(registration) => self.register(registration.as_slice(), most),
             Command::Purge(moment) => Ok(self.purge(*moment)),
             Command::Remove(kind, id) => Ok(self.remove(*kind, id)),
         }
     }
 
-    /// Puts segments one after the other.
-    fn register(&mut self, new: &[(SegType, Segment)]) -> Result<Outcome, AllocError>
+    /// Puts segments one after the other, or none of them.
+    fn register(&mut self, new: &[(SegType, Segment)], most: u128) -> Result<Outcome, ApplyError>
         ensures database { OnOk result (self.new ≡ database_after_puts self.old new.now) }
         ensures outcome { IfOk result (λ outcome. outcome ≡ outcome_of_puts (changes_of self.old new.now)) }
+        ensures within { OnOk result (rows_len self.new ≤ max most (rows_len self.old)) }
         ensures refused { OnErr result (self.new ≡ self.old) }
+        ensures full { IfErr result (λ e. e ≡ Full → most < rows_len (database_after_puts self.old new.now)) }
         ensures memory { OnErr result (0 < length new.now) }
         ensures whole { IsDatabase self.new }
     {
         let new = rows_of(self.alloc, new)?;
-        self.put(new)
+        self.put(new, most)
     }
 
-    /// Puts rows one after the other, or none of them.
-    fn put(&mut self, new: Vec<Row>) -> Result<Outcome, AllocError>
+    /// Puts rows one after the other, or none of them where memory runs out or the rows would take more than `most` bytes.
+    fn put(&mut self, new: Vec<Row>, most: u128) -> Result<Outcome, ApplyError>
         requires { AreWhole (row_views new.items) }
         ensures database { OnOk result (self.new ≡ database_after_puts self.old (row_views new.items)) }
         ensures outcome { IfOk result (λ outcome. outcome ≡ outcome_of_puts (changes_of self.old (row_views new.items))) }
+        ensures within { OnOk result (rows_len self.new ≤ max most (rows_len self.old)) }
         ensures refused { OnErr result (self.new ≡ self.old) }
+        ensures full { IfErr result (λ e. e ≡ Full → most < rows_len (database_after_puts self.old (row_views new.items))) }
         ensures memory { OnErr result (0 < length new.items) }
         ensures whole { IsDatabase self.new }
     {
@@ -121,7 +159,7 @@ impl PathDb {
         let firsts = touched_places(self.alloc, End::First, &new, &saved)?;
         let lasts = touched_places(self.alloc, End::Last, &new, &saved)?;
         let added = add_both(&mut self.by_first, &firsts, &mut self.by_last, &lasts);
-        let put = put_after(added, &mut self.rows, &mut self.bytes, new, saved);
+        let put = put_after(added, &mut self.rows, &mut self.bytes, new, saved, most);
         sweep(End::First, &mut self.by_first, &self.rows, &firsts);
         sweep(End::Last, &mut self.by_last, &self.rows, &lasts);
         put
@@ -130,6 +168,7 @@ impl PathDb {
     /// Drops every row that expires at the moment or before.
     fn purge(&mut self, moment: u64) -> Outcome
         ensures database { self.new ≡ database_after_purge self.old moment }
+        ensures fewer { rows_len self.new ≤ rows_len self.old }
         ensures outcome { result ≡ outcome_of_drops (count_by (λ row. not (is_valid_beyond moment row)) self.old) }
         ensures whole { IsDatabase self.new }
     {
@@ -144,6 +183,7 @@ impl PathDb {
     /// Drops the row of a type and an id, where there is one.
     fn remove(&mut self, kind: SegType, id: &[u8; 32]) -> Outcome
         ensures database { self.new ≡ database_after_removal self.old (key kind id.now) }
+        ensures fewer { rows_len self.new ≤ rows_len self.old }
         ensures outcome { result ≡ outcome_of_drops (if is_some (row_under (key kind id.now) self.old) then 1 else 0) }
         ensures whole { IsDatabase self.new }
     {

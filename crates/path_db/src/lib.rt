@@ -1,8 +1,8 @@
 //! The database of a path segment server: a finite map from keys, a type and an id, to segments.
 //!
 //! To the layer above, `PathDb::apply` answers the database that the definition gives after a command and what the command
-//! did, or refuses for want of memory and leaves all as it was. `rows` is the map in the order of its keys, and
-//! `matching` what a lookup shows of it.
+//! did, or refuses for want of memory and leaves all as it was; `apply_within` refuses as well what would take too many
+//! bytes. `rows` is the map in the order of its keys, and `matching` what a lookup shows of it.
 #![tactic(auto)]
 
 mod answers;
@@ -33,7 +33,7 @@ pub use command_laws::{
 };
 pub use command_records::{read_command, write_command};
 pub use database::PathDb;
-pub use error::DbError;
+pub use error::{ApplyError, DbError};
 pub use outcome::Outcome;
 pub use outcome_laws::{each_put_is_counted, rows_are_counted};
 pub use record_laws::{

@@ -1,7 +1,8 @@
 //! Puts into a map of rows.
 
-ghost use Rattle.std.specs.Prelude.{◌≡◌, ◌⊎◌, ◌<◌, map, IfOk, OnOk, OnErr, IsOk, IsErr, length, vec_len};
+ghost use Rattle.std.specs.Prelude.{◌≡◌, ◌⊎◌, ◌<◌, ◌≤◌, map, IfOk, IfErr, OnOk, OnErr, IsOk, IsErr, length, vec_len};
 ghost use Rattle.std.specs.Option.{option_map};
+ghost use Rattle.path_db.specs.declared.error.ApplyError.TheVariants.{NoMemory, Full};
 ghost use Rattle.path_db.specs.Database.{IsRising, AreWhole, key_of, row_under, rows_len};
 ghost use Rattle.path_db.specs.Put.{database_after_put, database_after_puts, change_of, changes_of};
 ghost use Rattle.path_db.specs.Outcome.{outcome_of_puts};
@@ -9,6 +10,7 @@ ghost use Rattle.path_db.specs.Row.{row_view, row_views};
 ghost use Rattle.path_db.specs.Saved.{saved_view, wins, AreFirstPut, PutsBack, RestoresFrom};
 
 use crate::change::Change;
+use crate::error::ApplyError;
 use crate::outcome::Outcome;
 use crate::row::Row;
 use crate::row_map::RowMap;
@@ -91,14 +93,15 @@ fn put_back(rows: &mut RowMap, old: Saved)
     }
 }
 
-/// Puts rows where their places were added, or none of them.
+/// Puts rows where their places were added and they fit, or none of them.
 pub(crate) fn put_after(
     added: Result<(), AllocError>,
     rows: &mut RowMap,
     bytes: &mut u128,
     new: Vec<Row>,
     saved: Vec<Saved>,
-) -> Result<Outcome, AllocError>
+    most: u128,
+) -> Result<Outcome, ApplyError>
     requires rising { IsRising rows.old }
     requires counted { bytes.old ≡ rows_len rows.old }
     requires saved { map saved_view saved.items ≡ map (λ row. (key_of row, row_under (key_of row) rows.old)) (row_views new.items) }
@@ -107,20 +110,23 @@ pub(crate) fn put_after(
     ensures outcome { IfOk result (λ outcome. outcome ≡ outcome_of_puts (changes_of rows.old (row_views new.items))) }
     ensures err { OnErr result (rows.new ≡ rows.old) }
     ensures bytes { bytes.new ≡ rows_len rows.new }
-    ensures memory { OnErr result (IsErr added ⊎ (0 < vec_len new)) }
+    ensures within { OnOk result (rows_len rows.new ≤ most) }
+    ensures full { IfErr result (λ e. e ≡ Full → most < rows_len (database_after_puts rows.old (row_views new.items))) }
+    ensures memory { IfErr result (λ e. e ≡ NoMemory → IsErr added ⊎ (0 < vec_len new)) }
 {
     added?;
-    put_all(rows, bytes, new, saved)
+    put_all(rows, bytes, new, saved, most)
 }
 
-/// Puts rows one after the other, or none of them. `saved` is what stands under their keys, and `bytes` counts the bytes of
-/// all rows.
+/// Puts rows one after the other, or none of them where memory is refused or all rows would take more than `most` bytes. `saved`
+/// is what stands under their keys, and `bytes` counts the bytes of all rows.
 pub(crate) fn put_all(
     rows: &mut RowMap,
     bytes: &mut u128,
     new: Vec<Row>,
     saved: Vec<Saved>,
-) -> Result<Outcome, AllocError>
+    most: u128,
+) -> Result<Outcome, ApplyError>
     requires rising { IsRising rows.old }
     requires counted { bytes.old ≡ rows_len rows.old }
     requires saved { map saved_view saved.items ≡ map (λ row. (key_of row, row_under (key_of row) rows.old)) (row_views new.items) }
@@ -128,10 +134,12 @@ pub(crate) fn put_all(
     ensures outcome { IfOk result (λ outcome. outcome ≡ outcome_of_puts (changes_of rows.old (row_views new.items))) }
     ensures err { OnErr result (rows.new ≡ rows.old) }
     ensures bytes { bytes.new ≡ rows_len rows.new }
-    ensures memory { OnErr result (0 < vec_len new) }
+    ensures within { OnOk result (rows_len rows.new ≤ most) }
+    ensures full { IfErr result (λ e. e ≡ Full → most < rows_len (database_after_puts rows.old (row_views new.items))) }
+    ensures memory { IfErr result (λ e. e ≡ NoMemory → 0 < vec_len new) }
 {
     let before = *bytes;
-    match put_rows(rows, bytes, new) {
+    match put_rows(rows, bytes, new, most) {
         Ok(outcome) => Ok(outcome),
         Err(refused) => {
             restore(rows, saved);
@@ -141,22 +149,29 @@ pub(crate) fn put_all(
     }
 }
 
-/// Puts rows one after the other. Where memory is refused, some first ones are put. `bytes` counts the bytes of all rows.
+/// Puts rows one after the other. Where memory is refused, or all rows take more than `most` bytes, some first ones are put.
+/// `bytes` counts the bytes of all rows.
 pub(crate) fn put_rows(
     rows: &mut RowMap,
     bytes: &mut u128,
     new: Vec<Row>,
-) -> Result<Outcome, AllocError>
+    most: u128,
+) -> Result<Outcome, ApplyError>
     requires { bytes.old ≡ rows_len rows.old }
     ensures rows { OnOk result (rows.new ≡ database_after_puts rows.old (row_views new.items)) }
     ensures outcome { IfOk result (λ outcome. outcome ≡ outcome_of_puts (changes_of rows.old (row_views new.items))) }
     ensures bytes { OnOk result (bytes.new ≡ rows_len rows.new) }
+    ensures within { OnOk result (rows_len rows.new ≤ most) }
     ensures some { OnErr result (AreFirstPut rows.old (row_views new.items) rows.new) }
-    ensures memory { OnErr result (0 < vec_len new) }
+    ensures full { IfErr result (λ e. e ≡ Full → most < rows_len (database_after_puts rows.old (row_views new.items))) }
+    ensures memory { IfErr result (λ e. e ≡ NoMemory → 0 < vec_len new) }
 {
     let mut outcome = Outcome::nothing();
     for row in new {
         outcome.count(put_row(rows, bytes, row)?);
+    }
+    if *bytes > most {
+        return Err(ApplyError::Full);
     }
     Ok(outcome)
 }

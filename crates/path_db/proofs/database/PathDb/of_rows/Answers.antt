@@ -4,7 +4,7 @@ use Rattle.path_db.specs.Row.{row_views}
 use Rattle.path_db.proofs.Rebuilt.{rebuilt}
 use Rattle.path_db.proofs.database.PathDb.of_rows.Goals as goal
 
-pub returns-clause-same : goal.returns-clause-same
-returns-clause-same c =
+pub returns-in-Ok-clause-same : goal.returns-in-Ok-clause-same
+returns-in-Ok-clause-same c =
     let new = row_views c.args.rows.items in
-    c.in_ok-put.ensures.database ∙ ap (λ old. database_after_puts old new) c.new-db.ensures ∙ rebuilt new c.requires.rising
+    c.in-Ok.ensures.database ∙ ap (λ old. database_after_puts old new) c.new-db.ensures ∙ rebuilt new c.requires.rising

@@ -1,12 +1,12 @@
 use Rattle.std.proofs.Common.{◌≡◌, ◌-◌, not, length, sym, ap, ◌∙◌, subst, arith}
 use Rattle.std.specs.List.{count_by}
 use Rattle.path_db.specs.declared.end.End.TheVariants.{First, Last}
-use Rattle.path_db.specs.Database.{IsDatabase}
+use Rattle.path_db.specs.Database.{rows_len, IsDatabase}
 use Rattle.path_db.specs.Command.{is_valid_beyond}
 use Rattle.path_db.specs.EndPlaces.{end_of}
 use Rattle.path_db.specs.Outcome.{outcome_of_drops}
 use Rattle.path_db.proofs.Rising.{database_filtered}
-use Rattle.path_db.proofs.Drops.{dropped_count, fewer_left}
+use Rattle.path_db.proofs.Drops.{dropped_count, fewer_left, fewer_bytes}
 use Rattle.path_db.proofs.Removed.{purged_now}
 use Rattle.path_db.proofs.database.PathDb.purge.Goals as goal
 
@@ -28,6 +28,10 @@ invariant_of-self c =
 
 pub returns-clause-whole : goal.returns-clause-whole
 returns-clause-whole c = (invariant_of-self c).database
+
+pub returns-clause-fewer : goal.returns-clause-fewer
+returns-clause-fewer c =
+    rw (← c.self.view_is) (omega (arith, ap rows_len c.purge.ensures.left, fewer_bytes (is_valid_beyond c.args.moment) c.self.inside.rows))
 
 pub returns-clause-outcome : goal.returns-clause-outcome
 returns-clause-outcome c =
