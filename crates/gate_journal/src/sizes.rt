@@ -1,8 +1,10 @@
 //! How many sectors payloads take, and how many bytes records.
 
-ghost use Rattle.std.specs.Prelude.{◌≡◌, ◌↔◌, ◌+◌, ◌*◌, ◌≤◌, length, IsTrue};
+ghost use Rattle.std.specs.Prelude.{◌≡◌, ◌↔◌, ◌+◌, ◌*◌, ◌≤◌, true, length, IsTrue};
 ghost use Rattle.path_db.specs.declared.command.Command.TheVariants.{Register};
+ghost use Rattle.path_db.specs.Database.{AreWhole};
 ghost use Rattle.path_db.specs.CommandRecord.{IsWithinLimits, segments_len};
+ghost use Rattle.path_db.specs.RecordLaws.{CanBeWritten};
 ghost use Rattle.image_laws.specs.Group.{HasRoom, record_encoding, payload_sectors as sectors_of_payload};
 ghost use Rattle.gate_journal.specs.Commands.{command_format};
 
@@ -39,22 +41,23 @@ pub fn record_len(command: &Command) -> usize
     match command {
         Command::Register(registration) => 6 + rows_len(registration.as_slice()),
         Command::Purge(_) => 13,
-        Command::Remove(_, id) => removal_len(id),
+        Command::Remove(_, id) => 6 + id_len(id),
     }
 }
 
-/// How many bytes the record of a removal takes.
-fn removal_len(id: &[u8; 32]) -> usize
-    ensures exact { result ≡ 6 + length id.now }
-    ensures most { result ≡ 38 }
+/// How many bytes an id has.
+fn id_len(id: &[u8; 32]) -> usize
+    ensures exact { result ≡ length id.now }
+    ensures all { result ≡ 32 }
 {
-    6 + id.len()
+    id.len()
 }
 
 /// How many bytes the records of rows take.
 fn rows_len(rows: &[(SegType, Segment)]) -> usize
     requires { length rows.now ≤ 16 }
-    ensures { result ≡ segments_len rows.now + 5 * length rows.now }
+    ensures exact { result ≡ segments_len rows.now + 5 * length rows.now }
+    ensures whole { AreWhole rows.now }
 {
     let mut len = 0;
     for (_, segment) in rows {
@@ -63,19 +66,26 @@ fn rows_len(rows: &[(SegType, Segment)]) -> usize
     len
 }
 
-/// Whether a command is within its limits: at most 16 segments, which have at most 131,072 bytes together.
+/// Whether a command is within its limits: at most 16 segments, which have at most 131,072 bytes together. Then it has a
+/// record, which is read as it.
 pub fn is_within_limits(command: &Command) -> bool
-    ensures { IsTrue result ↔ IsWithinLimits command.now }
+    ensures exact { IsTrue result ↔ IsWithinLimits command.now }
+    ensures written { IsTrue result → CanBeWritten true command.now }
 {
     match command {
         Command::Register(registration) => are_within_limits(registration.as_slice()),
-        Command::Purge(_) | Command::Remove(_, _) => true,
+        Command::Purge(moment) => {
+            let _moment = *moment;
+            true
+        }
+        Command::Remove(_, id) => id_len(id) == 32,
     }
 }
 
 /// Whether segments may be registered by one command.
 fn are_within_limits(rows: &[(SegType, Segment)]) -> bool
-    ensures { IsTrue result ↔ IsWithinLimits (Register rows.now) }
+    ensures exact { IsTrue result ↔ IsWithinLimits (Register rows.now) }
+    ensures whole { IsTrue result → AreWhole rows.now }
 {
     rows.len() <= 16 && rows_len(rows) - 5 * rows.len() <= 131_072
 }

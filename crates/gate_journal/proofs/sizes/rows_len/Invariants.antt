@@ -1,4 +1,5 @@
 use Rattle.std.proofs.Common.{◌≡◌, ◌+◌, ◌*◌, ◌≤◌, take}
+use Rattle.path_db.specs.Database.{AreWhole}
 use Rattle.path_db.specs.CommandRecord.{segments_len}
 use Rattle.gate_journal.proofs.sizes.rows_len.Given as goal
 
@@ -6,5 +7,6 @@ use Rattle.gate_journal.proofs.sizes.rows_len.Given as goal
 abbrev pub invariant-loop-segment : goal.invariant-loop-segment
 invariant-loop-segment l = record {
   so_far : l.len ≡ segments_len (take l.segment-index l.rows) + 5 * l.segment-index;
+  whole : AreWhole (take l.segment-index l.rows);
   small : l.len ≤ 16389 * l.segment-index;
 }
