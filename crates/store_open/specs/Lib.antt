@@ -6,6 +6,7 @@ pub mod Geometry
 pub mod NewStore
 pub mod Heads
 pub mod Rows
+pub mod Sealed
 pub mod Store
 pub mod StoreShape
 pub mod Allowing

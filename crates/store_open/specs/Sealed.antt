@@ -1,0 +1,81 @@
+-- What a half is read as whose journal a seal ends: its checkpoint, with the commands of that journal folded into the rows.
+use Rattle.std.specs.Prelude.{◌≡◌, ℕ, Bool, true, false, List, Option, Some, None, Result, Ok, Err}
+use Rattle.path_db.specs.Database.{RowView}
+use Rattle.path_db.specs.declared.command.Command.{Command}
+use Rattle.sector_dev.specs.Disk.{Disk, IsHonest}
+use Rattle.sector_dev.specs.Calls.{Keeps, one_more}
+use Rattle.image_laws.specs.declared.half.Half.{Half}
+use Rattle.image_laws.specs.GroupReading.{JournalRefusal}
+use Rattle.image_laws.specs.Journal.{Reading}
+use Rattle.image_laws.specs.Layout.{Geometry, area_of}
+use Rattle.image_laws.specs.StoreFormat.{db_after}
+use Rattle.image_laws.specs.Checkpoint.{Head, Checkpoint}
+use Rattle.image_laws.specs.CheckpointReading.{PairRefusal, checkpoint_in}
+use Rattle.image_laws.specs.OpeningReading.{journal_from}
+use Rattle.ckpt_pair.specs.Heads.{latest, head_view}
+use Rattle.ckpt_pair.specs.Rows.{rows_format}
+use Rattle.store_open.specs.PathStores.{store_format}
+use Rattle.store_open.specs.declared.error.OpenError.{OpenError}
+use Rattle.store_open.specs.declared.error.OpenError.TheVariants as opening
+use Rattle.store_open.specs.declared.sealed.Sealed.{Sealed}
+use Rattle.store_open.specs.declared.sealed.SealedError.{SealedError}
+use Rattle.store_open.specs.declared.sealed.SealedError.TheVariants.{Fault, NoMemory, Damaged}
+
+-- the head of its checkpoint, the place that its journal reaches, and the rows with the commands of that journal
+pub record SealedHalf : Type 0 where
+  pub head : Head
+  pub place : ℕ
+  pub rows : List RowView
+
+-- a journal folded into the rows of a checkpoint: none where no seal ends it
+abbrev pub folded_by : Bool → Checkpoint (List RowView) → Reading Command → Option SealedHalf
+folded_by false checkpoint journal = None
+folded_by true checkpoint journal =
+    Some (record { head = checkpoint.head; place = journal.place; rows = db_after store_format checkpoint.db journal.commands })
+
+-- and none where the journal is refused
+abbrev pub folded_behind : Checkpoint (List RowView) → Result (Reading Command) JournalRefusal → Option SealedHalf
+folded_behind checkpoint (Err refusal) = None
+folded_behind checkpoint (Ok journal) = folded_by journal.sealed checkpoint journal
+
+-- or the area is
+abbrev pub folded_in : Geometry → Half → List ℕ → Result (Checkpoint (List RowView)) PairRefusal → Option SealedHalf
+folded_in geometry half image (Err refusal) = None
+folded_in geometry half image (Ok checkpoint) =
+    folded_behind checkpoint (journal_from store_format checkpoint geometry half image checkpoint.head.place)
+
+-- what a half of an image is read as: none where its area is no checkpoint, or its journal is refused, or isn't sealed
+abbrev pub sealed_half : Geometry → Half → List ℕ → Option SealedHalf
+sealed_half geometry half image = folded_in geometry half image (checkpoint_in rows_format latest (area_of geometry half image))
+
+-- what was read, as such a half
+abbrev pub sealed_view : Sealed → SealedHalf
+sealed_view sealed = record { head = head_view sealed.head; place = sealed.place; rows = sealed.db }
+
+-- The half is read so, or isn't such a half, unless the device failed or memory ran out.
+abbrev pub ReadsSealed : Result Sealed SealedError → Option SealedHalf → Type 0
+ReadsSealed (Ok sealed) reading = reading ≡ Some (sealed_view sealed)
+ReadsSealed (Err Fault) reading = Unit {0}
+ReadsSealed (Err NoMemory) reading = Unit {0}
+ReadsSealed (Err Damaged) reading = reading ≡ None
+
+-- a call of the device failed just where this is the error
+abbrev pub faults_behind : {T : Type 0} → Result T SealedError → ℕ → ℕ
+faults_behind (Ok done) faults = faults
+faults_behind (Err Fault) faults = one_more faults
+faults_behind (Err NoMemory) faults = faults
+faults_behind (Err Damaged) faults = faults
+
+-- what is on the device was looked at, and stays as it is
+pub record LooksAtHalf {T : Type 0} (result : Result T SealedError) (old new : Disk) : Type 0 where
+  pub keeps : Keeps old new
+  pub faults : new.faults ≡ faults_behind result old.faults
+  pub history : IsHonest old → new.history ≡ old.history
+
+-- an error of opening, where a half alone is read
+abbrev pub sealed_error_of : OpenError → SealedError
+sealed_error_of opening.NotAStore = Damaged
+sealed_error_of opening.Device = Fault
+sealed_error_of (opening.Pair e) = Damaged
+sealed_error_of (opening.Journal e) = Damaged
+sealed_error_of opening.NoMemory = NoMemory
