@@ -13,7 +13,7 @@ use Rattle.store_commands.specs.Writing.{IsWrittenInPart}
 use Rattle.store_commands.specs.Upgrading.{BecomesLatest, IsUpgraded, FailsToUpgrade}
 
 -- what reads gave opens to what the store tells
-stands_for : (reads : List ℕ) (store : StoreView) → IsOpened reads store → IsStoreOf store.rows store.place reads
+pub stands_for : (reads : List ℕ) (store : StoreView) → IsOpened reads store → IsStoreOf store.rows store.place reads
 stands_for reads store opened = record { opening = opened.rest.opening; is = opened.same; stands_for = opened.rest.tells.value }
 
 -- the store's version is 1 or the latest

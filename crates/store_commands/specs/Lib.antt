@@ -2,6 +2,7 @@ pub mod Fault
 pub mod Text
 pub mod Writing
 pub mod Devices
+pub mod Stops
 pub mod Formatting
 pub mod Showing
 pub mod Upgrading

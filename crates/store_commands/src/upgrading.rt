@@ -3,7 +3,10 @@
 ghost use Rattle.std.specs.Prelude.{◌≡◌, OnOk, OnErr, IfOk, IfErr};
 ghost use Rattle.std.specs.Io.KnownBytes.{Appends};
 ghost use Rattle.sector_dev.specs.Disk.{IsHonest};
+ghost use Rattle.sector_dev.specs.Stretch.{Stretch};
+ghost use Rattle.store_open.specs.Store.{OpensToStore};
 ghost use Rattle.store_commands.specs.Devices.{device_after, faults_left};
+ghost use Rattle.store_commands.specs.Stops.{KeepsItsStore};
 ghost use Rattle.store_commands.specs.Text.{version_line};
 ghost use Rattle.store_commands.specs.Upgrading.{IsUpgraded, FailsToUpgrade, BecomesLatest};
 ghost use Rattle.store_commands.specs.Writing.{IsWrittenInPart};
@@ -16,7 +19,7 @@ use std::io::Write;
 use store_open::{Store, StoreError, open};
 
 /// Opens a device, makes a checkpoint at rest where its store is of version 1, and prints the version, which is 2 then. The
-/// device comes back. What a stop within it leaves is said of `open` and of `checkpoint`, and by no clause here.
+/// device comes back.
 pub fn upgrade<D: Device, W: Write>(
     alloc: Global,
     device: D,
@@ -25,6 +28,9 @@ pub fn upgrade<D: Device, W: Write>(
     ensures ok { IfOk result (λ after. IsHonest (D.disk device) → IsUpgraded (D.disk device) (D.disk after)) }
     ensures printed { OnOk result (Appends (W.contents writer.old) (W.contents writer.new) version_line) }
     ensures err { IfErr result (λ back. FailsToUpgrade back.1 (D.disk device) (D.disk back.0) (W.contents writer.old) (W.contents writer.new)) }
+
+    // A stop at any moment leaves what opens to the rows and the place of before.
+    ensures any_moment { KeepsItsStore (D.disk device) (D.disk (device_after result)) }
 
     // It answers that the device failed just where it did.
     ensures faults { (D.disk (device_after result)).faults ≡ faults_left result (D.disk device).faults }
@@ -44,7 +50,8 @@ pub fn upgrade<D: Device, W: Write>(
 
 /// Makes a checkpoint of a store of version 1.
 fn make_latest<D: Device>(store: &mut Store<D>) -> Result<(), StoreError>
-    ensures { BecomesLatest result store.old store.new }
+    ensures latest { BecomesLatest result store.old store.new }
+    ensures any_moment { Stretch store.old.disk store.new.disk (OpensToStore store.old) }
 {
     if store.version() == 1 {
         return store.checkpoint();

@@ -1,5 +1,5 @@
 -- A device that is opened: what a stop leaves while it is brought to rest, and what it then tells.
-use Rattle.std.proofs.Common.{◌≡◌, ℕ, Bool, true, false, List, [], Result, Ok, Err, Option, Some, None, OnOk, refl, sym, ◌∙◌, ap, subst, arith}
+use Rattle.std.proofs.Common.{◌≡◌, inl, inr, ℕ, Bool, true, false, List, [], Result, Ok, Err, Option, Some, None, OnOk, refl, sym, ◌∙◌, ap, subst, arith}
 use Rattle.path_db.specs.Database.{RowView}
 use Rattle.path_db.specs.declared.command.Command.{Command}
 use Rattle.sector_dev.specs.Disk.{History, Disk, IsHonest, IsWhole, reads_of}
@@ -45,9 +45,9 @@ stretch_looked P start mid keeps same clean holds = record {
       (leaves_here P start.history (λ content image. subst P (sym (image_is_reads start.history.now content (clean honest) image)) (holds honest)));
 }
 
--- what is read alike is the same, and opens alike to itself
+-- what isn't changed opens alike
 pub alike_itself : (content : List ℕ) → OpensAlike content content
-alike_itself content opening is = is
+alike_itself content = inl refl
 
 -- ---- closing the half that isn't used
 
@@ -119,11 +119,22 @@ same_opening reads one two is_one is_two =
 
 pub alike : (reads image : List ℕ) (o : Opening (List RowView) Command) (geometry : Geometry) (chosen : Half) (sealed : Bool) → IsOpening store_format latest reads o
     → o.geometry ≡ geometry → o.chosen ≡ chosen → o.journal.sealed ≡ sealed → IsClosingUnused sealed geometry (other chosen) reads image → OpensAlike reads image
-alike reads image o geometry chosen sealed found its_geometry its_half its_seal closing = λ opening is.
-    subst (IsOpening store_format latest image) (same_opening reads o opening found is)
-    (kept reads image o found sealed its_seal
-    (subst (λ (g : Geometry). IsClosingUnused sealed g (other o.chosen) reads image) (sym its_geometry)
-    (subst (λ (h : Half). IsClosingUnused sealed geometry (other h) reads image) (sym its_half) closing)))
+alike reads image o geometry chosen sealed found its_geometry its_half its_seal closing =
+    inr
+    (record {
+      opening = o;
+      opens_before = found;
+      opens_behind = kept reads image o found sealed its_seal
+          (subst (λ (g : Geometry). IsClosingUnused sealed g (other o.chosen) reads image) (sym its_geometry)
+          (subst (λ (h : Half). IsClosingUnused sealed geometry (other h) reads image) (sym its_half) closing));
+    })
+
+-- whatever the one opens with, the other does
+opens_as_before : (before behind : List ℕ) → OpensAlike before behind → (opening : Opening (List RowView) Command) → IsOpening store_format latest before opening
+    → IsOpening store_format latest behind opening
+opens_as_before before behind (inl same) opening is = subst (λ (content : List ℕ). IsOpening store_format latest content opening) (sym same) is
+opens_as_before before behind (inr both) opening is =
+    subst (IsOpening store_format latest behind) (same_opening before both.opening opening both.opens_before is) both.opens_behind
 
 -- ---- brought to rest
 
@@ -156,7 +167,7 @@ module _ (start mid new : Disk) (o : Opening (List RowView) Command) (folded : F
           opening = o;
           tells = tells new;
           settled = settled honest_mid;
-          every = λ image is. at_exit (OpensAlike (reads_of start)) start new rested honest image is o (found honest);
+          every = λ image is. opens_as_before (reads_of start) image (at_exit (OpensAlike (reads_of start)) start new rested honest image is) o (found honest);
           unused = λ unsealed image is. subst (HasClosedGates (geometry_view folded.geometry) (other folded.half)) (sym (image_is_reads new.history.now image (settled honest_mid) is)) (closed honest_mid unsealed);
         };
         same = found honest;

@@ -1,5 +1,5 @@
 -- What opening a device answers: by what is read of it, and what it leaves.
-use Rattle.std.specs.Prelude.{◌≡◌, ℕ, ◌*◌, List, Result, Ok, Err, IsOk, Option, Some}
+use Rattle.std.specs.Prelude.{◌≡◌, ◌⊎◌, ℕ, ◌*◌, List, Result, Ok, Err, IsOk, Option, Some}
 use Rattle.std.specs.Option.{option_map}
 use Rattle.path_db.specs.Database.{RowView}
 use Rattle.path_db.specs.declared.command.Command.{Command}
@@ -97,10 +97,15 @@ pub record WantsMemoryToOpen (image : List ℕ) : Type 0 where
   pub chosen : choice_by_heads geometry image ≡ Ok half
   pub front : IsOk (front_in latest (512 * geometry.checkpoint) (area_of geometry half image))
 
--- whatever the one opens with, the other does
+-- both open, and with the same
+pub record OpenWithTheSame (before behind : List ℕ) : Type 0 where
+  pub opening : Opening (List RowView) Command
+  pub opens_before : IsOpening store_format latest before opening
+  pub opens_behind : IsOpening store_format latest behind opening
+
+-- the image is what it was, or opens with what it opened with: one that doesn't open isn't changed
 abbrev pub OpensAlike : List ℕ → List ℕ → Type 0
-OpensAlike before behind =
-    (opening : Opening (List RowView) Command) → IsOpening store_format latest before opening → IsOpening store_format latest behind opening
+OpensAlike before behind = (behind ≡ before) ⊎ OpenWithTheSame before behind
 
 -- A store was opened: it is at rest, and tells what reads gave then.
 pub record IsOpened (reads : List ℕ) (view : StoreView) : Type 0 where

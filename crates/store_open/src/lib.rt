@@ -1,7 +1,8 @@
 //! Stores on devices: how one is made, and what is read of it.
 //!
 //! To the layer above: after `format` every image of the device is a new store, `read_geometry` tells the sizes of a store just
-//! where an image is one, and `open` answers what the image opens with, and leaves at every moment what opened before.
+//! where an image is one, and `open` answers what the image opens with, and leaves at every moment what is there, or what opens
+//! as it did.
 #![tactic(auto)]
 
 mod checkpoint;

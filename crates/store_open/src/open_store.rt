@@ -27,7 +27,7 @@ pub fn open<D: Device>(alloc: Global, device: D) -> Result<Store<D>, (D, OpenErr
     ensures whole { IfOk result (λ store. store.broken ≡ false) }
     ensures refused { IfErr result (λ back. ComesBack back.1 (D.disk device) (D.disk back.0)) }
 
-    // At every moment what a stop leaves opens with all that some image of the start opens with.
+    // At every moment what a stop leaves is an image of the start, or opens with what one of the start opens with.
     ensures any_moment { Stretch (D.disk device) (disk_after D.disk result) (IsFromImage (D.disk device).history.now OpensAlike) }
 {
     let mut device = device;

@@ -89,7 +89,8 @@ impl<D: Device> Store<D> {
 
     /// The version of the format that counts: that of the half that is chosen.
     pub fn version(&self) -> u32
-        ensures { result ≡ self.now.head.version }
+        ensures version { result ≡ self.now.head.version }
+        ensures sound { IsStoreWhole self.now }
     {
         self.head.version
     }

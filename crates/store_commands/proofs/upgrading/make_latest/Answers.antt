@@ -1,0 +1,5 @@
+use Rattle.store_commands.proofs.Stops.{store_stays}
+use Rattle.store_commands.proofs.upgrading.make_latest.Goals as goal
+
+pub returns-clause-any_moment : goal.returns-clause-any_moment
+returns-clause-any_moment g c = store_stays c.args.store.now c.version.ensures.sound

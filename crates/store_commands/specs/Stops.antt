@@ -1,0 +1,23 @@
+-- What a stop within a command leaves of the store on a device.
+use Rattle.std.specs.Prelude.{◌≡◌, ◌⊎◌, ℕ, List}
+use Rattle.sector_dev.specs.Disk.{Disk}
+use Rattle.sector_dev.specs.Image.{IsFromImage}
+use Rattle.sector_dev.specs.Stretch.{Stretch}
+use Rattle.path_db.specs.Database.{RowView}
+use Rattle.store_open.specs.PathStores.{IsStoreOf}
+
+-- both open to the same rows at the same place
+pub record OpenToTheSame (before behind : List ℕ) : Type 0 where
+  pub rows : List RowView
+  pub place : ℕ
+  pub before_is : IsStoreOf rows place before
+  pub behind_is : IsStoreOf rows place behind
+
+-- The image is what it was, or opens to the rows at the place that it opened to. So it opens to nothing else, and one that
+-- doesn't open isn't changed.
+abbrev pub StandsForTheSame : List ℕ → List ℕ → Type 0
+StandsForTheSame before behind = (behind ≡ before) ⊎ OpenToTheSame before behind
+
+-- A stop at any moment from the old state on leaves of an honest device what stands for the same as an image of the old state.
+abbrev pub KeepsItsStore : Disk → Disk → Type 0
+KeepsItsStore old new = Stretch old new (IsFromImage old.history.now StandsForTheSame)
