@@ -3,7 +3,7 @@ use Rattle.std.proofs.Common.{◌≡◌, ℕ, List, ◌++◌, take, drop, Option
 use Rattle.std.specs.Io.KnownBytes.{Appends}
 use Rattle.std.proofs.KnownBytes.{Appends-trans}
 use Rattle.store_commands.specs.declared.error.Fault.{Fault}
-use Rattle.store_commands.specs.Writing.{IsWrittenInPart, FailsWithin}
+use Rattle.store_commands.specs.Writing.{FailsWithin}
 
 -- A front of the bytes was written, and the rest is left.
 pub record HasWritten (output output_left : Option (List ℕ)) (bytes rest : List ℕ) : Type 0 where

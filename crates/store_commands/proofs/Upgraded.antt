@@ -1,11 +1,11 @@
 -- A store that was opened and had a checkpoint made, if it was of version 1, is in the version that is written.
-use Rattle.std.proofs.Common.{◌≡◌, ◌≢◌, ◌⊎◌, inl, inr, ℕ, ◌≤◌, List, Option, Result, Ok, Err, IfOk, IfErr, OnErr, ap, sym, subst, ◌∙◌, arith}
+use Rattle.std.proofs.Common.{◌≡◌, inl, inr, ℕ, ◌≤◌, List, Option, Result, Ok, Err, IfOk, IfErr, OnErr, ap, sym, subst, ◌∙◌, arith}
 use Rattle.sector_dev.specs.Disk.{Disk, IsHonest, reads_of}
 use Rattle.image_laws.specs.Checkpoint.{Head}
 use Rattle.ckpt_pair.specs.Heads.{latest}
 use Rattle.store_open.specs.Open.{IsOpened}
 use Rattle.store_open.specs.PathStores.{IsStoreOf}
-use Rattle.store_open.specs.Store.{StoreView, checkpointed}
+use Rattle.store_open.specs.Store.{StoreView}
 use Rattle.store_commands.specs.declared.error.Fault.{Fault}
 use Rattle.store_commands.specs.declared.error.Fault.TheVariants.{Output}
 use Rattle.store_commands.specs.Text.{version_line}

@@ -11,8 +11,6 @@ use Rattle.store_open.specs.declared.error.OpenError.{OpenError}
 use Rattle.store_open.specs.declared.error.OpenError.TheVariants.{NotAStore, Device, Pair, Journal, NoMemory}
 use Rattle.store_open.specs.declared.store_error.StoreError.{StoreError}
 use Rattle.store_open.specs.declared.store_error.StoreError.TheVariants as checkpoint
-use Rattle.store_open.specs.declared.new_store.FormatError.{FormatError}
-use Rattle.store_open.specs.declared.new_store.FormatError.TheVariants as format
 use Rattle.store_commands.specs.declared.error.Fault.{Fault}
 use Rattle.store_commands.specs.declared.error.Fault.TheVariants.{Format, Open, Checkpoint, File, Memory, Output}
 

@@ -3,7 +3,6 @@ use Rattle.std.specs.Prelude.{ℕ, List, ◌++◌, codes}
 use Rattle.std.specs.Fmt.{decimal}
 use Rattle.gate_journal.specs.ErrorNumber as journal
 use Rattle.ckpt_pair.specs.ErrorNumber as pair
-use Rattle.store_open.specs.ErrorNumbers as store
 use Rattle.store_open.specs.declared.error.OpenError.{OpenError}
 use Rattle.store_open.specs.declared.error.OpenError.TheVariants.{NotAStore, Device, Pair, Journal, NoMemory}
 use Rattle.store_open.specs.declared.store_error.StoreError.{StoreError}

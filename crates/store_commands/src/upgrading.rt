@@ -20,6 +20,7 @@ use store_open::{Store, StoreError, open};
 
 /// Opens a device, makes a checkpoint at rest where its store is of version 1, and prints the version, which is 2 then. The
 /// device comes back.
+#[tactic(auto, using(crate::proofs::Stops::opened_moments))]
 pub fn upgrade<D: Device, W: Write>(
     alloc: Global,
     device: D,

@@ -1,7 +1,7 @@
 use Rattle.std.proofs.Common.{IsTrue, sym, subst}
 use Rattle.sector_dev.specs.Disk.{Disk}
 use Rattle.store_commands.specs.Stops.{KeepsItsStore}
-use Rattle.store_commands.proofs.Stops.{opened_moments, then_moments, printed_moments}
+use Rattle.store_commands.proofs.Stops.{then_moments, printed_moments}
 use Rattle.store_commands.proofs.Upgraded.{upgraded, printed, not_printed}
 use Rattle.store_commands.proofs.upgrading.upgrade.Goals as goal
 
@@ -30,6 +30,3 @@ pub returns-in-Err-made-clause-any_moment : goal.returns-in-Err-made-clause-any_
 returns-in-Err-made-clause-any_moment g c =
     subst (λ (disk : Disk). KeepsItsStore (g.D.Device.disk c.args.device) disk) (sym c.into_device-device.ensures)
     (then_moments _ _ c.in-Ok.store (g.met.D.Device.whole c.args.device) c.in-Ok.ensures.any_moment c.in-Ok.ensures.opened c.in-Err-made.ensures.any_moment)
-
-pub returns-in-Err-clause-any_moment : goal.returns-in-Err-clause-any_moment
-returns-in-Err-clause-any_moment g c = opened_moments _ _ c.in-Err.ensures.any_moment
