@@ -7,4 +7,8 @@ mod checkpoints;
 #[cfg(test)]
 mod formatting;
 #[cfg(test)]
+mod recovery;
+#[cfg(test)]
+mod stopped;
+#[cfg(test)]
 mod stores;

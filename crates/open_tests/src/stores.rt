@@ -16,7 +16,7 @@ pub(crate) const LEAST: Geometry = Geometry {
 pub(crate) const SECTORS: u64 = 1039;
 
 /// Two entries, from 1-ff00:0:110 to 1-ff00:0:111.
-const SEGMENT: [u8; 88] = [
+pub(crate) const SEGMENT: [u8; 88] = [
     0x0a, 0x08, 0x08, 0x80, 0xe2, 0xcf, 0xaa, 0x06, 0x10, 0x07, // the segment's information
     0x12, 0x29, 0x0a, 0x27, 0x0a, 0x25, // the first entry, its signed message, header and body
     0x12, 0x23, 0x08, 0x90, 0x82, 0x80, 0x80, 0x80, 0xe0, 0x7f, // its AS
@@ -30,7 +30,7 @@ const SEGMENT: [u8; 88] = [
 ];
 
 /// Where in the segment the interface is by which its first AS is left. With another one its id is another.
-const EGRESS: usize = 39;
+pub(crate) const EGRESS: usize = 39;
 
 /// What stands before the rows: PCKP, version 2, epoch 7, place 258, and 3 rows in 279 bytes.
 const FRONT: [u8; 32] = [
@@ -50,7 +50,7 @@ const PURGE: [u8; 29] = [
 const TWELVE: [u8; 16] = [1, 12, 0, 0, 0, 0, 0x04, 0xa4, 0, 0, 0, 0, 0, 0, 1, 2];
 
 /// Before the segment in the record of a command that registers it, as a down segment.
-const REGISTER: [u8; 11] = [0, 0, 0, 95, 1, 1, 2, 0, 0, 0, 88];
+pub(crate) const REGISTER: [u8; 11] = [0, 0, 0, 95, 1, 1, 2, 0, 0, 0, 88];
 
 /// A seal at place 259.
 const SEAL: [u8; 16] = [2, 0, 0, 0, 0, 0, 0, 0, 0, 0, 0, 0, 0, 0, 1, 3];
@@ -83,7 +83,7 @@ pub(crate) fn read_sector<D: Device>(device: &mut D, at: u64) -> Option<[u8; 512
 }
 
 /// Writes whole sectors that begin with these bytes, zeros behind them. It takes no memory.
-fn put(device: &mut MemDevice, at: u64, bytes: &[u8]) -> Result<(), Fail> {
+pub(crate) fn put(device: &mut MemDevice, at: u64, bytes: &[u8]) -> Result<(), Fail> {
     let mut at = at;
     for part in bytes.chunks(SECTOR) {
         let mut sector = [0; SECTOR];
