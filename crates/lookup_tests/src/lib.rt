@@ -7,6 +7,8 @@ mod answers;
 #[cfg(test)]
 mod classes;
 #[cfg(test)]
+mod filter;
+#[cfg(test)]
 mod laws;
 #[cfg(test)]
 mod worked;
