@@ -50,7 +50,7 @@ then_moments start new store whole opening opened behind =
     record {
       before = reads_of start;
       image = image_of_reads start.history.now (whole honest).bytes;
-      related = inr (record { rows = store.rows; place = store.place; before_is = stands_for (reads_of start) store (opened honest); behind_is = opens });
+      related = inr (record { rows = store.rows; place = store.place; before_is = stands_for (reads_of start) store (opened honest); behind_is = opens.opens });
     })
     behind)
 
