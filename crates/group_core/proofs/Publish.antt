@@ -55,7 +55,7 @@ all_drop P zero list all = all
 all_drop P (suc n) [] all = all
 all_drop P (suc n) (x ∷ list) all = all_drop P n list all.1
 
-load_some : (taken : ℕ) (pending : List Command) → 1 ≤ taken → load_by taken pending ≡ Commands (take taken pending)
+pub load_some : (taken : ℕ) (pending : List Command) → 1 ≤ taken → load_by taken pending ≡ Commands (take taken pending)
 load_some zero pending some = absurd (omega arith)
 load_some (suc n) pending some = refl
 

@@ -1,5 +1,5 @@
 -- Which of both a state is: sound, or made of a broken store.
-use Rattle.std.proofs.Common.{◌≡◌, ◌≢◌, ◌⊎◌, inl, inr, sym, subst}
+use Rattle.std.proofs.Common.{◌≡◌, ◌≢◌, ◌⊎◌, inl, inr, false, sym, subst}
 use Rattle.sector_dev.specs.Disk.{IsHonest}
 use Rattle.group_laws.specs.declared.phases.Flush.{Flush}
 use Rattle.group_laws.specs.declared.phases.Flush.TheVariants.{Resting}
@@ -25,6 +25,13 @@ sound_at_work view hidden has work honest = by_case (has.sound honest) work
     by_case (inl sound) busy = sound
     by_case (inr broken) (inl flush) = absurd (flush broken.rests)
     by_case (inr broken) (inr check) = absurd (check broken.ready)
+
+pub sound_going : (view : StateView) (hidden : Hidden) → IsState view hidden → view.stopped ≡ false → IsHonest view.disk → Sound view
+sound_going view hidden has going honest = by_case (has.sound honest)
+  where
+    by_case : Sound view ⊎ IsBroken view → Sound view
+    by_case (inl sound) = sound
+    by_case (inr broken) = let stopped = broken.stopped in absurd cc
 
 -- each goes on as it was
 pub either_stays : (old new : StateView) → (Sound old → Sound new) → (IsBroken old → IsBroken new) → Sound old ⊎ IsBroken old → Sound new ⊎ IsBroken new

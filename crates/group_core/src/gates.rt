@@ -12,6 +12,13 @@ pub(crate) fn open_gate() -> [u8; 512]
     gate
 }
 
+/// A gate that is closed: zeros.
+pub(crate) fn closed_gate() -> [u8; 512]
+    ensures { result ≡ gate_closed }
+{
+    [0; 512]
+}
+
 /// Two gates that are closed, one behind the other: zeros.
 pub(crate) fn closed_gates() -> [u8; 1024]
     ensures same { result ≡ gate_closed ++ gate_closed }

@@ -1,8 +1,8 @@
 //! The state of a store at work: a flusher that commits accepted commands in groups, and a checkpointer that folds a sealed
 //! journal into the other half. One call makes at most one write or one sync of the device.
 //!
-//! Here are the steps of both actors on the device, publishing, redeeming, stopping, and the end of a state. A state isn't made
-//! here yet, nor are commands taken, groups staged or checkpoints planned.
+//! Here are staging, the steps of both actors on the device, publishing, redeeming, stopping, and the end of a state. A state
+//! isn't made here yet, nor are commands taken or checkpoints planned.
 //!
 //! To the layer above: each step is exact, and says what a stop within it leaves: what is committed, with a front of the
 //! accepted commands as long as the phase of the flusher allows.
@@ -20,6 +20,7 @@ mod plain_show;
 mod publishing;
 mod redeeming;
 mod showcase;
+mod staging;
 mod state;
 mod ticket;
 mod values;
@@ -32,6 +33,7 @@ pub use phases::{
 };
 pub use plain_show::PlainShow;
 pub use showcase::Showcase;
+pub use staging::StageError;
 pub use state::State;
 pub use ticket::{Receipt, Redeemed, Ticket};
 pub use values::{

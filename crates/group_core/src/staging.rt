@@ -1,0 +1,159 @@
+//! Staging what is to be written next: a group of the first pending commands, or a seal.
+
+ghost use Rattle.std.specs.Prelude.{◌≡◌, ◌≢◌, ◌≤◌, length, take, IfOk, MatchResult};
+ghost use Rattle.std.specs.List.{All};
+ghost use Rattle.path_db.specs.CommandRecord.{IsWithinLimits};
+ghost use Rattle.image_laws.specs.Limits.{limits_of};
+ghost use Rattle.image_laws.specs.Group.{records_of};
+ghost use Rattle.gate_journal.specs.Commands.{command_format};
+ghost use Rattle.gate_journal.specs.Payload.{IsWithinGroupLimits};
+ghost use Rattle.group_laws.specs.Tail.{Commands, Seal, load_bytes};
+ghost use Rattle.group_core.specs.declared.staging.StageError.TheVariants.{NoMemory};
+ghost use Rattle.group_core.specs.StateView.{StepLeaves};
+ghost use Rattle.group_core.specs.Staging.{IsLongestFront, Takes, IsRefused, Stages};
+
+use crate::bookkeeping::Turn;
+use crate::gates::closed_gate;
+use crate::phases::AtStaged;
+use crate::showcase::Showcase;
+use crate::state::State;
+use crate::values::{Commit, Staged};
+use gate_journal::{encode_group, encode_seal, fits, payload_sectors, record_len};
+use group_laws::{Check, Flush};
+use path_db::Command;
+use sector_dev::Device;
+use std::alloc::{AllocError, Global};
+use thiserror::Error;
+
+/// The most bytes that the records of a group have together.
+const MOST_RECORD_BYTES: usize = 262_144;
+
+/// Why nothing was staged. The first that holds is answered, in this order: `Stopped`, `InFlight`, `Empty`, `NoRoom`, and then
+/// `NoMemory`.
+#[derive(Clone, Copy, Debug, PartialEq, Eq, Error)]
+pub enum StageError {
+    /// No command is pending.
+    #[error("no command is pending")]
+    Empty = 1,
+    /// The journal has no room for the group, and the other half isn't ready for what follows a seal.
+    #[error("the journal has no room")]
+    NoRoom = 2,
+    /// What was staged before isn't published yet.
+    #[error("a group or a seal is in flight")]
+    InFlight = 3,
+    /// The state has stopped.
+    #[error("the state has stopped")]
+    Stopped = 4,
+    /// Memory ran out.
+    #[error("out of memory")]
+    NoMemory = 5,
+}
+
+impl From<AllocError> for StageError {
+    ghost from_gives = { λ _ e. e ≡ NoMemory };
+
+    fn from(_refused: AllocError) -> StageError {
+        StageError::NoMemory
+    }
+}
+
+/// The longest front of commands that fits one group: how many they are, and how many bytes their records have.
+#[derive(Clone, Copy)]
+struct Front {
+    count: usize,
+    bytes: usize,
+}
+
+impl<D: Device, S: Showcase> State<D, S> {
+    /// Stages the longest front of the pending commands that fits one group. Where the journal has no room for it, a seal is
+    /// staged in its place, once the other half is ready.
+    pub fn stage(&mut self) -> Result<Staged, StageError>
+        ensures step { Stages result self.old self.new }
+        ensures any_moment { StepLeaves self.old self.new }
+    {
+        let taken = self.next_to_take()?;
+        self.staged = if taken == 0 {
+            seal_bytes(self.alloc, self.place)?
+        } else {
+            group_bytes(self.alloc, &self.pending[..taken], self.place)?
+        };
+        self.taken = taken;
+        self.flush = Flush::Staged;
+        self.group = Turn {
+            number: self.group.number.wrapping_add(1),
+            out: true,
+        };
+        Ok(Commit::new(self.home, self.group.number, AtStaged))
+    }
+
+    /// How many commands are to be staged next; none for a seal.
+    fn next_to_take(&self) -> Result<usize, StageError>
+        ensures { MatchResult result (Takes self.now) (λ e. (e ≢ NoMemory) × IsRefused e self.now) }
+    {
+        if self.stopped {
+            return Err(StageError::Stopped);
+        }
+        let Flush::Resting = self.flush else {
+            return Err(StageError::InFlight);
+        };
+        if self.pending.is_empty() {
+            return Err(StageError::Empty);
+        }
+        let front = longest_front(&self.pending, self.version);
+        let sectors = payload_sectors(front.bytes as u64);
+        if fits(self.gate, sectors, u64::from(self.geometry.journal)) {
+            return Ok(front.count);
+        }
+        match self.check {
+            Check::Ready => Ok(0),
+            _ => Err(StageError::NoRoom),
+        }
+    }
+}
+
+/// How many commands a group may have.
+fn most_commands(version: u32) -> usize
+    ensures exact { result ≡ (limits_of version).most }
+    ensures some { 1 ≤ result }
+{
+    if version <= 1 { 8 } else { 32 }
+}
+
+/// The longest front of commands that fits one group.
+fn longest_front(commands: &[Command], version: u32) -> Front
+    requires { All IsWithinLimits commands.now }
+    ensures longest { IsLongestFront (limits_of version) commands.now result.count }
+    ensures some { 1 ≤ length commands.now → 1 ≤ result.count }
+    ensures bytes { result.bytes ≡ length (records_of command_format (take result.count commands.now)) }
+{
+    let most = most_commands(version);
+    let mut bytes = 0;
+    for (count, command) in commands.iter().enumerate() {
+        let more = bytes + record_len(command);
+        if count == most || more > MOST_RECORD_BYTES {
+            return Front { count, bytes };
+        }
+        bytes = more;
+    }
+    Front {
+        count: commands.len(),
+        bytes,
+    }
+}
+
+/// What is written of a group: its payload, and the gate behind it, closed.
+fn group_bytes(alloc: Global, commands: &[Command], place: u64) -> Result<Vec<u8>, AllocError>
+    requires { IsWithinGroupLimits commands.now place }
+    ensures { IfOk result (λ bytes. bytes.items ≡ load_bytes command_format place (Commands commands.now)) }
+{
+    let mut bytes = encode_group(alloc, commands, place)?;
+    bytes.extend_from_slice(&closed_gate())?;
+    Ok(bytes)
+}
+
+/// What is written of a seal: its payload.
+fn seal_bytes(alloc: Global, place: u64) -> Result<Vec<u8>, AllocError>
+    ensures { IfOk result (λ bytes. bytes.items ≡ load_bytes command_format place Seal) }
+{
+    Vec::from_slice(alloc, &encode_seal(place))
+}
