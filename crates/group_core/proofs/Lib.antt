@@ -6,3 +6,4 @@ pub mod Regions
 pub mod Stage
 pub mod Publish
 pub mod Redeem
+pub mod Begin

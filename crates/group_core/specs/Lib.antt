@@ -7,3 +7,4 @@ pub mod Staging
 pub mod Publishing
 pub mod Redeeming
 pub mod Ending
+pub mod Beginning

@@ -8,6 +8,7 @@
 //! accepted commands as long as the phase of the flusher allows.
 #![tactic(auto)]
 
+mod beginning;
 mod bookkeeping;
 mod checkpointer;
 mod ending;
@@ -25,6 +26,7 @@ mod state;
 mod ticket;
 mod values;
 
+pub use beginning::BeginError;
 pub use bookkeeping::Turn;
 pub use error::{PublishError, StepError};
 pub use phases::{

@@ -1,0 +1,291 @@
+-- Beginning a checkpoint: what reads give of the sealed half, and the state with its plan.
+use Rattle.std.proofs.Common.{◌≡◌, inl, ℕ, ◌+◌, ◌-◌, ◌*◌, ◌%◌, ◌^◌, ◌<◌, ◌≤◌, Bool, true, false, List, length, Option, Some, None, Result, Ok, Err, refl, sym, ◌∙◌, ap, subst, arith}
+use Rattle.byte_lists.specs.Sectors.{sectors_of}
+use Rattle.byte_lists.proofs.Padding.{length-padded}
+use Rattle.path_db.specs.Database.{RowView}
+use Rattle.path_db.specs.RowRecord.{rows_encoding}
+use Rattle.path_db.specs.declared.command.Command.{Command}
+use Rattle.sector_dev.specs.Disk.{Moment, History, Disk, IsHonest, IsWhole, reads_of}
+use Rattle.sector_dev.specs.Calls.{Keeps}
+use Rattle.sector_dev.specs.Stretch.{Leaves, Stretch}
+use Rattle.sector_dev.proofs.Images.{image_of_reads}
+use Rattle.sector_dev.proofs.Stretches.{honest_before, leaves_here}
+use Rattle.image_laws.specs.Limits.{limits_of}
+use Rattle.image_laws.specs.GroupReading.{JournalRefusal}
+use Rattle.image_laws.specs.Journal.{Reading, all_of}
+use Rattle.image_laws.specs.declared.half.Half.{Half}
+use Rattle.image_laws.specs.Layout.{Geometry, other, area_of, journal_of}
+use Rattle.image_laws.specs.StoreFormat.{db_after}
+use Rattle.image_laws.specs.Checkpoint.{Checkpoint, checkpoint_bytes, checkpoint_encoding}
+use Rattle.image_laws.specs.CheckpointReading.{PairRefusal}
+use Rattle.image_laws.proofs.Exports.{checkpoint_read, journal_read, store_area, store_journal}
+use Rattle.gate_journal.specs.Commands.{command_format}
+use Rattle.ckpt_pair.specs.Heads.{latest}
+use Rattle.ckpt_pair.specs.Rows.{rows_format}
+use Rattle.store_open.specs.PathStores.{store_format}
+use Rattle.store_open.specs.Sealed.{SealedHalf, sealed_half, folded_in, folded_behind, ReadsSealed, LooksAtHalf}
+use Rattle.store_open.specs.declared.sealed.SealedError.{SealedError}
+use Rattle.store_open.specs.declared.sealed.SealedError.TheVariants as half
+use Rattle.group_laws.specs.declared.phases.Flush.TheVariants.{Durable}
+use Rattle.group_laws.specs.declared.phases.Check.{Check}
+use Rattle.group_laws.specs.declared.phases.Check.TheVariants.{Sealed, Planned}
+use Rattle.group_laws.specs.Tail.{Seal, place_of, with_load}
+use Rattle.group_laws.specs.BasePart.{Base, sealed_of, OldStands, FoldsTo, CanBeWritten, BasePart}
+use Rattle.group_laws.specs.CheckpointerSteps.{with_new}
+use Rattle.group_laws.specs.Standing.{base_of, IsHeldBy}
+use Rattle.group_laws.specs.HeldSteps.{OpensAroundCall}
+use Rattle.group_laws.specs.HeldChecks.{checked}
+use Rattle.group_laws.specs.HeldTurns.{behind_plan}
+use Rattle.group_laws.proofs.Exports.{reads_by_its_part, held_when_plan_begins}
+use Rattle.group_core.specs.StateView.{StateView, setting_of, standing_of, StepLeaves}
+use Rattle.group_core.specs.Invariant.{Hidden, HasPlan, CountsAt, Shape, Sound, IsState}
+use Rattle.group_core.specs.declared.bookkeeping.Turn.{Turn}
+use Rattle.group_core.specs.declared.beginning.BeginError.TheVariants.{Damaged}
+use Rattle.group_core.specs.declared.phases.AtPlan.{AtPlan}
+use Rattle.group_core.specs.declared.values.Commit.{Commit}
+use Rattle.group_core.specs.Beginning.{checkpoint_of, FitsArea, IsEncoded, EncodesSealed, MayBegin, IsLookedAt, plan_begun, begun, Begins}
+use Rattle.group_core.proofs.States.{may_open}
+
+-- of two halves that were read in one way
+some_same : (one two : SealedHalf) → Some one ≡ Some two → one ≡ two
+some_same one two same = cc
+
+-- a result, of which only the kind counts
+abbrev ok_of : {T : Type 0} → T → Result T SealedError
+ok_of value = Ok value
+
+abbrev error_of : (T : Type 0) → SealedError → Result T SealedError
+error_of T e = Err e
+
+-- what an honest device shows of the sealed half
+module _ (view : StateView) (sound : Sound view) (turn : view.check ≡ Sealed) (whole : IsWhole view.disk) where
+  abbrev base : Base (List RowView) Command
+  base = base_of (standing_of view) sound.behind
+
+  old_stands : OldStands (setting_of view) base view.disk.history.now
+  old_stands = sealed.0
+    where
+      sealed : BasePart Sealed (setting_of view) base view.written view.disk.history.now
+      sealed = subst (λ (p : Check). BasePart p (setting_of view) base view.written view.disk.history.now) turn sound.held.base
+
+  abbrev folded : SealedHalf
+  folded = record {
+    head = sound.behind.old.head;
+    place = place_of (sealed_of base);
+    rows = db_after store_format sound.behind.old.db (all_of sound.behind.old_groups);
+  }
+
+  pub half_reads : sealed_half view.geometry (other view.half) (reads_of view.disk) ≡ Some folded
+  half_reads =
+      ap (folded_in view.geometry (other view.half) reads) (checkpoint_read rows_format latest (area_of view.geometry (other view.half) reads) old (old_stands.area.begins) (old_stands.area.known))
+      ∙ ap (folded_behind old)
+      (journal_read command_format (limits_of old.head.version) (journal_of view.geometry (other view.half) reads) old.head.place (with_load command_format (sealed_of base) Seal)
+      (store_journal view.geometry reads sound.held.title.store (other view.half))
+      (reads_by_its_part Command Durable command_format (limits_of old.head.version) view.geometry (sealed_of base) Seal view.disk.history.now sound.held.title old_stands.journal reads
+      (image_of_reads view.disk.history.now whole.bytes)))
+    where
+      reads : List ℕ
+      reads = reads_of view.disk
+
+      old : Checkpoint (List RowView)
+      old = sound.behind.old
+
+  -- a checkpoint of it, of the next epoch, is what the new half is to have
+  module _ (read : SealedHalf) (is : sealed_half view.geometry (other view.half) (reads_of view.disk) ≡ Some read) where
+    same : folded ≡ read
+    same = some_same folded read (sym half_reads ∙ is)
+
+    counts : sound.behind.old.head.epoch ≡ view.epoch
+    counts = subst (λ (p : Check). CountsAt p view.epoch view.checkpoint sound.behind.old sound.behind.new) turn sound.counts
+
+    pub folds : FoldsTo store_format (with_new base (checkpoint_of (view.epoch + 1) read))
+    folds = record {
+      place = ap (λ (h : SealedHalf). h.place) same;
+      db = ap (λ (h : SealedHalf). h.rows) same;
+      epoch = omega (arith, counts);
+      tail = old_stands.folds.tail;
+      version = old_stands.area.known;
+    }
+
+    pub fits_so : view.stopped ≡ false → FitsArea view.geometry (checkpoint_of (view.epoch + 1) read)
+    fits_so going =
+        omega (arith, sound.fits going, ap (λ (rows : List RowView). length (rows_encoding rows)) (sym old_stands.folds.db ∙ folds.db))
+
+-- a checkpoint that fits takes no more sectors than the area has
+sectors_fit : (epoch area : ℕ) (sealed : SealedHalf) (bytes : List ℕ) → bytes ≡ checkpoint_encoding rows_format (checkpoint_of epoch sealed)
+    → 32 + length (rows_encoding sealed.rows) ≤ 512 * area
+    → (length bytes ≡ 512 * sectors_of (length (checkpoint_bytes rows_format (checkpoint_of epoch sealed))))
+    × (sectors_of (length (checkpoint_bytes rows_format (checkpoint_of epoch sealed))) ≤ area)
+sectors_fit epoch area sealed bytes spelled fits =
+    let long : length bytes ≡ 512 * sectors_of (length (checkpoint_bytes rows_format (checkpoint_of epoch sealed))) = ap length spelled ∙ length-padded (checkpoint_bytes rows_format (checkpoint_of epoch sealed)) in
+    let size : length (checkpoint_bytes rows_format (checkpoint_of epoch sealed)) ≡ 32 + length (rows_encoding sealed.rows) = omega arith in
+    (long, omega (arith, size, fits))
+
+-- the device was looked at
+module _ (old : StateView) (hidden : Hidden) (has : IsState old hidden) (disk : Disk) (looked : IsLookedAt old.disk disk) where
+  -- and the state may have stopped then
+  pub looked_state : (stopped : Bool) → (stopped ≡ false → old.stopped ≡ false) → IsState (record old { disk = disk; stopped = stopped }) hidden
+  looked_state stopped going = record {
+    shape = record {
+      limits = has.shape.limits;
+      sectors = omega (arith, has.shape.sectors, looked.keeps.sectors);
+      room = has.shape.room;
+      place = has.shape.place;
+      last = has.shape.last;
+      few = has.shape.few;
+      commands = has.shape.commands;
+      tip = has.shape.tip;
+      fits = λ is. has.shape.fits (going is);
+      known = has.shape.known;
+      taken = has.shape.taken;
+      rests = has.shape.rests;
+      load = has.shape.load;
+      staged = has.shape.staged;
+      plan = has.shape.plan;
+      epoch = has.shape.epoch;
+    };
+    sound = λ honest.
+        let before = honest_before old.disk disk looked.keeps honest in
+        let sound = has.sound before in
+        record {
+          behind = sound.behind;
+          held = subst (λ (h : History). IsHeldBy (setting_of old) (standing_of old) sound.behind h.now) (sym (looked.history before)) sound.held;
+          counts = sound.counts;
+          fits = λ is. sound.fits (going is);
+        };
+  }
+
+  module _ (may : MayBegin old) (whole : IsHonest old.disk → IsWhole old.disk) where
+    -- the bytes of the sealed half's checkpoint are made, and a plan begins
+    pub begun_state : (bytes : List ℕ) (plan : Turn) → IsEncoded old.geometry (old.epoch + 1) old.disk (sealed_half old.geometry (other old.half) (reads_of old.disk)) bytes
+        → IsState (record old { disk = disk; check = Planned; plan = plan; checkpoint = bytes; written = 0 }) hidden
+    begun_state bytes plan made = record {
+      shape = record {
+        limits = has.shape.limits;
+        sectors = omega (arith, has.shape.sectors, looked.keeps.sectors);
+        room = has.shape.room;
+        place = has.shape.place;
+        last = has.shape.last;
+        few = has.shape.few;
+        commands = has.shape.commands;
+        tip = has.shape.tip;
+        fits = has.shape.fits;
+        known = has.shape.known;
+        taken = has.shape.taken;
+        rests = has.shape.rests;
+        load = has.shape.load;
+        staged = has.shape.staged;
+        plan =
+            let sized = sectors_fit (old.epoch + 1) old.geometry.checkpoint made.sealed bytes made.spelled made.fits in
+            record {
+              sectors = sectors_of (length (checkpoint_bytes rows_format (checkpoint_of (old.epoch + 1) made.sealed)));
+              whole = sized.0;
+              inside = sized.1;
+              written = omega arith;
+            };
+        epoch = omega (arith, may.epoch);
+      };
+      sound = λ honest. planned (honest_before old.disk disk looked.keeps honest);
+    }
+      where
+        next : Checkpoint (List RowView)
+        next = checkpoint_of (old.epoch + 1) made.sealed
+
+        can : CanBeWritten (setting_of old) next
+        can = record {
+          can = made.can;
+          known = omega arith;
+          fits =
+              let sized = sectors_fit (old.epoch + 1) old.geometry.checkpoint made.sealed (checkpoint_encoding rows_format next) refl made.fits in
+              omega (arith, sized.0, sized.1);
+        }
+
+        planned : IsHonest old.disk → Sound (record old { disk = disk; check = Planned; plan = plan; checkpoint = bytes; written = 0 })
+        planned before =
+            let sound = has.sound before in
+            let turn = may.sealed in
+            record {
+              behind = behind_plan sound.behind next;
+              held = subst (λ (h : History). IsHeldBy (setting_of old) (checked (standing_of old) Planned 0) (behind_plan sound.behind next) h.now) (sym (looked.history before))
+                  (held_when_plan_begins (List RowView) Command (setting_of old) (standing_of old) sound.behind old.disk.history.now next turn sound.held
+                  (folds old sound turn (whole before) made.sealed (made.reads before)) can);
+              counts = (record { old = counts old sound turn (whole before) made.sealed (made.reads before); new = refl; version = refl }, made.spelled);
+              fits = λ is. made.fits;
+            }
+
+    -- an honest device shows the half, and its checkpoint fits
+    pub never_damaged : IsHonest old.disk
+        → ((sealed : SealedHalf) → sealed_half old.geometry (other old.half) (reads_of old.disk) ≡ Some sealed → ¬ FitsArea old.geometry (checkpoint_of (old.epoch + 1) sealed)) → ⊥
+    never_damaged honest refused =
+        let sound = has.sound honest in
+        let reads = half_reads old sound may.sealed (whole honest) in
+        refused (folded old sound may.sealed (whole honest)) reads (fits_so old sound may.sealed (whole honest) (folded old sound may.sealed (whole honest)) reads may.going)
+
+-- what looking at the device leaves, where the state before it is seen as `view`
+module _ {old view : StateView} {old_hidden : Hidden} (is : old ≡ view) (has : IsState old old_hidden) {new : StateView} {new_hidden : Hidden} (now : IsState new new_hidden) where
+  pub leaves_look : IsLookedAt old.disk new.disk → StepLeaves view new
+  leaves_look looked = subst (λ (v : StateView). StepLeaves v new) is (record {
+    moments = record {
+      keeps = looked.keeps;
+      leaves = λ honest.
+          subst (λ (h : History). Leaves old.disk.history h (OpensAroundCall (setting_of old) (standing_of old) (standing_of new))) (sym (looked.history honest))
+          (leaves_here (OpensAroundCall (setting_of old) (standing_of old) (standing_of new)) old.disk.history (λ image left. inl (may_open old old_hidden has honest image left)));
+    };
+    exit = may_open new new_hidden now;
+  })
+
+-- a half that isn't read makes no bytes
+pub refused_encoded : {X : Type 0} (items : X → List ℕ) (geometry : Geometry) (epoch : ℕ) (e : SealedError) (disk : Disk) (reading : Option SealedHalf)
+    → (IsHonest disk → ReadsSealed (Err e) reading) → EncodesSealed items geometry epoch (Err e) disk reading
+refused_encoded items geometry epoch half.Fault disk reading is = tt
+refused_encoded items geometry epoch half.NoMemory disk reading is = tt
+refused_encoded items geometry epoch half.Damaged disk reading is = λ honest sealed some fits. none_some sealed (sym (is honest) ∙ some)
+  where
+    none_some : (sealed : SealedHalf) → (let none : Option SealedHalf = None in none) ≡ Some sealed → ⊥
+    none_some sealed same = cc
+
+-- a look by its result
+pub looked_so : {T : Type 0} {result : Result T SealedError} {old new : Disk} → LooksAtHalf result old new → IsLookedAt old new
+looked_so looks = record { keeps = looks.keeps; history = looks.history }
+
+-- A state that may begin, seen as `view`, and what was read of its sealed half.
+module _ (old : StateView) (hidden : Hidden) (has : IsState old hidden) (whole : IsHonest old.disk → IsWhole old.disk) (view : StateView) (view_is : old ≡ view) (may_view : MayBegin view)
+    (side : Half) (side_is : side ≡ other old.half) (disk : Disk) where
+  may_old : MayBegin old
+  may_old = subst MayBegin (sym view_is) may_view
+
+  module _ (bytes : List ℕ) (made_there : IsEncoded old.geometry (old.epoch + 1) old.disk (sealed_half old.geometry side (reads_of old.disk)) bytes) where
+    made_so : IsEncoded old.geometry (old.epoch + 1) old.disk (sealed_half old.geometry (other old.half) (reads_of old.disk)) bytes
+    made_so = subst (λ (h : Half). IsEncoded old.geometry (old.epoch + 1) old.disk (sealed_half old.geometry h (reads_of old.disk)) bytes) side_is made_there
+
+    pub begun_so : {T : Type 0} {result : Result T SealedError} → LooksAtHalf result old.disk disk → IsState (begun old disk bytes) hidden
+    begun_so looks = begun_state old hidden has disk (looked_so looks) may_old whole bytes (plan_begun old.plan) made_so
+
+    pub begins_so : {T : Type 0} (value : T) → LooksAtHalf (ok_of value) old.disk disk → (plan : Commit AtPlan) → plan.home ≡ old.home → plan.number ≡ (old.plan.number + 1) % 2 ^ 64
+        → plan.phase ≡ record { done = false } → Begins (Ok plan) view (begun old disk bytes)
+    begins_so value looks plan home number phase = subst (λ (v : StateView). Begins (Ok plan) v (begun old disk bytes)) view_is (
+      may_old,
+      record { is_of = record { home = home; number = number }; done = ap (λ (p : AtPlan). p.done) phase },
+      looked_so looks,
+      looks.faults,
+      refl,
+      λ honest. record { sealed = made_so.sealed; reads = made_so.reads honest; spelled = made_so.spelled },
+    )
+
+  pub damaged_so : {T X : Type 0} (items : X → List ℕ) (e : SealedError) → e ≡ half.Damaged → LooksAtHalf (error_of T e) old.disk disk
+      → EncodesSealed items old.geometry (old.epoch + 1) (Err e) old.disk (sealed_half old.geometry side (reads_of old.disk))
+      → Begins (Err Damaged) view (record old { disk = disk; stopped = true })
+  damaged_so {T} {X} items e is looks_so encoded = subst (λ (v : StateView). Begins (Err Damaged) v (record old { disk = disk; stopped = true })) view_is (
+    may_old,
+    λ honest. never_damaged old hidden has disk (looked_so looks) may_old whole honest
+        (subst (λ (h : Half). (sealed : SealedHalf) → sealed_half old.geometry h (reads_of old.disk) ≡ Some sealed → ¬ FitsArea old.geometry (checkpoint_of (old.epoch + 1) sealed)) side_is (refused honest)),
+    looked_so looks,
+    looks.faults,
+    refl,
+  )
+    where
+      looks : LooksAtHalf (error_of T half.Damaged) old.disk disk
+      looks = subst (λ (x : SealedError). LooksAtHalf (error_of T x) old.disk disk) is looks_so
+
+      refused : EncodesSealed items old.geometry (old.epoch + 1) (Err half.Damaged) old.disk (sealed_half old.geometry side (reads_of old.disk))
+      refused = subst (λ (x : SealedError). EncodesSealed items old.geometry (old.epoch + 1) (Err x) old.disk (sealed_half old.geometry side (reads_of old.disk))) is encoded
