@@ -1,24 +1,21 @@
 -- Beginning a checkpoint: what reads give of the sealed half, and the state with its plan.
-use Rattle.std.proofs.Common.{◌≡◌, inl, ℕ, ◌+◌, ◌-◌, ◌*◌, ◌%◌, ◌^◌, ◌<◌, ◌≤◌, Bool, true, false, List, length, Option, Some, None, Result, Ok, Err, refl, sym, ◌∙◌, ap, subst, arith}
+use Rattle.std.proofs.Common.{◌≡◌, inl, ℕ, ◌+◌, ◌*◌, ◌%◌, ◌^◌, ◌≤◌, Bool, true, false, List, length, Option, Some, None, Result, Ok, Err, refl, sym, ◌∙◌, ap, subst, arith}
 use Rattle.byte_lists.specs.Sectors.{sectors_of}
 use Rattle.byte_lists.proofs.Padding.{length-padded}
 use Rattle.path_db.specs.Database.{RowView}
 use Rattle.path_db.specs.RowRecord.{rows_encoding}
 use Rattle.path_db.specs.declared.command.Command.{Command}
-use Rattle.sector_dev.specs.Disk.{Moment, History, Disk, IsHonest, IsWhole, reads_of}
-use Rattle.sector_dev.specs.Calls.{Keeps}
-use Rattle.sector_dev.specs.Stretch.{Leaves, Stretch}
+use Rattle.sector_dev.specs.Disk.{History, Disk, IsHonest, IsWhole, reads_of}
+use Rattle.sector_dev.specs.Stretch.{Leaves}
 use Rattle.sector_dev.proofs.Images.{image_of_reads}
 use Rattle.sector_dev.proofs.Stretches.{honest_before, leaves_here}
 use Rattle.image_laws.specs.Limits.{limits_of}
-use Rattle.image_laws.specs.GroupReading.{JournalRefusal}
-use Rattle.image_laws.specs.Journal.{Reading, all_of}
+use Rattle.image_laws.specs.Journal.{all_of}
 use Rattle.image_laws.specs.declared.half.Half.{Half}
 use Rattle.image_laws.specs.Layout.{Geometry, other, area_of, journal_of}
 use Rattle.image_laws.specs.StoreFormat.{db_after}
 use Rattle.image_laws.specs.Checkpoint.{Checkpoint, checkpoint_bytes, checkpoint_encoding}
-use Rattle.image_laws.specs.CheckpointReading.{PairRefusal}
-use Rattle.image_laws.proofs.Exports.{checkpoint_read, journal_read, store_area, store_journal}
+use Rattle.image_laws.proofs.Exports.{checkpoint_read, journal_read, store_journal}
 use Rattle.gate_journal.specs.Commands.{command_format}
 use Rattle.ckpt_pair.specs.Heads.{latest}
 use Rattle.ckpt_pair.specs.Rows.{rows_format}
@@ -28,7 +25,7 @@ use Rattle.store_open.specs.declared.sealed.SealedError.{SealedError}
 use Rattle.store_open.specs.declared.sealed.SealedError.TheVariants as half
 use Rattle.group_laws.specs.declared.phases.Flush.TheVariants.{Durable}
 use Rattle.group_laws.specs.declared.phases.Check.{Check}
-use Rattle.group_laws.specs.declared.phases.Check.TheVariants.{Sealed, Planned}
+use Rattle.group_laws.specs.declared.phases.Check.TheVariants.{Ready, Sealed, Planned}
 use Rattle.group_laws.specs.Tail.{Seal, place_of, with_load}
 use Rattle.group_laws.specs.BasePart.{Base, sealed_of, OldStands, FoldsTo, CanBeWritten, BasePart}
 use Rattle.group_laws.specs.CheckpointerSteps.{with_new}
@@ -38,12 +35,13 @@ use Rattle.group_laws.specs.HeldChecks.{checked}
 use Rattle.group_laws.specs.HeldTurns.{behind_plan}
 use Rattle.group_laws.proofs.Exports.{reads_by_its_part, held_when_plan_begins}
 use Rattle.group_core.specs.StateView.{StateView, setting_of, standing_of, StepLeaves}
-use Rattle.group_core.specs.Invariant.{Hidden, HasPlan, CountsAt, Shape, Sound, IsState}
+use Rattle.group_core.specs.Invariant.{Hidden, CountsAt, Sound, IsState}
 use Rattle.group_core.specs.declared.bookkeeping.Turn.{Turn}
 use Rattle.group_core.specs.declared.beginning.BeginError.TheVariants.{Damaged}
 use Rattle.group_core.specs.declared.phases.AtPlan.{AtPlan}
 use Rattle.group_core.specs.declared.values.Commit.{Commit}
 use Rattle.group_core.specs.Beginning.{checkpoint_of, FitsArea, IsEncoded, EncodesSealed, MayBegin, IsLookedAt, plan_begun, begun, Begins}
+use Rattle.group_core.proofs.Soundness.{AtWork, checking, sound_at_work}
 use Rattle.group_core.proofs.States.{may_open}
 
 -- of two halves that were read in one way
@@ -124,8 +122,8 @@ sectors_fit epoch area sealed bytes spelled fits =
 -- the device was looked at
 module _ (old : StateView) (hidden : Hidden) (has : IsState old hidden) (disk : Disk) (looked : IsLookedAt old.disk disk) where
   -- and the state may have stopped then
-  pub looked_state : (stopped : Bool) → (stopped ≡ false → old.stopped ≡ false) → IsState (record old { disk = disk; stopped = stopped }) hidden
-  looked_state stopped going = record {
+  pub looked_state : AtWork old.flush old.check → (stopped : Bool) → (stopped ≡ false → old.stopped ≡ false) → IsState (record old { disk = disk; stopped = stopped }) hidden
+  looked_state work stopped going = record {
     shape = record {
       limits = has.shape.limits;
       sectors = omega (arith, has.shape.sectors, looked.keeps.sectors);
@@ -138,6 +136,7 @@ module _ (old : StateView) (hidden : Hidden) (has : IsState old hidden) (disk : 
       fits = λ is. has.shape.fits (going is);
       known = has.shape.known;
       taken = has.shape.taken;
+      owed = has.shape.owed;
       rests = has.shape.rests;
       load = has.shape.load;
       staged = has.shape.staged;
@@ -146,16 +145,19 @@ module _ (old : StateView) (hidden : Hidden) (has : IsState old hidden) (disk : 
     };
     sound = λ honest.
         let before = honest_before old.disk disk looked.keeps honest in
-        let sound = has.sound before in
-        record {
+        let sound = sound_at_work old hidden has work before in
+        inl (record {
           behind = sound.behind;
           held = subst (λ (h : History). IsHeldBy (setting_of old) (standing_of old) sound.behind h.now) (sym (looked.history before)) sound.held;
           counts = sound.counts;
           fits = λ is. sound.fits (going is);
-        };
+        });
   }
 
   module _ (may : MayBegin old) (whole : IsHonest old.disk → IsWhole old.disk) where
+    sound_now : IsHonest old.disk → Sound old
+    sound_now honest = sound_at_work old hidden has (checking Sealed may.sealed (λ (is : Sealed ≡ Ready). cc)) honest
+
     -- the bytes of the sealed half's checkpoint are made, and a plan begins
     pub begun_state : (bytes : List ℕ) (plan : Turn) → IsEncoded old.geometry (old.epoch + 1) old.disk (sealed_half old.geometry (other old.half) (reads_of old.disk)) bytes
         → IsState (record old { disk = disk; check = Planned; plan = plan; checkpoint = bytes; written = 0 }) hidden
@@ -172,6 +174,7 @@ module _ (old : StateView) (hidden : Hidden) (has : IsState old hidden) (disk : 
         fits = has.shape.fits;
         known = has.shape.known;
         taken = has.shape.taken;
+        owed = has.shape.owed;
         rests = has.shape.rests;
         load = has.shape.load;
         staged = has.shape.staged;
@@ -185,7 +188,7 @@ module _ (old : StateView) (hidden : Hidden) (has : IsState old hidden) (disk : 
             };
         epoch = omega (arith, may.epoch);
       };
-      sound = λ honest. planned (honest_before old.disk disk looked.keeps honest);
+      sound = λ honest. inl (planned (honest_before old.disk disk looked.keeps honest));
     }
       where
         next : Checkpoint (List RowView)
@@ -202,7 +205,7 @@ module _ (old : StateView) (hidden : Hidden) (has : IsState old hidden) (disk : 
 
         planned : IsHonest old.disk → Sound (record old { disk = disk; check = Planned; plan = plan; checkpoint = bytes; written = 0 })
         planned before =
-            let sound = has.sound before in
+            let sound = sound_now before in
             let turn = may.sealed in
             record {
               behind = behind_plan sound.behind next;
@@ -217,7 +220,7 @@ module _ (old : StateView) (hidden : Hidden) (has : IsState old hidden) (disk : 
     pub never_damaged : IsHonest old.disk
         → ((sealed : SealedHalf) → sealed_half old.geometry (other old.half) (reads_of old.disk) ≡ Some sealed → ¬ FitsArea old.geometry (checkpoint_of (old.epoch + 1) sealed)) → ⊥
     never_damaged honest refused =
-        let sound = has.sound honest in
+        let sound = sound_now honest in
         let reads = half_reads old sound may.sealed (whole honest) in
         refused (folded old sound may.sealed (whole honest)) reads (fits_so old sound may.sealed (whole honest) (folded old sound may.sealed (whole honest)) reads may.going)
 
@@ -247,6 +250,12 @@ refused_encoded items geometry epoch half.Damaged disk reading is = λ honest se
 -- a look by its result
 pub looked_so : {T : Type 0} {result : Result T SealedError} {old new : Disk} → LooksAtHalf result old new → IsLookedAt old new
 looked_so looks = record { keeps = looks.keeps; history = looks.history }
+
+-- and a state that may begin, seen as `view`, which may have stopped then
+pub looked_on : (old : StateView) (hidden : Hidden) → IsState old hidden → (view : StateView) → old ≡ view → MayBegin view → (disk : Disk) {T : Type 0} {result : Result T SealedError}
+    → LooksAtHalf result old.disk disk → (stopped : Bool) → (stopped ≡ false → old.stopped ≡ false) → IsState (record old { disk = disk; stopped = stopped }) hidden
+looked_on old hidden has view view_is may_view disk looks stopped going =
+    looked_state old hidden has disk (looked_so looks) (checking Sealed (subst MayBegin (sym view_is) may_view).sealed (λ (is : Sealed ≡ Ready). cc)) stopped going
 
 -- A state that may begin, seen as `view`, and what was read of its sealed half.
 module _ (old : StateView) (hidden : Hidden) (has : IsState old hidden) (whole : IsHonest old.disk → IsWhole old.disk) (view : StateView) (view_is : old ≡ view) (may_view : MayBegin view)

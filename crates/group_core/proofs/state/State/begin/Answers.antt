@@ -1,6 +1,6 @@
 use Rattle.std.proofs.Common.{◌≡◌, ℕ, Vec, Global, true, false}
 use Rattle.group_core.proofs.States.{leaves_none}
-use Rattle.group_core.proofs.Begin.{looked_state, looked_so, leaves_look, begun_so, begins_so, damaged_so}
+use Rattle.group_core.proofs.Begin.{looked_so, looked_on, leaves_look, begun_so, begins_so, damaged_so}
 use Rattle.group_core.proofs.state.State.begin.Goals as goal
 
 pub returns-in_err-may_begin-clause-any_moment : goal.returns-in_err-may_begin-clause-any_moment
@@ -20,11 +20,11 @@ returns-in-Ok-clause-any_moment g c = leaves_look c.self.view_is c.self.invarian
 
 pub returns-in-Err-NoMemory-clause-any_moment : goal.returns-in-Err-NoMemory-clause-any_moment
 returns-in-Err-NoMemory-clause-any_moment g c =
-    leaves_look c.self.view_is c.self.invariant (looked_state _ _ c.self.invariant _ (looked_so c.in-Err-NoMemory.ensures.looks) c.self.inside.stopped (λ is. is)) (looked_so c.in-Err-NoMemory.ensures.looks)
+    leaves_look c.self.view_is c.self.invariant (looked_on _ _ c.self.invariant _ c.self.view_is c.in_ok-may_begin.ensures _ c.in-Err-NoMemory.ensures.looks c.self.inside.stopped (λ is. is)) (looked_so c.in-Err-NoMemory.ensures.looks)
 
 pub returns-in-Err-Fault-clause-any_moment : goal.returns-in-Err-Fault-clause-any_moment
 returns-in-Err-Fault-clause-any_moment g c =
-    leaves_look c.self.view_is c.self.invariant (looked_state _ _ c.self.invariant _ (looked_so c.in-Err-Fault.ensures.looks) true (λ (is : true ≡ false). cc)) (looked_so c.in-Err-Fault.ensures.looks)
+    leaves_look c.self.view_is c.self.invariant (looked_on _ _ c.self.invariant _ c.self.view_is c.in_ok-may_begin.ensures _ c.in-Err-Fault.ensures.looks true (λ (is : true ≡ false). cc)) (looked_so c.in-Err-Fault.ensures.looks)
 
 pub returns-in-Err-Damaged-clause-step : goal.returns-in-Err-Damaged-clause-step
 returns-in-Err-Damaged-clause-step g c =
@@ -33,4 +33,4 @@ returns-in-Err-Damaged-clause-step g c =
 
 pub returns-in-Err-Damaged-clause-any_moment : goal.returns-in-Err-Damaged-clause-any_moment
 returns-in-Err-Damaged-clause-any_moment g c =
-    leaves_look c.self.view_is c.self.invariant (looked_state _ _ c.self.invariant _ (looked_so c.in-Err-Damaged.ensures.looks) true (λ (is : true ≡ false). cc)) (looked_so c.in-Err-Damaged.ensures.looks)
+    leaves_look c.self.view_is c.self.invariant (looked_on _ _ c.self.invariant _ c.self.view_is c.in_ok-may_begin.ensures _ c.in-Err-Damaged.ensures.looks true (λ (is : true ≡ false). cc)) (looked_so c.in-Err-Damaged.ensures.looks)
