@@ -7,6 +7,8 @@ mod checkpoints;
 #[cfg(test)]
 mod formatting;
 #[cfg(test)]
+mod hostile;
+#[cfg(test)]
 mod recovery;
 #[cfg(test)]
 mod stopped;

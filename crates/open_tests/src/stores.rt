@@ -98,6 +98,20 @@ pub(crate) fn put(device: &mut MemDevice, at: u64, bytes: &[u8]) -> Result<(), F
     Ok(())
 }
 
+/// Has these bytes stand in a sector from an offset on. It takes no memory.
+pub(crate) fn change(
+    device: &mut MemDevice,
+    at: u64,
+    from: usize,
+    bytes: &[u8],
+) -> Result<(), Fail> {
+    let mut sector = read_sector(device, at).unwrap_or([0; SECTOR]);
+    for (byte, wanted) in sector.iter_mut().skip(from).zip(bytes) {
+        *byte = *wanted;
+    }
+    put(device, at, &sector)
+}
+
 /// A store that is new. It takes memory once.
 pub(crate) fn new_store(alloc: Global) -> Result<MemDevice, Fail> {
     let mut device = MemDevice::new(alloc, SECTORS)?;
@@ -170,4 +184,14 @@ pub(crate) fn state_of<D: Device>(store: &Store<D>) -> (u64, u32, bool, bool) {
         store.is_sealed(),
         store.is_broken(),
     )
+}
+
+/// The numbers of a refusal, from the outside in; zero where it has no other within.
+pub(crate) fn numbers_of(error: OpenError) -> (u8, u8) {
+    let within = match error {
+        OpenError::Pair(refusal) => refusal.number(),
+        OpenError::Journal(refusal) => refusal.number(),
+        _ => 0,
+    };
+    (error.number(), within)
 }
