@@ -1,19 +1,15 @@
 //! New stores in which some bytes are others: what opening them answers, and which refusal comes first.
 
 use crate::stores::{
-    EGRESS, REGISTER, SEGMENT, change, new_store, numbers_of, opened, pair_of, put, state_of,
+    Answer, EGRESS, REGISTER, SEGMENT, answer_of, change, new_store, opened, pair_of, put, state_of,
 };
-use sector_dev::MemDevice;
 use std::alloc::Global;
 use std::process::Abort;
 use std::test::Fail;
-use store_open::{StoreError, open};
+use store_open::StoreError;
 
 /// Bytes that stand in a sector from an offset on.
 type Change = (u64, usize, &'static [u8]);
-
-/// What opening answers: how many rows, the place, and whether the journal is sealed; or the numbers of the refusal.
-type Answer = Result<(usize, u64, bool), (u8, u8)>;
 
 /// A new store with some changes.
 struct Hostile {
@@ -113,7 +109,7 @@ const IMAGES: [Hostile; 18] = [
     Hostile {
         name: "sealed_journal_opens",
         changes: &[(4, 0, OPEN), (5, 0, SEAL)],
-        answer: Ok((0, 0, true)),
+        answer: Ok((0, 0, 0)),
     },
     Hostile {
         name: "both_journals_sealed",
@@ -123,7 +119,7 @@ const IMAGES: [Hostile; 18] = [
     Hostile {
         name: "place_at_maximum",
         changes: &[(1, 16, &[0xff; 8])],
-        answer: Ok((0, u64::MAX, false)),
+        answer: Ok((0, 0, u64::MAX)),
     },
     Hostile {
         name: "group behind the last place",
@@ -138,7 +134,7 @@ const IMAGES: [Hostile; 18] = [
     Hostile {
         name: "one group",
         changes: &[(4, 0, OPEN), (5, 0, PURGE)],
-        answer: Ok((0, 1, false)),
+        answer: Ok((0, 0, 1)),
     },
 ];
 
@@ -221,25 +217,14 @@ const ORDERS: [Hostile; 12] = [
             (520, 31, &[1]),
             (523, 0, OPEN),
         ],
-        answer: Ok((0, 0, false)),
+        answer: Ok((0, 0, 0)),
     },
     Hostile {
         name: "the area and the journal of a closed half don't count",
         changes: &[(520, 0, &[0xff; 32]), (523, 0, OPEN), (524, 0, PURGE)],
-        answer: Ok((0, 0, false)),
+        answer: Ok((0, 0, 0)),
     },
 ];
-
-/// What opening a device answers, and the device.
-fn answer_of(alloc: Global, device: MemDevice) -> (Answer, MemDevice) {
-    match open(alloc, device) {
-        Ok(store) => {
-            let (rows, _, place) = pair_of(&store);
-            (Ok((rows, place, store.is_sealed())), store.into_device())
-        }
-        Err((device, error)) => (Err(numbers_of(error)), device),
-    }
-}
 
 /// Opens an image twice: what it answers stays.
 fn assert_answers(rt: &impl Abort, alloc: Global, image: &Hostile) -> Result<(), Fail> {

@@ -3,6 +3,8 @@
 #![tactic(auto)]
 
 #[cfg(test)]
+mod changed_bytes;
+#[cfg(test)]
 mod checkpoints;
 #[cfg(test)]
 mod formatting;
@@ -10,6 +12,8 @@ mod formatting;
 mod hostile;
 #[cfg(test)]
 mod recovery;
+#[cfg(test)]
+mod refused;
 #[cfg(test)]
 mod stopped;
 #[cfg(test)]

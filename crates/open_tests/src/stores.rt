@@ -186,8 +186,19 @@ pub(crate) fn state_of<D: Device>(store: &Store<D>) -> (u64, u32, bool, bool) {
     )
 }
 
+/// What opening answers: what the store stands for, or the numbers of the refusal.
+pub(crate) type Answer = Result<(usize, u64, u64), (u8, u8)>;
+
+/// What opening a device answers, and the device.
+pub(crate) fn answer_of(alloc: Global, device: MemDevice) -> (Answer, MemDevice) {
+    match open(alloc, device) {
+        Ok(store) => (Ok(pair_of(&store)), store.into_device()),
+        Err((device, error)) => (Err(numbers_of(error)), device),
+    }
+}
+
 /// The numbers of a refusal, from the outside in; zero where it has no other within.
-pub(crate) fn numbers_of(error: OpenError) -> (u8, u8) {
+fn numbers_of(error: OpenError) -> (u8, u8) {
     let within = match error {
         OpenError::Pair(refusal) => refusal.number(),
         OpenError::Journal(refusal) => refusal.number(),
