@@ -33,8 +33,8 @@ const CLOSED: &[u8] = &[0];
 
 const SEAL: &[u8] = &[2];
 
-/// Sector 1 is the first half's area, 3 its gate, 4 its journal's first gate, and 5 the payload behind that; 520, 522, 523 and 524
-/// are the same of the second half.
+/// Sector 1 is the first half's area, 3 its gate, 4 its journal's first gate, and 5 the payload behind that; 520, 522, 523 and
+/// 524 are the same of the second half.
 const IMAGES: [Hostile; 18] = [
     Hostile {
         name: "wrong_layout_number",

@@ -12,7 +12,7 @@ use store_open::{OpenError, open};
 /// More calls than it takes to open a store.
 const MANY: u64 = 200;
 
-/// What becomes of a write at a stop: none, one or all but one of its sectors' first bytes land, and its others are filled.
+/// What becomes of a write at a stop: no byte of it, one byte or one sector lands, and its other bytes become zero or 0xa7.
 const TEARS: [Tear; 6] = [
     Tear { keep: 0, fill: 0 },
     Tear {
@@ -35,9 +35,9 @@ const TEARS: [Tear; 6] = [
 #[derive(Clone, Copy)]
 struct Left {
     both_are_open: bool,
-    // A sync, sector 0, both half gates, and behind each that is open a head; the front and the rows of the chosen half; a gate, a
-    // header and a payload for each group, and for a seal a gate and a header; the gate at the end; a sync. Where both halves are
-    // open, also the older one's gate, and the write that closes it.
+    // A sync, sector 0, both half gates, and behind each that is open a head; the front and the rows of the chosen half; a
+    // gate, a header and a payload for each group, and for a seal a gate and a header; the gate at the end; a sync. Where both
+    // halves are open, also the older one's gate, and the write that closes it.
     calls: u64,
     state: (u64, u32, bool, bool),
     // How the first half's gate and its journal's first gate begin then.
