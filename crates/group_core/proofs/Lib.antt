@@ -7,3 +7,5 @@ pub mod Stage
 pub mod Publish
 pub mod Redeem
 pub mod Begin
+pub mod Keeping
+pub mod Submit

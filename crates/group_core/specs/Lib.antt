@@ -8,3 +8,6 @@ pub mod Publishing
 pub mod Redeeming
 pub mod Ending
 pub mod Beginning
+pub mod SubmitRefusals
+pub mod Submitting
+pub mod Keeping

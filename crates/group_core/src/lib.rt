@@ -8,6 +8,7 @@
 //! accepted commands as long as the phase of the flusher allows.
 #![tactic(auto)]
 
+mod accepting;
 mod beginning;
 mod bookkeeping;
 mod checkpointer;
@@ -23,6 +24,8 @@ mod redeeming;
 mod showcase;
 mod staging;
 mod state;
+mod submit_error;
+mod submitting;
 mod ticket;
 mod values;
 
@@ -37,6 +40,7 @@ pub use plain_show::PlainShow;
 pub use showcase::Showcase;
 pub use staging::StageError;
 pub use state::State;
+pub use submit_error::SubmitError;
 pub use ticket::{Receipt, Redeemed, Ticket};
 pub use values::{
     Closing, Commit, Durable, Laid, Live, Opened, Plan, Stable, Staged, Switched, Written,

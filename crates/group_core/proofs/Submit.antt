@@ -1,0 +1,144 @@
+-- Accepting a command on a state.
+use Rattle.std.proofs.Common.{◌≡◌, ◌⊎◌, inl, inr, ℕ, zero, suc, ◌+◌, ◌-◌, ◌*◌, ◌<◌, ◌≤◌, max, true, false, List, [], ◌∷◌, ◌++◌, length, take, Ok, refl, sym, ◌∙◌, ap, subst, arith, length-append}
+use Rattle.std.specs.List.{AllByRecursion}
+use Rattle.std.specs.Ordering.{nat_cmp}
+use Rattle.std.specs.BTreeMap.{insert_entry}
+use Rattle.std.proofs.lemmas.List.{take-append-le, take_all}
+use Rattle.std.proofs.Math.Nat.{eq-or-lt_of_le}
+use Rattle.path_db.specs.Database.{RowView, rows_len}
+use Rattle.path_db.specs.declared.command.Command.{Command}
+use Rattle.path_db.specs.Command.{database_after, outcome_of}
+use Rattle.path_db.specs.RecordLaws.{WrittenRowsAreCounted}
+use Rattle.image_laws.specs.Limits.{limits_of}
+use Rattle.image_laws.specs.StoreFormat.{db_after}
+use Rattle.image_laws.proofs.Exports.{folds_in_parts}
+use Rattle.gate_journal.specs.Commands.{command_format}
+use Rattle.store_open.specs.PathStores.{store_format}
+use Rattle.group_laws.specs.Tail.{Commands, load_bytes}
+use Rattle.group_laws.specs.Standing.{load_by, load_of}
+use Rattle.group_laws.proofs.Exports.{held_when_accepted}
+use Rattle.group_core.specs.StateView.{StateView, setting_of, standing_of}
+use Rattle.group_core.specs.Invariant.{Hidden, FitsLoad, MayBePending, FitArea, Shape, IsState}
+use Rattle.group_core.specs.Keeping.{Outcomes}
+use Rattle.group_core.specs.Showing.{IsFront}
+use Rattle.group_core.specs.Submitting.{next_place, accepted_rows, MayBeSubmitted, HasRoom, IsTicketOf, Submits}
+use Rattle.group_core.specs.declared.ticket.Ticket.{Ticket}
+use Rattle.group_core.proofs.Soundness.{either_stays}
+
+-- what accepting a command touches
+record Touched : Type 0 where
+  pending : List Command
+  kept : Outcomes
+  tip : List RowView
+
+all_pushed : {A : Type 0} (P : A → Type 0) (list : List A) (last : A) → AllByRecursion P list → P last → AllByRecursion P (list ++ last ∷ [])
+all_pushed P [] last all its = (its, tt)
+all_pushed P (x ∷ list) last all its = (all.0, all_pushed P list last all.1 its)
+
+load_front : {A : Type 0} (n : ℕ) (front behind : List A) → n ≤ length front → load_by n (front ++ behind) ≡ load_by n front
+load_front zero front behind inside = refl
+load_front (suc n) front behind inside = ap Commands (take-append-le (suc n) front behind inside)
+
+module _ (old : StateView) (hidden : Hidden) (has : IsState old hidden) where
+  abbrev touched : Touched → StateView
+  touched left = record old { pending = left.pending; kept = left.kept }
+
+  -- nothing was accepted
+  pub refused_state : (pending : List Command) (kept : Outcomes) (tip : List RowView) → pending ≡ old.pending → kept ≡ old.kept → tip ≡ hidden.tip
+      → IsState (record old { pending = pending; kept = kept }) (record hidden { tip = tip })
+  refused_state pending kept tip pending_is kept_is tip_is =
+      subst (λ (left : Touched). IsState (touched left) (record hidden { tip = left.tip }))
+      (λ i. record { pending = sym pending_is i; kept = sym kept_is i; tip = sym tip_is i }) has
+
+  -- the rows of all accepted commands have room
+  pub tip_fits : WrittenRowsAreCounted → old.stopped ≡ false → 32 + rows_len hidden.tip ≤ 512 * old.geometry.checkpoint
+  tip_fits counted going =
+      let all : take (length old.pending) old.pending ≡ old.pending = take_all (length old.pending) old.pending (omega arith) in
+      let fits = subst (λ (l : List Command). FitArea old (db_after store_format old.value.db l)) all (has.shape.fits going (length old.pending) (omega arith)) in
+      omega (arith, fits, counted (db_after store_format old.value.db old.pending), ap rows_len has.shape.tip)
+
+  module _ (command : Command) (counted : WrittenRowsAreCounted) (may : MayBeSubmitted command old) (may_be : MayBePending old.version command) (room : HasRoom command old) where
+    abbrev more : List Command
+    more = old.pending ++ command ∷ []
+
+    one_more : length more ≡ length old.pending + 1
+    one_more = length-append old.pending (command ∷ [])
+
+    rows_are : db_after store_format old.value.db more ≡ database_after (db_after store_format old.value.db old.pending) command
+    rows_are = folds_in_parts (List RowView) Command store_format old.value.db old.pending (command ∷ [])
+
+    all_fit : FitArea old (db_after store_format old.value.db more)
+    all_fit = omega (arith, room, counted (db_after store_format old.value.db more), ap rows_len rows_are)
+
+    front_fits : (n : ℕ) → (n ≡ length more) ⊎ (n < length more) → FitArea old (db_after store_format old.value.db (take n more))
+    front_fits n (inl is) = subst (λ (l : List Command). FitArea old (db_after store_format old.value.db l)) (sym (ap (λ (k : ℕ). take k more) is ∙ take_all (length more) more (omega arith))) all_fit
+    front_fits n (inr less) =
+        let inside : n ≤ length old.pending = omega (arith, less, one_more) in
+        subst (λ (l : List Command). FitArea old (db_after store_format old.value.db l)) (sym (take-append-le n old.pending (command ∷ []) inside)) (has.shape.fits may.going n inside)
+
+    load_is : load_by old.taken more ≡ load_of (standing_of old)
+    load_is = load_front old.taken old.pending (command ∷ []) has.shape.taken
+
+    accepted_shape : (kept : Outcomes) → Shape (record old { pending = more; kept = kept }) (record hidden { tip = database_after hidden.tip command })
+    accepted_shape kept = record {
+      limits = has.shape.limits;
+      sectors = has.shape.sectors;
+      room = has.shape.room;
+      place = has.shape.place;
+      last = omega (arith, may.place, one_more);
+      few = omega (arith, may.few, one_more);
+      commands = all_pushed (MayBePending old.version) old.pending command has.shape.commands may_be;
+      tip = ap (λ (rows : List RowView). database_after rows command) has.shape.tip ∙ sym rows_are;
+      fits = λ going n inside. front_fits n (eq-or-lt_of_le inside);
+      known = has.shape.known;
+      taken = omega (arith, has.shape.taken, one_more);
+      owed = subst (IsFront hidden.owed) (sym (take-append-le old.taken old.pending (command ∷ []) has.shape.taken)) has.shape.owed;
+      rests = has.shape.rests;
+      load = subst (FitsLoad (limits_of old.version) old.geometry old.value.place old.gate) (sym load_is) has.shape.load;
+      staged = λ flying. has.shape.staged flying ∙ ap (load_bytes command_format old.value.place) (sym load_is);
+      plan = has.shape.plan;
+      epoch = has.shape.epoch;
+    }
+
+    accepted_exactly : (kept : Outcomes) → IsState (record old { pending = more; kept = kept }) (record hidden { tip = database_after hidden.tip command })
+    accepted_exactly kept = record {
+      shape = accepted_shape kept;
+      sound = λ honest. either_stays old (record old { pending = more; kept = kept })
+          (λ sound. record {
+            behind = sound.behind;
+            held = held_when_accepted (List RowView) Command (setting_of old) (standing_of old) sound.behind old.disk.history.now command sound.held;
+            counts = sound.counts;
+            fits = sound.fits;
+          })
+          (λ broken. let both : false ≡ true = sym may.going ∙ broken.stopped in absurd (cc)) (has.sound honest);
+    }
+
+    -- a command more is pending
+    pub accepted_state : (pending : List Command) (kept : Outcomes) (tip : List RowView) → pending ≡ more → tip ≡ database_after hidden.tip command
+        → IsState (record old { pending = pending; kept = kept }) (record hidden { tip = tip })
+    accepted_state pending kept tip pending_is tip_is =
+        subst (λ (left : Touched). IsState (touched left) (record hidden { tip = left.tip }))
+        (λ i. record { pending = sym pending_is i; kept = kept; tip = sym tip_is i }) (accepted_exactly kept)
+
+  pub may : (view : StateView) → old ≡ view → (command : Command) → MayBeSubmitted command view → MayBeSubmitted command old
+  may view is command so = subst (MayBeSubmitted command) (sym is) so
+
+  -- which is what the definition says
+  module _ (command : Command) (may_now : MayBeSubmitted command old) where
+    pub has_room : WrittenRowsAreCounted → (most : ℕ) → most ≡ 512 * old.geometry.checkpoint - 32 → (tip : List RowView) → tip ≡ database_after hidden.tip command
+        → rows_len tip ≤ max most (rows_len hidden.tip) → HasRoom command old
+    has_room counted most most_is tip tip_is within =
+        let after : rows_len tip ≡ rows_len (database_after (accepted_rows old) command) = ap rows_len tip_is ∙ ap (λ (rows : List RowView). rows_len (database_after rows command)) has.shape.tip in
+        omega (arith, within, after, tip_fits counted may_now.going, most_is, has.shape.limits.least_checkpoint)
+
+  pub accepted_so : (view : StateView) → old ≡ view → (command : Command) → MayBeSubmitted command old → (ticket : Ticket) (pending : List Command) (kept : Outcomes)
+      → IsTicketOf command old ticket → HasRoom command old → pending ≡ old.pending ++ command ∷ []
+      → kept ≡ insert_entry nat_cmp old.kept ticket.place (outcome_of hidden.tip command)
+      → Submits command (Ok ticket) view (record old { pending = pending; kept = kept })
+  accepted_so view is command may_now ticket pending kept ticket_is room pending_is kept_is =
+      subst (λ (v : StateView). Submits command (Ok ticket) v (record old { pending = pending; kept = kept })) is
+      (may_now, room, ticket_is, λ i. record old { pending = pending_is i; kept = kept_so i })
+    where
+      kept_so : kept ≡ insert_entry nat_cmp old.kept (next_place old) (outcome_of (accepted_rows old) command)
+      kept_so = kept_is ∙ ap (λ (n : ℕ). insert_entry nat_cmp old.kept n (outcome_of hidden.tip command)) ticket_is.place
+          ∙ ap (λ (rows : List RowView). insert_entry nat_cmp old.kept (next_place old) (outcome_of rows command)) has.shape.tip
