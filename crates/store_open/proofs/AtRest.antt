@@ -190,6 +190,8 @@ module _ (old : StoreView) (whole : IsStoreWhole old) (device : IsHonest old.dis
     broken_store = record {
       rows = whole.rows;
       room = still_room;
+      within = whole.within;
+      unsealed = λ _. may.unsealed;
       sound = λ honest. record {
         rest = λ is. absurd (true_is_false is);
         every = λ image is. let opens = every_later honest image is in record { opens = opens.opens; since = opens.since };
@@ -215,6 +217,8 @@ module _ (old : StoreView) (whole : IsStoreWhole old) (device : IsHonest old.dis
       whole_store = record {
         rows = whole.rows;
         room = still_room;
+        within = record { seal = omega (arith, whole.room.allowed.least_journal); known = omega arith };
+        unsealed = λ _. may.unsealed;
         sound = λ honest. sound_at_rest made (at_rest (honest_before old.disk new moments.keeps honest));
       }
 

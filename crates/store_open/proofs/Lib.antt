@@ -13,3 +13,4 @@ pub mod AtRest
 pub mod Steps
 pub mod Rests
 pub mod Back
+pub mod Bounds

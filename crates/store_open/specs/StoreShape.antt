@@ -1,11 +1,21 @@
 -- What holds of a store whatever its device does.
+use Rattle.std.specs.Prelude.{◌≡◌, ℕ, ◌+◌, ◌≤◌, true, false}
 use Rattle.path_db.specs.Database.{IsDatabase}
 use Rattle.sector_dev.specs.Disk.{IsHonest}
+use Rattle.ckpt_pair.specs.Heads.{latest}
 use Rattle.store_open.specs.NewStore.{HasRoomFor}
 use Rattle.store_open.specs.Store.{StoreView, IsSound}
 
--- its rows are a database, its sizes are allowed and its device has room for them, and an honest device holds it
+-- the last gate and a seal behind it are inside their journal, and the version is one that is known
+pub record IsWithin (journal last version : ℕ) : Type 0 where
+  pub seal : last + 2 ≤ journal
+  pub known : version ≤ latest
+
+-- its rows are a database, its sizes are allowed and its device has room for them, what it tells is within these, its journal isn't
+-- sealed where a checkpoint has failed, and an honest device holds it
 pub record IsStoreWhole (view : StoreView) : Type 0 where
   pub rows : IsDatabase view.rows
   pub room : HasRoomFor view.geometry view.disk
+  pub within : IsWithin view.geometry.journal view.gate view.head.version
+  pub unsealed : view.broken ≡ true → view.sealed ≡ false
   pub sound : IsHonest view.disk → IsSound view

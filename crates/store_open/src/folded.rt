@@ -1,14 +1,15 @@
 //! What a store comes to whose commands are folded.
 
-ghost use Rattle.std.specs.Prelude.{IfOk};
+ghost use Rattle.std.specs.Prelude.{◌↔◌, IfOk, IsTrue};
 ghost use Rattle.path_db.specs.Database.{IsDatabase};
 ghost use Rattle.store_open.specs.Folded.{TellsOnAny};
 ghost use Rattle.store_open.specs.Open.{opening_view};
+ghost use Rattle.store_open.specs.StoreShape.{IsWithin};
 
 use crate::Geometry;
 use crate::folding::fold;
 use crate::opening::Found;
-use ckpt_pair::{Checkpoint, Head};
+use ckpt_pair::{Checkpoint, Head, LATEST};
 use image_laws::Half;
 use path_db::PathDb;
 use std::alloc::AllocError;
@@ -25,6 +26,16 @@ pub(crate) struct Folded {
     pub(crate) place: u64,
     pub(crate) db: PathDb,
     pub(crate) sealed_len: u64,
+}
+
+impl Folded {
+    /// Whether the last gate and a seal behind it are inside their journal, and the version is one that is known.
+    pub(crate) fn is_within(&self) -> bool
+        ensures { IsTrue result ↔ IsWithin self.now.geometry.journal self.now.gate self.now.head.version }
+    {
+        let journal = u64::from(self.geometry.journal);
+        journal >= 2 && self.gate <= journal - 2 && self.head.version <= LATEST
+    }
 }
 
 /// Folds the commands of the journal, and then those of the tail, into the rows of the checkpoint.

@@ -15,6 +15,7 @@ use crate::error::OpenError;
 use crate::folded::{Folded, fold_found};
 use crate::opening::read_opening;
 use crate::store::Store;
+use gate_journal::JournalError;
 use sector_dev::Device;
 use std::alloc::Global;
 
@@ -31,22 +32,26 @@ pub fn open<D: Device>(alloc: Global, device: D) -> Result<Store<D>, (D, OpenErr
     ensures any_moment { Stretch (D.disk device) (disk_after D.disk result) (IsFromImage (D.disk device).history.now OpensAlike) }
 {
     let mut device = device;
-    match settle(alloc, &mut device) {
-        Ok(folded) => Ok(Store {
-            alloc,
-            device,
-            geometry: folded.geometry,
-            chosen: folded.half,
-            head: folded.head,
-            sealed: folded.sealed,
-            gate: folded.gate,
-            place: folded.place,
-            db: folded.db,
-            sealed_len: folded.sealed_len,
-            broken: false,
-        }),
-        Err(e) => Err((device, e)),
+    let folded = match settle(alloc, &mut device) {
+        Ok(folded) => folded,
+        Err(e) => return Err((device, e)),
+    };
+    if !folded.is_within() {
+        return Err((device, OpenError::Journal(JournalError::PastEnd)));
     }
+    Ok(Store {
+        alloc,
+        device,
+        geometry: folded.geometry,
+        chosen: folded.half,
+        head: folded.head,
+        sealed: folded.sealed,
+        gate: folded.gate,
+        place: folded.place,
+        db: folded.db,
+        sealed_len: folded.sealed_len,
+        broken: false,
+    })
 }
 
 /// Syncs, so that what a stop leaves is what reads give, and brings that to rest.

@@ -1,6 +1,14 @@
--- A store that was opened is whole.
+-- A store that was opened is whole, and an honest device tells what is within its bounds.
+use Rattle.std.proofs.Common.{◌≡◌, ◌*◌, ◌≤◌, true, false, length, sym, ◌∙◌, arith}
+use Rattle.sector_dev.specs.Disk.{reads_of}
 use Rattle.sector_dev.proofs.Stretches.{honest_before}
+use Rattle.image_laws.specs.Layout.{image_sectors}
+use Rattle.gate_journal.specs.declared.error.JournalError.TheVariants.{PastEnd}
+use Rattle.store_open.specs.declared.error.OpenError.{OpenError}
+use Rattle.store_open.specs.declared.error.OpenError.TheVariants.{Journal, NoMemory}
 use Rattle.store_open.specs.Folded.{store_on}
+use Rattle.store_open.specs.Geometry.{geometry_view}
+use Rattle.store_open.proofs.Bounds.{opened_within}
 use Rattle.store_open.proofs.Rests.{sound_at_rest}
 use Rattle.store_open.proofs.open_store.open.Goals as goal
 
@@ -8,7 +16,22 @@ pub invariant_of-result : goal.invariant_of-result
 invariant_of-result g c = record {
   rows = c.in-Ok.ensures.whole;
   room = c.in-Ok.ensures.room;
+  within = c.is_within.ensures.0 c.if-not-is_within.false;
+  unsealed = λ (broken : false ≡ true). absurd (cc);
   sound = λ honest.
       sound_at_rest (store_on (g.D.Device.disk c.settle.new.device) c.in-Ok.folded)
       (c.in-Ok.ensures.opened (honest_before (g.D.Device.disk c.args.device) (g.D.Device.disk c.settle.new.device) c.settle.ensures.any_moment.keeps honest)).rest;
+}
+
+pub returns-then-not-is_within-clause-refused : goal.returns-then-not-is_within-clause-refused
+returns-then-not-is_within-clause-refused g c = record {
+  refused = λ honest.
+      let whole = g.met.D.Device.whole c.args.device honest in
+      let room : 512 * image_sectors (geometry_view c.in-Ok.folded.geometry) ≤ length (reads_of (g.D.Device.disk c.args.device)) =
+      omega (arith, whole.size, c.in-Ok.ensures.room.room, c.settle.ensures.any_moment.keeps.sectors) in
+      let within = opened_within (reads_of (g.D.Device.disk c.args.device)) (store_on (g.D.Device.disk c.settle.new.device) c.in-Ok.folded) c.in-Ok.ensures.room.allowed room (c.in-Ok.ensures.opened honest) in
+      let both : true ≡ false = sym (c.is_within.ensures.1 within) ∙ c.if-not-is_within.true in
+      absurd (cc);
+  memory = λ honest is. let other : Journal PastEnd ≡ NoMemory = is in absurd (cc);
+  faults = c.in-Ok.ensures.faults;
 }
