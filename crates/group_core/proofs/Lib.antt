@@ -9,3 +9,4 @@ pub mod Redeem
 pub mod Begin
 pub mod Keeping
 pub mod Submit
+pub mod Start

@@ -11,3 +11,4 @@ pub mod Beginning
 pub mod SubmitRefusals
 pub mod Submitting
 pub mod Keeping
+pub mod Starting

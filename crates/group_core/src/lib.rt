@@ -1,8 +1,8 @@
 //! The state of a store at work: a flusher that commits accepted commands in groups, and a checkpointer that folds a sealed
 //! journal into the other half. One call makes at most one write or one sync of the device.
 //!
-//! Here are staging, beginning a checkpoint, the steps of both actors on the device, publishing, redeeming, stopping, and the end of a
-//! state. A state isn't made here yet, nor are commands taken.
+//! Here are the start of a state, submitting commands, staging, beginning a checkpoint, the steps of both actors on the device,
+//! publishing, redeeming, stopping, and the end of a state.
 //!
 //! To the layer above: each step is exact, and says what a stop within it leaves: what is committed, with a front of the
 //! accepted commands as long as the phase of the flusher allows.
@@ -23,6 +23,7 @@ mod publishing;
 mod redeeming;
 mod showcase;
 mod staging;
+mod starting;
 mod state;
 mod submit_error;
 mod submitting;

@@ -1,0 +1,57 @@
+-- What a state made of a store is.
+use Rattle.std.specs.Prelude.{◌≡◌, ◌↔◌, ℕ, ◌+◌, ◌*◌, ◌≤◌, Bool, true, false, List, []}
+use Rattle.path_db.specs.Database.{RowView, rows_len}
+use Rattle.image_laws.specs.Opening.{StoreValue}
+use Rattle.store_open.specs.Store.{StoreView, half_of_tail}
+use Rattle.group_laws.specs.declared.phases.Flush.TheVariants.{Resting}
+use Rattle.group_laws.specs.declared.phases.Check.{Check}
+use Rattle.group_laws.specs.declared.phases.Check.TheVariants.{Ready, Sealed}
+use Rattle.group_core.specs.declared.bookkeeping.Turn.{Turn}
+use Rattle.group_core.specs.StateView.{StateView}
+
+-- what a store stands for
+abbrev pub value_in : StoreView → StoreValue (List RowView)
+value_in store = record { db = store.rows; place = store.place }
+
+-- A state of it goes on where no checkpoint of it has failed, and its rows, and those up to its seal, have room in an area.
+pub record GoesOn (store : StoreView) : Type 0 where
+  pub whole : store.broken ≡ false
+  pub rows : 32 + rows_len store.rows ≤ 512 * store.geometry.checkpoint
+  pub sealed : store.sealed ≡ true → 32 + store.sealed_len ≤ 512 * store.geometry.checkpoint
+
+-- a sealed journal awaits its checkpoint
+abbrev pub check_in : Bool → Check
+check_in false = Ready
+check_in true = Sealed
+
+-- no commit value was given yet
+abbrev pub no_turn : Turn
+no_turn = record { number = 0; out = false }
+
+-- a state of the store in which nothing has begun
+abbrev pub started : StoreView → ℕ → Bool → StateView
+started store home stopped = record {
+  disk = store.disk;
+  geometry = store.geometry;
+  home = home;
+  value = value_in store;
+  pending = [];
+  kept = [];
+  taken = 0;
+  flush = Resting;
+  group = no_turn;
+  check = check_in store.sealed;
+  plan = no_turn;
+  half = half_of_tail store.chosen store.sealed;
+  gate = store.gate;
+  epoch = store.head.epoch;
+  version = store.head.version;
+  checkpoint = [];
+  written = 0;
+  stopped = stopped;
+}
+
+-- It has stopped from its start just where it doesn't go on.
+pub record IsStarted (store : StoreView) (home : ℕ) (state : StateView) : Type 0 where
+  pub is : state ≡ started store home state.stopped
+  pub going : state.stopped ≡ false ↔ GoesOn store
