@@ -8,59 +8,61 @@ use std::test::Fail;
 /// Parts, the place from which they are read, the version, and what they are read as.
 type Case<'a> = (&'a [Part], u64, u32, Seen);
 
+/// What journals read as, closed, sealed, and broken off.
+const READ: [Case<'static>; 13] = [
+    (&[Closed], 7, 1, Ok((0, 0, false, 7))),
+    (&[Closed, Open, Open], 7, 2, Ok((0, 0, false, 7))),
+    (
+        &[Open, Purges(1, 0), Closed, Closed],
+        0,
+        1,
+        Ok((1, 2, false, 1)),
+    ),
+    (
+        &[Open, Purges(1, 0), Closed, Open],
+        0,
+        1,
+        Ok((1, 2, false, 1)),
+    ),
+    (
+        &[Open, Purges(1, 0), Open, Purges(2, 1), Closed, Closed],
+        0,
+        1,
+        Ok((3, 4, false, 3)),
+    ),
+    (
+        &[Open, Purges(1, 0), Open, Seal(1), Open],
+        0,
+        1,
+        Ok((1, 2, true, 1)),
+    ),
+    (&[Open, Seal(257)], 257, 1, Ok((0, 0, true, 257))),
+    (&[Open], 0, 1, Err(JournalError::PastEnd)),
+    (&[Open, Closed], 0, 1, Err(JournalError::BadHeader)),
+    (&[Open, Purges(1, 0)], 1, 1, Err(JournalError::Gap(1))),
+    (
+        &[Open, Purges(1, 0), Open, Seal(2)],
+        0,
+        1,
+        Err(JournalError::Gap(1)),
+    ),
+    (
+        &[Open, Purges(1, 0), Closed],
+        0,
+        1,
+        Err(JournalError::PastEnd),
+    ),
+    (
+        &[Open, Purges(1, 0), Open, Closed],
+        0,
+        1,
+        Err(JournalError::BadHeader),
+    ),
+];
+
 #[test]
 fn journals_are_read(rt: HostRuntime) -> Result<(), Fail> {
-    let cases: [Case<'static>; 13] = [
-        (&[Closed], 7, 1, Ok((0, 0, false, 7))),
-        (&[Closed, Open, Open], 7, 2, Ok((0, 0, false, 7))),
-        (
-            &[Open, Purges(1, 0), Closed, Closed],
-            0,
-            1,
-            Ok((1, 2, false, 1)),
-        ),
-        (
-            &[Open, Purges(1, 0), Closed, Open],
-            0,
-            1,
-            Ok((1, 2, false, 1)),
-        ),
-        (
-            &[Open, Purges(1, 0), Open, Purges(2, 1), Closed, Closed],
-            0,
-            1,
-            Ok((3, 4, false, 3)),
-        ),
-        (
-            &[Open, Purges(1, 0), Open, Seal(1), Open],
-            0,
-            1,
-            Ok((1, 2, true, 1)),
-        ),
-        (&[Open, Seal(257)], 257, 1, Ok((0, 0, true, 257))),
-        (&[Open], 0, 1, Err(JournalError::PastEnd)),
-        (&[Open, Closed], 0, 1, Err(JournalError::BadHeader)),
-        (&[Open, Purges(1, 0)], 1, 1, Err(JournalError::Gap(1))),
-        (
-            &[Open, Purges(1, 0), Open, Seal(2)],
-            0,
-            1,
-            Err(JournalError::Gap(1)),
-        ),
-        (
-            &[Open, Purges(1, 0), Closed],
-            0,
-            1,
-            Err(JournalError::PastEnd),
-        ),
-        (
-            &[Open, Purges(1, 0), Open, Closed],
-            0,
-            1,
-            Err(JournalError::BadHeader),
-        ),
-    ];
-    for (i, (parts, place, version, wanted)) in cases.iter().enumerate() {
+    for (i, (parts, place, version, wanted)) in READ.iter().enumerate() {
         let bytes = bytes_of(rt.alloc(), parts)?;
         assert_eq!(rt;
             seen(&rt, rt.alloc(), &bytes, *place, *version)?,

@@ -5,7 +5,9 @@ use crate::worked::*;
 use path_commands::{Fault, once_in_hex};
 use seg_check::TrustAll;
 use seg_lookup::Roster;
-use session_core::FrameError;
+use session_core::{FrameError, Source};
+use std::alloc::Global;
+use std::io::Write;
 use std::test::Fail;
 
 #[test]
@@ -48,6 +50,24 @@ fn hexadecimal_sessions(rt: HostRuntime) -> Result<(), Fail> {
     Ok(())
 }
 
+/// A session of no core ASes, at moment 0.
+fn with_no_cores<R: Source, W: Write>(
+    alloc: Global,
+    reader: &mut R,
+    writer: &mut W,
+    turns: u64,
+) -> Result<u64, Fault> {
+    once_in_hex(
+        alloc,
+        reader,
+        writer,
+        &Roster::new(Vec::new(alloc)),
+        &TrustAll,
+        0,
+        turns,
+    )
+}
+
 #[test]
 fn hexadecimal_streams(rt: HostRuntime) -> Result<(), Fail> {
     let alloc = rt.alloc();
@@ -59,27 +79,11 @@ fn hexadecimal_streams(rt: HostRuntime) -> Result<(), Fail> {
         reads: 0,
         failing: 2,
     };
-    let failed = once_in_hex(
-        alloc,
-        &mut reader,
-        &mut lines,
-        &Roster::new(Vec::new(alloc)),
-        &TrustAll,
-        0,
-        1_000,
-    );
+    let failed = with_no_cores(alloc, &mut reader, &mut lines, 1_000);
     assert_eq!(rt; failed, Err(Fault::Frame(FrameError::Read)));
 
     let mut reader = in_pieces(text.as_bytes(), 10);
-    let short = once_in_hex(
-        alloc,
-        &mut reader,
-        &mut lines,
-        &Roster::new(Vec::new(alloc)),
-        &TrustAll,
-        0,
-        3,
-    );
+    let short = with_no_cores(alloc, &mut reader, &mut lines, 3);
     assert_eq!(rt; short, Err(Fault::Frame(FrameError::Turns)));
     assert_eq!(rt; lines.len(), 0);
 
@@ -88,15 +92,7 @@ fn hexadecimal_streams(rt: HostRuntime) -> Result<(), Fail> {
         room: 7,
         when_full: WhenFull::TakesNone,
     };
-    let full = once_in_hex(
-        alloc,
-        &mut text.as_bytes(),
-        &mut writer,
-        &Roster::new(Vec::new(alloc)),
-        &TrustAll,
-        0,
-        1_000,
-    );
+    let full = with_no_cores(alloc, &mut text.as_bytes(), &mut writer, 1_000);
     assert_eq!(rt; full, Err(Fault::Frame(FrameError::Write)));
     assert_eq!(rt; writer.taken.as_slice(), b"0000001".as_slice());
     Ok(())
