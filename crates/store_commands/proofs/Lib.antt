@@ -1,3 +1,4 @@
 mod Fronts
 mod Upgraded
 mod Stops
+mod Drawn

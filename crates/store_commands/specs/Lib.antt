@@ -7,3 +7,4 @@ pub mod Formatting
 pub mod Showing
 pub mod Upgrading
 pub mod Walking
+pub mod Drawing

@@ -1,5 +1,10 @@
 //! The lines of a drawing.
 
+ghost use Rattle.std.specs.Prelude.{◌≡◌, Some, IfOk, IfErr, string_bytes};
+ghost use Rattle.store_open.specs.Geometry.{geometry_view};
+ghost use Rattle.store_commands.specs.Drawing.{title_line, BeginsWithTitle, DrawsSo};
+ghost use Rattle.store_commands.specs.Writing.{IsOfWriting};
+
 use crate::error::Fault;
 use crate::halves::{HalfFound, Halves};
 use crate::walking::{End, Walk};
@@ -16,7 +21,10 @@ pub(crate) fn draw_store<W: Write>(
     sectors: u64,
     halves: &Halves,
     writer: &mut W,
-) -> Result<(), Fault> {
+) -> Result<(), Fault>
+    ensures drawn { DrawsSo result (Some (geometry_view geometry)) (W.contents writer.old) (W.contents writer.new) }
+    ensures of_writing { IfErr result IsOfWriting }
+{
     let Ok(text) = drawing(alloc, geometry, sectors, halves) else {
         return Err(Fault::Memory);
     };
@@ -28,16 +36,26 @@ fn drawing(
     geometry: Geometry,
     sectors: u64,
     halves: &Halves,
-) -> Result<String, AllocError> {
-    let checkpoint = geometry.checkpoint;
-    let journal = geometry.journal;
-    let sizes = format!(in alloc; "checkpoint {checkpoint}, journal {journal} sectors")?;
-    let title = line(alloc, 0, 1, "store", &sizes)?;
+) -> Result<String, AllocError>
+    ensures { IfOk result (λ text. BeginsWithTitle (geometry_view geometry) (string_bytes text)) }
+{
+    let title = title_line(alloc, geometry)?;
     let first = half_lines(alloc, geometry, Half::First, halves.first)?;
     let second = half_lines(alloc, geometry, Half::Second, halves.second)?;
     let behind = behind_line(alloc, geometry.sectors(), sectors)?;
     let choice = choice_line(alloc, geometry, halves)?;
     format!(in alloc; "{title}{first}{second}{behind}{choice}")
+}
+
+/// The first line: sector 0, and the sizes that it tells.
+fn title_line(alloc: Global, geometry: Geometry) -> Result<String, AllocError>
+    ensures { IfOk result (λ line. string_bytes line ≡ title_line (geometry_view geometry)) }
+{
+    let checkpoint = geometry.checkpoint;
+    let journal = geometry.journal;
+    format!(in alloc;
+        "0               store         checkpoint {checkpoint}, journal {journal} sectors\n"
+    )
 }
 
 /// A line: the sectors, the region, and what is read there.

@@ -3,7 +3,7 @@
 ghost use Rattle.std.specs.Prelude.{◌≤◌};
 ghost use Rattle.image_laws.specs.Layout.{IsGeometry, image_sectors};
 ghost use Rattle.store_open.specs.Geometry.{geometry_view};
-ghost use Rattle.store_commands.specs.Devices.{LeavesDevice};
+ghost use Rattle.store_open.specs.Looking.{LooksAt};
 
 use crate::walking::{End, Walk, walk_journal};
 use byte_lists::read_u32;
@@ -73,7 +73,7 @@ pub(crate) fn read_half<D: Device>(
 ) -> Result<HalfFound, DevError>
     requires allowed { IsGeometry (geometry_view geometry) }
     requires room { image_sectors (geometry_view geometry) ≤ (D.disk device.old).sectors }
-    ensures { LeavesDevice (D.disk device.old) (D.disk device.new) }
+    ensures { LooksAt result (D.disk device.old) (D.disk device.new) }
 {
     let gate = read_sector(device, geometry.gate_at(half))?;
     let area = read_sector(device, geometry.area_at(half))?;

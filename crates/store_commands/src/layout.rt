@@ -1,9 +1,13 @@
 //! Drawing what stands where on a device.
 
-ghost use Rattle.std.specs.Prelude.{◌≤◌};
+ghost use Rattle.std.specs.Prelude.{◌≡◌, ◌≤◌};
+ghost use Rattle.sector_dev.specs.Disk.{IsHonest, reads_of};
+ghost use Rattle.image_laws.specs.FirstSector.{geometry_in};
 ghost use Rattle.image_laws.specs.Layout.{IsGeometry, image_sectors};
 ghost use Rattle.store_open.specs.Geometry.{geometry_view};
+ghost use Rattle.store_open.specs.Looking.{LooksAt};
 ghost use Rattle.store_commands.specs.Devices.{LeavesDevice};
+ghost use Rattle.store_commands.specs.Drawing.{DrawsSo, faults_after_drawing};
 
 use crate::drawing::draw_store;
 use crate::error::Fault;
@@ -22,7 +26,11 @@ pub fn show_layout<D: Device, W: Write>(
     device: &mut D,
     writer: &mut W,
 ) -> Result<(), Fault>
-    ensures { LeavesDevice (D.disk device.old) (D.disk device.new) }
+    ensures leaves { LeavesDevice (D.disk device.old) (D.disk device.new) }
+    ensures drawn { IsHonest (D.disk device.old) → DrawsSo result (geometry_in (reads_of (D.disk device.old))) (W.contents writer.old) (W.contents writer.new) }
+
+    // It answers that the device failed just where it did.
+    ensures faults { (D.disk device.new).faults ≡ faults_after_drawing result (D.disk device.old).faults }
 {
     let sectors = device.sectors();
     match read_geometry(device) {
@@ -39,7 +47,7 @@ pub fn show_layout<D: Device, W: Write>(
 fn read_halves<D: Device>(device: &mut D, geometry: Geometry) -> Result<Halves, DevError>
     requires allowed { IsGeometry (geometry_view geometry) }
     requires room { image_sectors (geometry_view geometry) ≤ (D.disk device.old).sectors }
-    ensures { LeavesDevice (D.disk device.old) (D.disk device.new) }
+    ensures { LooksAt result (D.disk device.old) (D.disk device.new) }
 {
     let first = read_half(device, geometry, Half::First)?;
     let second = read_half(device, geometry, Half::Second)?;

@@ -1,7 +1,7 @@
 //! Walking over a journal by the headers of its groups.
 
 ghost use Rattle.std.specs.Prelude.{◌+◌, ◌<◌, ◌≤◌, ◌^◌, IfOk};
-ghost use Rattle.store_commands.specs.Devices.{LeavesDevice};
+ghost use Rattle.store_open.specs.Looking.{LooksAt};
 ghost use Rattle.store_commands.specs.Walking.{GoesOnBehind};
 
 use byte_lists::{is_open, read_u32, read_u64};
@@ -46,7 +46,7 @@ pub(crate) fn walk_journal<D: Device>(
     sectors: u64,
 ) -> Result<Walk, DevError>
     requires { start + sectors ≤ (D.disk device.old).sectors }
-    ensures { LeavesDevice (D.disk device.old) (D.disk device.new) }
+    ensures { LooksAt result (D.disk device.old) (D.disk device.new) }
 {
     let mut groups = 0;
     let mut place = 0;
@@ -93,7 +93,7 @@ fn next_step<D: Device>(
 ) -> Result<Step, DevError>
     requires within { gate < sectors }
     requires room { start + sectors ≤ (D.disk device.old).sectors }
-    ensures leaves { LeavesDevice (D.disk device.old) (D.disk device.new) }
+    ensures looks { LooksAt result (D.disk device.old) (D.disk device.new) }
     ensures on { IfOk result (GoesOnBehind gate) }
 {
     if !is_open(&read_sector(device, start + gate)?) {

@@ -1,4 +1,4 @@
-use Rattle.std.proofs.Common.{◌-◌, ◌≤◌}
+use Rattle.std.proofs.Common.{◌≡◌, ◌-◌, ◌≤◌}
 use Rattle.store_commands.specs.Devices.{LeavesDevice}
 use Rattle.store_commands.proofs.walking.walk_journal.Given as goal
 
@@ -6,6 +6,7 @@ use Rattle.store_commands.proofs.walking.walk_journal.Given as goal
 abbrev pub invariant-groups : goal.invariant-groups
 invariant-groups g l = record {
   leaves : LeavesDevice (g.D.Device.disk l.fn.device) (g.D.Device.disk l.device);
+  faults : (g.D.Device.disk l.device).faults ≡ (g.D.Device.disk l.fn.device).faults;
   few : l.groups ≤ l.gate;
 }
 
