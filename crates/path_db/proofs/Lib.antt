@@ -18,6 +18,7 @@ mod Covered
 mod Removed
 mod Rebuilt
 mod ShownLeft
+mod ShownFirst
 mod Walked
 mod Outlined
 mod Newest

@@ -1,22 +1,18 @@
--- What a walk has shown, by what is left of it: for `first_shown` and `shown_at`.
-use Rattle.std.proofs.Common.{◌≡◌, ℕ, zero, suc, ◌<◌, ◌≤◌, Bool, true, false, cond, Some, List, [], ◌∷◌, ◌++◌, length, take, refl, sym, ap, ◌∙◌, arith}
+-- What a walk has shown, by what is left of it: for `first_shown`.
+use Rattle.std.proofs.Common.{◌≡◌, ℕ, zero, suc, ◌<◌, ◌≤◌, Bool, true, false, cond, List, [], ◌∷◌, ◌++◌, length, take, refl, sym, ap, ◌∙◌, arith}
 use Rattle.std.proofs.lemmas.List.{append_assoc, length-append}
 use Rattle.std.specs.List.{filter}
 use Rattle.std.proofs.lemmas.List.{take-map, length-map}
 use Rattle.std.proofs.Math.Seq.{take-append_seam}
 use Rattle.seg_core.specs.SegmentView.{SegmentView}
-use Rattle.std.specs.Option.{option_to_list}
-use Rattle.end_index.specs.declared.place.Place.{Place}
-use Rattle.path_db.specs.Database.{RowView, row_under}
-use Rattle.path_db.specs.RowMap.{place_key}
-use Rattle.path_db.specs.Walk.{rows_at}
+use Rattle.path_db.specs.Database.{RowView}
 use Rattle.path_db.specs.Answer.{segments_of}
 
 -- the segments so far, and those that are left to show, are all that are shown
 abbrev pub ShowsAll : (RowView → Bool) → List RowView → List SegmentView → List RowView → Type 0
 ShowsAll w rows found left = segments_of (filter w rows) ≡ found ++ segments_of (filter w left)
 
-append_nil : {X : Type 0} (xs : List X) → xs ++ [] ≡ xs
+pub append_nil : {X : Type 0} (xs : List X) → xs ++ [] ≡ xs
 append_nil [] = refl
 append_nil (x ∷ xs) = ap (λ l. x ∷ l) (append_nil xs)
 
@@ -25,7 +21,7 @@ shown_enough n w rows left found all enough =
     sym (ap (λ m. take m (found ++ segments_of (filter w left))) (sym enough) ∙ take-append_seam found (segments_of (filter w left)))
     ∙ ap (take n) (sym all) ∙ take-map (λ (row : RowView). row.1) n (filter w rows)
 
-take_few : {X : Type 0} (n : ℕ) (xs : List X) → length xs ≤ n → take n xs ≡ xs
+pub take_few : {X : Type 0} (n : ℕ) (xs : List X) → length xs ≤ n → take n xs ≡ xs
 take_few zero [] e = refl
 take_few zero (x ∷ xs) e = absurd (omega (arith, e))
 take_few (suc n) [] e = refl
@@ -43,7 +39,7 @@ shown_more w rows left row found wanted all =
 pub shown_same : (w : RowView → Bool) (rows left : List RowView) (row : RowView) (found : List SegmentView) → w row ≡ false → ShowsAll w rows found (row ∷ left) → ShowsAll w rows found left
 shown_same w rows left row found wanted all = all ∙ ap (λ b. found ++ segments_of (cond b (row ∷ filter w left) (filter w left))) wanted
 
-take_some : {X : Type 0} (n : ℕ) (xs : List X) → 0 < n → 0 < length xs → 0 < length (take n xs)
+pub take_some : {X : Type 0} (n : ℕ) (xs : List X) → 0 < n → 0 < length xs → 0 < length (take n xs)
 take_some zero xs lt some = absurd (omega (arith, lt))
 take_some (suc n) [] lt some = absurd (omega (arith, some))
 take_some (suc n) (x ∷ xs) lt some = omega arith
@@ -54,6 +50,3 @@ some_left n w rows left row found wanted all less =
     let count = ap length more in
     let some : 0 < length (filter w rows) = omega (arith, count, length-map (filter w rows) (λ (r : RowView). r.1), length-append found (row.1 ∷ segments_of (filter w left))) in
     take_some n (filter w rows) (omega (arith, less)) some
-
-pub first_row : (rows : List RowView) (place : Place) (places : List Place) (row : RowView) → row_under (place_key place) rows ≡ Some row → rows_at rows (place ∷ places) ≡ row ∷ rows_at rows places
-first_row rows place places row here = ap (λ found. option_to_list found ++ rows_at rows places) here

@@ -1,6 +1,6 @@
 //! What a lookup shows of a database.
 
-ghost use Rattle.std.specs.Prelude.{◌≡◌, ◌<◌, ◌≤◌, length, IfOk, OnErr, IsTrue};
+ghost use Rattle.std.specs.Prelude.{◌≡◌, ◌<◌, ◌≤◌, ◌∷◌, ◌++◌, [], length, take, filter, IfOk, OnOk, OnErr, IsTrue};
 ghost use Rattle.std.specs.List.{AllByRecursion};
 ghost use Rattle.std.specs.Option.{option_map};
 ghost use Rattle.isd_as.specs.IsdAs.{number_of};
@@ -9,13 +9,13 @@ ghost use Rattle.seg_core.specs.EntryView.{entry_view, entry_views};
 ghost use Rattle.seg_core.specs.Message.{last_of};
 ghost use Rattle.path_db.specs.Row.{row_view, row_views};
 ghost use Rattle.path_db.specs.Answer.{covers_entry, first_of, matches, is_shown, segments_of};
-ghost use Rattle.path_db.specs.Wanted.{answer_to};
-ghost use Rattle.path_db.specs.Walk.{IsExact, rows_at};
+ghost use Rattle.path_db.specs.Wanted.{answer_to, is_wanted};
+ghost use Rattle.path_db.specs.Walk.{IsExact, rows_at, rows_there};
 
 use crate::row::Row;
 use crate::row_map::RowMap;
 use crate::row_range::RowRange;
-use end_index::Places;
+use end_index::{Place, Places};
 use isd_as::{IsdAs, covers};
 use seg_check::expiry;
 use seg_core::{Entry, SegType, Segment};
@@ -37,6 +37,16 @@ impl Wanted {
         ensures { result ≡ is_shown self.now.kind (number_of self.now.start) (number_of self.now.end) self.now.moment (row_view row.now) }
     {
         self.matches(row) && self.moment < expiry(&row.segment)
+    }
+
+    /// The row, where there is one that is all that.
+    fn shown<'a>(&self, row: Option<&'a Row>) -> Option<&'a Row>
+        ensures { rows_there (result ∷ []) ≡ filter (is_wanted self.now) (rows_there (row.entry ∷ [])) }
+    {
+        match row {
+            Some(row) if self.is_shown(row) => Some(row),
+            _ => None,
+        }
     }
 
     /// Whether the row is of the type, and its ends are covered.
@@ -105,6 +115,81 @@ pub(crate) fn first_shown(
     Ok(found)
 }
 
+/// The row at the next place, where there is one.
+fn next_row<'a>(rows: &'a RowMap, places: &mut Places<'_>) -> Option<&'a Row>
+    ensures row { rows_at rows.now places.old ≡ rows_there (result ∷ []) ++ rows_at rows.now places.new }
+    ensures fewer { length places.new ≤ length places.old }
+{
+    match places.next() {
+        Some(place) => rows.at(place),
+        None => None,
+    }
+}
+
+/// Those that are wanted of the rows at a place and the next three. They are looked at together, before any is shared: so the
+/// memory of each is waited for beside that of the others.
+fn next_shown<'a>(
+    rows: &'a RowMap,
+    place: &Place,
+    places: &mut Places<'_>,
+    wanted: Wanted,
+) -> [Option<&'a Row>; 4]
+    ensures same { filter (is_wanted wanted) (rows_at rows.now (place.now ∷ places.old)) ≡ rows_there result ++ filter (is_wanted wanted) (rows_at rows.now places.new) }
+    ensures fewer { length places.new ≤ length places.old }
+{
+    let first = rows.at(place);
+    let second = next_row(rows, places);
+    let third = next_row(rows, places);
+    let fourth = next_row(rows, places);
+    [
+        wanted.shown(first),
+        wanted.shown(second),
+        wanted.shown(third),
+        wanted.shown(fourth),
+    ]
+}
+
+/// Appends the segments of rows, up to so many in all.
+fn append_shown(
+    found: &mut Vec<Segment>,
+    rows: &[Option<&Row>],
+    limit: usize,
+) -> Result<(), AllocError>
+    requires few { length found.old.items ≤ limit }
+    requires whole { AllByRecursion IsSegment found.old.items }
+    ensures same { OnOk result (found.new.items ≡ take limit (found.old.items ++ segments_of (rows_there rows.now))) }
+    ensures whole { OnOk result (AllByRecursion IsSegment found.new.items) }
+    ensures memory { OnErr result ((length found.old.items < limit) × (0 < length (rows_there rows.now))) }
+{
+    match rows {
+        [] => Ok(()),
+        [row, rest @ ..] => {
+            append_if_shown(found, *row, limit)?;
+            append_shown(found, rest, limit)
+        }
+    }
+}
+
+/// Appends the segment of a row, where there is one and not so many stand already.
+fn append_if_shown(
+    found: &mut Vec<Segment>,
+    row: Option<&Row>,
+    limit: usize,
+) -> Result<(), AllocError>
+    requires few { length found.old.items ≤ limit }
+    requires whole { AllByRecursion IsSegment found.old.items }
+    ensures same { OnOk result (found.new.items ≡ take limit (found.old.items ++ segments_of (rows_there (row.entry ∷ [])))) }
+    ensures whole { OnOk result (AllByRecursion IsSegment found.new.items) }
+    ensures memory { OnErr result ((length found.old.items < limit) × (0 < length (rows_there (row.entry ∷ [])))) }
+{
+    if let Some(row) = row {
+        if found.len() < limit {
+            found.push(row.segment.try_clone()?)?;
+        }
+    }
+    Ok(())
+}
+
 /// The segments of the first rows at places that are wanted, at most so many.
 pub(crate) fn shown_at(
     alloc: Global,
@@ -119,15 +204,13 @@ pub(crate) fn shown_at(
     ensures whole { IfOk result (λ found. AllByRecursion IsSegment found.items) }
 {
     let mut found = Vec::new(alloc);
-    for place in places {
+    let mut places = places;
+    while let Some(place) = places.next() {
         if found.len() == limit {
             break;
         }
-        if let Some(row) = rows.at(place) {
-            if wanted.is_shown(row) {
-                found.push(row.segment.try_clone()?)?;
-            }
-        }
+        let shown = next_shown(rows, place, &mut places, wanted);
+        append_shown(&mut found, &shown, limit)?;
     }
     Ok(found)
 }
