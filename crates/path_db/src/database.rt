@@ -101,6 +101,7 @@ impl PathDb {
         ensures database { OnOk result (self.new ≡ database_after self.old command.now) }
         ensures outcome { IfOk result (λ outcome. outcome ≡ outcome_of self.old command.now) }
         ensures within { OnOk result (rows_len self.new ≤ max most (rows_len self.old)) }
+        ensures fits { OnOk result (TakesMemory command.now → rows_len self.new ≤ most) }
         ensures refused { OnErr result (self.new ≡ self.old) }
         ensures full { IfErr result (λ e. e ≡ Full → most < rows_len (database_after self.old command.now)) }
         ensures registers { OnErr result (TakesMemory command.now) }
@@ -115,6 +116,7 @@ impl PathDb {
         ensures database { OnOk result (self.new ≡ database_after self.old command.now) }
         ensures outcome { IfOk result (λ outcome. outcome ≡ outcome_of self.old command.now) }
         ensures within { OnOk result (rows_len self.new ≤ max most (rows_len self.old)) }
+        ensures fits { OnOk result (TakesMemory command.now → rows_len self.new ≤ most) }
         ensures refused { OnErr result (self.new ≡ self.old) }
         ensures full { IfErr result (λ e. e ≡ Full → most < rows_len (database_after self.old command.now)) }
         ensures registers { OnErr result (TakesMemory command.now) }
@@ -132,6 +134,7 @@ impl PathDb {
         ensures database { OnOk result (self.new ≡ database_after_puts self.old new.now) }
         ensures outcome { IfOk result (λ outcome. outcome ≡ outcome_of_puts (changes_of self.old new.now)) }
         ensures within { OnOk result (rows_len self.new ≤ max most (rows_len self.old)) }
+        ensures fits { OnOk result (0 < length new.now → rows_len self.new ≤ most) }
         ensures refused { OnErr result (self.new ≡ self.old) }
         ensures full { IfErr result (λ e. e ≡ Full → most < rows_len (database_after_puts self.old new.now)) }
         ensures memory { OnErr result (0 < length new.now) }
@@ -147,6 +150,7 @@ impl PathDb {
         ensures database { OnOk result (self.new ≡ database_after_puts self.old (row_views new.items)) }
         ensures outcome { IfOk result (λ outcome. outcome ≡ outcome_of_puts (changes_of self.old (row_views new.items))) }
         ensures within { OnOk result (rows_len self.new ≤ max most (rows_len self.old)) }
+        ensures fits { OnOk result (0 < length new.items → rows_len self.new ≤ most) }
         ensures refused { OnErr result (self.new ≡ self.old) }
         ensures full { IfErr result (λ e. e ≡ Full → most < rows_len (database_after_puts self.old (row_views new.items))) }
         ensures memory { OnErr result (0 < length new.items) }
