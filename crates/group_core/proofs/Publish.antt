@@ -31,7 +31,6 @@ use Rattle.group_core.specs.StateView.{StateView, setting_of, standing_of}
 use Rattle.group_core.specs.Steps.{spent}
 use Rattle.group_core.specs.Publishing.{with_group}
 use Rattle.group_core.specs.Invariant.{Hidden, FitsLoad, MayBePending, FitArea, CountsAt, Shape, Sound, IsState}
-use Rattle.group_core.specs.Showing.{IsFront}
 use Rattle.group_core.proofs.Soundness.{sound_at_work}
 
 -- a list in two parts

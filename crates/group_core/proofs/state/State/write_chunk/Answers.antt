@@ -1,4 +1,4 @@
-use Rattle.std.proofs.Common.{inr, ◌≡◌, ◌+◌, ◌-◌, ◌*◌, false, take, drop, refl, arith}
+use Rattle.std.proofs.Common.{◌≡◌, ◌+◌, ◌-◌, ◌*◌, false, take, drop, refl, arith}
 use Rattle.group_laws.specs.declared.phases.Check.TheVariants.{Ready as ready, Planned as planned}
 use Rattle.group_core.proofs.Soundness.{checking}
 use Rattle.group_core.proofs.States.{leaves_none, leaves_pure, leaves_write}
