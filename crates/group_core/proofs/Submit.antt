@@ -125,9 +125,9 @@ module _ (old : StateView) (hidden : Hidden) (has : IsState old hidden) where
 
   -- which is what the definition says
   module _ (command : Command) (may_now : MayBeSubmitted command old) where
-    pub has_room : WrittenRowsAreCounted → (most : ℕ) → most ≡ 512 * old.geometry.checkpoint - 32 → (tip : List RowView) → tip ≡ database_after hidden.tip command
-        → rows_len tip ≤ max most (rows_len hidden.tip) → HasRoom command old
-    has_room counted most most_is tip tip_is within =
+    pub has_room : WrittenRowsAreCounted → (most : ℕ) (tip : List RowView) → tip ≡ database_after hidden.tip command → rows_len tip ≤ max most (rows_len hidden.tip)
+        → most ≡ 512 * old.geometry.checkpoint - 32 → HasRoom command old
+    has_room counted most tip tip_is within most_is =
         let after : rows_len tip ≡ rows_len (database_after (accepted_rows old) command) = ap rows_len tip_is ∙ ap (λ (rows : List RowView). rows_len (database_after rows command)) has.shape.tip in
         omega (arith, within, after, tip_fits counted may_now.going, most_is, has.shape.limits.least_checkpoint)
 

@@ -1,4 +1,4 @@
-use Rattle.std.proofs.Common.{◌-◌, ◌*◌, refl, sym, ◌∙◌, ap, subst, arith}
+use Rattle.std.proofs.Common.{refl, sym, ◌∙◌, ap, subst, arith}
 use Rattle.group_core.specs.StateView.{StateView}
 use Rattle.group_core.specs.Invariant.{MayBePending}
 use Rattle.group_core.specs.Submitting.{next_place}
@@ -23,7 +23,7 @@ invariant_of-self-2 g c =
     let may_now = may _ _ c.self.invariant _ c.self.view_is c.args.command judged.judges in
     accepted_state _ _ c.self.invariant c.args.command c.written_rows_are_counted.ensures may_now
     (subst (λ (view : StateView). MayBePending view.version c.args.command) (sym c.self.view_is) judged.pending)
-    (has_room _ _ c.self.invariant c.args.command may_now c.written_rows_are_counted.ensures (512 * c.from.result - 32) (omega (arith, c.from.ensures)) _ after.tip after.within)
+    (has_room _ _ c.self.invariant c.args.command may_now c.written_rows_are_counted.ensures _ _ after.tip after.within (omega (arith, c.from.ensures)))
     _ _ _ after.pending after.tip
 
 pub returns-clause-step : goal.returns-clause-step
@@ -31,7 +31,7 @@ returns-clause-step g c =
     let judged = c.in_default.ensures in
     let after = c.in_default-accepted.ensures in
     let may_now = may _ _ c.self.invariant _ c.self.view_is c.args.command judged.judges in
-    let room = has_room _ _ c.self.invariant c.args.command may_now c.written_rows_are_counted.ensures (512 * c.from.result - 32) (omega (arith, c.from.ensures)) _ after.tip after.within in
+    let room = has_room _ _ c.self.invariant c.args.command may_now c.written_rows_are_counted.ensures _ _ after.tip after.within (omega (arith, c.from.ensures)) in
     accepted_so _ _ c.self.invariant _ c.self.view_is c.args.command may_now (record { home = c.self.inside.home; place = c.next_place-place.result; command = c.of-shown.result }) _ _
     (record { home = refl; place = c.next_place-place.ensures ∙ ap next_place (sym c.self.view_is); shows = c.of-shown.ensures }) room after.pending after.kept
 
