@@ -49,6 +49,8 @@ pub(crate) fn feed_area<D: Device>(
     'pieces: while fed < end {
         let first = fed / 512;
         let count = (sectors - first).min(PIECE);
+        let is_small = count <= 2048;
+        prove!(is_small);
         let piece = read_piece(alloc, device, area + first, count)?;
         let from = fed - 512 * first;
         let to = (end - 512 * first).min(512 * count);
