@@ -2,9 +2,7 @@
 use Rattle.std.specs.Prelude.{◌≡◌, ℕ, List, [], ◌∷◌, ◌++◌, codes, Option, None, Some, IsSome, Result, Ok, Err}
 use Rattle.std.specs.Fmt.{decimal}
 use Rattle.std.specs.Io.KnownBytes.{Appends}
-use Rattle.sector_dev.specs.Disk.{Disk, IsHonest, reads_of}
 use Rattle.image_laws.specs.Layout.{Geometry}
-use Rattle.image_laws.specs.FirstSector.{geometry_in}
 use Rattle.store_open.specs.declared.error.OpenError.TheVariants.{Device}
 use Rattle.store_commands.specs.Devices.{faults_after_fault}
 use Rattle.store_commands.specs.Writing.{IsWrittenInPart}
@@ -14,7 +12,8 @@ use Rattle.store_commands.specs.declared.error.Fault.TheVariants.{Format, Open, 
 -- the first line: sector 0, and the sizes that it tells
 abbrev pub title_line : Geometry → List ℕ
 title_line geometry =
-    codes "0               store         checkpoint " ++ (decimal geometry.checkpoint ++ (codes ", journal " ++ (decimal geometry.journal ++ (codes " sectors" ++ 0x0a ∷ []))))
+    codes "0               store         checkpoint "
+    ++ (decimal geometry.checkpoint ++ (codes ", journal " ++ (decimal geometry.journal ++ (codes " sectors" ++ 0x0a ∷ []))))
 
 -- the only line where no store is
 abbrev pub no_store_line : List ℕ

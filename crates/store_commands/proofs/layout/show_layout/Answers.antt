@@ -1,4 +1,4 @@
-use Rattle.std.proofs.Common.{◌∙◌, sym}
+use Rattle.std.proofs.Common.{◌∙◌}
 use Rattle.store_commands.proofs.Drawn.{no_faults_by_drawing}
 use Rattle.store_commands.proofs.layout.show_layout.Goals as goal
 
