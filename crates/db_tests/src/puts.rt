@@ -1,7 +1,7 @@
 //! Registrations: under one key the newer timestamp wins.
 
 use crate::worked::{ID, dated, register};
-use path_db::{Command, Outcome, PathDb, Registration};
+use path_db::{ApplyError, Command, Outcome, PathDb, Registration};
 use seg_core::{SegType, Segment};
 use std::test::Fail;
 
@@ -49,5 +49,24 @@ fn puts_are_in_order(rt: HostRuntime) -> Result<(), Fail> {
     assert_eq!(rt; outcome, done(1, 1, 2));
     let stands = database.get(SegType::Down, &ID).map(Segment::segment_id);
     assert_eq!(rt; stands, Some(2));
+    Ok(())
+}
+
+// A registration may fill the limit, and isn't applied one byte above it. A purge is applied whatever the limit.
+#[test]
+fn rows_stay_within_the_limit(rt: HostRuntime) -> Result<(), Fail> {
+    let command = register(rt.alloc(), SegType::Down, dated(rt.alloc(), 10, 1)?)?;
+    let mut full = PathDb::new(rt.alloc());
+    full.apply(&command)?;
+    let most = full.encoded_len();
+    let mut database = PathDb::new(rt.alloc());
+    let refused = database.apply_within(&command, most.saturating_sub(1));
+    assert_eq!(rt; refused, Err(ApplyError::Full));
+    assert_eq!(rt; database.encoded_len(), 0);
+    let found = database.apply_within(&command, most)?;
+    assert_eq!(rt; found, done(1, 0, 0));
+    let found = database.apply_within(&Command::Purge(0), 0)?;
+    assert_eq!(rt; found, done(0, 0, 0));
+    assert_eq!(rt; database.encoded_len(), most);
     Ok(())
 }
