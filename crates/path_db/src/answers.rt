@@ -134,7 +134,8 @@ fn next_shown<'a>(
     places: &mut Places<'_>,
     wanted: Wanted,
 ) -> [Option<&'a Row>; 4]
-    ensures same { filter (is_wanted wanted) (rows_at rows.now (place.now ∷ places.old)) ≡ rows_there result ++ filter (is_wanted wanted) (rows_at rows.now places.new) }
+    ensures same { filter (is_wanted wanted) (rows_at rows.now (place.now ∷ places.old))
+        ≡ rows_there result ++ filter (is_wanted wanted) (rows_at rows.now places.new) }
     ensures fewer { length places.new ≤ length places.old }
 {
     let first = rows.at(place);
