@@ -1,4 +1,5 @@
 pub mod Written
+pub mod Behind
 pub mod NewStores
 pub mod FirstSectors
 pub mod Gates

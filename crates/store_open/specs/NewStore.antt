@@ -1,6 +1,7 @@
 -- What a store is that was just made, to the byte, and what making one answers.
-use Rattle.std.specs.Prelude.{◌≡◌, ◌++◌, ℕ, ◌≤◌, ◌<◌, List, [], take, replicate, ◌∷◌, Result, Ok, Err}
+use Rattle.std.specs.Prelude.{◌≡◌, ◌++◌, ℕ, ◌*◌, ◌≤◌, ◌<◌, List, [], take, replicate, ◌∷◌, Result, Ok, Err}
 use Rattle.std.specs.Int.{w32, to_be_bytes}
+use Rattle.byte_lists.specs.Content.{part}
 use Rattle.byte_lists.specs.Sectors.{sector_at}
 use Rattle.sector_dev.specs.Disk.{Disk, IsHonest, reads_of}
 use Rattle.sector_dev.specs.Image.{EveryImage}
@@ -59,6 +60,10 @@ pub record HoldsNewStore (geometry : Geometry) (disk : Disk) : Type 0 where
 pub record HasRoomFor (geometry : Geometry) (disk : Disk) : Type 0 where
   pub allowed : IsGeometry geometry
   pub room : image_sectors geometry ≤ disk.sectors
+
+-- what stands behind a store of these sizes is as it was
+abbrev pub SameBehind : Geometry → List ℕ → List ℕ → Type 0
+SameBehind geometry old new = (at n : ℕ) → 512 * image_sectors geometry ≤ at → part at n new ≡ part at n old
 
 -- What making a store answers: it is there; or the sizes aren't allowed, or they are and the device is too small, and nothing
 -- was done; or the device failed.

@@ -3,9 +3,11 @@
 ghost use Rattle.std.specs.Prelude.{◌≡◌, ◌≤◌, OnOk};
 ghost use Rattle.sector_dev.specs.Disk.{IsHonest};
 ghost use Rattle.sector_dev.specs.Calls.{Keeps, count_after};
+ghost use Rattle.sector_dev.specs.Image.{IsFromImage};
+ghost use Rattle.sector_dev.specs.Stretch.{Stretch};
 ghost use Rattle.image_laws.specs.Layout.{IsGeometry, image_sectors};
 ghost use Rattle.store_open.specs.Geometry.{geometry_view};
-ghost use Rattle.store_open.specs.NewStore.{Formats, HoldsNewStore, HasRoomFor};
+ghost use Rattle.store_open.specs.NewStore.{Formats, HoldsNewStore, HasRoomFor, SameBehind};
 
 use crate::Geometry;
 use crate::sectors::{closed_gate, first_checkpoint, first_sector, open_gate};
@@ -28,9 +30,14 @@ pub enum FormatError {
 }
 
 /// Makes a store of these sizes, with no rows and at place 0, of whatever stood on the device. It takes no memory.
+#[tactic(auto, using(crate::proofs::Behind::kept_here))]
 pub fn format<D: Device>(device: &mut D, geometry: Geometry) -> Result<(), FormatError>
     ensures keeps { Keeps (D.disk device.old) (D.disk device.new) }
     ensures answer { Formats (geometry_view geometry) result (D.disk device.old) (D.disk device.new) }
+
+    // At every moment what stands behind the store is as it was.
+    ensures behind { Stretch (D.disk device.old) (D.disk device.new)
+        (IsFromImage (D.disk device.old).history.now (SameBehind (geometry_view geometry))) }
 {
     if !geometry.is_allowed() {
         return Err(FormatError::BadGeometry);
@@ -50,6 +57,8 @@ fn lay_out<D: Device>(device: &mut D, geometry: Geometry) -> Result<(), DevError
     ensures keeps { Keeps (D.disk device.old) (D.disk device.new) }
     ensures faults { (D.disk device.new).faults ≡ count_after result (D.disk device.old).faults }
     ensures done { OnOk result (IsHonest (D.disk device.old) → HoldsNewStore (geometry_view geometry) (D.disk device.new)) }
+    ensures behind { Stretch (D.disk device.old) (D.disk device.new)
+        (IsFromImage (D.disk device.old).history.now (SameBehind (geometry_view geometry))) }
 {
     device.write(0, &first_sector(geometry))?;
     device.write(geometry.area_at(Half::First), &first_checkpoint())?;
