@@ -1,7 +1,10 @@
 //! Making a store.
 
 ghost use Rattle.sector_dev.specs.Calls.{Keeps};
+ghost use Rattle.sector_dev.specs.Image.{IsFromImage};
+ghost use Rattle.sector_dev.specs.Stretch.{Stretch};
 ghost use Rattle.store_open.specs.Geometry.{geometry_view};
+ghost use Rattle.store_open.specs.NewStore.{SameBehind};
 ghost use Rattle.store_commands.specs.Formatting.{FormatsAndPrints};
 
 use crate::error::Fault;
@@ -13,6 +16,7 @@ use std::io::Write;
 use store_open::Geometry;
 
 /// Makes an empty store of these sizes, whatever stood on the device, and prints how many sectors it takes.
+#[tactic(auto, using(store_open::proofs::Behind::kept_here))]
 pub fn format<D: Device, W: Write>(
     alloc: Global,
     device: &mut D,
@@ -21,6 +25,10 @@ pub fn format<D: Device, W: Write>(
 ) -> Result<(), Fault>
     ensures keeps { Keeps (D.disk device.old) (D.disk device.new) }
     ensures answer { FormatsAndPrints (geometry_view geometry) result (D.disk device.old) (D.disk device.new) (W.contents writer.old) (W.contents writer.new) }
+
+    // At every moment what stands behind the store is as it was.
+    ensures behind { Stretch (D.disk device.old) (D.disk device.new)
+        (IsFromImage (D.disk device.old).history.now (SameBehind (geometry_view geometry))) }
 {
     let Ok(line) = formatted_line(alloc, geometry.sectors()) else {
         return Err(Fault::Memory);
