@@ -114,10 +114,11 @@ sectors_fit : (epoch area : ℕ) (sealed : SealedHalf) (bytes : List ℕ) → by
     → 32 + length (rows_encoding sealed.rows) ≤ 512 * area
     → (length bytes ≡ 512 * sectors_of (length (checkpoint_bytes rows_format (checkpoint_of epoch sealed))))
     × (sectors_of (length (checkpoint_bytes rows_format (checkpoint_of epoch sealed))) ≤ area)
+    × (1 ≤ length bytes)
 sectors_fit epoch area sealed bytes spelled fits =
     let long : length bytes ≡ 512 * sectors_of (length (checkpoint_bytes rows_format (checkpoint_of epoch sealed))) = ap length spelled ∙ length-padded (checkpoint_bytes rows_format (checkpoint_of epoch sealed)) in
     let size : length (checkpoint_bytes rows_format (checkpoint_of epoch sealed)) ≡ 32 + length (rows_encoding sealed.rows) = omega arith in
-    (long, omega (arith, size, fits))
+    (long, omega (arith, size, fits), omega (arith, long, size))
 
 -- the device was looked at
 module _ (old : StateView) (hidden : Hidden) (has : IsState old hidden) (disk : Disk) (looked : IsLookedAt old.disk disk) where
@@ -279,6 +280,7 @@ module _ (old : StateView) (hidden : Hidden) (has : IsState old hidden) (whole :
       looks.faults,
       refl,
       λ honest. record { sealed = made_so.sealed; reads = made_so.reads honest; spelled = made_so.spelled },
+      (sectors_fit (old.epoch + 1) old.geometry.checkpoint made_so.sealed bytes made_so.spelled made_so.fits).2,
     )
 
   pub damaged_so : {T X : Type 0} (items : X → List ℕ) (e : SealedError) → e ≡ half.Damaged → LooksAtHalf (error_of T e) old.disk disk

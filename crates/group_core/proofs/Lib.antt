@@ -10,3 +10,8 @@ pub mod Begin
 pub mod Keeping
 pub mod Submit
 pub mod Start
+pub mod Prefix
+pub mod Held
+pub mod Beside
+pub mod Tickets
+pub mod Runs

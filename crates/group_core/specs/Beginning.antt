@@ -1,5 +1,5 @@
 -- What beginning a checkpoint does to a state: the sealed half is read and folded, and the bytes of its checkpoint are made.
-use Rattle.std.specs.Prelude.{◌≡◌, ◌≢◌, ℕ, ◌+◌, ◌-◌, ◌*◌, ◌^◌, ◌%◌, ◌<◌, ◌≤◌, true, false, List, Option, Some, Result, Ok, Err}
+use Rattle.std.specs.Prelude.{◌≡◌, ◌≢◌, ℕ, ◌+◌, ◌-◌, ◌*◌, ◌^◌, ◌%◌, ◌<◌, ◌≤◌, true, false, List, length, Option, Some, Result, Ok, Err}
 use Rattle.sector_dev.specs.Disk.{Disk, IsHonest, reads_of}
 use Rattle.sector_dev.specs.Calls.{Keeps, one_more}
 use Rattle.path_db.specs.Database.{RowView}
@@ -94,6 +94,7 @@ Begins (Ok plan) old new =
     MayBegin old × IsPlanOf new plan × IsLookedAt old.disk new.disk × (new.disk.faults ≡ old.disk.faults)
     × (new ≡ begun old new.disk new.checkpoint)
     × (IsHonest old.disk → AreOfSealed old.geometry (old.epoch + 1) (sealed_half old.geometry (other old.half) (reads_of old.disk)) new.checkpoint)
+    × (1 ≤ length new.checkpoint)
 Begins (Err Stopped) old new = (old.stopped ≡ true) × (new ≡ old)
 Begins (Err InFlight) old new = (old.stopped ≡ false) × (old.plan.out ≡ true) × (new ≡ old)
 Begins (Err NotSealed) old new = (old.stopped ≡ false) × (old.plan.out ≡ false) × (old.check ≢ Sealed) × (new ≡ old)

@@ -12,3 +12,8 @@ pub mod SubmitRefusals
 pub mod Submitting
 pub mod Keeping
 pub mod Starting
+pub mod Machine
+pub mod RunSteps
+pub mod Holding
+pub mod RunLeaves
+pub mod StartsRun

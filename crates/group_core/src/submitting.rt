@@ -57,7 +57,7 @@ impl<D: Device, S: Showcase> State<D, S> {
     }
 
     /// What is judged of a command without memory.
-    fn judge(&self, command: &Command) -> Result<(), SubmitError>
+    pub(crate) fn judge(&self, command: &Command) -> Result<(), SubmitError>
         ensures judges { Judges command.now result self.now }
         ensures pending { OnOk result (MayBePending self.now.version command.now) }
     {

@@ -1,0 +1,46 @@
+-- The machine that every run of a state is a run of: rows, a list of commands and a place; and what is kept beside them.
+use Rattle.std.specs.Prelude.{◌≡◌, ℕ, ◌+◌, Bool, List, [], ◌∷◌, ◌++◌, length, take, drop}
+use Rattle.path_db.specs.Database.{RowView}
+use Rattle.path_db.specs.declared.command.Command.{Command}
+use Rattle.path_db.specs.declared.outcome.Outcome.{Outcome}
+use Rattle.image_laws.specs.StoreFormat.{db_after}
+use Rattle.seg_lookup.specs.Answer.{answer_to}
+use Rattle.seg_lookup.specs.Query.{QueryView}
+use Rattle.store_open.specs.PathStores.{store_format}
+use Rattle.group_core.specs.StateView.{StateView}
+
+-- the rows that are committed; the commands accepted behind them, in the order in which they were; and the place of the first of these
+pub record Machine : Type 0 where
+  pub committed : List RowView
+  pub pending : List Command
+  pub place : ℕ
+
+-- the outcomes that aren't redeemed, by their places; how many commands are in flight; whether the state has stopped; and the
+-- version whose limits groups have
+pub record Bookkeeping : Type 0 where
+  pub outcomes : List (ℕ × Outcome)
+  pub taken : ℕ
+  pub stopped : Bool
+  pub version : ℕ
+
+abbrev pub machine_of : StateView → Machine
+machine_of view = record { committed = view.value.db; pending = view.pending; place = view.value.place }
+
+abbrev pub bookkeeping_of : StateView → Bookkeeping
+bookkeeping_of view = record { outcomes = view.kept; taken = view.taken; stopped = view.stopped; version = view.version }
+
+-- a command is accepted behind the pending ones
+abbrev pub accepted : Machine → Command → Machine
+accepted machine command = record machine { pending = machine.pending ++ command ∷ [] }
+
+-- the first pending commands, so many, are committed
+abbrev pub committed_front : Machine → ℕ → Machine
+committed_front machine n = record {
+  committed = db_after store_format machine.committed (take n machine.pending);
+  pending = drop n machine.pending;
+  place = machine.place + length (take n machine.pending);
+}
+
+-- what a lookup is answered with
+abbrev pub served : Machine → QueryView → ℕ → List RowView
+served machine query now = answer_to machine.committed query now
