@@ -22,6 +22,7 @@ use Rattle.group_core.specs.Submitting.{next_place, with_command}
 use Rattle.group_core.specs.Redeeming.{redeemed, halted}
 use Rattle.group_core.specs.RunSteps.{RunView, redeemed_at, PublishEvent, SubmitEvent, RedeemEvent, IsStep, IsRun}
 use Rattle.group_core.specs.Holding.{HoldsGroup, HoldsPlan, SealWaits, HoldsTickets, IsHolding}
+use Rattle.group_core.specs.Winding.{IsWinding, HasWound}
 use Rattle.group_core.specs.RunLeaves.{accepted_by, accepted_in, lock_order, RunLeaves}
 use Rattle.group_core.proofs.Prefix.{Moves, leaves_at_first, leaves_then}
 use Rattle.group_core.proofs.Held.{TicketsStay, GroupStays, PlanStays, Still, moves_none, tickets_stay, group_stays, plan_stays, FlushRest, CheckRest, flush_rest, check_rest, stage_rest, begin_rest, halt_rest, lookup_rest, planned_busy, at_busy, flush_holding, check_holding}
@@ -282,3 +283,24 @@ pub so_far_more : (events : List Event) (i : ℕ) (e : Event) (replies pushed : 
 so_far_more events i e replies pushed r start mid new inside is pushed_is so_far taken step leaves =
     subst (λ (l : List Event). RunSoFar l pushed start new) (sym (take_more events i e inside ∙ ap (λ (x : Event). take i events ++ x ∷ []) (sym is)))
     (subst (λ (l : List Reply). RunSoFar (take i events ++ e ∷ []) l start new) (sym pushed_is) (so_far_then (take i events) replies e r start mid new so_far taken step leaves))
+
+-- a run that goes on and accepts no command
+none_accepted : (e : Event) (r : Reply) → IsWinding e → accepted_by e r ≡ []
+none_accepted (event.Submit command) r is = absurd is
+none_accepted _ r is = refl
+
+pub wound_first : (start : RunView) → StepLeaves start.state start.state → HasWound start start
+wound_first start stays =
+    let first = so_far_first [] [] start refl refl stays in
+    record { events = []; replies = []; runs = first.runs; none = refl; leaves = first.leaves }
+
+pub wound_then : (e : Event) (r : Reply) (start mid new : RunView) → IsWinding e → HasWound start mid → mid.state.taken ≤ length mid.state.pending → IsStep e r mid new → StepLeaves mid.state new.state → HasWound start new
+wound_then e r start mid new is wound taken step leaves =
+    let more = so_far_then wound.events wound.replies e r start mid new (record { runs = wound.runs; leaves = wound.leaves }) taken step leaves in
+    record {
+      events = wound.events ++ e ∷ [];
+      replies = wound.replies ++ r ∷ [];
+      runs = more.runs;
+      none = accepted_then wound.events wound.replies e r start mid wound.runs ∙ (λ i. wound.none i ++ none_accepted e r is i);
+      leaves = more.leaves;
+    }

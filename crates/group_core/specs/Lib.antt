@@ -17,3 +17,4 @@ pub mod RunSteps
 pub mod Holding
 pub mod RunLeaves
 pub mod StartsRun
+pub mod Winding

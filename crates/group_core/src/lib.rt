@@ -37,6 +37,7 @@ mod submitting;
 mod ticket;
 mod ticket_events;
 mod values;
+mod winding;
 
 pub use beginning::BeginError;
 pub use bookkeeping::Turn;

@@ -4,6 +4,7 @@ ghost use Rattle.std.specs.Prelude.{◌≤◌, length};
 ghost use Rattle.group_core.specs.StateView.{StepLeaves};
 ghost use Rattle.group_core.specs.RunSteps.{IsStep, LookupEvent};
 ghost use Rattle.group_core.specs.StartsRun.{StartsRun};
+ghost use Rattle.group_core.specs.Winding.{HandsOutDevice};
 
 use crate::events::{Event, Reply};
 use crate::group_events::{open_gate, publish, stage, sync_gate, sync_group, write_group};
@@ -14,7 +15,7 @@ use crate::plan_events::{
 };
 use crate::state::State;
 use crate::ticket::Ticket;
-use crate::ticket_events::{redeem, submit};
+use crate::ticket_events::{redeem, spend_all, submit};
 use sector_dev::Device;
 use seg_lookup::{Query, answer};
 use std::alloc::Global;
@@ -61,6 +62,42 @@ impl<D: Device> Run<D> {
         ensures taken { self.now.state.taken ≤ length self.now.state.pending }
     {
         self.state.stay();
+    }
+
+    /// What the run takes memory of.
+    pub(crate) fn alloc(&self) -> Global {
+        *self.tickets.allocator()
+    }
+
+    /// How many commands it accepted.
+    pub(crate) fn count(&self) -> usize {
+        self.tickets.len()
+    }
+
+    /// Hands the device out, where nothing is kept and no value is out: the values and tickets that are left are no more.
+    pub(crate) fn into_device(self) -> Result<D, Run<D>>
+        ensures { HandsOutDevice D.disk result self }
+    {
+        let Run {
+            state,
+            tickets,
+            group,
+            plan,
+        } = self;
+        match state.into_device() {
+            Ok(device) => {
+                group.spend();
+                plan.spend();
+                spend_all(tickets);
+                Ok(device)
+            }
+            Err(state) => Err(Run {
+                state,
+                tickets,
+                group,
+                plan,
+            }),
+        }
     }
 
     /// What an event does, and the reply to it.

@@ -120,3 +120,12 @@ pub(crate) fn spend(ticket: Option<Ticket>) {
         let _command = ticket.into_command();
     }
 }
+
+/// They are no more.
+pub(crate) fn spend_all(tickets: Vec<Option<Ticket>>) {
+    let mut tickets = tickets;
+    while let Some(ticket) = tickets.pop() {
+        spend(ticket);
+    }
+    tickets.destroy_empty();
+}
