@@ -1,15 +1,9 @@
 -- Between its events a run holds what is its state's.
-use Rattle.std.proofs.Common.{◌≡◌, ◌≢◌, ◌⊎◌, inl, inr, ℕ, zero, suc, ◌+◌, ◌*◌, ◌==◌, ◌≤◌, Bool, true, false, List, [], ◌∷◌, ◌++◌, length, take, drop, Option, IsSome, Ok, Err, refl, sym, ◌∙◌, ap, subst, arith}
+use Rattle.std.proofs.Common.{◌≡◌, ◌≢◌, inl, inr, ℕ, ◌+◌, ◌*◌, ◌==◌, Bool, true, false, List, [], length, Option, IsSome, refl, sym, ◌∙◌, ap, subst, arith}
 use Rattle.std.proofs.lemmas.List.{append-nil}
-use Rattle.path_db.specs.Database.{RowView}
-use Rattle.path_db.specs.declared.command.Command.{Command}
 use Rattle.path_db.specs.declared.outcome.Outcome.{Outcome}
 use Rattle.seg_lookup.specs.declared.query.Query.{Query}
-use Rattle.image_laws.specs.Opening.{StoreValue}
-use Rattle.image_laws.specs.StoreGrowth.{value_after}
-use Rattle.store_open.specs.PathStores.{store_format}
 use Rattle.group_laws.specs.declared.phases.Flush.{Flush}
-use Rattle.group_laws.specs.declared.phases.Flush.TheVariants as flush
 use Rattle.group_laws.specs.declared.phases.Check.{Check}
 use Rattle.group_laws.specs.declared.phases.Check.TheVariants as check
 use Rattle.sector_dev.specs.Disk.{Disk}
@@ -17,12 +11,9 @@ use Rattle.group_core.specs.declared.bookkeeping.Turn.{Turn}
 use Rattle.group_core.specs.declared.phases.AtPlan.{AtPlan}
 use Rattle.group_core.specs.declared.values.Commit.{Commit}
 use Rattle.group_core.specs.declared.beginning.BeginError.TheVariants as begin
-use Rattle.group_core.specs.declared.events.Event.{Event}
-use Rattle.group_core.specs.declared.events.Event.TheVariants as event
 use Rattle.group_core.specs.declared.events.Reply.{Reply}
 use Rattle.group_core.specs.declared.events.Reply.TheVariants as reply
 use Rattle.group_core.specs.declared.events.StepRefusal.TheVariants as why
-use Rattle.group_core.specs.declared.events.PublishRefusal.TheVariants as publish
 use Rattle.group_core.specs.declared.holding.HeldGroup.{HeldGroup}
 use Rattle.group_core.specs.declared.holding.HeldGroup.TheVariants as group
 use Rattle.group_core.specs.declared.holding.HeldPlan.{HeldPlan}
@@ -33,11 +24,9 @@ use Rattle.group_core.specs.Steps.{IsFlushTurn, IsCheckTurn, IsPlanTurn, is_whol
 use Rattle.group_core.specs.Staging.{Takes, staged_by}
 use Rattle.group_core.specs.Beginning.{plan_begun}
 use Rattle.group_core.specs.Redeeming.{outcome_at}
-use Rattle.group_core.specs.Publishing.{with_group, with_seal}
 use Rattle.group_core.specs.Submitting.{next_place}
-use Rattle.group_core.specs.RunSteps.{RunView, HasGroup, HasPlanAt, HasPlanned, FlushEvent, CheckEvent, StageEvent, BeginEvent, PublishEvent, HaltEvent, LookupEvent, SubmitEvent, RedeemEvent, IsStep}
+use Rattle.group_core.specs.RunSteps.{HasPlanAt, HasPlanned, FlushEvent, CheckEvent, StageEvent, BeginEvent, HaltEvent, LookupEvent}
 use Rattle.group_core.specs.Holding.{HoldsGroup, HoldsPlan, SealWaits, HoldsTickets, IsHolding}
-use Rattle.group_core.specs.RunLeaves.{accepted_by}
 use Rattle.group_core.proofs.Prefix.{Moves}
 
 -- What of a state stays: what tickets are of, what the flusher's value is of, what the checkpointer's is of, and what a seal awaits.

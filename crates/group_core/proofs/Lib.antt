@@ -15,3 +15,4 @@ pub mod Held
 pub mod Beside
 pub mod Tickets
 pub mod Runs
+pub mod MachineSteps

@@ -1,15 +1,13 @@
 -- What a stop leaves of a run, step by step.
-use Rattle.std.proofs.Common.{◌≡◌, ◌⊎◌, inl, inr, ℕ, ◌+◌, ◌-◌, ◌≤◌, List, [], ◌∷◌, ◌++◌, length, take, drop, refl, sym, ◌∙◌, ap, subst, arith, append_assoc, length-append, length-drop}
+use Rattle.std.proofs.Common.{◌≡◌, inl, inr, ℕ, ◌+◌, ◌-◌, ◌≤◌, List, [], ◌++◌, length, take, drop, sym, ◌∙◌, ap, subst, arith, length-append, length-drop}
 use Rattle.std.proofs.lemmas.List.{take-append-le, drop-append-le, drop-drop, append-nil, length-take-le}
 use Rattle.std.proofs.Math.Seq.{take-add}
 use Rattle.path_db.specs.Database.{RowView}
 use Rattle.path_db.specs.declared.command.Command.{Command}
-use Rattle.sector_dev.specs.Disk.{Disk, IsHonest}
+use Rattle.sector_dev.specs.Disk.{IsHonest}
 use Rattle.sector_dev.specs.Image.{EveryImage}
-use Rattle.sector_dev.specs.Stretch.{Stretch}
 use Rattle.sector_dev.proofs.Stretches.{stretch_weaker, stretch_then, stretch_here}
 use Rattle.image_laws.specs.Opening.{StoreValue, OpensTo}
-use Rattle.image_laws.specs.StoreFormat.{db_after}
 use Rattle.image_laws.specs.StoreGrowth.{value_after}
 use Rattle.image_laws.proofs.Exports.{folds_in_parts}
 use Rattle.ckpt_pair.specs.Heads.{latest}

@@ -1,5 +1,5 @@
 -- What each event of a run does to what is committed and pending, and runs of one event more.
-use Rattle.std.proofs.Common.{◌≡◌, ◌≢◌, ◌⊎◌, inl, inr, ℕ, zero, suc, ◌+◌, ◌≤◌, true, false, List, [], ◌∷◌, ◌++◌, length, take, drop, get_or, ◌<◌, Option, Result, Ok, Err, IsOk, is_ok, if◌then◌else◌, refl, sym, ◌∙◌, ap, subst, arith, append_assoc, length-drop}
+use Rattle.std.proofs.Common.{◌≡◌, ◌⊎◌, inl, inr, ℕ, zero, suc, ◌+◌, ◌≤◌, true, false, List, [], ◌∷◌, ◌++◌, length, take, drop, get_or, ◌<◌, Option, Result, Ok, Err, IsOk, is_ok, if◌then◌else◌, refl, sym, ◌∙◌, ap, subst, arith, append_assoc, length-drop}
 use Rattle.std.proofs.lemmas.List.{append-nil, length-take-le, take_more}
 use Rattle.path_db.specs.declared.command.Command.{Command}
 use Rattle.path_db.specs.declared.outcome.Outcome.{Outcome}
@@ -10,24 +10,22 @@ use Rattle.group_core.specs.declared.events.Event.TheVariants as event
 use Rattle.group_core.specs.declared.events.Reply.{Reply}
 use Rattle.group_core.specs.declared.events.Reply.TheVariants as reply
 use Rattle.group_core.specs.declared.events.PublishRefusal.TheVariants as publish
-use Rattle.group_core.specs.declared.bookkeeping.Turn.{Turn}
 use Rattle.group_core.specs.declared.holding.HeldGroup.{HeldGroup}
 use Rattle.group_core.specs.declared.holding.HeldPlan.{HeldPlan}
 use Rattle.group_core.specs.declared.holding.HeldPlan.TheVariants as plan
 use Rattle.group_core.specs.declared.ticket.Ticket.{Ticket}
 use Rattle.group_core.specs.StateView.{StateView, StepLeaves}
-use Rattle.group_core.specs.Steps.{spent}
-use Rattle.group_core.specs.Publishing.{with_group, with_seal, IsPublished}
-use Rattle.group_core.specs.Submitting.{next_place, with_command}
-use Rattle.group_core.specs.Redeeming.{redeemed, halted}
-use Rattle.group_core.specs.RunSteps.{RunView, redeemed_at, PublishEvent, SubmitEvent, RedeemEvent, IsStep, IsRun}
+use Rattle.group_core.specs.Publishing.{with_group, with_seal}
+use Rattle.group_core.specs.Submitting.{next_place}
+use Rattle.group_core.specs.Redeeming.{halted}
+use Rattle.group_core.specs.RunSteps.{RunView, PublishEvent, SubmitEvent, RedeemEvent, IsStep, IsRun}
 use Rattle.group_core.specs.Holding.{HoldsGroup, HoldsPlan, SealWaits, HoldsTickets, IsHolding}
 use Rattle.group_core.specs.Winding.{IsWinding, HasWound}
 use Rattle.group_core.specs.RunLeaves.{accepted_by, accepted_in, lock_order, RunLeaves}
 use Rattle.group_core.proofs.Prefix.{Moves, leaves_at_first, leaves_then}
-use Rattle.group_core.proofs.Held.{TicketsStay, GroupStays, PlanStays, Still, moves_none, tickets_stay, group_stays, plan_stays, FlushRest, CheckRest, flush_rest, check_rest, stage_rest, begin_rest, halt_rest, lookup_rest, planned_busy, at_busy, flush_holding, check_holding}
+use Rattle.group_core.proofs.Held.{TicketsStay, GroupStays, PlanStays, moves_none, tickets_stay, group_stays, plan_stays, FlushRest, CheckRest, flush_rest, check_rest, stage_rest, begin_rest, halt_rest, lookup_rest, planned_busy, at_busy, flush_holding}
 
-none_or_some : (n : ℕ) → (n ≡ 0) ⊎ (1 ≤ n)
+pub none_or_some : (n : ℕ) → (n ≡ 0) ⊎ (1 ≤ n)
 none_or_some zero = inl refl
 none_or_some (suc n) = inr (omega arith)
 

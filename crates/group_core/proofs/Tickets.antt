@@ -1,12 +1,11 @@
 -- The tickets that a run holds: one more, and one less.
-use Rattle.std.proofs.Common.{◌≡◌, ◌≢◌, ◌⊎◌, inl, inr, ℕ, zero, suc, ◌+◌, ◌<◌, ◌≤◌, true, false, List, [], ◌∷◌, ◌++◌, length, map, get_or, Option, Some, None, IsSome, Ok, eqb, refl, sym, ◌∙◌, ap, subst, arith, get_or-set_same, get_or-set_other, length-append}
+use Rattle.std.proofs.Common.{◌≡◌, ◌≢◌, ◌⊎◌, inl, inr, ℕ, zero, suc, ◌+◌, ◌<◌, ◌≤◌, true, false, List, [], ◌∷◌, ◌++◌, length, map, Option, Some, None, IsSome, Ok, eqb, refl, sym, ◌∙◌, ap, subst, arith, get_or-set_same, get_or-set_other, length-append}
 use Rattle.std.specs.Prelude.{slice_set}
 use Rattle.std.proofs.Math.ListN.{get_or-append}
 use Rattle.std.proofs.Math.Seq.{get_or-append_seam}
 use Rattle.std.proofs.lemmas.List.{map-append, map-set, get_or_past, length-set}
 use Rattle.std.proofs.lemmas.Bool.Decides.{eqb_tells}
 use Rattle.path_db.specs.declared.command.Command.{Command}
-use Rattle.path_db.specs.declared.outcome.Outcome.{Outcome}
 use Rattle.path_db.specs.Command.{outcome_of}
 use Rattle.group_core.specs.declared.ticket.Ticket.{Ticket}
 use Rattle.group_core.specs.StateView.{StateView}
@@ -15,9 +14,9 @@ use Rattle.image_laws.specs.Opening.{StoreValue}
 use Rattle.group_core.specs.declared.ticket.Receipt.{Receipt}
 use Rattle.group_core.specs.declared.ticket.Redeemed.TheVariants.{Committed, Waiting, Unknown}
 use Rattle.group_core.specs.declared.events.Reply.TheVariants as reply
-use Rattle.group_core.specs.Redeeming.{outcome_at, kept_without, redeemed, Redeems}
+use Rattle.group_core.specs.Redeeming.{outcome_at, redeemed, Redeems}
 use Rattle.group_core.specs.Submitting.{next_place, accepted_rows, with_command, IsTicketOf, Submits}
-use Rattle.group_core.specs.RunSteps.{RunView, ticket_at, redeemed_at, RedeemEvent, SubmitEvent}
+use Rattle.group_core.specs.RunSteps.{ticket_at, redeemed_at, RedeemEvent, SubmitEvent}
 use Rattle.group_core.specs.Holding.{held_at, place_of, run_view, IsOwnTicket, HoldsTickets}
 use Rattle.group_core.proofs.Keeping.{there_then}
 use Rattle.group_core.proofs.Beside.{beside_put, beside_taken}

@@ -1,6 +1,5 @@
 -- What a run holds, and how that stands to its state: each commit value that is out, and no other.
 use Rattle.std.specs.Prelude.{◌≡◌, ℕ, ◌<◌, true, false, List, map, Option, Some, None, IsSome, slice_index_or}
-use Rattle.group_laws.specs.declared.phases.Flush.{Flush}
 use Rattle.group_laws.specs.declared.phases.Flush.TheVariants as flush
 use Rattle.group_laws.specs.declared.phases.Check.TheVariants as check
 use Rattle.group_core.specs.declared.holding.HeldGroup.{HeldGroup}

@@ -18,3 +18,4 @@ pub mod Holding
 pub mod RunLeaves
 pub mod StartsRun
 pub mod Winding
+pub mod MachineSteps

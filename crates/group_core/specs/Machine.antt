@@ -1,8 +1,7 @@
--- The machine that every run of a state is a run of: rows, a list of commands and a place; and what is kept beside them.
-use Rattle.std.specs.Prelude.{◌≡◌, ℕ, ◌+◌, Bool, List, [], ◌∷◌, ◌++◌, length, take, drop}
+-- The machine that every run of a state is a run of: rows, a list of commands and a place.
+use Rattle.std.specs.Prelude.{ℕ, ◌+◌, List, [], ◌∷◌, ◌++◌, length, take, drop}
 use Rattle.path_db.specs.Database.{RowView}
 use Rattle.path_db.specs.declared.command.Command.{Command}
-use Rattle.path_db.specs.declared.outcome.Outcome.{Outcome}
 use Rattle.image_laws.specs.StoreFormat.{db_after}
 use Rattle.seg_lookup.specs.Answer.{answer_to}
 use Rattle.seg_lookup.specs.Query.{QueryView}
@@ -15,19 +14,8 @@ pub record Machine : Type 0 where
   pub pending : List Command
   pub place : ℕ
 
--- the outcomes that aren't redeemed, by their places; how many commands are in flight; whether the state has stopped; and the
--- version whose limits groups have
-pub record Bookkeeping : Type 0 where
-  pub outcomes : List (ℕ × Outcome)
-  pub taken : ℕ
-  pub stopped : Bool
-  pub version : ℕ
-
 abbrev pub machine_of : StateView → Machine
 machine_of view = record { committed = view.value.db; pending = view.pending; place = view.value.place }
-
-abbrev pub bookkeeping_of : StateView → Bookkeeping
-bookkeeping_of view = record { outcomes = view.kept; taken = view.taken; stopped = view.stopped; version = view.version }
 
 -- a command is accepted behind the pending ones
 abbrev pub accepted : Machine → Command → Machine

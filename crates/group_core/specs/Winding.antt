@@ -4,7 +4,6 @@ use Rattle.sector_dev.specs.Disk.{Disk}
 use Rattle.group_core.specs.declared.events.Event.{Event}
 use Rattle.group_core.specs.declared.events.Event.TheVariants as event
 use Rattle.group_core.specs.declared.events.Reply.{Reply}
-use Rattle.group_core.specs.StateView.{StateView}
 use Rattle.group_core.specs.Ending.{IsSettled}
 use Rattle.group_core.specs.RunSteps.{RunView, IsRun}
 use Rattle.group_core.specs.RunLeaves.{accepted_in, lock_order, RunLeaves}

@@ -26,6 +26,7 @@ mod plain_show;
 mod plan_events;
 mod publishing;
 mod redeeming;
+mod run_laws;
 mod run_state;
 mod running;
 mod showcase;
@@ -48,6 +49,7 @@ pub use phases::{
     AtWritten,
 };
 pub use plain_show::PlainShow;
+pub use run_laws::events_make_machine_steps;
 pub use run_state::Run;
 pub use running::run;
 pub use showcase::Showcase;
