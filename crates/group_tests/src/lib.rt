@@ -1,0 +1,24 @@
+//! Tests of `group_core`, a module for each subject. They see what no clause says: that calls succeed, the bytes that groups, seals
+//! and checkpoints leave on a device, what a stop or a fault at a call leaves, and what stands where memory is refused.
+#![tactic(auto)]
+
+#[cfg(test)]
+mod groups;
+#[cfg(test)]
+mod journals;
+#[cfg(test)]
+mod limits;
+#[cfg(test)]
+mod refused;
+#[cfg(test)]
+mod rounds;
+#[cfg(test)]
+mod starting;
+#[cfg(test)]
+mod stops;
+#[cfg(test)]
+mod stores;
+#[cfg(test)]
+mod strangers;
+#[cfg(test)]
+mod work;

@@ -1,0 +1,183 @@
+//! Commands that are refused, each by the first reason, and that a refusal leaves all as it was.
+
+use crate::stores::{change, new_store, old_store, opened, register, told};
+use crate::work::{Paid, Told, Work, work_of};
+use group_core::SubmitError;
+use path_db::{Command, Outcome};
+use sector_dev::MemDevice;
+use seg_core::SegType;
+use std::alloc::Global;
+use std::process::Abort;
+use std::test::Fail;
+
+/// Where in a checkpoint's first sector the place stands.
+const PLACE: usize = 16;
+
+/// A new store at work; of version 1 or 2, at this place.
+fn worked(rt: &impl Abort, alloc: Global, version: u8, place: u64) -> Work<MemDevice> {
+    let mut device = if version == 1 {
+        old_store(rt, alloc)
+    } else {
+        new_store(rt, alloc)
+    };
+    change(&mut device, 1, PLACE, &place.to_be_bytes());
+    let store = opened(rt, alloc, device);
+    assert_eq!(rt; store.place(), place);
+    work_of(rt, alloc, store)
+}
+
+#[test]
+fn busy_and_full(rt: HostRuntime) -> Result<(), Fail> {
+    let mut work = worked(&rt, rt.alloc(), 2, 0);
+    for egress in 1..11 {
+        let place = work.submit(&rt, register(&rt, rt.alloc(), egress, 1));
+        assert_eq!(rt; place, Ok(u64::from(egress) - 1));
+    }
+    for _again in 0..2 {
+        let place = work.submit(&rt, register(&rt, rt.alloc(), 11, 1));
+        assert_eq!(rt; place, Err(SubmitError::Full));
+    }
+    work.purge(&rt, 246);
+    for _again in 0..2 {
+        let place = work.submit(&rt, Command::Purge(0));
+        assert_eq!(rt; place, Err(SubmitError::Busy));
+        let place = work.submit(&rt, register(&rt, rt.alloc(), 11, 1));
+        assert_eq!(rt; place, Err(SubmitError::Busy));
+    }
+    let (mut work, ended) = work.flush_group(&rt);
+    assert_eq!(rt; ended, Told::Ended);
+    let place = work.submit(&rt, register(&rt, rt.alloc(), 11, 1));
+    assert_eq!(rt; place, Err(SubmitError::Full));
+    // What is there already takes no more room.
+    let place = work.submit(&rt, register(&rt, rt.alloc(), 10, 1));
+    assert_eq!(rt; place, Ok(256));
+    for _group in 0..8 {
+        let ended;
+        (work, ended) = work.flush_group(&rt);
+        assert_eq!(rt; ended, Told::Ended);
+    }
+    for place in 0..257 {
+        let outcome = Outcome {
+            inserted: u32::from(place < 10),
+            updated: 0,
+            kept: u32::from(place == 256),
+            purged: 0,
+        };
+        assert_eq!(rt; work.redeem(&rt, 0), Paid::Committed(place, outcome));
+    }
+    let (device, pair) = work.end(&rt);
+    assert_eq!(rt; pair, (10, 930, 257));
+    assert_eq!(rt; told(&rt, rt.alloc(), device).0, pair);
+    Ok(())
+}
+
+/// What is submitted: a purge, a removal, and a segment once or seventeen times.
+#[derive(Clone, Copy, Debug)]
+enum Kind {
+    Purge,
+    Removal,
+    Segment,
+    TooLarge,
+}
+
+/// The command of a kind.
+fn command_of(rt: &impl Abort, alloc: Global, kind: Kind) -> Command {
+    match kind {
+        Kind::Purge => Command::Purge(0),
+        Kind::Removal => Command::Remove(SegType::Down, [0; 32]),
+        Kind::Segment => register(rt, alloc, 11, 1),
+        Kind::TooLarge => register(rt, alloc, 1, 17),
+    }
+}
+
+/// A store's version and place, how many purges are pending, whether the state has stopped, the command, and the answer.
+type Case = (u8, u64, usize, bool, Kind, Result<u64, SubmitError>);
+
+/// The last place.
+const LAST: u64 = u64::MAX;
+
+/// One with room for 256 commands behind it, and one before that.
+const NEAR: u64 = LAST - 256;
+
+const NEARER: u64 = LAST - 257;
+
+const CASES: [Case; 20] = [
+    (1, LAST, 0, true, Kind::TooLarge, Err(SubmitError::Stopped)),
+    (1, LAST, 0, true, Kind::Removal, Err(SubmitError::Stopped)),
+    (2, NEAR, 256, true, Kind::Purge, Err(SubmitError::Stopped)),
+    (2, 0, 256, true, Kind::Segment, Err(SubmitError::Stopped)),
+    (2, 0, 0, true, Kind::Segment, Err(SubmitError::Stopped)),
+    (
+        1,
+        LAST,
+        0,
+        false,
+        Kind::TooLarge,
+        Err(SubmitError::TooLarge),
+    ),
+    (
+        2,
+        NEAR,
+        256,
+        false,
+        Kind::TooLarge,
+        Err(SubmitError::TooLarge),
+    ),
+    (2, 0, 0, false, Kind::TooLarge, Err(SubmitError::TooLarge)),
+    (1, LAST, 0, false, Kind::Removal, Err(SubmitError::OldStore)),
+    (
+        1,
+        NEAR,
+        256,
+        false,
+        Kind::Removal,
+        Err(SubmitError::OldStore),
+    ),
+    (1, 0, 256, false, Kind::Removal, Err(SubmitError::OldStore)),
+    (1, LAST, 0, false, Kind::Purge, Err(SubmitError::Exhausted)),
+    (
+        2,
+        LAST,
+        0,
+        false,
+        Kind::Removal,
+        Err(SubmitError::Exhausted),
+    ),
+    (
+        2,
+        LAST,
+        0,
+        false,
+        Kind::Segment,
+        Err(SubmitError::Exhausted),
+    ),
+    (
+        2,
+        NEAR,
+        256,
+        false,
+        Kind::Purge,
+        Err(SubmitError::Exhausted),
+    ),
+    (2, NEARER, 256, false, Kind::Purge, Err(SubmitError::Busy)),
+    (2, NEAR, 255, false, Kind::Purge, Ok(LAST - 1)),
+    (2, 0, 256, false, Kind::Removal, Err(SubmitError::Busy)),
+    (2, 7, 0, false, Kind::Removal, Ok(7)),
+    (1, 7, 3, false, Kind::Segment, Ok(10)),
+];
+
+#[test]
+fn the_first_refusal_is_answered(rt: HostRuntime) -> Result<(), Fail> {
+    for (version, place, pending, halted, kind, wanted) in CASES {
+        let mut work = worked(&rt, rt.alloc(), version, place);
+        work.purge(&rt, pending);
+        if halted {
+            work.state.halt();
+        }
+        let answer = work.submit(&rt, command_of(&rt, rt.alloc(), kind));
+        assert_eq!(rt; answer, wanted, "{kind:?} at {place} behind {pending}");
+        let (_device, pair) = work.end(&rt);
+        assert_eq!(rt; pair, (0, 0, place));
+    }
+    Ok(())
+}

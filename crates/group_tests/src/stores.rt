@@ -1,0 +1,174 @@
+//! Stores on devices in memory, and commands.
+
+use path_db::{Command, PathDb, Registration};
+use sector_dev::{Device, MemDevice, SECTOR, Tear};
+use seg_core::{SegType, read_segment};
+use std::alloc::Global;
+use std::process::Abort;
+use store_open::{Geometry, OpenError, Store, format, open};
+
+/// The least sizes that are allowed: sector 0, and then for each half two sectors of checkpoint area, a gate, and 516 sectors of
+/// journal.
+pub(crate) const LEAST: Geometry = Geometry {
+    checkpoint: 2,
+    journal: 516,
+};
+
+/// How many sectors a store of these sizes takes.
+pub(crate) const SECTORS: u64 = 1039;
+
+/// Two entries, from 1-ff00:0:110 to 1-ff00:0:111.
+const SEGMENT: [u8; 88] = [
+    0x0a, 0x08, 0x08, 0x80, 0xe2, 0xcf, 0xaa, 0x06, 0x10, 0x07, // the segment's information
+    0x12, 0x29, 0x0a, 0x27, 0x0a, 0x25, // the first entry, its signed message, header and body
+    0x12, 0x23, 0x08, 0x90, 0x82, 0x80, 0x80, 0x80, 0xe0, 0x7f, // its AS
+    0x10, 0x91, 0x82, 0x80, 0x80, 0x80, 0xe0, 0x7f, // the next AS
+    0x1a, 0x0e, 0x0a, 0x0c, 0x10, 0x01, 0x18, 0x3f, 0x22, 0x06, // the hop entry and its hop field
+    0x01, 0x02, 0x03, 0x04, 0x05, 0x06, 0x28, 0xc0, 0x0b, // a MAC, and the MTU
+    0x12, 0x21, 0x0a, 0x1f, 0x0a, 0x1d, // the second entry
+    0x12, 0x1b, 0x08, 0x91, 0x82, 0x80, 0x80, 0x80, 0xe0, 0x7f, // its AS
+    0x1a, 0x0e, 0x0a, 0x0c, 0x08, 0x02, 0x18, 0x3f, 0x22, 0x06, // the hop entry and its hop field
+    0x0a, 0x0b, 0x0c, 0x0d, 0x0e, 0x0f, 0x28, 0xc0, 0x0b, // a MAC, and the MTU
+];
+
+/// Where in the segment the interface is by which its first AS is left. With another one its id is another.
+const EGRESS: usize = 39;
+
+/// A group of one command at place 0, which registers one segment as a down segment: what stands before the segment.
+pub(crate) const REGISTERED: [u8; 27] = [
+    1, 1, 0, 0, 0, 0, 0, 99, 0, 0, 0, 0, 0, 0, 0, 0, // the header
+    0, 0, 0, 95, 1, 1, 2, 0, 0, 0, 88, // the record up to the segment
+];
+
+/// A seal at place 1.
+const SEAL: [u8; 16] = [2, 0, 0, 0, 0, 0, 0, 0, 0, 0, 0, 0, 0, 0, 0, 1];
+
+/// What becomes of a write at a stop: no byte of it, one byte or one sector lands, and its other bytes become zero or 0xa7.
+pub(crate) const TEARS: [Tear; 6] = [
+    Tear { keep: 0, fill: 0 },
+    Tear {
+        keep: 0,
+        fill: 0xa7,
+    },
+    Tear { keep: 1, fill: 0 },
+    Tear {
+        keep: 1,
+        fill: 0xa7,
+    },
+    Tear { keep: 512, fill: 0 },
+    Tear {
+        keep: 512,
+        fill: 0xa7,
+    },
+];
+
+/// A sector that the device has; zeros where it can't be read.
+pub(crate) fn read_sector<D: Device>(device: &mut D, at: u64) -> [u8; 512] {
+    let mut sector = [0; SECTOR];
+    if device.sectors() <= at || device.read(at, &mut sector).is_err() {
+        return [0; SECTOR];
+    }
+    sector
+}
+
+/// Has these bytes stand in a sector from an offset on.
+pub(crate) fn change(device: &mut MemDevice, at: u64, from: usize, bytes: &[u8]) {
+    let mut sector = read_sector(device, at);
+    for (byte, wanted) in sector.iter_mut().skip(from).zip(bytes) {
+        *byte = *wanted;
+    }
+    if at < device.sectors() {
+        let _ = device.write(at, &sector);
+        let _ = device.sync();
+    }
+}
+
+/// A new store. Where memory is refused, it is asked for once more.
+pub(crate) fn new_store(rt: &impl Abort, alloc: Global) -> MemDevice {
+    let made = match MemDevice::new(alloc, SECTORS) {
+        Err(_) => MemDevice::new(alloc, SECTORS),
+        made => made,
+    };
+    let Ok(mut device) = made else {
+        panic!(rt; "out of memory");
+    };
+    assert_eq!(rt; format(&mut device, LEAST), Ok(()));
+    device
+}
+
+/// A new store of version 1.
+pub(crate) fn old_store(rt: &impl Abort, alloc: Global) -> MemDevice {
+    let mut device = new_store(rt, alloc);
+    change(&mut device, 1, 7, &[1]);
+    device
+}
+
+/// The segment, its first AS being left by this interface, below 128.
+pub(crate) fn segment(egress: u8) -> [u8; 88] {
+    let mut message = SEGMENT;
+    message[EGRESS] = egress;
+    message
+}
+
+/// A store of version 1 or 2. The journal of its first half registers the segment left by interface 1, and is sealed at place 1.
+pub(crate) fn sealed_store(rt: &impl Abort, alloc: Global, version: u8) -> MemDevice {
+    let mut device = new_store(rt, alloc);
+    change(&mut device, 1, 7, &[version]);
+    change(&mut device, 5, 0, &REGISTERED);
+    change(&mut device, 5, REGISTERED.len(), &segment(1));
+    change(&mut device, 7, 0, &SEAL);
+    change(&mut device, 6, 0, &[0xa7]);
+    change(&mut device, 4, 0, &[0xa7]);
+    device
+}
+
+/// Opens a device. Where memory is refused, it is tried once more.
+pub(crate) fn opened<D: Device>(rt: &impl Abort, alloc: Global, device: D) -> Store<D> {
+    let again = match open(alloc, device) {
+        Err((device, OpenError::NoMemory)) => open(alloc, device),
+        answer => answer,
+    };
+    match again {
+        Ok(store) => store,
+        Err((_device, e)) => panic!(rt; "{e:?}"),
+    }
+}
+
+/// What a store stands for: how many rows, their bytes, and the place.
+pub(crate) type Pair = (usize, u64, u64);
+
+/// What rows and a place are told as.
+pub(crate) fn pair_of(db: &PathDb, place: u64) -> Pair {
+    (db.rows().count(), db.encoded_len(), place)
+}
+
+/// What a device opens to.
+pub(crate) fn told(rt: &impl Abort, alloc: Global, device: MemDevice) -> (Pair, MemDevice) {
+    let store = opened(rt, alloc, device);
+    let pair = pair_of(store.db(), store.place());
+    (pair, store.into_device())
+}
+
+/// The command that registers the segment as a down segment, its first AS being left by this interface, below 128: so many times.
+/// Where memory is refused, it is asked for once more.
+pub(crate) fn register(rt: &impl Abort, alloc: Global, egress: u8, times: usize) -> Command {
+    let made = match registration(alloc, egress, times) {
+        None => registration(alloc, egress, times),
+        made => made,
+    };
+    match made {
+        Some(registration) => Command::Register(registration),
+        None => panic!(rt; "out of memory"),
+    }
+}
+
+/// That registration, unless memory is refused.
+fn registration(alloc: Global, egress: u8, times: usize) -> Option<Registration> {
+    let message = segment(egress);
+    let mut rows = Vec::new(alloc);
+    for _each in 0..times {
+        let segment = read_segment(alloc, &message).ok()?;
+        rows.push((SegType::Down, segment)).ok()?;
+    }
+    Some(Registration::new(rows))
+}

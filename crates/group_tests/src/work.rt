@@ -1,0 +1,362 @@
+//! A state at work, with the tickets that it gave and the values that its actors hold.
+
+use crate::stores::{Pair, pair_of};
+use group_core::{
+    BeginError, Closing, Durable, Laid, Live, Opened, PlainShow, Plan, PublishError, Redeemed,
+    Stable, StageError, Staged, State, StepError, SubmitError, Switched, Ticket, Written,
+};
+use path_db::{Command, Outcome};
+use sector_dev::Device;
+use std::alloc::Global;
+use std::process::Abort;
+use store_open::Store;
+
+/// The most tickets that are held.
+const MOST_TICKETS: usize = 600;
+
+/// What the flusher holds.
+pub(crate) enum Group {
+    Nothing,
+    Staged(Staged),
+    Written(Written),
+    Stable(Stable),
+    Opened(Opened),
+    Durable(Durable),
+}
+
+/// What the checkpointer holds.
+pub(crate) enum Round {
+    Nothing,
+    Plan(Plan),
+    Laid(Laid),
+    Switched(Switched),
+    Live(Live),
+    Closing(Closing),
+}
+
+/// What a step was answered.
+#[derive(Clone, Copy, Debug, PartialEq, Eq)]
+pub(crate) enum Told {
+    /// It was made.
+    Done,
+    /// It was the last one of its group or checkpoint.
+    Ended,
+    /// Nothing was staged, or begun.
+    Stage(StageError),
+    Begin(BeginError),
+    /// It was refused.
+    Fault,
+    Stopped,
+    Damaged,
+    NoMemory,
+}
+
+/// What a ticket was redeemed for, with its place.
+#[derive(Clone, Copy, Debug, PartialEq, Eq)]
+pub(crate) enum Paid {
+    Committed(u64, Outcome),
+    Waiting(u64),
+    Unknown(u64),
+}
+
+/// A state, the tickets that aren't redeemed, and what its actors hold.
+pub(crate) struct Work<D: Device> {
+    pub(crate) state: State<D, PlainShow>,
+    pub(crate) tickets: Vec<Ticket>,
+    pub(crate) group: Group,
+    pub(crate) round: Round,
+}
+
+/// A state of a store, of this home.
+pub(crate) fn state_of<D: Device>(
+    rt: &impl Abort,
+    alloc: Global,
+    store: Store<D>,
+    home: u64,
+) -> State<D, PlainShow> {
+    let copy = match store.db().try_clone() {
+        Err(_) => store.db().try_clone(),
+        copied => copied,
+    };
+    let Ok(db) = copy else {
+        panic!(rt; "out of memory");
+    };
+    let show = PlainShow::new(db, store.place());
+    State::new(alloc, store, show, home)
+}
+
+/// A state of a store, of home 1, at work.
+pub(crate) fn work_of<D: Device>(rt: &impl Abort, alloc: Global, store: Store<D>) -> Work<D> {
+    let room = match Vec::with_capacity(alloc, MOST_TICKETS) {
+        Err(_) => Vec::with_capacity(alloc, MOST_TICKETS),
+        given => given,
+    };
+    let Ok(tickets) = room else {
+        panic!(rt; "out of memory");
+    };
+    Work {
+        state: state_of(rt, alloc, store, 1),
+        tickets,
+        group: Group::Nothing,
+        round: Round::Nothing,
+    }
+}
+
+impl<D: Device> Work<D> {
+    /// Submits a command, and holds its ticket: its place.
+    pub(crate) fn submit(&mut self, rt: &impl Abort, command: Command) -> Result<u64, SubmitError> {
+        match self.state.submit(command) {
+            Ok(ticket) => {
+                let place = ticket.place();
+                if let Err(_ticket) = self.tickets.push(ticket) {
+                    panic!(rt; "out of memory");
+                }
+                Ok(place)
+            }
+            Err((_command, refusal)) => Err(refusal),
+        }
+    }
+
+    /// Submits so many purges of what expires at moment 0, each of which is accepted.
+    pub(crate) fn purge(&mut self, rt: &impl Abort, times: usize) {
+        for _each in 0..times {
+            assert!(rt; self.submit(rt, Command::Purge(0)).is_ok());
+        }
+    }
+
+    /// Redeems the ticket that is held at an index; a ticket that is waiting is held there again.
+    pub(crate) fn redeem(&mut self, rt: &impl Abort, index: usize) -> Paid {
+        assert!(rt; index < self.tickets.len());
+        let ticket = self.tickets.remove(index);
+        match self.state.redeem(ticket) {
+            Redeemed::Committed(receipt) => Paid::Committed(receipt.place, receipt.outcome),
+            Redeemed::Unknown(place) => Paid::Unknown(place),
+            Redeemed::Stranger(_ticket) => panic!(rt; "a stranger"),
+            Redeemed::Waiting(ticket) => {
+                let place = ticket.place();
+                assert!(rt; index <= self.tickets.len());
+                if let Err(_ticket) = self.tickets.insert(index, ticket) {
+                    panic!(rt; "out of memory");
+                }
+                Paid::Waiting(place)
+            }
+        }
+    }
+
+    /// Redeems the oldest ticket as long as it is committed; how many are.
+    pub(crate) fn redeem_all(&mut self, rt: &impl Abort) -> u64 {
+        let mut paid = 0u64;
+        for _each in 0..MOST_TICKETS {
+            if self.tickets.is_empty() {
+                break;
+            }
+            let Paid::Committed(_, _) = self.redeem(rt, 0) else {
+                break;
+            };
+            paid = paid.saturating_add(1);
+        }
+        paid
+    }
+
+    /// The flusher's next step.
+    pub(crate) fn flush(self, rt: &impl Abort) -> (Work<D>, Told) {
+        let Work {
+            mut state,
+            tickets,
+            group,
+            round,
+        } = self;
+        let (group, told) = flush_step(rt, &mut state, group);
+        let work = Work {
+            state,
+            tickets,
+            group,
+            round,
+        };
+        (work, told)
+    }
+
+    /// The checkpointer's next step.
+    pub(crate) fn check(self, rt: &impl Abort) -> (Work<D>, Told) {
+        let Work {
+            mut state,
+            tickets,
+            group,
+            round,
+        } = self;
+        let (round, told) = check_step(rt, &mut state, round);
+        let work = Work {
+            state,
+            tickets,
+            group,
+            round,
+        };
+        (work, told)
+    }
+
+    /// The flusher's steps until a group or a seal is published, or until one is refused.
+    pub(crate) fn flush_group(self, rt: &impl Abort) -> (Work<D>, Told) {
+        let mut work = self;
+        let mut told = Told::Done;
+        for _step in 0..6 {
+            if told == Told::Done {
+                (work, told) = work.flush(rt);
+            }
+        }
+        (work, told)
+    }
+
+    /// The checkpointer's steps until a checkpoint has ended, or until one is refused.
+    pub(crate) fn check_all(self, rt: &impl Abort) -> (Work<D>, Told) {
+        let mut work = self;
+        let mut told = Told::Done;
+        for _step in 0..7 {
+            if told == Told::Done {
+                (work, told) = work.check(rt);
+            }
+        }
+        (work, told)
+    }
+
+    /// Hands the device out, where no ticket is left and no value is out.
+    pub(crate) fn device(self, rt: &impl Abort) -> D {
+        let Work {
+            state,
+            tickets,
+            group: Group::Nothing,
+            round: Round::Nothing,
+        } = self
+        else {
+            panic!(rt; "a value is out");
+        };
+        assert!(rt; tickets.is_empty());
+        tickets.destroy_empty();
+        match state.into_device() {
+            Ok(device) => device,
+            Err(_state) => panic!(rt; "an outcome is kept"),
+        }
+    }
+
+    /// Stops the state, redeems all tickets and spends all values: the device, and what is shown.
+    pub(crate) fn end(self, rt: &impl Abort) -> (D, Pair) {
+        let mut work = self;
+        work.state.halt();
+        for _each in 0..MOST_TICKETS {
+            if !work.tickets.is_empty() {
+                let _paid = work.redeem(rt, 0);
+            }
+        }
+        let (work, _told) = work.flush_group(rt);
+        let (work, _told) = work.check_all(rt);
+        let Work {
+            state,
+            tickets,
+            group: Group::Nothing,
+            round: Round::Nothing,
+        } = work
+        else {
+            panic!(rt; "a value is out");
+        };
+        assert!(rt; tickets.is_empty());
+        tickets.destroy_empty();
+        let (device, show) = state.into_parts();
+        (device, pair_of(show.db(), show.place()))
+    }
+}
+
+/// A step of the flusher with what it holds.
+fn flush_step<D: Device>(
+    rt: &impl Abort,
+    state: &mut State<D, PlainShow>,
+    group: Group,
+) -> (Group, Told) {
+    let next = match group {
+        Group::Nothing => match state.stage() {
+            Ok(value) => Ok(Group::Staged(value)),
+            Err(e) => Err(Told::Stage(e)),
+        },
+        Group::Staged(value) => match state.write_group(value) {
+            Ok(value) => Ok(Group::Written(value)),
+            Err(e) => Err(refused(rt, e)),
+        },
+        Group::Written(value) => match state.sync_group(value) {
+            Ok(value) => Ok(Group::Stable(value)),
+            Err(e) => Err(refused(rt, e)),
+        },
+        Group::Stable(value) => match state.open_gate(value) {
+            Ok(value) => Ok(Group::Opened(value)),
+            Err(e) => Err(refused(rt, e)),
+        },
+        Group::Opened(value) => match state.sync_gate(value) {
+            Ok(value) => Ok(Group::Durable(value)),
+            Err(e) => Err(refused(rt, e)),
+        },
+        Group::Durable(value) => match state.publish(value) {
+            Ok(()) => Err(Told::Ended),
+            Err(PublishError::NoMemory(value)) => return (Group::Durable(value), Told::NoMemory),
+            Err(PublishError::Stranger(_value)) => panic!(rt; "a stranger"),
+        },
+    };
+    match next {
+        Ok(group) => (group, Told::Done),
+        Err(told) => (Group::Nothing, told),
+    }
+}
+
+/// A step of the checkpointer with what it holds.
+fn check_step<D: Device>(
+    rt: &impl Abort,
+    state: &mut State<D, PlainShow>,
+    round: Round,
+) -> (Round, Told) {
+    let next = match round {
+        Round::Nothing => match state.begin() {
+            Ok(value) => Ok(Round::Plan(value)),
+            Err(e) => Err(Told::Begin(e)),
+        },
+        Round::Plan(value) => {
+            if value.is_done() {
+                match state.sync_chunks(value) {
+                    Ok(value) => Ok(Round::Laid(value)),
+                    Err(e) => Err(refused(rt, e)),
+                }
+            } else {
+                match state.write_chunk(value) {
+                    Ok(value) => Ok(Round::Plan(value)),
+                    Err(e) => Err(refused(rt, e)),
+                }
+            }
+        }
+        Round::Laid(value) => match state.open_half(value) {
+            Ok(value) => Ok(Round::Switched(value)),
+            Err(e) => Err(refused(rt, e)),
+        },
+        Round::Switched(value) => match state.sync_half(value) {
+            Ok(value) => Ok(Round::Live(value)),
+            Err(e) => Err(refused(rt, e)),
+        },
+        Round::Live(value) => match state.close_half(value) {
+            Ok(value) => Ok(Round::Closing(value)),
+            Err(e) => Err(refused(rt, e)),
+        },
+        Round::Closing(value) => match state.sync_close(value) {
+            Ok(()) => Err(Told::Ended),
+            Err(e) => Err(refused(rt, e)),
+        },
+    };
+    match next {
+        Ok(round) => (round, Told::Done),
+        Err(told) => (Round::Nothing, told),
+    }
+}
+
+/// What a step was answered that spent its value. A value that comes back ends the test.
+fn refused<P>(rt: &impl Abort, refusal: StepError<P>) -> Told {
+    match refusal {
+        StepError::Fault => Told::Fault,
+        StepError::Stopped => Told::Stopped,
+        StepError::Damaged => Told::Damaged,
+        StepError::Stranger(_value) => panic!(rt; "a stranger"),
+        StepError::NoMemory(_value) => panic!(rt; "out of memory"),
+    }
+}
