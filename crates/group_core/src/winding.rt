@@ -31,7 +31,8 @@ fn ending(n: usize) -> Event
 
 impl<D: Device> Run<D> {
     /// Stops the state, spends the values that are out, redeems every ticket, and hands the device out. Where memory runs out
-    /// for what is durable, or an outcome is kept whose ticket isn't here, the run comes back.
+    /// for what is durable, or an outcome is kept whose ticket isn't here, the run comes back. The clause leaves open which events
+    /// it makes: it says that none accepts a command.
     pub fn wind_up(self) -> Result<D, Run<D>>
         ensures { WindsUp D.disk result self }
     {
