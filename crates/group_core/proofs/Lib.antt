@@ -1,3 +1,4 @@
+pub mod Exports
 pub mod Soundness
 pub mod States
 pub mod FlushSteps
@@ -10,9 +11,3 @@ pub mod Begin
 pub mod Keeping
 pub mod Submit
 pub mod Start
-pub mod Prefix
-pub mod Held
-pub mod Beside
-pub mod Tickets
-pub mod Runs
-pub mod MachineSteps

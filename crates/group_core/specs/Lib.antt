@@ -12,10 +12,4 @@ pub mod SubmitRefusals
 pub mod Submitting
 pub mod Keeping
 pub mod Starting
-pub mod Machine
-pub mod RunSteps
-pub mod Holding
-pub mod RunLeaves
-pub mod StartsRun
-pub mod Winding
-pub mod MachineSteps
+pub mod Reading

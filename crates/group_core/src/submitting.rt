@@ -56,8 +56,8 @@ impl<D: Device, S: Showcase> State<D, S> {
         })
     }
 
-    /// What is judged of a command without memory.
-    pub(crate) fn judge(&self, command: &Command) -> Result<(), SubmitError>
+    /// What is judged of a command without memory: whether it may be submitted, or the first reason why not.
+    pub fn judge(&self, command: &Command) -> Result<(), SubmitError>
         ensures judges { Judges command.now result self.now }
         ensures pending { OnOk result (MayBePending self.now.version command.now) }
     {

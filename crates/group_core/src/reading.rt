@@ -1,0 +1,45 @@
+//! What is read of a state, which leaves it as it is.
+
+ghost use Rattle.std.specs.Prelude.{◌≡◌, ◌≤◌, ◌↔◌, IsTrue, IfOk, OnErr, length};
+ghost use Rattle.path_db.specs.Answer.{segments_of};
+ghost use Rattle.seg_lookup.specs.Answer.{answer_to};
+ghost use Rattle.seg_lookup.specs.Query.{query_view};
+ghost use Rattle.group_core.specs.Reading.{IsFree};
+ghost use Rattle.group_core.specs.StateView.{StepLeaves};
+
+use crate::plain_show::PlainShow;
+use crate::showcase::Showcase;
+use crate::state::State;
+use sector_dev::Device;
+use seg_core::Segment;
+use seg_lookup::{Query, answer};
+use std::alloc::AllocError;
+
+impl<D: Device, S: Showcase> State<D, S> {
+    /// Whether no commit value is out.
+    pub fn is_free(&self) -> bool
+        ensures { IsTrue result ↔ IsFree self.now }
+    {
+        !self.group.out && !self.plan.out
+    }
+
+    /// A law. Between two calls a stop leaves what is committed, with a front of the pending commands as long as the flusher's phase
+    /// allows; and no more commands are in flight than are pending.
+    pub fn stops_leave_fronts(&self)
+        ensures leaves { StepLeaves self.now self.now }
+        ensures taken { self.now.taken ≤ length self.now.pending }
+    {
+        let _stopped = self.stopped;
+    }
+}
+
+impl<D: Device> State<D, PlainShow> {
+    /// What a query shows of the committed rows at a moment, in half seconds since 1970. Memory runs out only where something is to
+    /// be shown.
+    pub fn look_up(&self, query: &Query, now: u64) -> Result<Vec<Segment>, AllocError>
+        ensures answer { IfOk result (λ found. found.items ≡ segments_of (answer_to self.now.value.db (query_view query.now) now)) }
+        ensures memory { OnErr result (1 ≤ length (answer_to self.now.value.db (query_view query.now) now)) }
+    {
+        answer(self.show.db(), query, now)
+    }
+}

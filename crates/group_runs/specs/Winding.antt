@@ -1,0 +1,33 @@
+-- The end of a run.
+use Rattle.std.specs.Prelude.{◌≡◌, List, [], Result, Ok, Err}
+use Rattle.sector_dev.specs.Disk.{Disk}
+use Rattle.group_runs.specs.declared.events.Event.{Event}
+use Rattle.group_runs.specs.declared.events.Event.TheVariants as event
+use Rattle.group_runs.specs.declared.events.Reply.{Reply}
+use Rattle.group_core.specs.Ending.{IsSettled}
+use Rattle.group_runs.specs.RunSteps.{RunView, IsRun}
+use Rattle.group_runs.specs.RunLeaves.{accepted_in, lock_order, RunLeaves}
+
+-- an event that accepts no command
+abbrev pub IsWinding : Event → Type 0
+IsWinding (event.Submit command) = ⊥
+IsWinding _ = Unit {0}
+
+-- the run went on, and accepted no command
+pub record HasWound (old new : RunView) : Type 0 where
+  pub events : List Event
+  pub replies : List Reply
+  pub runs : IsRun events replies old new
+  pub none : accepted_in events replies ≡ []
+  pub leaves : RunLeaves old.state (lock_order old.state events replies) new.state
+
+-- the device of a state in which nothing is kept and no value is out, or the run, where something is left
+abbrev pub HandsOutDevice : {D : Type 0} → (D → Disk) → Result D RunView → RunView → Type 0
+HandsOutDevice disk_of (Ok device) run = IsSettled run.state × (disk_of device ≡ run.state.disk)
+HandsOutDevice disk_of (Err back) run = (¬ IsSettled run.state) × (back ≡ run)
+
+-- after the run went on
+pub record WindsUp {D : Type 0} (disk_of : D → Disk) (result : Result D RunView) (old : RunView) : Type 0 where
+  pub new : RunView
+  pub wound : HasWound old new
+  pub hands : HandsOutDevice disk_of result new

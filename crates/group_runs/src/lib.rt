@@ -1,0 +1,21 @@
+//! Runs of a store at work: any list of events, done one after the other, each a call of the state or a lookup.
+//!
+//! To the layer above: a run does what its replies tell, event by event, and says what a stop at any moment of it leaves: what was
+//! committed when it began, with a front of the commands in the order of the lock.
+#![tactic(auto)]
+
+mod copying;
+mod events;
+mod group_events;
+mod holding;
+mod plan_events;
+mod run_laws;
+mod run_state;
+mod running;
+mod ticket_events;
+mod winding;
+
+pub use events::{Event, PublishRefusal, Reply, StepRefusal};
+pub use run_laws::events_make_machine_steps;
+pub use run_state::Run;
+pub use running::run;

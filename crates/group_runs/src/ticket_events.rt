@@ -1,0 +1,128 @@
+//! Submitting and redeeming, with the tickets of a run.
+
+ghost use Rattle.std.specs.Prelude.{◌≡◌, ◌<◌, ◌++◌, ◌∷◌, [], None, Some, slice_set, vec_len, vec_capacity};
+ghost use Rattle.group_core.specs.StateView.{StepLeaves};
+ghost use Rattle.group_runs.specs.Holding.{HoldsTickets, held_at, run_view};
+ghost use Rattle.group_runs.specs.RunSteps.{SubmitEvent, RedeemEvent};
+
+use crate::copying::copy_of;
+use crate::events::Reply;
+use group_core::{Redeemed, Showcase, State, SubmitError, Ticket};
+use path_db::Command;
+use sector_dev::Device;
+use std::alloc::Global;
+
+/// Submits a copy of a command, and keeps its ticket behind the others. No memory is taken where a refusal is judged that takes none.
+pub(crate) fn submit<D: Device, S: Showcase>(
+    alloc: Global,
+    tickets: &mut Vec<Option<Ticket>>,
+    state: &mut State<D, S>,
+    command: &Command,
+) -> Reply
+    requires held { HoldsTickets tickets.old.items state.old }
+    ensures held { HoldsTickets tickets.new.items state.new }
+    ensures step { SubmitEvent command.now result (run_view state.old tickets.old.items) (run_view state.new tickets.new.items) }
+    ensures any_moment { StepLeaves state.old state.new }
+{
+    if let Err(refusal) = state.judge(command) {
+        state.stops_leave_fronts();
+        return Reply::Refused(refusal);
+    }
+    if tickets.reserve(1).is_err() {
+        state.stops_leave_fronts();
+        return Reply::Refused(SubmitError::NoMemory);
+    }
+    let Ok(copy) = copy_of(alloc, command) else {
+        state.stops_leave_fronts();
+        return Reply::Refused(SubmitError::NoMemory);
+    };
+    match state.submit(copy) {
+        Ok(ticket) => {
+            let place = ticket.place();
+            keep(tickets, ticket);
+            Reply::Accepted(place)
+        }
+        Err((_back, refusal)) => Reply::Refused(refusal),
+    }
+}
+
+/// Redeems the k-th ticket.
+pub(crate) fn redeem<D: Device, S: Showcase>(
+    tickets: &mut Vec<Option<Ticket>>,
+    state: &mut State<D, S>,
+    k: usize,
+) -> Reply
+    requires held { HoldsTickets tickets.old.items state.old }
+    ensures held { HoldsTickets tickets.new.items state.new }
+    ensures step { RedeemEvent k result (run_view state.old tickets.old.items) (run_view state.new tickets.new.items) }
+    ensures any_moment { StepLeaves state.old state.new }
+{
+    let Some(ticket) = take(tickets, k) else {
+        state.stops_leave_fronts();
+        return Reply::NoValue;
+    };
+    match state.redeem(ticket) {
+        Redeemed::Committed(receipt) => {
+            let place = receipt.place;
+            let outcome = receipt.outcome;
+            Reply::Committed(place, outcome)
+        }
+        Redeemed::Waiting(back) => {
+            let place = back.place();
+            put_back(tickets, k, back);
+            Reply::Waiting(place)
+        }
+        Redeemed::Unknown(place) => Reply::Unknown(place),
+        Redeemed::Stranger(back) => {
+            put_back(tickets, k, back);
+            Reply::NoValue
+        }
+    }
+}
+
+/// Keeps a ticket behind the others.
+fn keep(tickets: &mut Vec<Option<Ticket>>, ticket: Ticket)
+    requires { vec_len tickets.old < vec_capacity tickets.old }
+    ensures { tickets.new.items ≡ tickets.old.items ++ Some ticket ∷ [] }
+{
+    if let Err(full) = tickets.push(Some(ticket)) {
+        spend(full.value);
+    }
+}
+
+/// Takes the k-th ticket out, where there is one.
+fn take(tickets: &mut Vec<Option<Ticket>>, k: usize) -> Option<Ticket>
+    ensures taken { result ≡ held_at k tickets.old.items }
+    ensures left { tickets.new.items ≡ slice_set tickets.old.items k None }
+{
+    match tickets.get_mut(k) {
+        Some(slot) => slot.take(),
+        None => None,
+    }
+}
+
+/// Puts a ticket back where it was taken out.
+fn put_back(tickets: &mut Vec<Option<Ticket>>, k: usize, ticket: Ticket)
+    ensures { tickets.new.items ≡ slice_set tickets.old.items k (Some ticket) }
+{
+    match tickets.get_mut(k) {
+        Some(slot) => spend(slot.replace(ticket)),
+        None => spend(Some(ticket)),
+    }
+}
+
+/// It is no more.
+pub(crate) fn spend(ticket: Option<Ticket>) {
+    if let Some(ticket) = ticket {
+        let _command = ticket.into_command();
+    }
+}
+
+/// They are no more.
+pub(crate) fn spend_all(tickets: Vec<Option<Ticket>>) {
+    let mut tickets = tickets;
+    while let Some(ticket) = tickets.pop() {
+        spend(ticket);
+    }
+    tickets.destroy_empty();
+}
