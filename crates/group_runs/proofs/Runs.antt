@@ -20,7 +20,7 @@ use Rattle.group_core.specs.Submitting.{next_place}
 use Rattle.group_core.specs.Redeeming.{halted}
 use Rattle.group_runs.specs.RunSteps.{RunView, PublishEvent, SubmitEvent, RedeemEvent, IsStep, IsRun}
 use Rattle.group_runs.specs.Holding.{HoldsGroup, HoldsPlan, SealWaits, HoldsTickets, IsHolding}
-use Rattle.group_runs.specs.Winding.{IsWinding, HasWound}
+use Rattle.group_runs.specs.Winding.{ending_events, winding_events, HasWound}
 use Rattle.group_runs.specs.RunLeaves.{accepted_by, accepted_in, lock_order, RunLeaves}
 use Rattle.group_runs.proofs.Prefix.{Moves, leaves_at_first, leaves_then}
 use Rattle.group_runs.proofs.Held.{TicketsStay, GroupStays, PlanStays, moves_none, tickets_stay, group_stays, plan_stays, FlushRest, CheckRest, flush_rest, check_rest, stage_rest, begin_rest, halt_rest, lookup_rest, planned_busy, at_busy, flush_holding}
@@ -282,23 +282,70 @@ so_far_more events i e replies pushed r start mid new inside is pushed_is so_far
     subst (λ (l : List Event). RunSoFar l pushed start new) (sym (take_more events i e inside ∙ ap (λ (x : Event). take i events ++ x ∷ []) (sym is)))
     (subst (λ (l : List Reply). RunSoFar (take i events ++ e ∷ []) l start new) (sym pushed_is) (so_far_then (take i events) replies e r start mid new so_far taken step leaves))
 
--- a run that goes on and accepts no command
+-- a run by these events, with some replies
+pub record GoneBy (events : List Event) (start now : RunView) : Type 0 where
+  pub replies : List Reply
+  pub so_far : RunSoFar events replies start now
+
+pub gone_first : (start : RunView) → StepLeaves start.state start.state → GoneBy [] start start
+gone_first start stays = record { replies = []; so_far = so_far_first [] [] start refl refl stays }
+
+-- an event of these more, which is read of a list of them
+pub gone_ending : (list : List Event) (i : ℕ) (item : Event) (r : Reply) (start mid new : RunView) → list ≡ ending_events → i < 12 → item ≡ get_or list i item → GoneBy (take i ending_events) start mid
+    → mid.state.taken ≤ length mid.state.pending → IsStep (get_or list i item) r mid new → StepLeaves mid.state new.state → GoneBy (take (i + 1) ending_events) start new
+gone_ending list i item r start mid new are inside is gone taken step leaves = record {
+  replies = gone.replies ++ r ∷ [];
+  so_far =
+      so_far_more ending_events i item gone.replies (gone.replies ++ r ∷ []) r start mid new inside (is ∙ ap (λ (l : List Event). get_or l i item) are) refl gone.so_far taken
+      (subst (λ (e : Event). IsStep e r mid new) (sym is) step) leaves;
+}
+
+-- all of these
+pub gone_to_the_end : (i : ℕ) (start now : RunView) → 12 ≤ i → i ≤ 12 → GoneBy (take i ending_events) start now → GoneBy (winding_events 0) start now
+gone_to_the_end i start now least most gone = let all : i ≡ 12 = omega arith in subst (λ (n : ℕ). GoneBy (take n ending_events) start now) all gone
+
+-- a ticket more
+pub gone_redeeming : (k : ℕ) (r : Reply) (start mid new : RunView) → GoneBy (winding_events k) start mid → mid.state.taken ≤ length mid.state.pending → IsStep (event.Redeem k) r mid new
+    → StepLeaves mid.state new.state → GoneBy (winding_events (k + 1)) start new
+gone_redeeming k r start mid new gone taken step leaves =
+    let next : suc k ≡ k + 1 = omega arith in
+    subst (λ (n : ℕ). GoneBy (winding_events n) start new) next (record { replies = gone.replies ++ r ∷ []; so_far = so_far_then (winding_events k) gone.replies (event.Redeem k) r start mid new gone.so_far taken step leaves })
+
+-- events that accept no command
+abbrev IsWinding : Event → Type 0
+IsWinding (event.Submit command) = ⊥
+IsWinding _ = Unit {0}
+
+abbrev AllWinding : List Event → Type 0
+AllWinding [] = Unit {0}
+AllWinding (e ∷ events) = IsWinding e × AllWinding events
+
+winding_then : (events : List Event) (k : ℕ) → AllWinding events → AllWinding (events ++ event.Redeem k ∷ [])
+winding_then [] k all = (tt, tt)
+winding_then (e ∷ events) k all = (all.0, winding_then events k all.1)
+
+all_winding : (n : ℕ) → AllWinding (winding_events n)
+all_winding zero = (tt, (tt, (tt, (tt, (tt, (tt, (tt, (tt, (tt, (tt, (tt, (tt, tt))))))))))))
+all_winding (suc n) = winding_then (winding_events n) n (all_winding n)
+
 none_accepted : (e : Event) (r : Reply) → IsWinding e → accepted_by e r ≡ []
 none_accepted (event.Submit command) r is = absurd is
 none_accepted _ r is = refl
 
-pub wound_first : (start : RunView) → StepLeaves start.state start.state → HasWound start start
-wound_first start stays =
-    let first = so_far_first [] [] start refl refl stays in
-    record { events = []; replies = []; runs = first.runs; none = refl; leaves = first.leaves }
+none_accepted_in : (events : List Event) → AllWinding events → (replies : List Reply) → accepted_in events replies ≡ []
+none_accepted_in [] all replies = refl
+none_accepted_in (e ∷ events) all [] = refl
+none_accepted_in (e ∷ events) all (r ∷ replies) = λ i. none_accepted e r all.0 i ++ none_accepted_in events all.1 replies i
 
-pub wound_then : (e : Event) (r : Reply) (start mid new : RunView) → IsWinding e → HasWound start mid → mid.state.taken ≤ length mid.state.pending → IsStep e r mid new → StepLeaves mid.state new.state → HasWound start new
-wound_then e r start mid new is wound taken step leaves =
-    let more = so_far_then wound.events wound.replies e r start mid new (record { runs = wound.runs; leaves = wound.leaves }) taken step leaves in
+-- all tickets
+pub wound_so : (k n : ℕ) (start now : RunView) → n ≤ k → k ≤ n → n ≡ length start.tickets → GoneBy (winding_events k) start now → HasWound start now
+wound_so k n start now least most count gone =
+    let all : k ≡ length start.tickets = omega (arith, count) in
     record {
-      events = wound.events ++ e ∷ [];
-      replies = wound.replies ++ r ∷ [];
-      runs = more.runs;
-      none = accepted_then wound.events wound.replies e r start mid wound.runs ∙ (λ i. wound.none i ++ none_accepted e r is i);
-      leaves = more.leaves;
+      events = winding_events k;
+      replies = gone.replies;
+      are = ap winding_events all;
+      runs = gone.so_far.runs;
+      none = none_accepted_in (winding_events k) (all_winding k) gone.replies;
+      leaves = gone.so_far.leaves;
     }

@@ -1,5 +1,5 @@
 -- The end of a run.
-use Rattle.std.specs.Prelude.{◌≡◌, List, [], Result, Ok, Err}
+use Rattle.std.specs.Prelude.{◌≡◌, ℕ, zero, suc, List, [], ◌∷◌, ◌++◌, length, Result, Ok, Err}
 use Rattle.sector_dev.specs.Disk.{Disk}
 use Rattle.group_runs.specs.declared.events.Event.{Event}
 use Rattle.group_runs.specs.declared.events.Event.TheVariants as event
@@ -8,15 +8,27 @@ use Rattle.group_core.specs.Ending.{IsSettled}
 use Rattle.group_runs.specs.RunSteps.{RunView, IsRun}
 use Rattle.group_runs.specs.RunLeaves.{accepted_in, lock_order, RunLeaves}
 
--- an event that accepts no command
-abbrev pub IsWinding : Event → Type 0
-IsWinding (event.Submit command) = ⊥
-IsWinding _ = Unit {0}
+-- a state is stopped, and then each step that a value may be at is tried, which spends the value: the flusher's, from the first to
+-- publishing, and the checkpointer's
+abbrev pub ending_events : List Event
+ending_events =
+    event.Halt ∷ event.WriteGroup ∷ event.SyncGroup ∷ event.OpenGate ∷ event.SyncGate ∷ event.Publish
+    ∷ event.WriteChunk ∷ event.SyncChunks ∷ event.OpenHalf ∷ event.SyncHalf ∷ event.CloseHalf ∷ event.SyncClose ∷ []
 
--- the run went on, and accepted no command
+-- the first tickets are redeemed, so many, each once
+abbrev pub redeeming_events : ℕ → List Event
+redeeming_events zero = []
+redeeming_events (suc n) = redeeming_events n ++ event.Redeem n ∷ []
+
+-- the events that wind a run of so many tickets up
+abbrev pub winding_events : ℕ → List Event
+winding_events tickets = ending_events ++ redeeming_events tickets
+
+-- the run went on by these events, which accept no command
 pub record HasWound (old new : RunView) : Type 0 where
   pub events : List Event
   pub replies : List Reply
+  pub are : events ≡ winding_events (length old.tickets)
   pub runs : IsRun events replies old new
   pub none : accepted_in events replies ≡ []
   pub leaves : RunLeaves old.state (lock_order old.state events replies) new.state

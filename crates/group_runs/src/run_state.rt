@@ -1,6 +1,6 @@
 //! A run of a state: what its events do, with the values and the tickets that they give and take.
 
-ghost use Rattle.std.specs.Prelude.{◌≤◌, length};
+ghost use Rattle.std.specs.Prelude.{◌≡◌, ◌≤◌, length};
 ghost use Rattle.group_core.specs.StateView.{StepLeaves};
 ghost use Rattle.group_runs.specs.RunSteps.{IsStep};
 ghost use Rattle.group_runs.specs.StartsRun.{StartsRun};
@@ -67,7 +67,9 @@ impl<D: Device> Run<D> {
     }
 
     /// How many commands it accepted.
-    pub(crate) fn count(&self) -> usize {
+    pub(crate) fn count(&self) -> usize
+        ensures { result ≡ length self.now.tickets }
+    {
         self.tickets.len()
     }
 

@@ -1,49 +1,48 @@
 //! The end of a run.
 
-ghost use Rattle.group_runs.specs.Winding.{IsWinding, WindsUp};
+ghost use Rattle.std.specs.Prelude.{◌≡◌};
+ghost use Rattle.group_runs.specs.Winding.{WindsUp, ending_events};
 
 use crate::events::Event;
 use crate::run_state::Run;
 use sector_dev::Device;
 
-/// How many events stop a state and spend the values that are out.
-const ENDS: usize = 12;
-
-/// The n-th of these events.
-fn ending(n: usize) -> Event
-    ensures { IsWinding result }
+/// The events that stop a state and spend the values that are out.
+fn endings() -> [Event; 12]
+    ensures { result ≡ ending_events }
 {
-    match n {
-        0 => Event::Halt,
-        1 => Event::WriteGroup,
-        2 => Event::SyncGroup,
-        3 => Event::OpenGate,
-        4 => Event::SyncGate,
-        5 => Event::Publish,
-        6 => Event::WriteChunk,
-        7 => Event::SyncChunks,
-        8 => Event::OpenHalf,
-        9 => Event::SyncHalf,
-        10 => Event::CloseHalf,
-        _ => Event::SyncClose,
-    }
+    [
+        Event::Halt,
+        Event::WriteGroup,
+        Event::SyncGroup,
+        Event::OpenGate,
+        Event::SyncGate,
+        Event::Publish,
+        Event::WriteChunk,
+        Event::SyncChunks,
+        Event::OpenHalf,
+        Event::SyncHalf,
+        Event::CloseHalf,
+        Event::SyncClose,
+    ]
 }
 
 impl<D: Device> Run<D> {
     /// Stops the state, spends the values that are out, redeems every ticket, and hands the device out. Where memory runs out
-    /// for what is durable, or an outcome is kept whose ticket isn't here, the run comes back. The clause leaves open which events
-    /// it makes: it says that none accepts a command.
+    /// for what is durable, or an outcome is kept whose ticket isn't here, the run comes back.
     pub fn wind_up(self) -> Result<D, Run<D>>
         ensures { WindsUp D.disk result self }
     {
         let mut run = self;
         let alloc = run.alloc();
+        let count = run.count();
+        let endings = endings();
         run.stops_leave_fronts();
-        for n in 0..ENDS {
+        for event in &endings {
             run.stops_leave_fronts();
-            run.step(alloc, &ending(n));
+            run.step(alloc, event);
         }
-        for k in 0..run.count() {
+        for k in 0..count {
             run.stops_leave_fronts();
             run.step(alloc, &Event::Redeem(k));
         }

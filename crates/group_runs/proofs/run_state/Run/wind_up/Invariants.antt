@@ -1,9 +1,11 @@
-use Rattle.group_runs.specs.Winding.{HasWound}
+use Rattle.std.proofs.Common.{take}
+use Rattle.group_runs.specs.Winding.{ending_events, winding_events}
+use Rattle.group_runs.proofs.Runs.{GoneBy}
 use Rattle.group_runs.proofs.run_state.Run.wind_up.Given as goal
 
--- The run went on.
-abbrev pub invariant-loop-n : goal.invariant-loop-n
-invariant-loop-n g l = record { wound : HasWound l.fn.self l.run }
+-- The run went on by the events so far.
+abbrev pub invariant-loop-event : goal.invariant-loop-event
+invariant-loop-event g l = record { gone : GoneBy (take l.event-index ending_events) l.fn.self l.run }
 
 abbrev pub invariant-loop-k : goal.invariant-loop-k
-invariant-loop-k g l = record { wound : HasWound l.fn.self l.run }
+invariant-loop-k g l = record { gone : GoneBy (winding_events l.k) l.fn.self l.run }
