@@ -5,3 +5,5 @@ pub mod RunLeaves
 pub mod StartsRun
 pub mod Winding
 pub mod MachineSteps
+pub mod Bookkeeping
+pub mod Reopening

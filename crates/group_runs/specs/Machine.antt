@@ -29,6 +29,10 @@ committed_front machine n = record {
   place = machine.place + length (take n machine.pending);
 }
 
+-- what a stop leaves of it, of whose pending commands so many are kept: they are committed, and nothing is pending
+abbrev pub reopened : Machine → ℕ → Machine
+reopened machine kept = record (committed_front machine kept) { pending = [] }
+
 -- what a lookup is answered with
 abbrev pub served : Machine → QueryView → ℕ → List RowView
 served machine query now = answer_to machine.committed query now

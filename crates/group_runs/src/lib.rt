@@ -16,6 +16,6 @@ mod ticket_events;
 mod winding;
 
 pub use events::{Event, PublishRefusal, Reply, StepRefusal};
-pub use run_laws::events_make_machine_steps;
+pub use run_laws::{events_keep_the_books, events_make_machine_steps, stops_reopen_machines};
 pub use run_state::Run;
 pub use running::run;

@@ -1,8 +1,22 @@
-//! A law of runs.
+//! Laws of runs.
 
+ghost use Rattle.group_runs.specs.Bookkeeping.{EventsKeepTheBooks, StopsAreForGood};
 ghost use Rattle.group_runs.specs.MachineSteps.{EventsMakeMachineSteps};
+ghost use Rattle.group_runs.specs.Reopening.{FrontsAreReopened, PrefixesAreReopened};
 
 /// Each event of a run makes the step of the machine that its reply tells.
 pub fn events_make_machine_steps()
     ensures { EventsMakeMachineSteps }
+{}
+
+/// And it does to what the state keeps beside its machine what its reply tells; what has stopped stays so.
+pub fn events_keep_the_books()
+    ensures books { EventsKeepTheBooks }
+    ensures stopped { StopsAreForGood }
+{}
+
+/// What a stop leaves, of a run or of a state, is a machine that is reopened.
+pub fn stops_reopen_machines()
+    ensures run { PrefixesAreReopened }
+    ensures state { FrontsAreReopened }
 {}
