@@ -1,6 +1,7 @@
 pub mod Exports
 pub mod Soundness
 pub mod States
+pub mod Rests
 pub mod FlushSteps
 pub mod CheckSteps
 pub mod Regions

@@ -2,9 +2,9 @@
 
 ghost use Rattle.sector_dev.specs.Disk.{IsHonest};
 ghost use Rattle.sector_dev.specs.Image.{EveryImage};
-ghost use Rattle.std.specs.Prelude.{◌≡◌, OnOk};
+ghost use Rattle.std.specs.Prelude.{◌≡◌, [], IfOk, OnOk};
 ghost use Rattle.group_core.specs.StateView.{MayOpen};
-ghost use Rattle.group_core.specs.Ending.{HandsOut};
+ghost use Rattle.group_core.specs.Ending.{HandsOut, HoldsStoreOf};
 
 use crate::showcase::Showcase;
 use crate::state::State;
@@ -18,6 +18,9 @@ impl<D: Device, S: Showcase> State<D, S> {
         S: Drop,
         ensures answer { HandsOut D.disk result self }
         ensures left { OnOk result (IsHonest self.disk → EveryImage self.disk.history.now (MayOpen self)) }
+
+        // With nothing pending it opens to the rows that are committed, at their place.
+        ensures at_rest { IfOk result (λ device. IsHonest (D.disk device) → self.pending ≡ [] → HoldsStoreOf self.value (D.disk device)) }
     {
         if !self.kept.is_empty() || self.group.out || self.plan.out {
             return Err(self);
