@@ -1,5 +1,5 @@
 -- What is appended piece by piece is the encoding of the whole.
-use Rattle.std.proofs.Common.{◌≡◌, ℕ, ◌+◌, ◌*◌, ◌<◌, ◌≤◌, List, ◌∷◌, ◌++◌, length, take, drop, get_or, arith, sym, ap, ◌∙◌, append_assoc, drop-cons, add-one}
+use Rattle.std.proofs.Common.{◌≡◌, ℕ, ◌+◌, ◌*◌, ◌<◌, ◌≤◌, List, [], ◌∷◌, ◌++◌, length, take, drop, get_or, arith, refl, sym, ap, ◌∙◌, append_assoc, drop-cons, add-one}
 use Rattle.std.proofs.lemmas.List.{length-take, take-take}
 use Rattle.std.proofs.lemmas.List.Concat.{flat_map-cons}
 use Rattle.pw_wire.specs.Varint.{varint_encoding}
@@ -8,6 +8,7 @@ use Rattle.seg_core.specs.declared.entry.Entry.{Entry}
 use Rattle.seg_core.specs.SegmentView.{EntryView, SegmentView}
 use Rattle.seg_core.specs.EntryView.{entry_view, entry_views}
 use Rattle.seg_core.specs.Encoding.{head_encoding, bytes_encoding, optional_encoding, signed_encoding, as_entry_encoding, entries_encoding, segment_encoding}
+use Rattle.seg_core.proofs.EncodedLengths.{varint-last}
 
 -- a field is its head, and the bytes
 pub field-head : (k len : ℕ) (bytes : List ℕ) → len ≡ length bytes → bytes_field_encoding k bytes ≡ head_encoding k len ++ bytes
@@ -15,6 +16,11 @@ unfolding bytes_field_encoding head_encoding
 field-head k len bytes same =
     sym (append_assoc (varint_encoding (k * 8 + 2)) (varint_encoding (length bytes)) bytes)
     ∙ ap (λ n. (varint_encoding (k * 8 + 2) ++ varint_encoding n) ++ bytes) (sym same)
+
+-- the head of a short field has two bytes
+pub head-short : (k len : ℕ) → k < 15 → len < 128 → head_encoding k len ≡ (k * 8 + 2) ∷ len ∷ []
+unfolding head_encoding
+head-short k len lt small = rw (varint-last (k * 8 + 2) (omega arith), varint-last len small) refl
 
 -- a field that was appended as its head and its bytes
 pub field-put : (k len : ℕ) (bytes out headed done : List ℕ) → len ≡ length bytes → headed ≡ out ++ head_encoding k len → done ≡ headed ++ bytes

@@ -66,7 +66,15 @@ pub(crate) fn entry_len(entry: &Entry) -> usize
     requires { length (as_entry_encoding (entry_view entry.now)) ≤ MOST_BYTES }
     ensures { result ≡ length (as_entry_encoding (entry_view entry.now)) }
 {
-    let signed = signed_len(entry);
+    entry_len_over(entry, signed_len(entry))
+}
+
+/// The bytes of an entry, whose signed message takes so many.
+pub(crate) fn entry_len_over(entry: &Entry, signed: usize) -> usize
+    requires signed { signed ≡ length (signed_encoding (entry_view entry.now)) }
+    requires short { length (as_entry_encoding (entry_view entry.now)) ≤ MOST_BYTES }
+    ensures { result ≡ length (as_entry_encoding (entry_view entry.now)) }
+{
     head_len(signed) + signed + unsigned_len(entry)
 }
 

@@ -17,7 +17,7 @@ use crate::shape::PATH_SEGMENT;
 use crate::slots::slots_of;
 
 /// The most bytes of a segment.
-const MOST_BYTES: usize = 16_384;
+pub(crate) const MOST_BYTES: usize = 16_384;
 /// The most entries of a segment.
 const MOST_ENTRIES: usize = 64;
 
