@@ -40,15 +40,15 @@ fn first_bad<V: Verifier>(segment: &Segment, verifier: &V) -> Option<usize>
         let entry = &entries[at];
         if !verifier.verify(
             entry.ia,
-            &entry.signed,
-            &entry.signature,
+            entry.signed(),
+            entry.signature(),
             &pieces[..2 * at + 1],
         ) {
             return Some(at);
         }
         if at + 1 < entries.len() {
-            pieces[2 * at + 1] = &entry.signed;
-            pieces[2 * at + 2] = &entry.signature;
+            pieces[2 * at + 1] = entry.signed();
+            pieces[2 * at + 2] = entry.signature();
         }
     }
     None

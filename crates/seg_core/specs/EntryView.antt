@@ -1,6 +1,5 @@
 -- What an entry and a segment stand for.
 use Rattle.std.specs.Prelude.{List, map}
-use Rattle.std.specs.Option.{option_map}
 use Rattle.isd_as.specs.IsdAs.{number_of}
 use Rattle.seg_core.specs.declared.entry.Entry.{Entry}
 use Rattle.seg_core.specs.declared.segment.Parts.{Parts}
@@ -13,9 +12,9 @@ entry_view e = record {
   ingress = e.ingress;
   egress = e.egress;
   exp_time = e.exp_time;
-  signed = e.signed.items;
-  signature = e.signature.items;
-  unsigned = option_map (λ v. v.items) e.unsigned;
+  signed = e.pieces.signed;
+  signature = e.pieces.signature;
+  unsigned = e.pieces.unsigned;
 }
 
 abbrev pub entry_views : List Entry → List EntryView

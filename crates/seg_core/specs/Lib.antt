@@ -3,6 +3,7 @@ pub mod Shapes
 pub mod Message
 pub mod Slots
 pub mod SegmentView
+pub mod Pieces
 pub mod EntryView
 pub mod Entry
 pub mod WellFormed

@@ -78,15 +78,15 @@ fn after_bytes<'a>(bytes: &'a [u8], number: u32, piece: &[u8]) -> Option<&'a [u8
 fn after_signed<'a>(bytes: &'a [u8], entry: &Entry) -> Option<&'a [u8]>
     ensures { option_map (λ s. s.now) result ≡ after_front (signed_encoding (entry_view entry.now)) bytes.entry.now }
 {
-    let rest = after_bytes(bytes, 1, &entry.signed)?;
-    after_bytes(rest, 2, &entry.signature)
+    let rest = after_bytes(bytes, 1, entry.signed())?;
+    after_bytes(rest, 2, entry.signature())
 }
 
 /// Passes what an entry has that is not signed, where it is there.
 fn after_unsigned<'a>(bytes: &'a [u8], entry: &Entry) -> Option<&'a [u8]>
     ensures { option_map (λ s. s.now) result ≡ after_front (optional_encoding 2 (entry_view entry.now).unsigned) bytes.entry.now }
 {
-    match &entry.unsigned {
+    match entry.unsigned() {
         None => Some(bytes),
         Some(unsigned) => after_field(bytes, 2, unsigned),
     }

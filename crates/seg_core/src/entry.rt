@@ -1,6 +1,6 @@
 //! The entries of a segment, one for each AS.
 
-ghost use Rattle.std.specs.Prelude.{◌≡◌, IfOk, None, Some};
+ghost use Rattle.std.specs.Prelude.{◌≡◌};
 ghost use Rattle.std.specs.Option.{option_map};
 ghost use Rattle.seg_core.specs.Steps.{Gives};
 ghost use Rattle.seg_core.specs.Entry.{as_entry_decoding};
@@ -8,13 +8,14 @@ ghost use Rattle.seg_core.specs.EntryView.{entry_view};
 
 use crate::body::read_header_and_body;
 use crate::error::SegError;
+use crate::pieces::Pieces;
 use crate::shape::{AS_ENTRY, SIGNED_MESSAGE};
 use crate::slots::slots_of;
 use isd_as::IsdAs;
-use std::alloc::{AllocError, Global};
+use std::alloc::Global;
 
 /// The entry of one AS, whose signature covers `signed`.
-#[derive(Debug, Drop, PartialEq, Eq)]
+#[derive(Debug, Drop)]
 pub struct Entry {
     /// The AS.
     pub ia: IsdAs,
@@ -26,21 +27,29 @@ pub struct Entry {
     pub egress: u16,
     /// For how long the hop field is valid: one more than this, times 337.5 seconds.
     pub exp_time: u8,
-    /// Header and body as they came, which the AS has signed.
-    pub signed: Vec<u8>,
-    /// The signature as it came.
-    pub signature: Vec<u8>,
-    /// The extensions that are not signed, as they came.
-    pub unsigned: Option<Vec<u8>>,
+    pieces: Pieces,
 }
 
-/// A copy of bytes that may be missing.
-fn copied(alloc: Global, text: Option<&[u8]>) -> Result<Option<Vec<u8>>, AllocError>
-    ensures { IfOk result (λ copy. option_map (λ v. v.items) copy ≡ option_map (λ s. s.now) text.entry) }
-{
-    match text {
-        None => Ok(None),
-        Some(text) => Ok(Some(Vec::from_slice(alloc, text)?)),
+impl Entry {
+    /// Header and body as they came, which the AS has signed.
+    pub fn signed(&self) -> &[u8]
+        ensures { result.now ≡ (entry_view self.now).signed }
+    {
+        self.pieces.signed()
+    }
+
+    /// The signature as it came.
+    pub fn signature(&self) -> &[u8]
+        ensures { result.now ≡ (entry_view self.now).signature }
+    {
+        self.pieces.signature()
+    }
+
+    /// The extensions that are not signed, as they came.
+    pub fn unsigned(&self) -> Option<&[u8]>
+        ensures { option_map (λ s. s.now) result ≡ (entry_view self.now).unsigned }
+    {
+        self.pieces.unsigned()
     }
 }
 
@@ -52,6 +61,7 @@ pub(crate) fn read_as_entry(alloc: Global, message: &[u8]) -> Result<Entry, SegE
     let signed_message = slots.required_message(1)?;
     let parts = slots_of(&SIGNED_MESSAGE, signed_message)?;
     let signed = parts.bytes_field_or_empty(1);
+    let signature = parts.bytes_field_or_empty(2);
     let body = read_header_and_body(signed)?;
     Ok(Entry {
         ia: IsdAs::from_u64(body.ia),
@@ -59,8 +69,6 @@ pub(crate) fn read_as_entry(alloc: Global, message: &[u8]) -> Result<Entry, SegE
         ingress: body.hop.ingress,
         egress: body.hop.egress,
         exp_time: body.hop.exp_time,
-        signed: Vec::from_slice(alloc, signed)?,
-        signature: Vec::from_slice(alloc, parts.bytes_field_or_empty(2))?,
-        unsigned: copied(alloc, slots.bytes_field(2))?,
+        pieces: Pieces::new(alloc, signed, signature, slots.bytes_field(2))?,
     })
 }

@@ -30,9 +30,9 @@ fn same_entry(one: &Entry, other: &Entry) -> bool
         && one.ingress == other.ingress
         && one.egress == other.egress
         && one.exp_time == other.exp_time
-        && one.signed == other.signed
-        && one.signature == other.signature
-        && same_pieces(one.unsigned.as_deref(), other.unsigned.as_deref())
+        && one.signed() == other.signed()
+        && one.signature() == other.signature()
+        && same_pieces(one.unsigned(), other.unsigned())
 }
 
 /// Whether entries are the same, in the same order.

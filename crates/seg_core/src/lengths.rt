@@ -47,7 +47,7 @@ pub(crate) fn signed_len(entry: &Entry) -> usize
     requires { length (signed_encoding (entry_view entry.now)) ≤ MOST_BYTES }
     ensures { result ≡ length (signed_encoding (entry_view entry.now)) }
 {
-    bytes_len(&entry.signed) + bytes_len(&entry.signature)
+    bytes_len(entry.signed()) + bytes_len(entry.signature())
 }
 
 /// The bytes of the field with what an entry has that is not signed, where it is there.
@@ -55,7 +55,7 @@ fn unsigned_len(entry: &Entry) -> usize
     requires { length (optional_encoding 2 (entry_view entry.now).unsigned) ≤ MOST_BYTES }
     ensures { result ≡ length (optional_encoding 2 (entry_view entry.now).unsigned) }
 {
-    match &entry.unsigned {
+    match entry.unsigned() {
         None => 0,
         Some(unsigned) => head_len(unsigned.len()) + unsigned.len(),
     }

@@ -20,6 +20,7 @@ mod lengths;
 mod limits;
 mod outline;
 mod path;
+mod pieces;
 mod registration;
 mod request;
 mod response;

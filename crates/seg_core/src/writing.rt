@@ -50,8 +50,8 @@ fn put_signed(out: &mut Vec<u8>, entry: &Entry) -> Result<(), AllocError>
     ensures ok { OnOk result (out.new.items ≡ out.old.items ++ signed_encoding (entry_view entry.now)) }
     ensures kept { take (length out.old.items) out.new.items ≡ out.old.items }
 {
-    put_bytes(out, 1, &entry.signed)?;
-    put_bytes(out, 2, &entry.signature)
+    put_bytes(out, 1, entry.signed())?;
+    put_bytes(out, 2, entry.signature())
 }
 
 /// Appends what an entry has that is not signed, where it is there.
@@ -59,7 +59,7 @@ fn put_unsigned(out: &mut Vec<u8>, entry: &Entry) -> Result<(), AllocError>
     ensures ok { OnOk result (out.new.items ≡ out.old.items ++ optional_encoding 2 (entry_view entry.now).unsigned) }
     ensures kept { take (length out.old.items) out.new.items ≡ out.old.items }
 {
-    match &entry.unsigned {
+    match entry.unsigned() {
         None => Ok(()),
         Some(unsigned) => put_bytes_field(out, 2, unsigned),
     }

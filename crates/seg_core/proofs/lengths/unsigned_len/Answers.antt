@@ -3,5 +3,4 @@ use Rattle.seg_core.proofs.lengths.unsigned_len.Goals as goal
 
 pub returns-in-Some : goal.returns-in-Some
 returns-in-Some c =
-    let bytes = c.in-Some.unsigned in
-    rw c.in-Some.is (omega (arith, c.head_len.ensures.exact 2 bytes.items (omega arith) (omega (arith, bytes.ok.0))))
+    rw (← c.unsigned.ensures, c.in-Some.is) (omega (arith, c.head_len.ensures.exact 2 c.in-Some.unsigned.now (omega arith) (omega arith)))
