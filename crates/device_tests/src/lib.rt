@@ -1,9 +1,7 @@
-//! Tests of `sector_dev` and `device_calls`, a module for each subject. They see what no clause says: that calls succeed,
-//! the contents after a stop at every call against a table made by hand, real files, and what comes first.
+//! Tests of `sector_dev`, a module for each subject. They see what no clause says: that calls succeed, the contents after a
+//! stop at every call against a table made by hand, real files, and what comes first.
 #![tactic(auto)]
 
-#[cfg(test)]
-mod callers;
 #[cfg(test)]
 mod calls;
 #[cfg(test)]

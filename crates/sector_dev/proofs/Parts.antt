@@ -1,5 +1,5 @@
 -- What one call of an honest device leaves, and what it leaves of a part that it doesn't meet, whatever it answered. For
--- the crates above, `device_calls` among them.
+-- the crates above.
 use Rattle.std.proofs.Common.{◌≡◌, ◌⊎◌, inl, inr, ℕ, ◌+◌, ◌*◌, ◌≤◌, List, length, sym, ◌∙◌, ap, subst, arith, Result, Ok, Err}
 use Rattle.byte_lists.specs.Content.{part}
 use Rattle.sector_dev.specs.Disk.{History, Disk, IsHonest, reads_of, after_write, after_sync}

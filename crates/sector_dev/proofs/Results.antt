@@ -1,5 +1,4 @@
--- Results by what they say, for lemmas on one of the two. Cited by this crate and by those above it, `device_calls` among
--- them.
+-- Results by what they say, for lemmas on one of the two. Cited by this crate and by those above it.
 use Rattle.std.proofs.Common.{Result, Ok, Err}
 
 -- a result that is no error

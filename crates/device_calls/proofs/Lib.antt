@@ -1,3 +1,0 @@
-mod Copies
-mod Fills
-mod Gates
