@@ -31,8 +31,8 @@ fn segment_is_read_and_written(rt: HostRuntime) -> Result<(), Fail> {
         ((second, IsdAs::from_u64(0), (2, 0, 63)), &SEGMENT[59..]),
     ];
     for (entry, (hop, signed)) in segment.entries().iter().zip(expected) {
-        assert_eq!(rt; (hop_of(entry), entry.signed.as_slice()), (hop, signed));
-        assert!(rt; entry.signature.is_empty() && entry.unsigned.is_none());
+        assert_eq!(rt; (hop_of(entry), entry.signed()), (hop, signed));
+        assert!(rt; entry.signature().is_empty() && entry.unsigned().is_none());
     }
 
     let copy = segment.try_clone()?;
