@@ -1,8 +1,9 @@
 #!/usr/bin/env bash
 # A store of 20,000 rows of 4-entry segments with 2,000 more in its journal, in a file: the seconds of opening it, beside LevelDB
 # and SQLite opening stores of as many values and reading them; the seconds of a checkpoint at rest of it, beside the same writes
-# and syncs alone; and the most memory. Medians of nine rounds by the clock. It needs Python 3, g++, bc and Debian's
-# libleveldb-dev and libsqlite3-dev. It proves and builds a program in a temporary folder, and leaves no file behind.
+# and syncs alone in the same places of another copy; and the most memory. Medians of nine rounds by the clock. It needs
+# Python 3, g++, bc and Debian's libleveldb-dev and libsqlite3-dev. It proves and builds a program in a temporary folder, and
+# leaves no file behind.
 #
 #     bench/store.sh [ROWS MORE]
 set -euo pipefail
@@ -67,13 +68,17 @@ gcc -O2 "$root/bench/write_same.c" -o "$work/write_same"
 cd "$work/crates/stores"
 cp "$work/image" store
 rt run > "$work/log" 2>&1 || { cat "$work/log"; exit 1; }
-for _ in 1 2 3 4 5 6 7 8 9; do
-  cp "$work/image" store
+fresh() { # the store again, with a place on the disk for each of its sectors, as it has from its second checkpoint on
+  cp --sparse=never "$work/image" store
   sync store
+}
+for _ in 1 2 3 4 5 6 7 8 9; do
+  fresh
   out/stores > "$work/ours"
   read -r opened checkpointed bytes place done < "$work/ours"
   [ "$done" = true ] && [ "$place" = $((rows + more)) ]
   size=$(((32 + bytes + 511) / 512 * 512))
+  fresh
   alone=$("$work/write_same" store "$size")
   memory=$(grep VmHWM "$work/ours" | tr -dc 0-9)
   leveldb=$("$work/rivals" read leveldb "$work/leveldb" | cut -d' ' -f2)
