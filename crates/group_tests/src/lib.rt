@@ -3,6 +3,8 @@
 #![tactic(auto)]
 
 #[cfg(test)]
+mod acts;
+#[cfg(test)]
 mod groups;
 #[cfg(test)]
 mod journals;
@@ -11,7 +13,11 @@ mod limits;
 #[cfg(test)]
 mod refused;
 #[cfg(test)]
+mod refused_runs;
+#[cfg(test)]
 mod rounds;
+#[cfg(test)]
+mod runs;
 #[cfg(test)]
 mod starting;
 #[cfg(test)]

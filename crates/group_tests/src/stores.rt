@@ -3,7 +3,7 @@
 use path_db::{Command, PathDb, Registration};
 use sector_dev::{Device, MemDevice, SECTOR, Tear};
 use seg_core::{SegType, read_segment};
-use std::alloc::Global;
+use std::alloc::{AllocError, Global};
 use std::process::Abort;
 use store_open::{Geometry, OpenError, Store, format, open};
 
@@ -83,17 +83,28 @@ pub(crate) fn change(device: &mut MemDevice, at: u64, from: usize, bytes: &[u8])
     }
 }
 
-/// A new store. Where memory is refused, it is asked for once more.
-pub(crate) fn new_store(rt: &impl Abort, alloc: Global) -> MemDevice {
-    let made = match MemDevice::new(alloc, SECTORS) {
-        Err(_) => MemDevice::new(alloc, SECTORS),
+/// A new store of these sizes, on at most 4,096 sectors. Where memory is refused, it is asked for once more.
+pub(crate) fn formatted(
+    rt: &impl Abort,
+    alloc: Global,
+    geometry: Geometry,
+    sectors: u64,
+) -> MemDevice {
+    assert!(rt; sectors <= 4096);
+    let made = match MemDevice::new(alloc, sectors) {
+        Err(_) => MemDevice::new(alloc, sectors),
         made => made,
     };
     let Ok(mut device) = made else {
         panic!(rt; "out of memory");
     };
-    assert_eq!(rt; format(&mut device, LEAST), Ok(()));
+    assert_eq!(rt; format(&mut device, geometry), Ok(()));
     device
+}
+
+/// A new store of the least sizes.
+pub(crate) fn new_store(rt: &impl Abort, alloc: Global) -> MemDevice {
+    formatted(rt, alloc, LEAST, SECTORS)
 }
 
 /// A new store of version 1.
@@ -108,6 +119,76 @@ pub(crate) fn segment(egress: u8) -> [u8; 88] {
     let mut message = SEGMENT;
     message[EGRESS] = egress;
     message
+}
+
+/// Where in the segment its first AS's entry ends.
+const FIRST_END: usize = 53;
+
+/// How many bytes its last AS's entry has before its signed message: its tag and its length.
+const LENGTH: usize = 2;
+
+/// How many bytes of extensions make a segment as large as it may be: 16,384 bytes.
+const EXTENSIONS: usize = 16_292;
+
+/// That segment, but with extensions in its last entry, unless memory is refused. It was made so many seconds after the first of
+/// its kind, which was made 128 seconds before the other.
+fn large_bytes(alloc: Global, egress: u8, later: u8) -> Result<Vec<u8>, AllocError> {
+    let mut message = segment(egress);
+    // The number of seconds, 7 bits in a byte, lowest first.
+    message[3] = 0x80 | later;
+    message[4] = 0xe1;
+    let (first, last) = message.split_at(FIRST_END);
+    let mut bytes = Vec::from_slice(alloc, first)?;
+    bytes.extend_from_slice(&[0x12, 0xc8, 0x7f])?;
+    bytes.extend_from_slice(last.split_at(LENGTH).1)?;
+    bytes.extend_from_slice(&[0x12, 0xa4, 0x7f])?;
+    bytes.extend_from_slice(&[0; EXTENSIONS])?;
+    Ok(bytes)
+}
+
+/// The command that registers large segments as down segments, left by these interfaces. Where memory is refused, it is asked for
+/// once more.
+pub(crate) fn large(rt: &impl Abort, alloc: Global, egresses: &[u8], later: u8) -> Command {
+    let made = match large_registration(alloc, egresses, later) {
+        None => large_registration(alloc, egresses, later),
+        made => made,
+    };
+    match made {
+        Some(registration) => Command::Register(registration),
+        None => panic!(rt; "out of memory"),
+    }
+}
+
+/// That registration, unless memory is refused.
+fn large_registration(alloc: Global, egresses: &[u8], later: u8) -> Option<Registration> {
+    let mut rows = Vec::new(alloc);
+    for egress in egresses {
+        let message = large_bytes(alloc, *egress, later).ok()?;
+        let segment = read_segment(alloc, &message).ok()?;
+        rows.push((SegType::Down, segment)).ok()?;
+    }
+    Some(Registration::new(rows))
+}
+
+/// The bytes of the first sectors of a device, at most 4,096 of them. Where memory is refused, it is asked for once more.
+pub(crate) fn bytes_of<D: Device>(
+    rt: &impl Abort,
+    alloc: Global,
+    device: &mut D,
+    sectors: usize,
+) -> Vec<u8> {
+    assert!(rt; sectors <= 4096);
+    let made = match vec![in alloc; 0; SECTOR * sectors] {
+        Err(_) => vec![in alloc; 0; SECTOR * sectors],
+        made => made,
+    };
+    let Ok(mut bytes) = made else {
+        panic!(rt; "out of memory");
+    };
+    assert!(rt; bytes.len() % SECTOR == 0);
+    assert!(rt; (bytes.len() / SECTOR) as u64 <= device.sectors());
+    assert!(rt; device.read(0, &mut bytes).is_ok());
+    bytes
 }
 
 /// A store of version 1 or 2. The journal of its first half registers the segment left by interface 1, and is sealed at place 1.

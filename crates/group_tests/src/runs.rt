@@ -1,0 +1,333 @@
+//! Runs of lists of events: each event's reply, lists that are cut in two, and the ends of runs.
+
+use crate::acts::{
+    Act, EIGHT_OLDER, GONE, GROUP, INSERTED, Line, Said, events_of, heard, joined, query, shown,
+};
+use crate::stores::{SECTORS, bytes_of, opened, sealed_store};
+use crate::work::state_of;
+use group_core::{
+    BeginError, Event, PlainShow, Redeemed, Reply, Run, StageError, State, StepError, StepRefusal,
+    SubmitError, run,
+};
+use path_db::{Command, PathDb};
+use sector_dev::{Device, MemDevice};
+use seg_lookup::answer;
+use std::alloc::Global;
+use std::process::Abort;
+use std::test::Fail;
+use store_open::Store;
+
+/// What a state is told and answers whose store was sealed at place 1, behind the segment left by interface 1.
+const TOLD: [&[Line]; 8] = [
+    // Nothing is out. Then a group is staged and written.
+    &[
+        (Act::Stage, Said::Stage(StageError::Empty)),
+        (Act::WriteGroup, Said::NoValue),
+        (Act::SyncGroup, Said::NoValue),
+        (Act::OpenGate, Said::NoValue),
+        (Act::SyncGate, Said::NoValue),
+        (Act::Publish, Said::NoValue),
+        (Act::WriteChunk, Said::NoValue),
+        (Act::SyncChunks, Said::NoValue),
+        (Act::OpenHalf, Said::NoValue),
+        (Act::SyncHalf, Said::NoValue),
+        (Act::CloseHalf, Said::NoValue),
+        (Act::SyncClose, Said::NoValue),
+        (Act::Redeem(0), Said::NoValue),
+        (Act::Lookup, Said::Shows(0b10)),
+        (Act::Put(2), Said::Accepted(1)),
+        (Act::Redeem(0), Said::Waiting(1)),
+        (Act::Lookup, Said::Shows(0b10)),
+        (Act::Stage, Said::Done),
+        (Act::Stage, Said::Stage(StageError::InFlight)),
+        (Act::SyncGroup, Said::NoValue),
+        (Act::WriteGroup, Said::Done),
+        (Act::WriteGroup, Said::NoValue),
+        (Act::SyncGroup, Said::Done),
+        (Act::Put(3), Said::Accepted(2)),
+    ],
+    // It is committed once it is published.
+    &[
+        (Act::OpenGate, Said::Done),
+        (Act::SyncGate, Said::Done),
+        (Act::Lookup, Said::Shows(0b10)),
+        (Act::Redeem(0), Said::Waiting(1)),
+        (Act::Publish, Said::Done),
+        (Act::Lookup, Said::Shows(0b110)),
+        (Act::Redeem(0), Said::Committed(1, INSERTED)),
+        (Act::Redeem(0), Said::NoValue),
+        (Act::Redeem(1), Said::Waiting(2)),
+        (Act::Redeem(2), Said::NoValue),
+        (Act::Remove(1), Said::Accepted(3)),
+        (Act::Stage, Said::Done),
+        (Act::WriteGroup, Said::Done),
+        (Act::SyncGroup, Said::Done),
+    ],
+    // Tickets are redeemed in any order. What is large fits only where it is kept out by a later one.
+    &[
+        (Act::OpenGate, Said::Done),
+        (Act::SyncGate, Said::Done),
+        (Act::Publish, Said::Done),
+        (Act::Redeem(2), Said::Committed(3, GONE)),
+        (Act::Redeem(1), Said::Committed(2, INSERTED)),
+        (Act::Lookup, Said::Shows(0b1100)),
+        (Act::Older, Said::Refused(SubmitError::Full)),
+        (Act::Put(1), Said::Accepted(4)),
+        (Act::Older, Said::Accepted(5)),
+        (Act::Stage, Said::Done),
+        (Act::WriteGroup, Said::Done),
+        (Act::SyncGroup, Said::Done),
+    ],
+    // The tail's gate is in sector 262 of the journal then: 257 more sectors don't fit.
+    &[
+        (Act::OpenGate, Said::Done),
+        (Act::SyncGate, Said::Done),
+        (Act::Publish, Said::Done),
+        (Act::Redeem(3), Said::Committed(4, INSERTED)),
+        (Act::Redeem(4), Said::Committed(5, EIGHT_OLDER)),
+        (Act::Older, Said::Accepted(6)),
+        (Act::Stage, Said::Stage(StageError::NoRoom)),
+        (Act::Begin, Said::Done),
+        (Act::Begin, Said::Begin(BeginError::InFlight)),
+        (Act::SyncChunks, Said::NoValue),
+        (Act::OpenHalf, Said::NoValue),
+        (Act::WriteChunk, Said::Done),
+        (Act::WriteChunk, Said::NoValue),
+        (Act::SyncChunks, Said::Done),
+        (Act::SyncChunks, Said::NoValue),
+        (Act::OpenHalf, Said::Done),
+        (Act::SyncHalf, Said::Done),
+        (Act::CloseHalf, Said::Done),
+        (Act::Stage, Said::Stage(StageError::NoRoom)),
+        (Act::SyncClose, Said::Done),
+        (Act::Begin, Said::Begin(BeginError::NotSealed)),
+        (Act::Lookup, Said::Shows(0b1110)),
+    ],
+    // That was a round; the other half is ready, and a seal is staged.
+    &GROUP,
+    &[
+        (Act::Redeem(5), Said::Waiting(6)),
+        (Act::Stage, Said::Done),
+        (Act::WriteGroup, Said::Done),
+        (Act::SyncGroup, Said::Done),
+    ],
+    // The group goes to the other journal. A second round is begun, and a further group is written.
+    &[
+        (Act::OpenGate, Said::Done),
+        (Act::SyncGate, Said::Done),
+        (Act::Publish, Said::Done),
+        (Act::Redeem(5), Said::Committed(6, EIGHT_OLDER)),
+        (Act::Begin, Said::Done),
+        (Act::Put(4), Said::Accepted(7)),
+        (Act::Put(5), Said::Accepted(8)),
+        (Act::Stage, Said::Done),
+        (Act::WriteGroup, Said::Done),
+        (Act::Halt, Said::Done),
+    ],
+    &[
+        (Act::Put(6), Said::Refused(SubmitError::Stopped)),
+        (Act::Stage, Said::Stage(StageError::Stopped)),
+        (Act::Begin, Said::Begin(BeginError::Stopped)),
+        (Act::SyncGroup, Said::Step(StepRefusal::Stopped)),
+        (Act::SyncGroup, Said::NoValue),
+        (Act::WriteChunk, Said::Step(StepRefusal::Stopped)),
+        (Act::WriteChunk, Said::NoValue),
+        (Act::Redeem(6), Said::Unknown(7)),
+        (Act::Redeem(6), Said::NoValue),
+        (Act::Redeem(7), Said::Unknown(8)),
+        (Act::Publish, Said::NoValue),
+        (Act::Lookup, Said::Shows(0b1110)),
+        (Act::Halt, Said::Done),
+    ],
+];
+
+/// For each number of events, and those above the one before it: the place to which the device opens behind them, and the interfaces
+/// by which the segments of its rows are left, a bit for each.
+const PLACES: [(usize, u64, u64); 5] = [
+    (24, 1, 0b10),
+    (38, 2, 0b110),
+    (50, 4, 0b1100),
+    (82, 6, 0b1110),
+    (105, 7, 0b1110),
+];
+
+/// What the device opens to behind so many events.
+fn place_behind(count: usize) -> (u64, u64) {
+    for (most, place, rows) in PLACES {
+        if count <= most {
+            return (place, rows);
+        }
+    }
+    (0, 0)
+}
+
+/// What is told and answered.
+fn told_lines(rt: &impl Abort, alloc: Global) -> Vec<Line> {
+    joined(rt, alloc, &TOLD)
+}
+
+/// A run of a state of home 1, of a store.
+pub(crate) fn begun<D: Device>(rt: &impl Abort, alloc: Global, store: Store<D>) -> Run<D> {
+    match Run::new(alloc, state_of(rt, alloc, store, 1)) {
+        Ok(run) => run,
+        Err(_state) => panic!(rt; "a value is out"),
+    }
+}
+
+/// A run of a state of the store that was sealed.
+pub(crate) fn sealed_run(rt: &impl Abort, alloc: Global) -> Run<MemDevice> {
+    begun(rt, alloc, opened(rt, alloc, sealed_store(rt, alloc, 2)))
+}
+
+/// Does events, and once more where memory is refused for their replies.
+pub(crate) fn done<D: Device>(
+    rt: &impl Abort,
+    alloc: Global,
+    held: Run<D>,
+    events: &[Event],
+) -> (Run<D>, Vec<Reply>) {
+    let again = match run(alloc, held, events) {
+        Err((held, _refused)) => run(alloc, held, events),
+        answer => answer,
+    };
+    match again {
+        Ok(done) => done,
+        Err((_held, _refused)) => panic!(rt; "out of memory"),
+    }
+}
+
+/// The device of a run that has ended.
+pub(crate) fn ended<D: Device>(rt: &impl Abort, held: Run<D>) -> D {
+    let again = match held.wind_up() {
+        Err(held) => held.wind_up(),
+        answer => answer,
+    };
+    match again {
+        Ok(device) => device,
+        Err(_held) => panic!(rt; "something is kept"),
+    }
+}
+
+/// The place and the rows to which the device of a run opens that has ended.
+pub(crate) fn rested(rt: &impl Abort, alloc: Global, held: Run<MemDevice>) -> (u64, PathDb) {
+    let store = opened(rt, alloc, ended(rt, held));
+    let place = store.place();
+    let (_device, db) = store.into_parts();
+    (place, db)
+}
+
+/// The bytes of the device of a run that has ended.
+fn device_bytes(rt: &impl Abort, alloc: Global, held: Run<MemDevice>) -> Vec<u8> {
+    let mut device = ended(rt, held);
+    bytes_of(rt, alloc, &mut device, SECTORS as usize)
+}
+
+/// Sees that replies are as told.
+fn assert_told(rt: &impl Abort, lines: &[Line], replies: &[Reply]) {
+    assert_eq!(rt; replies.len(), lines.len());
+    for (reply, (act, wanted)) in replies.iter().zip(lines) {
+        assert_eq!(rt; heard(reply), *wanted, "{act:?}");
+    }
+}
+
+#[test]
+fn every_event_is_answered(rt: HostRuntime) -> Result<(), Fail> {
+    let lines = told_lines(&rt, rt.alloc());
+    let events = events_of(&rt, rt.alloc(), &lines);
+    let held = sealed_run(&rt, rt.alloc());
+    let (held, replies) = done(&rt, rt.alloc(), held, &events);
+    assert_told(&rt, &lines, &replies);
+    let _device = ended(&rt, held);
+    Ok(())
+}
+
+#[test]
+fn lists_may_be_cut_in_two(rt: HostRuntime) -> Result<(), Fail> {
+    let lines = told_lines(&rt, rt.alloc());
+    let events = events_of(&rt, rt.alloc(), &lines);
+    let held = sealed_run(&rt, rt.alloc());
+    let (held, _replies) = done(&rt, rt.alloc(), held, &events);
+    let whole = device_bytes(&rt, rt.alloc(), held);
+    for count in 0..=events.len().min(lines.len()) {
+        // A third of the cuts, so that the test is short.
+        if count % 3 > 0 {
+            continue;
+        }
+        let (front, rest) = events.split_at(count);
+        let (told, told_next) = lines.split_at(count);
+        let held = sealed_run(&rt, rt.alloc());
+        let (held, first) = done(&rt, rt.alloc(), held, front);
+        assert_told(&rt, told, &first);
+        let (held, second) = done(&rt, rt.alloc(), held, rest);
+        assert_told(&rt, told_next, &second);
+        let bytes = device_bytes(&rt, rt.alloc(), held);
+        assert!(rt; bytes.as_slice() == whole.as_slice(), "{count}");
+    }
+    Ok(())
+}
+
+#[test]
+fn runs_end_anywhere(rt: HostRuntime) -> Result<(), Fail> {
+    let lines = told_lines(&rt, rt.alloc());
+    let events = events_of(&rt, rt.alloc(), &lines);
+    assert_eq!(rt; events.len(), 105);
+    for count in 0..=events.len() {
+        let (front, _rest) = events.split_at(count);
+        let held = sealed_run(&rt, rt.alloc());
+        let (held, _replies) = done(&rt, rt.alloc(), held, front);
+        let (place, db) = rested(&rt, rt.alloc(), held);
+        let rows = shown(&answer(&db, &query(), 0)?);
+        assert_eq!(rt; (place, rows), place_behind(count), "{count}");
+    }
+    Ok(())
+}
+
+/// The state that no run is made of.
+fn not_begun<D: Device>(
+    rt: &impl Abort,
+    alloc: Global,
+    state: State<D, PlainShow>,
+) -> State<D, PlainShow> {
+    match Run::new(alloc, state) {
+        Err(state) => state,
+        Ok(_held) => panic!(rt; "a run"),
+    }
+}
+
+#[test]
+fn no_run_begins_while_a_value_is_out(rt: HostRuntime) -> Result<(), Fail> {
+    let store = opened(&rt, rt.alloc(), sealed_store(&rt, rt.alloc(), 2));
+    let mut state = state_of(&rt, rt.alloc(), store, 1);
+    let Ok(ticket) = state.submit(Command::Purge(0)) else {
+        panic!(rt; "refused");
+    };
+    let Ok(staged) = state.stage() else {
+        panic!(rt; "not staged");
+    };
+    let mut state = not_begun(&rt, rt.alloc(), state);
+    let Ok(plan) = state.begin() else {
+        panic!(rt; "not begun");
+    };
+    let mut state = not_begun(&rt, rt.alloc(), state);
+    state.halt();
+    match state.write_group(staged) {
+        Err(StepError::Stopped) => {}
+        _other => panic!(rt; "written"),
+    }
+    let mut state = not_begun(&rt, rt.alloc(), state);
+    match state.write_chunk(plan) {
+        Err(StepError::Stopped) => {}
+        _other => panic!(rt; "written"),
+    }
+    match state.redeem(ticket) {
+        Redeemed::Unknown(place) => assert_eq!(rt; place, 1),
+        _other => panic!(rt; "known"),
+    }
+    match Run::new(rt.alloc(), state) {
+        Ok(held) => {
+            let _device = ended(&rt, held);
+        }
+        Err(_state) => panic!(rt; "a value is out"),
+    }
+    Ok(())
+}
