@@ -5,11 +5,15 @@
 #[cfg(test)]
 mod acts;
 #[cfg(test)]
+mod fuses;
+#[cfg(test)]
 mod groups;
 #[cfg(test)]
 mod journals;
 #[cfg(test)]
 mod limits;
+#[cfg(test)]
+mod long_runs;
 #[cfg(test)]
 mod refused;
 #[cfg(test)]
