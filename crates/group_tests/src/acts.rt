@@ -1,7 +1,8 @@
 //! Events of a run and what they are answered, in a form that tables can hold.
 
 use crate::stores::{large, register};
-use group_core::{BeginError, Event, PublishRefusal, Reply, StageError, StepRefusal, SubmitError};
+use group_core::{BeginError, StageError, SubmitError};
+use group_runs::{Event, PublishRefusal, Reply, StepRefusal};
 use isd_as::IsdAs;
 use path_db::{Command, Outcome};
 use seg_core::{SegType, Segment};

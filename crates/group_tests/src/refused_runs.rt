@@ -4,7 +4,8 @@
 use crate::acts::{Act, GONE, INSERTED, Line, Said, event_of, events_of, heard};
 use crate::runs::{done, ended, rested, sealed_run};
 use crate::stores::{pair_of, told};
-use group_core::{BeginError, PublishRefusal, Run, StageError, SubmitError, run};
+use group_core::{BeginError, StageError, SubmitError};
+use group_runs::{PublishRefusal, Run, run};
 use sector_dev::MemDevice;
 use std::alloc::Global;
 use std::process::Abort;

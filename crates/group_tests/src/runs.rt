@@ -5,10 +5,8 @@ use crate::acts::{
 };
 use crate::stores::{SECTORS, bytes_of, opened, sealed_store};
 use crate::work::state_of;
-use group_core::{
-    BeginError, Event, PlainShow, Redeemed, Reply, Run, StageError, State, StepError, StepRefusal,
-    SubmitError, run,
-};
+use group_core::{BeginError, PlainShow, Redeemed, StageError, State, StepError, SubmitError};
+use group_runs::{Event, Reply, Run, StepRefusal, run};
 use path_db::{Command, PathDb};
 use sector_dev::{Device, MemDevice};
 use seg_lookup::answer;
