@@ -5,6 +5,10 @@
 #[cfg(test)]
 mod acts;
 #[cfg(test)]
+mod failures;
+#[cfg(test)]
+mod faults;
+#[cfg(test)]
 mod fuses;
 #[cfg(test)]
 mod groups;
@@ -22,6 +26,8 @@ mod refused_runs;
 mod rounds;
 #[cfg(test)]
 mod runs;
+#[cfg(test)]
+mod scripts;
 #[cfg(test)]
 mod starting;
 #[cfg(test)]

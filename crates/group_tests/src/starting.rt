@@ -3,10 +3,10 @@
 use crate::stores::{
     REGISTERED, change, new_store, old_store, opened, read_sector, register, segment, told,
 };
-use crate::work::{Told, Work, work_of};
-use group_core::{BeginError, StageError, SubmitError};
+use crate::work::{Told, assert_stopped, work_of};
+use group_core::{StageError, SubmitError};
 use path_db::Command;
-use sector_dev::{Device, FaultDevice, MemDevice};
+use sector_dev::{FaultDevice, MemDevice};
 use seg_core::SegType;
 use std::alloc::Global;
 use std::process::Abort;
@@ -15,22 +15,6 @@ use store_open::{StoreError, open};
 
 /// More calls than it takes to open a store and to make a checkpoint.
 const MANY: u64 = 200;
-
-/// Sees that a state has stopped.
-fn assert_stopped<D: Device>(rt: &impl Abort, work: Work<D>) -> D {
-    let mut work = work;
-    assert_eq!(rt;
-        work.submit(rt, Command::Purge(0)),
-        Err(SubmitError::Stopped)
-    );
-    let refused;
-    (work, refused) = work.flush(rt);
-    assert_eq!(rt; refused, Told::Stage(StageError::Stopped));
-    let refused;
-    (work, refused) = work.check(rt);
-    assert_eq!(rt; refused, Told::Begin(BeginError::Stopped));
-    work.device(rt)
-}
 
 #[test]
 fn removals_are_accepted_behind_an_upgrade(rt: HostRuntime) -> Result<(), Fail> {

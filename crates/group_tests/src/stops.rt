@@ -1,8 +1,9 @@
-//! Stops of a device within the steps of an actor, and a sync that fails.
+//! Stops of a device within the steps of an actor, and one call that fails, at each of them in turn.
 
+use crate::acts::INSERTED;
 use crate::stores::{Pair, TEARS, new_store, opened, register, sealed_store, told};
-use crate::work::{Paid, Told, Work, work_of};
-use group_core::{BeginError, StageError, SubmitError};
+use crate::work::{Paid, Told, Work, assert_stopped, work_of};
+use group_core::BeginError;
 use path_db::Command;
 use sector_dev::{FaultDevice, FuseDevice, MemDevice, Tear};
 use std::alloc::Global;
@@ -201,10 +202,13 @@ fn stop_within_old_half_closing_and_recovery(rt: HostRuntime) -> Result<(), Fail
     Ok(())
 }
 
-/// Commits one segment, and stages another one with a second behind it, on a device of which the call of this number fails; how
-/// many steps of both groups were made before that.
-fn failed(rt: &impl Abort, alloc: Global, device: FaultDevice) -> Option<(u64, Work<FaultDevice>)> {
-    let store = match open(alloc, device) {
+/// How many steps a group, a round and a further group take: 6, 7 and 6.
+const STEPS: u64 = 19;
+
+/// Of the sealed store, commits a segment, lays the sealed half's checkpoint, and commits a further segment, on a device of which
+/// the call of this number fails: how many steps were made before that. None where opening failed already.
+fn failed(rt: &impl Abort, alloc: Global, number: u64) -> Option<(u64, Work<FaultDevice>)> {
+    let store = match open(alloc, FaultDevice::new(sealed_store(rt, alloc, 2), number)) {
         Ok(store) => store,
         Err((_device, e)) => {
             assert_eq!(rt; e, OpenError::Device);
@@ -212,71 +216,83 @@ fn failed(rt: &impl Abort, alloc: Global, device: FaultDevice) -> Option<(u64, W
         }
     };
     let mut work = work_of(rt, alloc, store);
-    let mut made = 0u64;
-    for egress in [1, 2] {
-        if !work.submit(rt, register(rt, alloc, egress, 1)).is_ok() {
-            break;
+    for made in 0..STEPS {
+        match made {
+            0 => assert_eq!(rt; work.submit(rt, register(rt, alloc, 2, 1)), Ok(1)),
+            13 => assert_eq!(rt; work.submit(rt, register(rt, alloc, 3, 1)), Ok(2)),
+            _ => {}
         }
-        for _step in 0..6 {
-            let step;
-            (work, step) = work.flush(rt);
-            match step {
-                Told::Done | Told::Ended => made = made.saturating_add(1),
-                _ => assert_eq!(rt; step, Told::Fault),
+        let step;
+        (work, step) = match made {
+            6..=12 => work.check(rt),
+            _ => work.flush(rt),
+        };
+        match (made, step) {
+            (5 | 12 | 18, Told::Ended) | (_, Told::Done) => {}
+            (6, Told::Begin(e)) => {
+                assert_eq!(rt; e, BeginError::Fault);
+                return Some((made, work));
             }
-            if step != Told::Done {
-                break;
+            _ => {
+                assert_eq!(rt; step, Told::Fault, "{made}");
+                return Some((made, work));
             }
         }
     }
-    Some((made, work))
+    Some((STEPS, work))
+}
+
+/// Behind how many steps the next one is that makes a call of the device: staging and publishing make none.
+fn next_call(made: u64) -> u64 {
+    match made {
+        4 => 6,
+        12 => 14,
+        17 => STEPS,
+        _ => made.saturating_add(1),
+    }
 }
 
 #[test]
-fn failed_gate_sync_stops(rt: HostRuntime) -> Result<(), Fail> {
-    let mut seen = 0u64;
+fn each_failed_call_stops(rt: HostRuntime) -> Result<(), Fail> {
+    let mut last = 0u64;
     for number in 0..MANY {
-        let device = FaultDevice::new(new_store(&rt, rt.alloc()), number);
-        let Some((made, work)) = failed(&rt, rt.alloc(), device) else {
+        let Some((made, work)) = failed(&rt, rt.alloc(), number) else {
             continue;
         };
-        if made == 12 {
+        // Beginning a round makes several calls.
+        if (made, last) != (6, 6) {
+            assert_eq!(rt; made, next_call(last));
+        }
+        last = made;
+        if made == STEPS {
             let mut work = work;
             assert_eq!(rt; work.redeem_all(&rt), 2);
-            let _device = work.device(&rt);
+            let _device = assert_opens(&rt, rt.alloc(), work.device(&rt).into_mem(), 2);
             break;
         }
-        seen = seen.saturating_add(1);
-        assert_stopped(&rt, rt.alloc(), made, work);
+        assert_failed(&rt, rt.alloc(), made, work);
     }
-    // Four calls of each group.
-    assert_eq!(rt; seen, 8);
+    assert_eq!(rt; last, STEPS);
     Ok(())
 }
 
 /// Sees that a state has stopped in the step behind so many, and what is there then.
-fn assert_stopped(rt: &impl Abort, alloc: Global, made: u64, work: Work<FaultDevice>) {
-    // How many groups were published, and at which step of the next one the device failed.
-    let (published, step) = (made / 6, made % 6);
+fn assert_failed(rt: &impl Abort, alloc: Global, made: u64, work: Work<FaultDevice>) {
     let mut work = work;
-    assert_eq!(rt;
-        work.submit(rt, Command::Purge(0)),
-        Err(SubmitError::Stopped)
-    );
-    let refused;
-    (work, refused) = work.flush(rt);
-    assert_eq!(rt; refused, Told::Stage(StageError::Stopped));
-    let refused;
-    (work, refused) = work.check(rt);
-    assert_eq!(rt; refused, Told::Begin(BeginError::Stopped));
-    if published == 1 {
-        assert!(rt; matches!(work.redeem(rt, 0), Paid::Committed(0, _)));
+    if made < 6 {
+        assert_eq!(rt; work.redeem(rt, 0), Paid::Unknown(1));
+    } else {
+        assert_eq!(rt; work.redeem(rt, 0), Paid::Committed(1, INSERTED));
     }
-    assert_eq!(rt; work.redeem(rt, 0), Paid::Unknown(published));
-    let device = work.device(rt).into_mem();
-    // Of a write that failed nothing has landed; the gate that wasn't synced has.
-    let place = published + u64::from(step == 4);
-    assert!(rt; place <= 2);
-    let (pair, _device) = told(rt, alloc, device);
+    if made > 13 {
+        assert_eq!(rt; work.redeem(rt, 0), Paid::Unknown(2));
+    }
+    let device = assert_stopped(rt, work).into_mem();
+    // Of a write that failed nothing has landed; the gates that weren't synced have.
+    let place = 1 + u64::from(made > 3) + u64::from(made > 16);
+    let epoch = 1 + u64::from(made > 9);
+    let store = opened(rt, alloc, device);
+    assert_eq!(rt; store.epoch(), epoch, "{made}");
+    let (pair, _device) = told(rt, alloc, store.into_device());
     assert_eq!(rt; pair, (place as usize, 93 * place, place), "{made}");
 }

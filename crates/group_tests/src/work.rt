@@ -264,6 +264,23 @@ impl<D: Device> Work<D> {
     }
 }
 
+/// Sees that a state has stopped, of which no ticket is left and no value is out: its device.
+pub(crate) fn assert_stopped<D: Device>(rt: &impl Abort, work: Work<D>) -> D {
+    let mut work = work;
+    assert!(rt; work.state.is_free());
+    assert_eq!(rt;
+        work.submit(rt, Command::Purge(0)),
+        Err(SubmitError::Stopped)
+    );
+    let refused;
+    (work, refused) = work.flush(rt);
+    assert_eq!(rt; refused, Told::Stage(StageError::Stopped));
+    let refused;
+    (work, refused) = work.check(rt);
+    assert_eq!(rt; refused, Told::Begin(BeginError::Stopped));
+    work.device(rt)
+}
+
 /// A step of the flusher with what it holds.
 fn flush_step<D: Device>(
     rt: &impl Abort,

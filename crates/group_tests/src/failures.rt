@@ -1,0 +1,174 @@
+//! Scripts run on a device that fails at each of its calls in turn, and openings of what is left that fail again.
+
+use crate::acts::{Act, Line};
+use crate::runs::{begun, done, ended};
+use crate::scripts::{
+    Ending, Left, NONE_LEFT, SECTORS, Script, calls_device, fronted, seen, wide_store,
+};
+use crate::stores::{bytes_of, opened};
+use sector_dev::{Device, MemDevice, SECTOR};
+use std::alloc::Global;
+use std::process::Abort;
+use store_open::{OpenError, open};
+
+/// More calls of the device than any of these runs makes.
+const MANY: u64 = 1000;
+
+/// How a device is made to fail.
+pub(crate) trait Failure {
+    /// Such a device.
+    type On: Device;
+
+    /// One over this memory that fails at the call of this number, the first one being number 0.
+    fn over(&self, memory: MemDevice, number: u64) -> Self::On;
+
+    /// How many calls were made of it behind the first that failed.
+    fn late(&self, device: &Self::On) -> u64;
+
+    /// What is there now.
+    fn memory(&self, device: Self::On) -> MemDevice;
+}
+
+/// The device with this image.
+fn restored(rt: &impl Abort, device: MemDevice, image: &[u8]) -> MemDevice {
+    let mut device = device;
+    assert!(rt; image.len() == SECTOR * SECTORS);
+    assert!(rt; device.sectors() == SECTORS as u64);
+    assert!(rt; device.write(0, image).is_ok());
+    assert!(rt; device.sync().is_ok());
+    device
+}
+
+/// What is there behind a failure, behind which no call of the device was made.
+fn memory_of<F: Failure>(rt: &impl Abort, failure: &F, device: F::On) -> MemDevice {
+    assert_eq!(rt; failure.late(&device), 0);
+    failure.memory(device)
+}
+
+/// Runs a script on a device that fails: what that may leave, and what it left.
+fn failing_run<F: Failure>(
+    rt: &impl Abort,
+    alloc: Global,
+    script: &Script,
+    failure: &F,
+    device: F::On,
+) -> (Left, MemDevice) {
+    let store = match open(alloc, device) {
+        Ok(store) => store,
+        Err((device, e)) => {
+            assert_eq!(rt; e, OpenError::Device);
+            let left = Left {
+                ending: Ending::Unopened,
+                ..NONE_LEFT
+            };
+            return (left, memory_of(rt, failure, device));
+        }
+    };
+    let held = begun(rt, alloc, store);
+    let (held, replies) = done(rt, alloc, held, &script.events);
+    assert_eq!(rt; replies.len(), script.events.len());
+    let left = seen(rt, &script.lines, &replies);
+    (left, memory_of(rt, failure, ended(rt, held)))
+}
+
+/// Has the opening of a device fail at each of its calls in turn: each time it opens to what it opens to at first. How many times
+/// it failed.
+fn failing_openings<F: Failure>(
+    rt: &impl Abort,
+    alloc: Global,
+    script: &Script,
+    failure: &F,
+    device: MemDevice,
+    left: Left,
+) -> (u64, MemDevice) {
+    let mut device = device;
+    let image = bytes_of(rt, alloc, &mut device, SECTORS);
+    let store = opened(rt, alloc, device);
+    let (place, mut device) = fronted(rt, alloc, script, store, (left.acknowledged, left.accepted));
+    for number in 0..MANY {
+        match open(alloc, failure.over(restored(rt, device, &image), number)) {
+            Ok(store) => {
+                let (_place, failing) = fronted(rt, alloc, script, store, (place, place));
+                return (number, failure.memory(failing));
+            }
+            Err((failing, e)) => {
+                assert_eq!(rt; e, OpenError::Device);
+                let store = opened(rt, alloc, memory_of(rt, failure, failing));
+                (_, device) = fronted(rt, alloc, script, store, (place, place));
+            }
+        }
+    }
+    panic!(rt; "opening makes no end")
+}
+
+/// Sees that no event from one number up to another makes a call of the device.
+fn assert_none_calls(rt: &impl Abort, lines: &[Line], from: usize, to: usize) {
+    for (number, line) in lines.iter().enumerate() {
+        if from <= number && number < to {
+            assert!(rt; !calls_device(*line), "{number}");
+        }
+    }
+}
+
+/// Sees that a failure is in the next event that calls the device, where the ones before it were before this event: the event
+/// behind it. Beginning a checkpoint makes several calls, and each other step one.
+fn next_event(rt: &impl Abort, lines: &[Line], next: usize, ending: Ending) -> usize {
+    match ending {
+        Ending::Unopened => {
+            assert_eq!(rt; next, 0);
+            0
+        }
+        Ending::Whole => {
+            assert_none_calls(rt, lines, next, lines.len());
+            lines.len()
+        }
+        Ending::Failed(number) => {
+            let behind = number.saturating_add(1);
+            if behind == next {
+                assert!(rt;
+                    matches!(lines.get(number), Some((Act::Begin, _))),
+                    "{number}"
+                );
+            }
+            assert!(rt; next <= behind, "{next} {number}");
+            assert_none_calls(rt, lines, next, number);
+            behind
+        }
+    }
+}
+
+/// Has a script's run fail at each call of the device in turn, and openings of what it leaves behind each `apart`-th one: how many
+/// times each failed.
+pub(crate) fn failing_runs<F: Failure>(
+    rt: &impl Abort,
+    alloc: Global,
+    script: &Script,
+    failure: &F,
+    apart: u64,
+) -> (u64, u64) {
+    assert!(rt; apart > 0);
+    let mut device = wide_store(rt, alloc);
+    let mut again = 0u64;
+    let mut next = 0;
+    for number in 0..MANY {
+        let failing = failure.over(restored(rt, device, &script.image), number);
+        let (left, rest) = failing_run(rt, alloc, script, failure, failing);
+        next = next_event(rt, &script.lines, next, left.ending);
+        let most = match left.ending {
+            Ending::Whole => left.acknowledged,
+            _ => left.accepted,
+        };
+        if left.ending != Ending::Whole && number % apart == 0 {
+            let failures;
+            (failures, device) = failing_openings(rt, alloc, script, failure, rest, left);
+            again = again.saturating_add(failures);
+            continue;
+        }
+        let store = opened(rt, alloc, rest);
+        (_, device) = fronted(rt, alloc, script, store, (left.acknowledged, most));
+        if left.ending == Ending::Whole {
+            return (number, again);
+        }
+    }
+    panic!(rt; "the run makes no end")
+}

@@ -1,0 +1,338 @@
+//! Scripts of long runs, and what is seen of one whose device fails in an event.
+
+use crate::acts::{Act, Line, Said, events_of, heard, joined};
+use crate::long_runs::{NEW, OLD};
+use crate::stores::{bytes_of, change, formatted};
+use group_core::{BeginError, StageError, SubmitError};
+use group_runs::{Event, Reply, StepRefusal};
+use path_db::{PathDb, write_rows};
+use sector_dev::{Device, MemDevice};
+use std::alloc::Global;
+use std::process::Abort;
+use std::test::Fail;
+use store_open::{Geometry, Store};
+
+/// Areas for checkpoints of two chunks, and the least journals.
+const WIDE: Geometry = Geometry {
+    checkpoint: 300,
+    journal: 516,
+};
+
+/// How many sectors such a store takes.
+pub(crate) const SECTORS: usize = 1635;
+
+/// A script, its events, the rows behind each of its accepted commands, and the image of the store that it starts from.
+#[derive(Drop)]
+pub(crate) struct Script {
+    pub(crate) lines: Vec<Line>,
+    pub(crate) events: Vec<Event>,
+    folds: Vec<Vec<u8>>,
+    pub(crate) image: Vec<u8>,
+}
+
+/// Where a run ended.
+#[derive(Clone, Copy, Debug, PartialEq, Eq)]
+pub(crate) enum Ending {
+    /// Its store wasn't opened.
+    Unopened,
+    /// The device failed in the event of this number.
+    Failed(usize),
+    /// No failure was seen.
+    Whole,
+}
+
+/// What a failure may leave of a run.
+#[derive(Clone, Copy, Debug)]
+pub(crate) struct Left {
+    /// How many commands it accepted.
+    pub(crate) accepted: u64,
+    /// How many of these it acknowledged, with all before them.
+    pub(crate) acknowledged: u64,
+    pub(crate) ending: Ending,
+}
+
+/// What stands of a script's run where no event was done yet.
+pub(crate) const NONE_LEFT: Left = Left {
+    accepted: 0,
+    acknowledged: 0,
+    ending: Ending::Whole,
+};
+
+/// What a run has out, as its script tells.
+#[derive(Clone, Copy)]
+struct Out {
+    /// A value of the flusher, and whether what it is for is durable.
+    group: bool,
+    durable: bool,
+    /// A value of the checkpointer.
+    plan: bool,
+    /// The last publishing that the script tells of was done.
+    published: bool,
+    /// The tickets that a stop made unknown: a bit for each.
+    unknown: u64,
+}
+
+/// Nothing is out.
+const NONE_OUT: Out = Out {
+    group: false,
+    durable: false,
+    plan: false,
+    published: true,
+    unknown: 0,
+};
+
+/// The records of the rows of a database.
+fn records(rt: &impl Abort, alloc: Global, db: &PathDb) -> Vec<u8> {
+    let mut records = Vec::new(alloc);
+    if write_rows(db, &mut records).is_err() {
+        panic!(rt; "out of memory");
+    }
+    records
+}
+
+/// The rows behind each of the commands that are told to be accepted.
+fn folds_of(
+    rt: &impl Abort,
+    alloc: Global,
+    lines: &[Line],
+    events: &[Event],
+) -> Result<Vec<Vec<u8>>, Fail> {
+    let mut db = PathDb::new(alloc);
+    let mut folds = Vec::new(alloc);
+    folds.push(records(rt, alloc, &db))?;
+    for ((_act, wanted), event) in lines.iter().zip(events) {
+        if let (Event::Submit(command), Said::Accepted(_place)) = (event, wanted) {
+            db.apply(command)?;
+            folds.push(records(rt, alloc, &db))?;
+        }
+    }
+    Ok(folds)
+}
+
+/// The script that starts from a new store of version 1 or 2.
+pub(crate) fn script_of(rt: &impl Abort, alloc: Global, version: u8) -> Result<Script, Fail> {
+    let lines = if version == 1 {
+        joined(rt, alloc, &OLD)
+    } else {
+        joined(rt, alloc, &NEW)
+    };
+    let events = events_of(rt, alloc, &lines);
+    let folds = folds_of(rt, alloc, &lines, &events)?;
+    let mut device = wide_store(rt, alloc);
+    change(&mut device, 1, 7, &[version]);
+    let image = bytes_of(rt, alloc, &mut device, SECTORS);
+    Ok(Script {
+        lines,
+        events,
+        folds,
+        image,
+    })
+}
+
+/// A new store of the sizes that scripts are made for.
+pub(crate) fn wide_store(rt: &impl Abort, alloc: Global) -> MemDevice {
+    formatted(rt, alloc, WIDE, SECTORS as u64)
+}
+
+/// Sees that a store holds the fold of as many of a script's commands as its place says, which is between these: the place, and
+/// the device.
+pub(crate) fn fronted<D: Device>(
+    rt: &impl Abort,
+    alloc: Global,
+    script: &Script,
+    store: Store<D>,
+    (least, most): (u64, u64),
+) -> (u64, D) {
+    let place = store.place();
+    assert!(rt; least <= place && place <= most, "{least} {place} {most}");
+    let rows = records(rt, alloc, store.db());
+    let Some(fold) = script.folds.get(place as usize) else {
+        panic!(rt; "{place}");
+    };
+    assert!(rt; fold.as_slice() == rows.as_slice(), "{place}");
+    (place, store.into_device())
+}
+
+/// Whether an event was refused since the device failed in it.
+fn is_failure(said: Said) -> bool {
+    matches!(
+        said,
+        Said::Step(StepRefusal::Fault) | Said::Begin(BeginError::Fault)
+    )
+}
+
+/// Whether it is a step of the flusher on the device.
+fn is_group_step(act: Act) -> bool {
+    matches!(
+        act,
+        Act::WriteGroup | Act::SyncGroup | Act::OpenGate | Act::SyncGate
+    )
+}
+
+/// Whether it is a step of the checkpointer with a value.
+fn is_plan_step(act: Act) -> bool {
+    matches!(
+        act,
+        Act::WriteChunk
+            | Act::SyncChunks
+            | Act::OpenHalf
+            | Act::SyncHalf
+            | Act::CloseHalf
+            | Act::SyncClose
+    )
+}
+
+/// Whether an event of a script makes calls of the device.
+pub(crate) fn calls_device((act, wanted): Line) -> bool {
+    let is_step = is_group_step(act) || is_plan_step(act) || matches!(act, Act::Begin);
+    is_step && wanted == Said::Done
+}
+
+/// A bit for the k-th ticket.
+fn bit_of(k: usize) -> u64 {
+    match u32::try_from(k) {
+        Ok(k) => 1u64.wrapping_shl(k),
+        Err(_) => 0,
+    }
+}
+
+impl Out {
+    /// What is out behind an event that was answered as told.
+    fn after(self, (act, wanted): Line) -> Out {
+        if wanted != Said::Done {
+            return self;
+        }
+        match act {
+            Act::Stage => Out {
+                group: true,
+                ..self
+            },
+            Act::SyncGate => Out {
+                durable: true,
+                ..self
+            },
+            Act::Publish => Out {
+                group: false,
+                durable: false,
+                ..self
+            },
+            Act::Begin => Out { plan: true, ..self },
+            Act::SyncClose => Out {
+                plan: false,
+                ..self
+            },
+            _ => self,
+        }
+    }
+
+    /// What is out behind an event in which the device failed, or which was told that the state had stopped: its value is spent.
+    fn without(self, act: Act) -> Out {
+        if is_group_step(act) {
+            return Out {
+                group: false,
+                ..self
+            };
+        }
+        Out {
+            plan: self.plan && !is_plan_step(act),
+            ..self
+        }
+    }
+
+    /// What an event is to be answered where the state has stopped before it, so many commands being accepted.
+    fn stopped(self, accepted: u64, (act, wanted): Line) -> (Out, Said) {
+        match act {
+            Act::Stage => (self, Said::Stage(StageError::Stopped)),
+            Act::Begin => (self, Said::Begin(BeginError::Stopped)),
+            Act::Publish => self.stopped_publishing(),
+            Act::Redeem(k) => self.stopped_redeeming(accepted, k, wanted),
+            _ if is_group_step(act) => {
+                let has_value = self.group && !self.durable;
+                (self.without(act), value_answer(has_value))
+            }
+            _ if is_plan_step(act) => (self.without(act), value_answer(self.plan)),
+            _ => (self, Said::Refused(SubmitError::Stopped)),
+        }
+    }
+
+    /// The same of publishing, which goes on for what was durable.
+    fn stopped_publishing(self) -> (Out, Said) {
+        let out = Out {
+            group: false,
+            durable: false,
+            published: self.durable,
+            ..self
+        };
+        let said = if self.durable {
+            Said::Done
+        } else {
+            Said::NoValue
+        };
+        (out, said)
+    }
+
+    /// The same of the k-th ticket. A script redeems as committed only what was published last.
+    fn stopped_redeeming(self, accepted: u64, k: usize, wanted: Said) -> (Out, Said) {
+        let bit = bit_of(k);
+        if accepted <= k as u64 || self.unknown & bit != 0 {
+            return (self, Said::NoValue);
+        }
+        if let (Said::Committed(_place, _outcome), true) = (wanted, self.published) {
+            return (self, wanted);
+        }
+        let out = Out {
+            unknown: self.unknown | bit,
+            ..self
+        };
+        (out, Said::Unknown(k as u64))
+    }
+}
+
+/// What a step is to be answered where the state has stopped.
+fn value_answer(has_value: bool) -> Said {
+    if has_value {
+        return Said::Step(StepRefusal::Stopped);
+    }
+    Said::NoValue
+}
+
+impl Left {
+    /// What is left behind this answer.
+    fn with(self, got: Said) -> Left {
+        match got {
+            Said::Accepted(place) => Left {
+                accepted: place.saturating_add(1),
+                ..self
+            },
+            Said::Committed(place, _outcome) => Left {
+                acknowledged: self.acknowledged.max(place.saturating_add(1)),
+                ..self
+            },
+            _ => self,
+        }
+    }
+}
+
+/// Sees that replies are as told up to the event in which the device failed, and behind it as those of a state that has stopped.
+pub(crate) fn seen(rt: &impl Abort, lines: &[Line], replies: &[Reply]) -> Left {
+    let mut left = NONE_LEFT;
+    let mut out = NONE_OUT;
+    for (number, (line, reply)) in lines.iter().zip(replies).enumerate() {
+        let got = heard(reply);
+        let (act, wanted) = *line;
+        if left.ending != Ending::Whole {
+            let told;
+            (out, told) = out.stopped(left.accepted, *line);
+            assert_eq!(rt; got, told, "{act:?}, {number} behind {left:?}");
+        } else if is_failure(got) {
+            assert!(rt; calls_device(*line), "{act:?}, {number}");
+            left.ending = Ending::Failed(number);
+            out = out.without(act);
+        } else {
+            assert_eq!(rt; got, wanted, "{act:?}, {number}");
+            out = out.after(*line);
+        }
+        left = left.with(got);
+    }
+    left
+}
