@@ -22,7 +22,7 @@ impl Ticket {
     }
 
     /// Its command, as clauses see it. The ticket is no more.
-    pub fn into_command(self) -> Snapshot<Command>
+    pub(crate) fn into_command(self) -> Snapshot<Command>
         ensures { result.value ≡ self.command.value }
     {
         let Ticket {

@@ -74,8 +74,8 @@ impl<P: Copy> Commit<P> {
         }
     }
 
-    /// It is no more. To its state it is still out, unless a step was made with it.
-    pub fn spend(self) {
+    /// It is no more.
+    pub(crate) fn spend(self) {
         let Commit {
             home: _home,
             number: _number,

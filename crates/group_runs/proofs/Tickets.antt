@@ -7,6 +7,7 @@ use Rattle.std.proofs.lemmas.List.{map-append, map-set, get_or_past, length-set}
 use Rattle.std.proofs.lemmas.Bool.Decides.{eqb_tells}
 use Rattle.path_db.specs.declared.command.Command.{Command}
 use Rattle.path_db.specs.Command.{outcome_of}
+use Rattle.path_db.specs.declared.outcome.Outcome.{Outcome}
 use Rattle.group_core.specs.declared.ticket.Ticket.{Ticket}
 use Rattle.group_core.specs.StateView.{StateView}
 use Rattle.path_db.specs.Database.{RowView}
@@ -17,7 +18,7 @@ use Rattle.group_runs.specs.declared.events.Reply.TheVariants as reply
 use Rattle.group_core.specs.Redeeming.{outcome_at, redeemed, Redeems}
 use Rattle.group_core.specs.Submitting.{next_place, accepted_rows, with_command, IsTicketOf, Submits}
 use Rattle.group_runs.specs.RunSteps.{ticket_at, redeemed_at, RedeemEvent, SubmitEvent}
-use Rattle.group_runs.specs.Holding.{held_at, place_of, run_view, IsOwnTicket, HoldsTickets}
+use Rattle.group_runs.specs.Holding.{held_at, place_of, run_view, IsOwnTicket, HoldsTickets, AllRedeemed}
 use Rattle.group_core.proofs.Exports.{there_then}
 use Rattle.group_runs.proofs.Beside.{beside_put, beside_taken}
 
@@ -55,6 +56,19 @@ pub back_again : (tickets : List (Option Ticket)) (k : ℕ) (back : Option Ticke
 back_again [] k back at = refl
 back_again (t ∷ tickets) zero back at = ap (λ (x : Option Ticket). x ∷ tickets) (sym at)
 back_again (t ∷ tickets) (suc k) back at = ap (λ (l : List (Option Ticket)). t ∷ l) (back_again tickets k back at)
+
+-- where nothing is kept no ticket is left
+pub all_redeemed : (tickets : List (Option Ticket)) (view : StateView) → HoldsTickets tickets view → view.kept ≡ [] → AllRedeemed tickets
+all_redeemed tickets view holds none k = by (held_at k tickets) refl
+  where
+    nothing_kept : (ticket : Ticket) → IsSome (outcome_at ticket.place view.kept) → ⊥
+    nothing_kept ticket kept =
+        let found : IsSome (outcome_at ticket.place []) = subst (λ (l : List (ℕ × Outcome)). IsSome (outcome_at ticket.place l)) none kept in
+        cc
+
+    by : (slot : Option Ticket) → held_at k tickets ≡ slot → held_at k tickets ≡ None
+    by None at = at
+    by (Some ticket) at = absurd (nothing_kept ticket (holds.each k ticket at).kept)
 
 -- the k-th is taken out: the others are there
 module _ (tickets : List (Option Ticket)) (k : ℕ) where

@@ -26,6 +26,12 @@ step_reply (step.Stranger value) = reply.StepRefused why.Stranger
 step_reply (step.NoMemory value) = reply.StepRefused why.NoMemory
 step_reply step.Damaged = reply.StepRefused why.Damaged
 
+-- a step that spends its value: a run's own is never refused otherwise
+abbrev pub SpendsValue : {P : Type 0} → StepError P → Type 0
+SpendsValue step.Fault = Unit {0}
+SpendsValue step.Stopped = Unit {0}
+SpendsValue _ = ⊥
+
 -- the flusher's value is held just where it is out, and it is its turn
 abbrev pub HoldsGroup : HeldGroup → StateView → Type 0
 HoldsGroup group.None view = view.group.out ≡ false
@@ -67,6 +73,10 @@ pub record HoldsTickets (tickets : List (Option Ticket)) (view : StateView) : Ty
 abbrev pub place_of : Option Ticket → Option ℕ
 place_of None = None
 place_of (Some ticket) = Some ticket.place
+
+-- no ticket is left
+abbrev pub AllRedeemed : List (Option Ticket) → Type 0
+AllRedeemed tickets = (k : ℕ) → held_at k tickets ≡ None
 
 -- what a run is seen as
 abbrev pub run_view : StateView → List (Option Ticket) → RunView

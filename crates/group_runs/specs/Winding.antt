@@ -1,10 +1,11 @@
 -- The end of a run.
 use Rattle.std.specs.Prelude.{◌≡◌, ℕ, zero, suc, List, [], ◌∷◌, ◌++◌, length, Result, Ok, Err}
-use Rattle.sector_dev.specs.Disk.{Disk}
+use Rattle.sector_dev.specs.Disk.{Disk, IsHonest}
 use Rattle.group_runs.specs.declared.events.Event.{Event}
 use Rattle.group_runs.specs.declared.events.Event.TheVariants as event
 use Rattle.group_runs.specs.declared.events.Reply.{Reply}
-use Rattle.group_core.specs.Ending.{IsSettled}
+use Rattle.group_core.specs.Ending.{IsSettled, HoldsStoreOf}
+use Rattle.group_core.specs.StateView.{StateView}
 use Rattle.group_runs.specs.RunSteps.{RunView, IsRun}
 use Rattle.group_runs.specs.RunLeaves.{accepted_in, lock_order, RunLeaves}
 
@@ -33,9 +34,14 @@ pub record HasWound (old new : RunView) : Type 0 where
   pub none : accepted_in events replies ≡ []
   pub leaves : RunLeaves old.state (lock_order old.state events replies) new.state
 
+-- a device opens to the rows that a state shows, at their place, where nothing is pending
+abbrev pub OpensAtRest : StateView → Disk → Type 0
+OpensAtRest view disk = IsHonest disk → view.pending ≡ [] → HoldsStoreOf view.value disk
+
 -- the device of a state in which nothing is kept and no value is out, or the run, where something is left
 abbrev pub HandsOutDevice : {D : Type 0} → (D → Disk) → Result D RunView → RunView → Type 0
-HandsOutDevice disk_of (Ok device) run = IsSettled run.state × (disk_of device ≡ run.state.disk)
+HandsOutDevice disk_of (Ok device) run =
+    IsSettled run.state × (disk_of device ≡ run.state.disk) × OpensAtRest run.state (disk_of device)
 HandsOutDevice disk_of (Err back) run = (¬ IsSettled run.state) × (back ≡ run)
 
 -- after the run went on

@@ -4,7 +4,7 @@ ghost use Rattle.std.specs.Prelude.{◌≡◌};
 ghost use Rattle.group_laws.specs.declared.phases.Flush.TheVariants.{Staged as staged, Written as written, Stable as stable};
 ghost use Rattle.group_laws.specs.declared.phases.Flush.TheVariants.{Opened as opened, Doubtful as doubtful, Durable as durable};
 ghost use Rattle.group_core.specs.StateView.{StepLeaves};
-ghost use Rattle.group_runs.specs.Holding.{HoldsGroup, step_reply};
+ghost use Rattle.group_runs.specs.Holding.{HoldsGroup, SpendsValue, step_reply};
 ghost use Rattle.group_runs.specs.RunSteps.{FlushEvent, PublishEvent, StageEvent};
 
 use crate::events::{PublishRefusal, Reply, StepRefusal};
@@ -13,22 +13,17 @@ use group_core::{PublishError, Showcase, State, StepError};
 use sector_dev::Device;
 use std::mem;
 
-/// The reply to a step that was refused. Where a value came back with it, that is no more: no step refuses a run's own.
+/// The reply to a step that was refused with a run's own value.
 pub(crate) fn refusal<P: Copy>(refused: StepError<P>) -> Reply
+    requires own { SpendsValue refused }
     ensures { result ≡ step_reply refused }
 {
     match refused {
         StepError::Fault => Reply::StepRefused(StepRefusal::Fault),
         StepError::Stopped => Reply::StepRefused(StepRefusal::Stopped),
-        StepError::Stranger(value) => {
-            value.spend();
-            Reply::StepRefused(StepRefusal::Stranger)
-        }
-        StepError::NoMemory(value) => {
-            value.spend();
-            Reply::StepRefused(StepRefusal::NoMemory)
-        }
-        StepError::Damaged => Reply::StepRefused(StepRefusal::Damaged),
+        StepError::Stranger(_value) => unreachable!(),
+        StepError::NoMemory(_value) => unreachable!(),
+        StepError::Damaged => unreachable!(),
     }
 }
 

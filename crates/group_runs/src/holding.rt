@@ -1,6 +1,8 @@
 //! The commit values that a run holds: at most one of each actor.
 
 ghost use Rattle.std.specs.Prelude.{◌≡◌};
+ghost use Rattle.group_runs.specs.declared.holding.HeldGroup.TheVariants.{None as no_group};
+ghost use Rattle.group_runs.specs.declared.holding.HeldPlan.TheVariants.{None as no_plan};
 
 use group_core::{Closing, Durable, Laid, Live, Opened, Plan, Stable, Staged, Switched, Written};
 use std::mem;
@@ -28,43 +30,39 @@ pub(crate) enum HeldPlan {
 }
 
 impl HeldGroup {
-    /// Holds this in place of what was held, which is no more.
+    /// Holds this, where none is out.
     pub(crate) fn put(&mut self, held: HeldGroup)
+        requires { self.old ≡ no_group }
         ensures { self.new ≡ held }
     {
-        mem::replace(self, held).spend();
+        mem::replace(self, held).end();
     }
 
-    /// It is no more.
-    pub(crate) fn spend(self) {
-        match self {
-            HeldGroup::None => {}
-            HeldGroup::Staged(value) => value.spend(),
-            HeldGroup::Written(value) => value.spend(),
-            HeldGroup::Stable(value) => value.spend(),
-            HeldGroup::Opened(value) => value.spend(),
-            HeldGroup::Durable(value) => value.spend(),
-        }
+    /// It is none.
+    pub(crate) fn end(self)
+        requires { self ≡ no_group }
+    {
+        let HeldGroup::None = self else {
+            unreachable!();
+        };
     }
 }
 
 impl HeldPlan {
-    /// Holds this in place of what was held, which is no more.
+    /// Holds this, where none is out.
     pub(crate) fn put(&mut self, held: HeldPlan)
+        requires { self.old ≡ no_plan }
         ensures { self.new ≡ held }
     {
-        mem::replace(self, held).spend();
+        mem::replace(self, held).end();
     }
 
-    /// It is no more.
-    pub(crate) fn spend(self) {
-        match self {
-            HeldPlan::None => {}
-            HeldPlan::Plan(value) => value.spend(),
-            HeldPlan::Laid(value) => value.spend(),
-            HeldPlan::Switched(value) => value.spend(),
-            HeldPlan::Live(value) => value.spend(),
-            HeldPlan::Closing(value) => value.spend(),
-        }
+    /// It is none.
+    pub(crate) fn end(self)
+        requires { self ≡ no_plan }
+    {
+        let HeldPlan::None = self else {
+            unreachable!();
+        };
     }
 }

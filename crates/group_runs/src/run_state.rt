@@ -12,7 +12,7 @@ use crate::holding::{HeldGroup, HeldPlan};
 use crate::plan_events::{
     begin, close_half, open_half, sync_chunks, sync_close, sync_half, write_chunk,
 };
-use crate::ticket_events::{redeem, spend_all, submit};
+use crate::ticket_events::{end_all, redeem, submit};
 use group_core::{PlainShow, State, Ticket};
 use sector_dev::Device;
 use std::alloc::Global;
@@ -85,9 +85,9 @@ impl<D: Device> Run<D> {
         } = self;
         match state.into_device() {
             Ok(device) => {
-                group.spend();
-                plan.spend();
-                spend_all(tickets);
+                group.end();
+                plan.end();
+                end_all(tickets);
                 Ok(device)
             }
             Err(state) => Err(Run {

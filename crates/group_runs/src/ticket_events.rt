@@ -1,8 +1,8 @@
 //! Submitting and redeeming, with the tickets of a run.
 
-ghost use Rattle.std.specs.Prelude.{◌≡◌, ◌<◌, ◌++◌, ◌∷◌, [], None, Some, slice_set, vec_len, vec_capacity};
+ghost use Rattle.std.specs.Prelude.{◌≡◌, ◌<◌, ◌++◌, ◌∷◌, [], None, Some, length, slice_set, vec_len, vec_capacity};
 ghost use Rattle.group_core.specs.StateView.{StepLeaves};
-ghost use Rattle.group_runs.specs.Holding.{HoldsTickets, held_at, run_view};
+ghost use Rattle.group_runs.specs.Holding.{AllRedeemed, HoldsTickets, held_at, run_view};
 ghost use Rattle.group_runs.specs.RunSteps.{SubmitEvent, RedeemEvent};
 
 use crate::copying::copy_of;
@@ -85,8 +85,8 @@ fn keep(tickets: &mut Vec<Option<Ticket>>, ticket: Ticket)
     requires { vec_len tickets.old < vec_capacity tickets.old }
     ensures { tickets.new.items ≡ tickets.old.items ++ Some ticket ∷ [] }
 {
-    if let Err(full) = tickets.push(Some(ticket)) {
-        spend(full.value);
+    if let Err(_full) = tickets.push(Some(ticket)) {
+        unreachable!();
     }
 }
 
@@ -103,26 +103,32 @@ fn take(tickets: &mut Vec<Option<Ticket>>, k: usize) -> Option<Ticket>
 
 /// Puts a ticket back where it was taken out.
 fn put_back(tickets: &mut Vec<Option<Ticket>>, k: usize, ticket: Ticket)
+    requires inside { k < length tickets.old.items }
+    requires none { held_at k tickets.old.items ≡ None }
     ensures { tickets.new.items ≡ slice_set tickets.old.items k (Some ticket) }
 {
     match tickets.get_mut(k) {
-        Some(slot) => spend(slot.replace(ticket)),
-        None => spend(Some(ticket)),
+        Some(slot) => end(slot.replace(ticket)),
+        None => unreachable!(),
     }
 }
 
-/// It is no more.
-pub(crate) fn spend(ticket: Option<Ticket>) {
-    if let Some(ticket) = ticket {
-        let _command = ticket.into_command();
-    }
+/// There is none.
+fn end(ticket: Option<Ticket>)
+    requires { ticket ≡ None }
+{
+    let None = ticket else {
+        unreachable!();
+    };
 }
 
-/// They are no more.
-pub(crate) fn spend_all(tickets: Vec<Option<Ticket>>) {
+/// There are none.
+pub(crate) fn end_all(tickets: Vec<Option<Ticket>>)
+    requires { AllRedeemed tickets.items }
+{
     let mut tickets = tickets;
     while let Some(ticket) = tickets.pop() {
-        spend(ticket);
+        end(ticket);
     }
     tickets.destroy_empty();
 }
