@@ -3,7 +3,8 @@
 
     frames.py pairs N            N times the worked segment's registration and its lookup
     frames.py registrations N    N times one registration of 16 segments of 8 entries
-    frames.py rows N FIRST A     N other segments of 8 entries, which are numbered from FIRST, A in a registration
+    frames.py rows N FIRST A     N other segments of 8 entries, which are numbered from FIRST, A in a registration; behind
+                                 each 65,535 of these numbers they end at another AS
     frames.py leaf N LEAF        N other segments of 8 entries that end at the AS numbered LEAF, one in a registration
     frames.py lookups N LEAF     N lookups from the first AS of all these segments to that AS
     frames.py segment N          one segment of N entries, without a frame
@@ -73,7 +74,8 @@ def main():
         out = list(registrations(DOWN, [segment(i, 8) for i in range(16)], 16)) * times
     elif what == "rows":
         first, at_once = more
-        out = registrations(DOWN, [segment(i, 8) for i in range(first, first + times)], at_once)
+        numbers = range(first, first + times)
+        out = registrations(DOWN, [segment(i, 8, i // 65_535 or None) for i in numbers], at_once)
     elif what == "leaf":
         out = registrations(DOWN, [segment(i, 8, more[0]) for i in range(times)], 1)
     else:

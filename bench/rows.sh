@@ -1,7 +1,7 @@
 #!/usr/bin/env bash
-# What a registration costs in a larger database: 1,000 segments of 8 entries, one in a frame, into 1,000 rows and into
-# 10,000. It prints the processor seconds of each and their ratio: medians of nine rounds. It needs Python 3 and the
-# program built, and leaves no file behind.
+# What a registration costs in a larger database, from its frame to the reply: 1,000 segments of 8 entries, one in a frame, into
+# 1,000, 20,000 and 200,000 rows. It prints the processor seconds of each, and their ratios to the first: medians of nine rounds. It
+# needs Python 3 and the program built, and leaves no file behind.
 #
 #     bench/rows.sh [PROGRAM]
 set -euo pipefail
@@ -10,14 +10,16 @@ program=$(realpath "${1:-$top/crates/pathd/out/pathd}")
 work=$(mktemp -d)
 trap 'rm -rf "$work"' EXIT
 frames() { python3 "$top/bench/frames.py" "$@"; }
+sizes="1000 20000 200000"
 
-frames rows 1000 0 16 >"$work/few"
-frames rows 10000 0 16 >"$work/many"
-frames rows 1000 50000 1 >"$work/new"
+for rows in $sizes; do
+  frames rows "$rows" 0 16 >"$work/$rows"
+done
+frames rows 1000 500000 1 >"$work/new"
 for _ in 1 2 3 4 5 6 7 8 9; do
-  few=$(python3 "$top/bench/session.py" "$program" "$work/few" "$work/new" | tail -1 | cut -d' ' -f1)
-  many=$(python3 "$top/bench/session.py" "$program" "$work/many" "$work/new" | tail -1 | cut -d' ' -f1)
-  echo "$few $many $(echo "$many / $few" | bc -l)"
+  for rows in $sizes; do
+    python3 "$top/bench/session.py" "$program" "$work/$rows" "$work/new" | tail -1 | cut -d' ' -f1
+  done | tr '\n' ' ' | awk '{ print $1, $2, $3, $2 / $1, $3 / $1 }'
 done >"$work/rounds"
-echo "1,000 registrations: seconds into 1,000 rows, seconds into 10,000 rows, ratio"
+echo "1,000 registrations: seconds into 1,000 rows, into 20,000 and into 200,000; ratios of these to the first"
 python3 "$top/bench/median.py" <"$work/rounds"
