@@ -1,6 +1,6 @@
 //! Runs of any list of events.
 
-ghost use Rattle.std.specs.Prelude.{◌≡◌, IfOk, IfErr};
+ghost use Rattle.std.specs.Prelude.{◌≡◌, ◌≤◌, length, IfOk, IfErr, OnErr};
 ghost use Rattle.group_runs.specs.RunSteps.{IsRun};
 ghost use Rattle.group_runs.specs.RunLeaves.{RunLeaves, lock_order};
 
@@ -9,7 +9,8 @@ use crate::run_state::Run;
 use sector_dev::Device;
 use std::alloc::{AllocError, Global};
 
-/// Does these events, one after the other. Refused only where there is no room for the replies, and then no event was done.
+/// Does these events, one after the other. Refused only where there is no room for the replies, and then no event was done; no
+/// events are never refused.
 pub fn run<D: Device>(
     alloc: Global,
     run: Run<D>,
@@ -18,6 +19,7 @@ pub fn run<D: Device>(
     ensures runs { IfOk result (λ done. IsRun events.now done.1.items run done.0) }
     ensures leaves { IfOk result (λ done. RunLeaves run.state (lock_order run.state events.now done.1.items) done.0.state) }
     ensures same { IfErr result (λ refused. refused.0 ≡ run) }
+    ensures memory { OnErr result (1 ≤ length events.now) }
 {
     let mut replies = Vec::new(alloc);
     if let Err(refused) = replies.reserve(events.len()) {
