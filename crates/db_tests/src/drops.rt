@@ -1,8 +1,10 @@
 //! Purges and removals.
 
-use crate::worked::{EXPIRY, ID, register, segment};
+use crate::worked::{EXPIRY, ID, apply, count_rows, row_of};
 use path_db::{Command, Outcome, PathDb};
 use seg_core::SegType;
+use std::alloc::Global;
+use std::process::Abort;
 use std::test::Fail;
 
 /// So many rows went.
@@ -15,35 +17,45 @@ fn purged(purged: u32) -> Outcome {
     }
 }
 
+/// Applies commands in turn, and sees how many rows go by each, and how many are left.
+fn assert_each(
+    rt: &impl Abort,
+    database: &mut PathDb,
+    name: &str,
+    commands: &[(Command, u32, usize)],
+) -> Result<(), Fail> {
+    for (command, rows, left) in commands {
+        assert_eq!(rt; apply(database, command)?, purged(*rows), "{name}");
+        assert_eq!(rt; count_rows(database), *left, "{name}");
+    }
+    Ok(())
+}
+
+/// Applies them to a database of the worked segment.
+fn assert_drops(
+    rt: &impl Abort,
+    alloc: Global,
+    name: &str,
+    commands: &[(Command, u32, usize)],
+) -> Result<(), Fail> {
+    let mut database = row_of(alloc, SegType::Down)?;
+    assert_each(rt, &mut database, name, commands)
+}
+
 // A database of the worked segment, which stands until the moment of its expiry, and under its own type: each command, how
 // many rows go, and how many are left.
 #[test]
 fn rows_are_dropped(rt: HostRuntime) -> Result<(), Fail> {
-    let cases: [(&str, [(Command, u32, usize); 3]); 2] = [
-        (
-            "purge",
-            [
-                (Command::Purge(EXPIRY - 1), 0, 1),
-                (Command::Purge(EXPIRY), 1, 0),
-                (Command::Purge(EXPIRY), 0, 0),
-            ],
-        ),
-        (
-            "remove",
-            [
-                (Command::Remove(SegType::Core, ID), 0, 1),
-                (Command::Remove(SegType::Down, ID), 1, 0),
-                (Command::Remove(SegType::Down, ID), 0, 0),
-            ],
-        ),
+    let purges = [
+        (Command::Purge(EXPIRY - 1), 0, 1),
+        (Command::Purge(EXPIRY), 1, 0),
+        (Command::Purge(EXPIRY), 0, 0),
     ];
-    for (name, commands) in &cases {
-        let mut database = PathDb::new(rt.alloc());
-        database.apply(&register(rt.alloc(), SegType::Down, segment(rt.alloc())?)?)?;
-        for (command, rows, left) in commands {
-            assert_eq!(rt; database.apply(command)?, purged(*rows), "{name}");
-            assert_eq!(rt; database.rows().count(), *left, "{name}");
-        }
-    }
-    Ok(())
+    assert_drops(&rt, rt.alloc(), "purge", &purges)?;
+    let removals = [
+        (Command::Remove(SegType::Core, ID), 0, 1),
+        (Command::Remove(SegType::Down, ID), 1, 0),
+        (Command::Remove(SegType::Down, ID), 0, 0),
+    ];
+    assert_drops(&rt, rt.alloc(), "remove", &removals)
 }

@@ -1,10 +1,12 @@
 //! Want of memory: a command is applied whole or not at all.
 
-use crate::worked::{ID, dated_by, leaving_by, register, segment};
+use crate::records::written;
+use crate::worked::{ID, apply, count_rows, dated_by, is_there, leaving_by, len_of, put, row_of};
 use isd_as::IsdAs;
-use path_db::{Command, Outcome, PathDb, Registration, write_rows};
+use path_db::{Command, Outcome, PathDb, Registration};
 use seg_core::SegType;
-use std::alloc::Global;
+use std::alloc::{AllocError, Global};
+use std::process::Abort;
 use std::test::Fail;
 
 /// The command that registers sixteen segments of sixteen ids, the worked one among them.
@@ -19,29 +21,38 @@ fn sixteen(alloc: Global) -> Result<Command, Fail> {
 /// How many rows there are, their bytes, and whether the worked segment stands as a down and as a core segment.
 fn shown(database: &PathDb) -> (usize, u64, bool, bool) {
     (
-        database.rows().count(),
-        database.encoded_len(),
-        database.get(SegType::Down, &ID).is_some(),
-        database.get(SegType::Core, &ID).is_some(),
+        count_rows(database),
+        len_of(database),
+        is_there(database, SegType::Down, &ID),
+        is_there(database, SegType::Core, &ID),
     )
 }
 
-// It is run with each allocation refused in turn. Where that is one of the registration, the database is as it was, and the
-// registration succeeds when it is tried again.
-#[test]
-fn refused_registration_changes_nothing(rt: HostRuntime) -> Result<(), Fail> {
-    let mut database = PathDb::new(rt.alloc());
-    database.apply(&register(rt.alloc(), SegType::Core, segment(rt.alloc())?)?)?;
-    let command = sixteen(rt.alloc())?;
-    let before = (1, 93, false, true);
-    assert_eq!(rt; shown(&database), before);
-    let outcome = match database.apply(&command) {
-        Ok(outcome) => outcome,
+/// Applies a command to a database of which this is shown. Where it is refused, this is shown still, and it is applied again.
+fn apply_again(
+    rt: &impl Abort,
+    database: &mut PathDb,
+    command: &Command,
+    before: (usize, u64, bool, bool),
+) -> Result<Outcome, AllocError> {
+    match apply(database, command) {
+        Ok(outcome) => Ok(outcome),
         Err(_) => {
-            assert_eq!(rt; shown(&database), before);
-            database.apply(&command)?
+            assert_eq!(rt; shown(database), before);
+            apply(database, command)
         }
-    };
+    }
+}
+
+/// Sees that sixteen rows are registered in a database of one core segment.
+fn assert_sixteen(
+    rt: &impl Abort,
+    database: &mut PathDb,
+    command: &Command,
+) -> Result<(), AllocError> {
+    let before = (1, 93, false, true);
+    assert_eq!(rt; shown(database), before);
+    let outcome = apply_again(rt, database, command, before)?;
     let inserted = Outcome {
         inserted: 16,
         updated: 0,
@@ -49,8 +60,17 @@ fn refused_registration_changes_nothing(rt: HostRuntime) -> Result<(), Fail> {
         purged: 0,
     };
     assert_eq!(rt; outcome, inserted);
-    assert_eq!(rt; shown(&database), (17, 17 * 93, true, true));
+    assert_eq!(rt; shown(database), (17, 17 * 93, true, true));
     Ok(())
+}
+
+// It is run with each allocation refused in turn. Where that is one of the registration, the database is as it was, and the
+// registration succeeds when it is tried again.
+#[test]
+fn refused_registration_changes_nothing(rt: HostRuntime) -> Result<(), Fail> {
+    let mut database = row_of(rt.alloc(), SegType::Core)?;
+    let command = sixteen(rt.alloc())?;
+    Ok(assert_sixteen(&rt, &mut database, &command)?)
 }
 
 /// The command that registers eight segments of the ids of eight that stand, made later, and eight of other ids.
@@ -64,11 +84,14 @@ fn eight_and_eight(alloc: Global) -> Result<Command, Fail> {
 
 /// A database of eight segments, and of a core segment.
 fn eight(alloc: Global) -> Result<PathDb, Fail> {
-    let mut database = PathDb::new(alloc);
-    database.apply(&register(alloc, SegType::Core, segment(alloc)?)?)?;
+    let mut database = row_of(alloc, SegType::Core)?;
     for egress in 1..=8 {
-        let row = dated_by(alloc, 10, egress)?;
-        database.apply(&register(alloc, SegType::Down, row)?)?;
+        put(
+            alloc,
+            &mut database,
+            SegType::Down,
+            dated_by(alloc, 10, egress)?,
+        )?;
     }
     Ok(database)
 }
@@ -82,29 +105,52 @@ fn count(database: &PathDb, start: u64, end: u64) -> Result<usize, Fail> {
 
 /// The records of all rows, and how many down segments are shown by the index of each end and by neither.
 fn whole(alloc: Global, database: &PathDb) -> Result<(Vec<u8>, [usize; 3]), Fail> {
-    let mut rows = Vec::new(alloc);
-    write_rows(database, &mut rows)?;
+    let rows = written(alloc, database)?;
     let by_first = count(database, 0x0001_ff00_0000_0110, 0)?;
     let by_last = count(database, 0, 0x0001_ff00_0000_0111)?;
     Ok((rows, [by_first, by_last, count(database, 0, 0)?]))
 }
 
-// It is run with each allocation refused in turn, as the one above. All rows and both indexes are compared.
-#[test]
-fn refused_replacement_changes_nothing(rt: HostRuntime) -> Result<(), Fail> {
-    let mut database = eight(rt.alloc())?;
-    let command = eight_and_eight(rt.alloc())?;
-    let before = whole(rt.alloc(), &database)?;
-    assert_eq!(rt; before.1, [8, 8, 8]);
-    let outcome = match database.apply(&command) {
-        Ok(outcome) => outcome,
+/// Sees that a database is of these rows, and shows this by its indexes.
+fn assert_whole(
+    rt: &impl Abort,
+    alloc: Global,
+    database: &PathDb,
+    rows: &[u8],
+    counts: [usize; 3],
+) -> Result<(), Fail> {
+    let (found, shown) = whole(alloc, database)?;
+    assert_eq!(rt; found.as_slice(), rows);
+    assert_eq!(rt; shown, counts);
+    Ok(())
+}
+
+/// Applies a command. Where it is refused, the database is as it was, and it is applied again.
+fn replace_again(
+    rt: &impl Abort,
+    alloc: Global,
+    database: &mut PathDb,
+    command: &Command,
+) -> Result<Outcome, Fail> {
+    let (rows, counts) = whole(alloc, database)?;
+    assert_eq!(rt; counts, [8, 8, 8]);
+    match apply(database, command) {
+        Ok(outcome) => Ok(outcome),
         Err(_) => {
-            let after = whole(rt.alloc(), &database)?;
-            assert_eq!(rt; after.0.as_slice(), before.0.as_slice());
-            assert_eq!(rt; after.1, before.1);
-            database.apply(&command)?
+            assert_whole(rt, alloc, database, &rows, counts)?;
+            Ok(apply(database, command)?)
         }
-    };
+    }
+}
+
+/// Sees that eight rows are replaced and eight inserted.
+fn assert_replaced(
+    rt: &impl Abort,
+    alloc: Global,
+    database: &mut PathDb,
+    command: &Command,
+) -> Result<(), Fail> {
+    let outcome = replace_again(rt, alloc, database, command)?;
     let replaced = Outcome {
         inserted: 8,
         updated: 8,
@@ -112,6 +158,14 @@ fn refused_replacement_changes_nothing(rt: HostRuntime) -> Result<(), Fail> {
         purged: 0,
     };
     assert_eq!(rt; outcome, replaced);
-    assert_eq!(rt; whole(rt.alloc(), &database)?.1, [16, 16, 16]);
+    assert_eq!(rt; whole(alloc, database)?.1, [16, 16, 16]);
     Ok(())
+}
+
+// It is run with each allocation refused in turn, as the one above. All rows and both indexes are compared.
+#[test]
+fn refused_replacement_changes_nothing(rt: HostRuntime) -> Result<(), Fail> {
+    let mut database = eight(rt.alloc())?;
+    let command = eight_and_eight(rt.alloc())?;
+    assert_replaced(&rt, rt.alloc(), &mut database, &command)
 }

@@ -1,8 +1,10 @@
 //! Registrations: under one key the newer timestamp wins.
 
-use crate::worked::{ID, dated, register};
+use crate::worked::{apply, dated, len_of, no_rows, put, register, standing};
 use path_db::{ApplyError, Command, Outcome, PathDb, Registration};
-use seg_core::{SegType, Segment};
+use seg_core::SegType;
+use std::alloc::Global;
+use std::process::Abort;
 use std::test::Fail;
 
 /// What a registration did.
@@ -15,40 +17,103 @@ fn done(inserted: u32, updated: u32, kept: u32) -> Outcome {
     }
 }
 
+/// Registers a segment, and sees what that did, and whose row stands then.
+fn assert_put(
+    rt: &impl Abort,
+    alloc: Global,
+    database: &mut PathDb,
+    (timestamp, segment_id): (u8, u8),
+    (outcome, stands): (Outcome, u16),
+) -> Result<(), Fail> {
+    let segment = dated(alloc, timestamp, segment_id)?;
+    let found = put(alloc, database, SegType::Down, segment)?;
+    assert_eq!(rt; found, outcome, "timestamp {timestamp}");
+    assert_eq!(rt; standing(database), Some(stands), "timestamp {timestamp}");
+    Ok(())
+}
+
 // One segment with the timestamps 10, 11, 11 and 9, each time with another segment id, which tells whose row stands.
 #[test]
 fn newer_timestamp_wins(rt: HostRuntime) -> Result<(), Fail> {
-    let mut database = PathDb::new(rt.alloc());
-    for (timestamp, segment_id, outcome, standing) in [
-        (10, 1, done(1, 0, 0), 1),
-        (11, 2, done(0, 1, 0), 2),
-        (11, 3, done(0, 0, 1), 2),
-        (9, 4, done(0, 0, 1), 2),
+    let mut database = no_rows(rt.alloc());
+    for (put, found) in [
+        ((10, 1), (done(1, 0, 0), 1)),
+        ((11, 2), (done(0, 1, 0), 2)),
+        ((11, 3), (done(0, 0, 1), 2)),
+        ((9, 4), (done(0, 0, 1), 2)),
     ] {
-        let segment = dated(rt.alloc(), timestamp, segment_id)?;
-        let found = database.apply(&register(rt.alloc(), SegType::Down, segment)?)?;
-        assert_eq!(rt; found, outcome, "timestamp {timestamp}");
-        let stands = database.get(SegType::Down, &ID).map(Segment::segment_id);
-        assert_eq!(rt; stands, Some(standing), "timestamp {timestamp}");
+        assert_put(&rt, rt.alloc(), &mut database, put, found)?;
     }
     Ok(())
 }
 
-// The same in one registration, whose segments are put in their order.
+/// The same in one registration.
+fn four(alloc: Global) -> Result<Registration, Fail> {
+    let mut rows = Vec::new(alloc);
+    for (timestamp, segment_id) in [(10, 1), (11, 2), (11, 3), (9, 4)] {
+        rows.push((SegType::Down, dated(alloc, timestamp, segment_id)?))?;
+    }
+    Ok(Registration::new(rows))
+}
+
+/// Sees that the second of four segments stands once they are registered.
+fn assert_second_stands(
+    rt: &impl Abort,
+    database: &mut PathDb,
+    command: &Command,
+) -> Result<(), Fail> {
+    let outcome = apply(database, command)?;
+    assert_eq!(rt; outcome, done(1, 1, 2));
+    assert_eq!(rt; standing(database), Some(2));
+    Ok(())
+}
+
+// One registration, whose segments are put in their order.
 #[test]
 fn puts_are_in_order(rt: HostRuntime) -> Result<(), Fail> {
-    let mut rows = Vec::new(rt.alloc());
-    for (timestamp, segment_id) in [(10, 1), (11, 2), (11, 3), (9, 4)] {
-        rows.push((SegType::Down, dated(rt.alloc(), timestamp, segment_id)?))?;
-    }
-    let registration = Registration::new(rows);
+    let registration = four(rt.alloc())?;
     assert_eq!(rt; registration.as_slice().len(), 4);
     let again = Registration::new(registration.into_vec());
-    let mut database = PathDb::new(rt.alloc());
-    let outcome = database.apply(&Command::Register(again))?;
-    assert_eq!(rt; outcome, done(1, 1, 2));
-    let stands = database.get(SegType::Down, &ID).map(Segment::segment_id);
-    assert_eq!(rt; stands, Some(2));
+    let mut database = no_rows(rt.alloc());
+    assert_second_stands(&rt, &mut database, &Command::Register(again))
+}
+
+/// The bytes of a database to which this command alone was applied.
+fn len_of_one(alloc: Global, command: &Command) -> Result<u64, Fail> {
+    let mut database = no_rows(alloc);
+    apply(&mut database, command)?;
+    Ok(len_of(&database))
+}
+
+/// Applies a command within a limit.
+fn apply_within(
+    database: &mut PathDb,
+    command: &Command,
+    most: u64,
+) -> Result<Outcome, ApplyError> {
+    database.apply_within(command, most)
+}
+
+/// Sees that a command that takes this many bytes is refused within one less, and applied within them.
+fn assert_within(
+    rt: &impl Abort,
+    database: &mut PathDb,
+    command: &Command,
+    most: u64,
+) -> Result<(), Fail> {
+    let refused = apply_within(database, command, most.saturating_sub(1));
+    assert_eq!(rt; refused, Err(ApplyError::Full));
+    assert_eq!(rt; len_of(database), 0);
+    let found = apply_within(database, command, most)?;
+    assert_eq!(rt; found, done(1, 0, 0));
+    Ok(())
+}
+
+/// Sees that a purge of nothing is applied within no bytes, and leaves this many.
+fn assert_purged(rt: &impl Abort, database: &mut PathDb, len: u64) -> Result<(), Fail> {
+    let found = apply_within(database, &Command::Purge(0), 0)?;
+    assert_eq!(rt; found, done(0, 0, 0));
+    assert_eq!(rt; len_of(database), len);
     Ok(())
 }
 
@@ -56,17 +121,8 @@ fn puts_are_in_order(rt: HostRuntime) -> Result<(), Fail> {
 #[test]
 fn rows_stay_within_the_limit(rt: HostRuntime) -> Result<(), Fail> {
     let command = register(rt.alloc(), SegType::Down, dated(rt.alloc(), 10, 1)?)?;
-    let mut full = PathDb::new(rt.alloc());
-    full.apply(&command)?;
-    let most = full.encoded_len();
-    let mut database = PathDb::new(rt.alloc());
-    let refused = database.apply_within(&command, most.saturating_sub(1));
-    assert_eq!(rt; refused, Err(ApplyError::Full));
-    assert_eq!(rt; database.encoded_len(), 0);
-    let found = database.apply_within(&command, most)?;
-    assert_eq!(rt; found, done(1, 0, 0));
-    let found = database.apply_within(&Command::Purge(0), 0)?;
-    assert_eq!(rt; found, done(0, 0, 0));
-    assert_eq!(rt; database.encoded_len(), most);
-    Ok(())
+    let most = len_of_one(rt.alloc(), &command)?;
+    let mut database = no_rows(rt.alloc());
+    assert_within(&rt, &mut database, &command, most)?;
+    assert_purged(&rt, &mut database, most)
 }

@@ -1,9 +1,10 @@
 //! Rows and commands as records: the worked row and others like it, and each refusal by a byte changed.
 
-use crate::worked::{ID, SEGMENT};
-use path_db::{Command, DbError, read_command, read_rows, write_command, write_rows};
+use crate::worked::{ID, SEGMENT, count_rows, is_there, len_of};
+use path_db::{Command, DbError, PathDb, read_command, read_rows, write_command, write_rows};
 use seg_core::SegType;
 use std::alloc::Global;
+use std::process::Abort;
 use std::test::Fail;
 
 /// A record that is none.
@@ -36,59 +37,94 @@ pub(crate) fn changed(alloc: Global, bytes: &[u8], at: usize, byte: u8) -> Resul
     Ok(changed)
 }
 
-/// How many rows are read. Where memory is refused, it is tried once more.
-fn count_of(alloc: Global, bytes: &[u8]) -> Result<usize, DbError> {
-    let read = match read_rows(alloc, bytes) {
+/// The rows that are read. Where memory is refused, it is tried once more.
+pub(crate) fn read_again(alloc: Global, bytes: &[u8]) -> Result<PathDb, DbError> {
+    match read_rows(alloc, bytes) {
         Err(DbError::NoMemory) => read_rows(alloc, bytes),
         read => read,
-    };
-    Ok(read?.rows().count())
+    }
+}
+
+/// How many rows are read.
+fn count_of(alloc: Global, bytes: &[u8]) -> Result<usize, DbError> {
+    let database = read_again(alloc, bytes)?;
+    Ok(count_rows(&database))
+}
+
+/// The records of all rows.
+pub(crate) fn written(alloc: Global, database: &PathDb) -> Result<Vec<u8>, Fail> {
+    let mut bytes = Vec::new(alloc);
+    write_rows(database, &mut bytes)?;
+    Ok(bytes)
+}
+
+/// Sees that a database is written as these bytes.
+pub(crate) fn assert_written_as(
+    rt: &impl Abort,
+    alloc: Global,
+    database: &PathDb,
+    bytes: &[u8],
+) -> Result<(), Fail> {
+    let written = written(alloc, database)?;
+    assert_eq!(rt; written.as_slice(), bytes);
+    Ok(())
+}
+
+/// Sees that a database has the worked row under each type.
+fn assert_three(rt: &impl Abort, database: &PathDb) {
+    assert_eq!(rt; (count_rows(database), len_of(database)), (3, 279));
+    for kind in [SegType::Up, SegType::Down, SegType::Core] {
+        assert!(rt; is_there(database, kind, &ID));
+    }
 }
 
 // The worked row under each type: it is read, its id is computed again, and it is written as it was.
 #[test]
 fn rows_are_read_and_written(rt: HostRuntime) -> Result<(), Fail> {
     let bytes = rows_of(rt.alloc(), &[1, 2, 3])?;
-    let database = match read_rows(rt.alloc(), &bytes) {
-        Err(DbError::NoMemory) => read_rows(rt.alloc(), &bytes)?,
-        read => read?,
-    };
-    assert_eq!(rt; (database.rows().count(), database.encoded_len()), (3, 279));
-    for kind in [SegType::Up, SegType::Down, SegType::Core] {
-        assert!(rt; database.get(kind, &ID).is_some());
-    }
-    let mut written = Vec::new(rt.alloc());
-    write_rows(&database, &mut written)?;
-    assert_eq!(rt; written.as_slice(), bytes.as_slice());
-    Ok(())
+    let database = read_again(rt.alloc(), &bytes)?;
+    assert_three(&rt, &database);
+    assert_written_as(&rt, rt.alloc(), &database, &bytes)
+}
+
+/// The numbers of three rows' types, and how many rows are read.
+const KINDS: [([u8; 3], Result<usize, DbError>); 8] = [
+    ([1, 2, 3], Ok(3)),
+    ([1, 1, 2], Err(DbError::Order)),
+    ([2, 1, 3], Err(DbError::Order)),
+    ([2, 3, 3], Err(DbError::Order)),
+    ([2, 3, 1], Err(DbError::Order)),
+    ([3, 2, 0], Err(DbError::Order)),
+    ([3, 4, 2], Err(BAD)),
+    ([0, 1, 1], Err(BAD)),
+];
+
+/// The interfaces by which two rows are left, and how many rows are read. The ids of the worked segment left by 2, 1 and 3 begin
+/// with 19, 8a and be.
+const EGRESSES: [(u8, u8, Result<usize, DbError>); 4] = [
+    (2, 1, Ok(2)),
+    (1, 3, Ok(2)),
+    (1, 1, Err(DbError::Order)),
+    (1, 2, Err(DbError::Order)),
+];
+
+/// Down rows of the worked segment, left by these interfaces.
+fn two_rows(alloc: Global, first: u8, second: u8) -> Result<Vec<u8>, Fail> {
+    let mut bytes = Vec::new(alloc);
+    put_row(&mut bytes, 2, first)?;
+    put_row(&mut bytes, 2, second)?;
+    Ok(bytes)
 }
 
 // What is met first is told: the second row's want of order before the third's type.
 #[test]
 fn keys_rise(rt: HostRuntime) -> Result<(), Fail> {
-    for (kinds, expected) in [
-        ([1, 2, 3], Ok(3)),
-        ([1, 1, 2], Err(DbError::Order)),
-        ([2, 1, 3], Err(DbError::Order)),
-        ([2, 3, 3], Err(DbError::Order)),
-        ([2, 3, 1], Err(DbError::Order)),
-        ([3, 2, 0], Err(DbError::Order)),
-        ([3, 4, 2], Err(BAD)),
-        ([0, 1, 1], Err(BAD)),
-    ] {
+    for (kinds, expected) in KINDS {
         let bytes = rows_of(rt.alloc(), &kinds)?;
         assert_eq!(rt; count_of(rt.alloc(), &bytes), expected, "{kinds:?}");
     }
-    // The ids of the worked segment left by 2, 1 and 3 begin with 19, 8a and be.
-    for (first, second, expected) in [
-        (2, 1, Ok(2)),
-        (1, 3, Ok(2)),
-        (1, 1, Err(DbError::Order)),
-        (1, 2, Err(DbError::Order)),
-    ] {
-        let mut bytes = Vec::new(rt.alloc());
-        put_row(&mut bytes, 2, first)?;
-        put_row(&mut bytes, 2, second)?;
+    for (first, second, expected) in EGRESSES {
+        let bytes = two_rows(rt.alloc(), first, second)?;
         assert_eq!(rt; count_of(rt.alloc(), &bytes), expected, "{first} {second}");
     }
     Ok(())
@@ -109,29 +145,32 @@ fn rows_are_whole(rt: HostRuntime) -> Result<(), Fail> {
     Ok(())
 }
 
+/// Which byte is changed, what to, and how many rows are read.
+const CHANGED_ROWS: [(usize, u8, Result<usize, DbError>); 17] = [
+    (0, 4, Err(BAD)), // the type
+    (93, 0, Err(BAD)), // the second row's
+    (93, 3, Err(DbError::Order)), // the same as the third's
+    (1, 1, Err(BAD)), // the length: far more than there are
+    (4, 87, Err(BAD)), // a byte less than the segment
+    (4, 89, Err(BAD)), // a byte of the next row
+    (190, 89, Err(BAD)), // a byte more than there are
+    (5, 0x0b, Err(BAD)), // a field's wire type
+    (5, 0x1a, Err(BAD)), // a field that is skipped: a segment is read, but it is spelled otherwise
+    (12, 0x16, Err(BAD)), // the timestamp, past 2^32 - 1
+    (14, 8, Ok(3)), // the segment id
+    (32, 0x92, Err(BAD)), // the next AS isn't the next entry's
+    (44, 0, Err(BAD)), // no way out of the first AS
+    (44, 2, Ok(3)), // another way out
+    (49, 0xff, Ok(3)), // a MAC
+    (92, 0x8b, Err(BAD)), // the MTU, which goes on past the end
+    (278, 0x0c, Ok(3)), // the last row's
+];
+
 // Three rows with one byte changed: each begins 93 bytes behind the one before, its segment 5 bytes later.
 #[test]
 fn changed_rows(rt: HostRuntime) -> Result<(), Fail> {
     let bytes = rows_of(rt.alloc(), &[1, 2, 3])?;
-    for (at, byte, expected) in [
-        (0, 4, Err(BAD)), // the type
-        (93, 0, Err(BAD)), // the second row's
-        (93, 3, Err(DbError::Order)), // the same as the third's
-        (1, 1, Err(BAD)), // the length: far more than there are
-        (4, 87, Err(BAD)), // a byte less than the segment
-        (4, 89, Err(BAD)), // a byte of the next row
-        (190, 89, Err(BAD)), // a byte more than there are
-        (5, 0x0b, Err(BAD)), // a field's wire type
-        (5, 0x1a, Err(BAD)), // a field that is skipped: a segment is read, but it is spelled otherwise
-        (12, 0x16, Err(BAD)), // the timestamp, past 2^32 - 1
-        (14, 8, Ok(3)), // the segment id
-        (32, 0x92, Err(BAD)), // the next AS isn't the next entry's
-        (44, 0, Err(BAD)), // no way out of the first AS
-        (44, 2, Ok(3)), // another way out
-        (49, 0xff, Ok(3)), // a MAC
-        (92, 0x8b, Err(BAD)), // the MTU, which goes on past the end
-        (278, 0x0c, Ok(3)), // the last row's
-    ] {
+    for (at, byte, expected) in CHANGED_ROWS {
         let changed = changed(rt.alloc(), &bytes, at, byte)?;
         assert_eq!(rt; count_of(rt.alloc(), &changed), expected, "{at} {byte}");
     }
@@ -219,22 +258,25 @@ fn purges(rt: HostRuntime) {
     }
 }
 
+/// A kind, a type's number, how many bytes of an id, a version, and what is told.
+const REMOVALS: [(u8, u8, u8, u32, Result<(u8, u64), DbError>); 11] = [
+    (3, 1, 32, 2, Ok((3, 1))),
+    (3, 2, 32, 2, Ok((3, 2))),
+    (3, 3, 32, 3, Ok((3, 3))),
+    (3, 2, 32, 1, Err(BAD)),
+    (3, 2, 32, 0, Err(BAD)),
+    (3, 0, 32, 2, Err(BAD)),
+    (3, 4, 32, 2, Err(BAD)),
+    (3, 2, 31, 2, Err(BAD)),
+    (3, 2, 33, 2, Err(BAD)),
+    (4, 2, 32, 2, Err(BAD)),
+    (0, 2, 32, 2, Err(BAD)),
+];
+
 // A removal has 34 bytes, the third kind, and a type from 1 to 3; version 1 has none.
 #[test]
 fn removals(rt: HostRuntime) -> Result<(), Fail> {
-    for (kind, number, ids, version, expected) in [
-        (3, 1, 32, 2, Ok((3, 1))),
-        (3, 2, 32, 2, Ok((3, 2))),
-        (3, 3, 32, 3, Ok((3, 3))),
-        (3, 2, 32, 1, Err(BAD)),
-        (3, 2, 32, 0, Err(BAD)),
-        (3, 0, 32, 2, Err(BAD)),
-        (3, 4, 32, 2, Err(BAD)),
-        (3, 2, 31, 2, Err(BAD)),
-        (3, 2, 33, 2, Err(BAD)),
-        (4, 2, 32, 2, Err(BAD)),
-        (0, 2, 32, 2, Err(BAD)),
-    ] {
+    for (kind, number, ids, version, expected) in REMOVALS {
         let mut bytes = Vec::from_slice(rt.alloc(), &[kind, number])?;
         for byte in 0..ids {
             bytes.push(byte)?;
@@ -245,30 +287,33 @@ fn removals(rt: HostRuntime) -> Result<(), Fail> {
     Ok(())
 }
 
+/// Which byte is changed, what to, and what is told.
+const CHANGED_REGISTRATIONS: [(usize, u8, Result<(u8, u64), DbError>); 18] = [
+    (0, 2, Err(BAD)), // a purge of many bytes
+    (0, 3, Err(BAD)), // a removal of many bytes
+    (0, 4, Err(BAD)), // another kind
+    (1, 0, Err(BAD)), // the count: bytes are left over
+    (1, 1, Err(BAD)), // a row is left over
+    (1, 3, Err(BAD)), // a row is missing
+    (2, 0, Err(BAD)), // the type
+    (2, 3, Ok((1, 2))), // rows in any order
+    (95, 2, Ok((1, 2))), // equal rows, as they are
+    (95, 4, Err(BAD)), // the second row's type
+    (3, 1, Err(BAD)), // the length: far more than there are
+    (6, 87, Err(BAD)), // a byte less than the segment
+    (99, 89, Err(BAD)), // a byte more than there are
+    (7, 0x0b, Err(BAD)), // a field's wire type
+    (7, 0x1a, Err(BAD)), // a field that is skipped: a segment is read, but it is spelled otherwise
+    (46, 0, Err(BAD)), // no way out of the first AS
+    (46, 9, Ok((1, 2))), // another way out
+    (187, 0x8b, Err(BAD)), // the last MTU, which goes on past the end
+];
+
 // Two segments with one byte changed: their rows begin at 2 and at 95, their segments 5 bytes later.
 #[test]
 fn changed_registrations(rt: HostRuntime) -> Result<(), Fail> {
     let bytes = registration(rt.alloc(), 2)?;
-    for (at, byte, expected) in [
-        (0, 2, Err(BAD)), // a purge of many bytes
-        (0, 3, Err(BAD)), // a removal of many bytes
-        (0, 4, Err(BAD)), // another kind
-        (1, 0, Err(BAD)), // the count: bytes are left over
-        (1, 1, Err(BAD)), // a row is left over
-        (1, 3, Err(BAD)), // a row is missing
-        (2, 0, Err(BAD)), // the type
-        (2, 3, Ok((1, 2))), // rows in any order
-        (95, 2, Ok((1, 2))), // equal rows, as they are
-        (95, 4, Err(BAD)), // the second row's type
-        (3, 1, Err(BAD)), // the length: far more than there are
-        (6, 87, Err(BAD)), // a byte less than the segment
-        (99, 89, Err(BAD)), // a byte more than there are
-        (7, 0x0b, Err(BAD)), // a field's wire type
-        (7, 0x1a, Err(BAD)), // a field that is skipped: a segment is read, but it is spelled otherwise
-        (46, 0, Err(BAD)), // no way out of the first AS
-        (46, 9, Ok((1, 2))), // another way out
-        (187, 0x8b, Err(BAD)), // the last MTU, which goes on past the end
-    ] {
+    for (at, byte, expected) in CHANGED_REGISTRATIONS {
         let changed = changed(rt.alloc(), &bytes, at, byte)?;
         let read = command_of(rt.alloc(), &changed, 1);
         assert_eq!(rt; read, expected, "{at} {byte}");

@@ -1,11 +1,11 @@
 //! Want of memory while records are written or read. Each test is run with each of its allocations refused in turn: what stood
 //! before the refused call stands, the call succeeds when it is tried again, and no answer is another for the refusal.
 
-use crate::records::{changed, registration, rows_of};
+use crate::records::{assert_written_as, changed, read_again, registration, rows_of};
 use path_db::{
     Command, DbError, PathDb, RowsReader, read_command, read_rows, write_command, write_rows,
 };
-use std::alloc::Global;
+use std::alloc::{AllocError, Global};
 use std::process::Abort;
 use std::test::Fail;
 
@@ -18,35 +18,54 @@ fn assert_behind_front(rt: &impl Abort, out: &[u8], bytes: &[u8]) {
     assert_eq!(rt; out.get(3..), Some(bytes));
 }
 
-#[test]
-fn refused_memory_of_written_rows(rt: HostRuntime) -> Result<(), Fail> {
-    let bytes = rows_of(rt.alloc(), &[1, 2, 3])?;
-    let database = read_rows(rt.alloc(), &bytes)?;
-    let mut out = Vec::from_slice(rt.alloc(), &FRONT)?;
-    if write_rows(&database, &mut out).is_err() {
-        assert_behind_front(&rt, &out, &[]);
-        write_rows(&database, &mut out)?;
+/// The rows that are read, where no memory is refused.
+fn read_once(alloc: Global, bytes: &[u8]) -> Result<PathDb, DbError> {
+    read_rows(alloc, bytes)
+}
+
+/// Appends the records of all rows.
+fn write(database: &PathDb, out: &mut Vec<u8>) -> Result<(), AllocError> {
+    write_rows(database, out)
+}
+
+/// Sees that a database is written as these bytes, behind what stood there.
+fn assert_appended(
+    rt: &impl Abort,
+    alloc: Global,
+    database: &PathDb,
+    bytes: &[u8],
+) -> Result<(), Fail> {
+    let mut out = Vec::from_slice(alloc, &FRONT)?;
+    if write(database, &mut out).is_err() {
+        assert_behind_front(rt, &out, &[]);
+        write(database, &mut out)?;
     }
-    assert_behind_front(&rt, &out, &bytes);
+    assert_behind_front(rt, &out, bytes);
     Ok(())
 }
 
-/// Sees that a database is written as these bytes, or that reading was refused as it is to be. Want of memory is no answer.
+#[test]
+fn refused_memory_of_written_rows(rt: HostRuntime) -> Result<(), Fail> {
+    let bytes = rows_of(rt.alloc(), &[1, 2, 3])?;
+    let database = read_once(rt.alloc(), &bytes)?;
+    assert_appended(&rt, rt.alloc(), &database, &bytes)
+}
+
+/// Sees that a database is written as these bytes, or that reading was refused by this refusal, where there is one. Want of
+/// memory is no answer.
 fn assert_rows(
     rt: &impl Abort,
     alloc: Global,
     read: Result<PathDb, DbError>,
-    expected: Result<&[u8], DbError>,
+    bytes: &[u8],
+    refusal: Option<DbError>,
 ) -> Result<(), Fail> {
-    match (read, expected) {
-        (Ok(database), Ok(bytes)) => {
-            let mut written = Vec::new(alloc);
-            write_rows(&database, &mut written)?;
-            assert_eq!(rt; written.as_slice(), bytes);
+    match read {
+        Ok(database) => {
+            assert_eq!(rt; refusal, None, "rows are read");
+            assert_written_as(rt, alloc, &database, bytes)?;
         }
-        (Ok(_), Err(_)) => assert!(rt; false, "rows are read"),
-        (Err(refusal), Ok(_)) => assert!(rt; false, "{refusal:?}"),
-        (Err(refusal), Err(expected)) => assert_eq!(rt; refusal, expected),
+        Err(found) => assert_eq!(rt; Some(found), refusal),
     }
     Ok(())
 }
@@ -59,15 +78,8 @@ fn refused_memory_of_read_rows(rt: HostRuntime) -> Result<(), Fail> {
         ([1, 2, 4], Some(DbError::BadRecord)),
     ] {
         let bytes = rows_of(rt.alloc(), &kinds)?;
-        let read = match read_rows(rt.alloc(), &bytes) {
-            Err(DbError::NoMemory) => read_rows(rt.alloc(), &bytes),
-            read => read,
-        };
-        let expected = match refusal {
-            None => Ok(bytes.as_slice()),
-            Some(refusal) => Err(refusal),
-        };
-        assert_rows(&rt, rt.alloc(), read, expected)?;
+        let read = read_again(rt.alloc(), &bytes);
+        assert_rows(&rt, rt.alloc(), read, &bytes, refusal)?;
     }
     Ok(())
 }
@@ -93,11 +105,7 @@ fn refused_memory_of_rows_in_pieces(rt: HostRuntime) -> Result<(), Fail> {
             Err(DbError::NoMemory) => read_in_pieces(rt.alloc(), &bytes),
             read => read,
         };
-        let expected = match refusal {
-            None => Ok(bytes.as_slice()),
-            Some(refusal) => Err(refusal),
-        };
-        assert_rows(&rt, rt.alloc(), read, expected)?;
+        assert_rows(&rt, rt.alloc(), read, &bytes, refusal)?;
     }
     Ok(())
 }

@@ -1,8 +1,8 @@
 //! A segment that was worked through by hand, and others like it.
 
-use path_db::{Command, Registration};
+use path_db::{Command, Outcome, PathDb, Registration};
 use seg_core::{SegType, Segment, read_segment};
-use std::alloc::Global;
+use std::alloc::{AllocError, Global};
 use std::test::Fail;
 
 /// Two entries, from 1-ff00:0:110 to 1-ff00:0:111.
@@ -61,4 +61,59 @@ pub(crate) fn register(alloc: Global, kind: SegType, segment: Segment) -> Result
     let mut rows = Vec::new(alloc);
     rows.push((kind, segment))?;
     Ok(Command::Register(Registration::new(rows)))
+}
+
+// ---- databases: no test needs a fact of one, so these calls, which have no contracts, keep the tests' proofs short
+
+/// A database of no rows.
+pub(crate) fn no_rows(alloc: Global) -> PathDb {
+    PathDb::new(alloc)
+}
+
+/// Applies a command.
+pub(crate) fn apply(database: &mut PathDb, command: &Command) -> Result<Outcome, AllocError> {
+    database.apply(command)
+}
+
+/// Registers a segment.
+pub(crate) fn put(
+    alloc: Global,
+    database: &mut PathDb,
+    kind: SegType,
+    segment: Segment,
+) -> Result<Outcome, Fail> {
+    let command = register(alloc, kind, segment)?;
+    Ok(apply(database, &command)?)
+}
+
+/// A database of the worked segment under this type.
+pub(crate) fn row_of(alloc: Global, kind: SegType) -> Result<PathDb, Fail> {
+    let mut database = no_rows(alloc);
+    put(alloc, &mut database, kind, segment(alloc)?)?;
+    Ok(database)
+}
+
+/// An equal database.
+pub(crate) fn copy_of(database: &PathDb) -> Result<PathDb, AllocError> {
+    database.try_clone()
+}
+
+/// How many rows there are.
+pub(crate) fn count_rows(database: &PathDb) -> usize {
+    database.rows().count()
+}
+
+/// The bytes of all rows as records.
+pub(crate) fn len_of(database: &PathDb) -> u64 {
+    database.encoded_len()
+}
+
+/// Whether a segment stands under a type and an id.
+pub(crate) fn is_there(database: &PathDb, kind: SegType, id: &[u8; 32]) -> bool {
+    database.get(kind, id).is_some()
+}
+
+/// The segment id of the down segment that has the worked segment's id.
+pub(crate) fn standing(database: &PathDb) -> Option<u16> {
+    database.get(SegType::Down, &ID).map(Segment::segment_id)
 }
