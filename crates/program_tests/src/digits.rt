@@ -8,70 +8,76 @@ use seg_lookup::Roster;
 use session_core::{FrameError, Source};
 use std::alloc::Global;
 use std::io::Write;
-use std::test::Fail;
+use std::process::Abort;
 
-#[test]
-fn hexadecimal_sessions(rt: HostRuntime) -> Result<(), Fail> {
-    let alloc = rt.alloc();
-    let replies = text_of(alloc, &[INSERTED, "\n", FOUND, "\n"])?;
-    let cores = cores(alloc)?;
-    let mut spaced = String::new(alloc);
-    for byte in text_of(alloc, &[REGISTER, LOOKUP])?.chars() {
-        spaced.push(byte.to_ascii_uppercase())?;
-        spaced.push_str(" \r\n")?;
-    }
-    for (text, outcome, output) in [
-        (spaced.as_str(), Ok(2), replies.as_str()),
-        ("", Ok(0), ""),
-        (" \r\n", Ok(0), ""),
-        (
-            "0000000201 00 00000000",
-            Err(Fault::Frame(FrameError::Length)),
-            "00000002ff13\n",
-        ),
-        ("00000002010", Err(Fault::Hex), ""),
-        ("0000000201 0g", Err(Fault::Hex), ""),
-        ("000000020100\t", Err(Fault::Hex), ""),
-        ("0000000201", Err(Fault::Frame(FrameError::Read)), ""),
-    ] {
-        let mut lines = Vec::new(alloc);
-        let result = once_in_hex(
-            alloc,
-            &mut text.as_bytes(),
-            &mut lines,
-            &cores,
-            &TrustAll,
-            0,
-            1_000,
-        );
-        assert_eq!(rt; result, outcome, "{text}");
-        assert_eq!(rt; lines.as_slice(), output.as_bytes(), "{text}");
-    }
-    Ok(())
-}
-
-/// A session of no core ASes, at moment 0.
-fn with_no_cores<R: Source, W: Write>(
+/// What a session ends with in which all signatures are good, at moment 0.
+fn in_hex<R: Source, W: Write>(
     alloc: Global,
     reader: &mut R,
     writer: &mut W,
+    cores: &Roster,
     turns: u64,
 ) -> Result<u64, Fault> {
-    once_in_hex(
-        alloc,
-        reader,
-        writer,
-        &Roster::new(Vec::new(alloc)),
-        &TrustAll,
-        0,
-        turns,
-    )
+    once_in_hex(alloc, reader, writer, cores, &TrustAll, 0, turns)
+}
+
+/// Asserts what a session of this text ends with, and which lines it writes.
+fn assert_lines(rt: &impl Abort, alloc: Global, text: &str, ends: Result<u64, Fault>, lines: &str) {
+    let mut reader = text.as_bytes();
+    let mut output = Vec::new(alloc);
+    let outcome = in_hex(alloc, &mut reader, &mut output, &cores(rt, alloc), 1_000);
+    assert_eq!(rt; outcome, ends, "{text}");
+    assert_eq!(rt; output.as_slice(), lines.as_bytes(), "{text}");
+}
+
+/// The worked session's frames in upper case, with blanks and the ends of lines behind each digit.
+fn spaced(rt: &impl Abort, alloc: Global) -> String {
+    let mut spaced = String::new(alloc);
+    for digit in text_of(rt, alloc, &[REGISTER, LOOKUP]).chars() {
+        spaced
+            .push(digit.to_ascii_uppercase())
+            .expect(rt, "no memory");
+        spaced.push_str(" \r\n").expect(rt, "no memory");
+    }
+    spaced
 }
 
 #[test]
-fn hexadecimal_streams(rt: HostRuntime) -> Result<(), Fail> {
+fn spaced_digits(rt: HostRuntime) {
     let alloc = rt.alloc();
-    let text = text_of(alloc, &[REGISTER])?;
+    let text = spaced(&rt, alloc);
+    let lines = text_of(&rt, alloc, &[INSERTED, "\n", FOUND, "\n"]);
+    assert_lines(&rt, alloc, text.as_str(), Ok(2), lines.as_str());
+}
+
+/// Texts, what a session of them ends with, and the lines that it writes.
+const TEXTS: [(&str, Result<u64, Fault>, &str); 7] = [
+    ("", Ok(0), ""),
+    (" \r\n", Ok(0), ""),
+    (
+        "0000000201 00 00000000",
+        Err(Fault::Frame(FrameError::Length)),
+        "00000002ff13\n",
+    ),
+    ("00000002010", Err(Fault::Hex), ""),
+    ("0000000201 0g", Err(Fault::Hex), ""),
+    ("000000020100\t", Err(Fault::Hex), ""),
+    ("0000000201", Err(Fault::Frame(FrameError::Read)), ""),
+];
+
+#[test]
+fn hexadecimal_sessions(rt: HostRuntime) {
+    let alloc = rt.alloc();
+    for (text, ends, lines) in TEXTS {
+        assert_lines(&rt, alloc, text, ends, lines);
+    }
+}
+
+#[test]
+fn hexadecimal_streams(rt: HostRuntime) {
+    let alloc = rt.alloc();
+    let none = Roster::new(Vec::new(alloc));
+    let text = text_of(&rt, alloc, &[REGISTER]);
     let mut lines = Vec::new(alloc);
     let mut reader = Pieces {
         bytes: text.as_bytes(),
@@ -79,11 +85,11 @@ fn hexadecimal_streams(rt: HostRuntime) -> Result<(), Fail> {
         reads: 0,
         failing: 2,
     };
-    let failed = with_no_cores(alloc, &mut reader, &mut lines, 1_000);
+    let failed = in_hex(alloc, &mut reader, &mut lines, &none, 1_000);
     assert_eq!(rt; failed, Err(Fault::Frame(FrameError::Read)));
 
     let mut reader = in_pieces(text.as_bytes(), 10);
-    let short = with_no_cores(alloc, &mut reader, &mut lines, 3);
+    let short = in_hex(alloc, &mut reader, &mut lines, &none, 3);
     assert_eq!(rt; short, Err(Fault::Frame(FrameError::Turns)));
     assert_eq!(rt; lines.len(), 0);
 
@@ -92,8 +98,7 @@ fn hexadecimal_streams(rt: HostRuntime) -> Result<(), Fail> {
         room: 7,
         when_full: WhenFull::TakesNone,
     };
-    let full = with_no_cores(alloc, &mut text.as_bytes(), &mut writer, 1_000);
+    let full = in_hex(alloc, &mut text.as_bytes(), &mut writer, &none, 1_000);
     assert_eq!(rt; full, Err(Fault::Frame(FrameError::Write)));
     assert_eq!(rt; writer.taken.as_slice(), b"0000001".as_slice());
-    Ok(())
 }

@@ -42,7 +42,7 @@ impl Read for Pieces<'_> {
 }
 
 /// What a writer does once it is full.
-#[derive(Clone, Copy, Debug)]
+#[derive(Clone, Copy)]
 pub enum WhenFull {
     TakesNone,
     Fails,

@@ -2,11 +2,12 @@
 
 use crate::streams::in_pieces;
 use path_commands::{cores_of, once};
-use seg_check::TrustAll;
+use seg_check::{TrustAll, Verifier};
 use seg_lookup::Roster;
-use session_core::FrameError;
+use session_core::{FrameError, Source};
 use std::alloc::Global;
-use std::test::Fail;
+use std::io::Write;
+use std::process::Abort;
 
 /// Registers a segment of two ASes, from 1-ff00:0:110 to 1-ff00:0:111.
 pub const REGISTER: &str =
@@ -41,55 +42,112 @@ pub const NO_CORE: &str = "00000002ff43";
 /// A place and no rows.
 pub const NONE_INSERTED: &str = "0000001981000000000000000000000000000000000000000000000000";
 
-/// The one core AS of the worked session.
-pub fn cores(alloc: Global) -> Result<Roster, Fail> {
-    Ok(Roster::new(cores_of(alloc, "1-ff00:0:110")?))
-}
-
-/// What a session of these frames ends with, and what it writes, in hexadecimal digits.
-pub fn answer(alloc: Global, frames: &[&str]) -> Result<(Result<u64, FrameError>, String), Fail> {
-    let input = joined(alloc, frames)?;
-    let mut output = Vec::new(alloc);
-    let cores = cores(alloc)?;
-    let outcome = once(
-        alloc,
-        &mut input.as_slice(),
-        &mut output,
-        &cores,
-        &TrustAll,
-        0,
-        1_000,
-    );
-    Ok((outcome, hex::encode(alloc, output.as_slice())?))
-}
-
 /// The bytes of these hexadecimal texts.
-pub fn joined(alloc: Global, texts: &[&str]) -> Result<Vec<u8>, Fail> {
+pub fn joined(rt: &impl Abort, alloc: Global, texts: &[&str]) -> Vec<u8> {
     let mut bytes = Vec::new(alloc);
     for text in texts {
-        bytes.extend_from_slice(hex::decode(alloc, *text)?.as_slice())?;
+        let more = hex::decode(alloc, *text).expect(rt, "no digits");
+        bytes
+            .extend_from_slice(more.as_slice())
+            .expect(rt, "no memory");
     }
-    Ok(bytes)
+    bytes
 }
 
 /// These texts one after the other.
-pub fn text_of(alloc: Global, texts: &[&str]) -> Result<String, Fail> {
+pub fn text_of(rt: &impl Abort, alloc: Global, texts: &[&str]) -> String {
     let mut all = String::new(alloc);
     for text in texts {
-        all.push_str(text)?;
+        all.push_str(text).expect(rt, "no memory");
     }
-    Ok(all)
+    all
 }
 
-/// What a session of these bytes ends with, and what it writes, where they come in pieces of this size.
-pub fn answer_in_pieces(
+/// The ASes of a list, as core ASes.
+pub fn roster(rt: &impl Abort, alloc: Global, list: &str) -> Roster {
+    Roster::new(cores_of(alloc, list).expect(rt, "no list of ASes"))
+}
+
+/// The one core AS of the worked session.
+pub fn cores(rt: &impl Abort, alloc: Global) -> Roster {
+    roster(rt, alloc, "1-ff00:0:110")
+}
+
+/// What a session ends with at moment 0, where all signatures are good.
+pub fn session<R: Source, W: Write>(
+    alloc: Global,
+    reader: &mut R,
+    writer: &mut W,
+    cores: &Roster,
+    turns: u64,
+) -> Result<u64, FrameError> {
+    once(alloc, reader, writer, cores, &TrustAll, 0, turns)
+}
+
+/// What a session of these frames writes, which ends so.
+pub fn replies<V: Verifier>(
+    rt: &impl Abort,
+    alloc: Global,
+    cores: &Roster,
+    checker: &V,
+    now: u64,
+    frames: &[&str],
+    ends: Result<u64, FrameError>,
+) -> Vec<u8> {
+    let input = joined(rt, alloc, frames);
+    let mut output = Vec::new(alloc);
+    let mut reader = input.as_slice();
+    let outcome = once(alloc, &mut reader, &mut output, cores, checker, now, 1_000);
+    assert_eq!(rt; outcome, ends, "{frames:?}");
+    output
+}
+
+/// What a session like the worked one writes of these frames, which ends so.
+pub fn answer(
+    rt: &impl Abort,
+    alloc: Global,
+    frames: &[&str],
+    ends: Result<u64, FrameError>,
+) -> Vec<u8> {
+    replies(rt, alloc, &cores(rt, alloc), &TrustAll, 0, frames, ends)
+}
+
+/// Asserts what a session ended with, in the case of this name and number.
+pub fn assert_ended(
+    rt: &impl Abort,
+    outcome: Result<u64, FrameError>,
+    ends: Result<u64, FrameError>,
+    name: &str,
+    number: u64,
+) {
+    assert_eq!(rt; outcome, ends, "{name} {number}");
+}
+
+/// Asserts how often something was called, in the case of this name and number.
+pub fn assert_calls(rt: &impl Abort, calls: u64, wanted: u64, name: &str, number: u64) {
+    assert_eq!(rt; calls, wanted, "{name} {number}");
+}
+
+/// Asserts that these replies, in hexadecimal digits, were written.
+pub fn assert_written(rt: &impl Abort, alloc: Global, name: &str, output: &[u8], replies: &[&str]) {
+    let digits = hex::encode(alloc, output).expect(rt, "no memory");
+    let wanted = text_of(rt, alloc, replies);
+    assert_eq!(rt; digits.as_str(), wanted.as_str(), "{name}");
+}
+
+/// Asserts what a session like the worked one ends with where these bytes come in pieces of this size, and that these
+/// replies are written.
+pub fn assert_in_pieces(
+    rt: &impl Abort,
     alloc: Global,
     input: &[u8],
     size: usize,
-) -> Result<(Result<u64, FrameError>, String), Fail> {
+    ends: Result<u64, FrameError>,
+    replies: &[&str],
+) {
     let mut reader = in_pieces(input, size);
     let mut output = Vec::new(alloc);
-    let cores = cores(alloc)?;
-    let outcome = once(alloc, &mut reader, &mut output, &cores, &TrustAll, 0, 1_000);
-    Ok((outcome, hex::encode(alloc, output.as_slice())?))
+    let outcome = session(alloc, &mut reader, &mut output, &cores(rt, alloc), 1_000);
+    assert_ended(rt, outcome, ends, "pieces of", size as u64);
+    assert_written(rt, alloc, "in pieces", output.as_slice(), replies);
 }
