@@ -15,6 +15,7 @@ use Rattle.seg_core.specs.EntryView.{entry_view, entry_views}
 use Rattle.seg_core.specs.Message.{last_of}
 use Rattle.std.proofs.lemmas.Cmp.{nat_cmp_total, nat_list_cmp_total, tied_itself}
 use Rattle.std.proofs.lemmas.List.{map-append}
+use Rattle.std.specs.List.{list_any}
 use Rattle.std.proofs.lemmas.List.Folds.{list_any-append}
 use Rattle.std.proofs.Math.Seq.{take-suc, drop-cons}
 use Rattle.seg_core.specs.SegmentView.{EntryView}
@@ -257,6 +258,15 @@ pub saved_some : (end : EndOf) (p : Place) (places : List Place) (saved : List S
 saved_some end p places saved stood row all is its =
     saved_push end (places ++ p ∷ []) saved stood (saved_still end p places saved all)
     (λ r e q so. let same : r ≡ row = cc in has_last q p places (same_if q p (one_place end q p row (subst (λ x. is_place end q x ≡ true) same so) its)))
+
+-- its place is among these already
+pub saved_there : (end : EndOf) (p : Place) (places : List Place) (saved : List Stood) (stood : Stood) (row : RowView) → AreSavedTouched end places saved → stood.1 ≡ Some row → is_place end p row ≡ true → has places p ≡ true → AreSavedTouched end places (saved ++ stood ∷ [])
+saved_there end p places saved stood row all is its there =
+    saved_push end places saved stood all
+    (λ r e q so. let same : r ≡ row = cc in has_alike q p places (one_place end q p row (subst (λ x. is_place end q x ≡ true) same so) its) ∙ there)
+  where
+    has_alike : (q p : Place) (places : List Place) → AreSame q p → has places q ≡ has places p
+    has_alike q p places same = λ i. list_any (λ x. is_eq (ordering_then (nat_cmp (same.kind i) x.kind) (ordering_then (nat_cmp (same.isd_as i) x.isd_as) (slice_cmp nat_cmp (same.id i) x.id)))) places
 
 pub saved_none : (end : EndOf) (places : List Place) (saved : List Stood) (stood : Stood) → AreSavedTouched end places saved → stood.1 ≡ None → AreSavedTouched end places (saved ++ stood ∷ [])
 saved_none end places saved stood all is = saved_push end places saved stood all (λ r e. absurd (cc))

@@ -52,7 +52,7 @@ pub(crate) fn places_of(alloc: Global, end: End, rows: &[Row]) -> Result<Vec<Pla
     Ok(places)
 }
 
-/// The places of rows that are new, and of those that stood under their keys.
+/// The places of rows that are new, and of those that stood under their keys, where these are others than those of the new ones.
 pub(crate) fn touched_places(
     alloc: Global,
     end: End,
@@ -65,12 +65,25 @@ pub(crate) fn touched_places(
     ensures memory { OnErr result (0 < length new.now) }
 {
     let mut places = places_of(alloc, end, new)?;
-    for old in saved {
+    for (k, old) in saved.iter().enumerate() {
         if let Some(row) = &old.row {
-            places.push(place_of(end, row))?;
+            let place = place_of(end, row);
+            if !is_at(&places, k, &place) {
+                places.push(place)?;
+            }
         }
     }
     Ok(places)
+}
+
+/// Whether a place stands at an index of these.
+fn is_at(places: &[Place], k: usize, place: &Place) -> bool
+    ensures { result ≡ true → has places.now place.now ≡ true }
+{
+    match places.get(k) {
+        Some(other) => place.cmp(other).is_eq(),
+        None => false,
+    }
 }
 
 /// Adds places. Where memory is refused, some of them stand.

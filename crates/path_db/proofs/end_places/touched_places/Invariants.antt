@@ -4,8 +4,8 @@ use Rattle.path_db.specs.Saved.{saved_view}
 use Rattle.path_db.specs.EndPlaces.{end_of, AreTouched, AreSavedTouched}
 use Rattle.path_db.proofs.end_places.touched_places.Given as goal
 
-abbrev pub invariant-loop-old : goal.invariant-loop-old
-invariant-loop-old l = record {
+abbrev pub invariant-loop-k : goal.invariant-loop-k
+invariant-loop-k l = record {
   new : AreTouched (end_of l.end) l.places.items (row_views l.new);
-  saved : AreSavedTouched (end_of l.end) l.places.items (map saved_view (take l.old-index l.saved));
+  saved : AreSavedTouched (end_of l.end) l.places.items (map saved_view (take l.k l.saved));
 }
