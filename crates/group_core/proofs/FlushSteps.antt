@@ -1,5 +1,5 @@
 -- The flusher's steps on a state.
-use Rattle.std.proofs.Common.{◌≡◌, ◌≢◌, inl, ℕ, ◌+◌, Bool, true, false, List, Result, Ok, Err, refl, sym, ◌∙◌, subst, arith}
+use Rattle.std.proofs.Common.{◌≡◌, ◌≢◌, inl, ℕ, ◌+◌, Bool, true, false, List, Result, Ok, Err, refl, sym, ◌∙◌, ap, subst, arith}
 use Rattle.path_db.specs.Database.{RowView}
 use Rattle.path_db.specs.declared.command.Command.{Command}
 use Rattle.sector_dev.specs.Disk.{Disk, IsHonest}
@@ -14,7 +14,10 @@ use Rattle.group_laws.specs.Standing.{load_of, IsHeldBy}
 use Rattle.group_laws.specs.HeldSteps as held
 use Rattle.group_laws.proofs.Exports.{held_while_load_is_written, held_while_gate_is_opened, held_while_load_is_synced, held_while_gate_is_synced}
 use Rattle.group_core.specs.declared.bookkeeping.Turn.{Turn}
+use Rattle.group_core.specs.declared.error.StepError.{StepError}
+use Rattle.group_core.specs.declared.values.Commit.{Commit}
 use Rattle.group_core.specs.StateView.{StateView, setting_of, standing_of}
+use Rattle.group_core.specs.Steps.{TakesGroupTurn}
 use Rattle.group_core.specs.Invariant.{Hidden, Shape, Sound, IsState}
 use Rattle.group_core.proofs.Soundness.{sound_at_work, either_stays}
 
@@ -28,6 +31,10 @@ success E v = Ok v
 -- the state after a call of the flusher
 abbrev pub flushed : StateView → Disk → Flush → Turn → Bool → StateView
 flushed old disk flush group stopped = record old { disk = disk; flush = flush; group = group; stopped = stopped }
+
+-- the phase where a value had its turn
+pub flush_at : {P : Type 0} {phase : Flush} {value same : Commit P} {view new old : StateView} → view ≡ new → TakesGroupTurn phase value (success (StepError P) same) old new → view.flush ≡ phase
+flush_at is taken = ap (λ (v : StateView). v.flush) (is ∙ taken.3) ∙ taken.0.at
 
 module _ (old : StateView) (hidden : Hidden) (has : IsState old hidden) where
   -- a phase behind which no bytes are to be written, and something is in flight; and whether the state may go on
@@ -96,9 +103,9 @@ module _ (old : StateView) (hidden : Hidden) (has : IsState old hidden) where
           flushed_state disk Written old.group old.stopped (record { staged = λ _. in_flight Staged turn (λ (is : Staged ≡ Resting). cc); rests = λ (is : Written ≡ Resting). cc; going = λ is. is }) (in_flight Staged turn (λ (is : Staged ≡ Resting). cc)) call.keeps
           (λ sound honest. held_while_load_is_written T E (List RowView) Command (setting_of old) (standing_of old) sound.behind (success E v) old.disk disk turn (call_so (success E v) call) honest sound.held)
 
-      pub load_not_written : {E : Type 0} (T : Type 0) (e : E) (group : Turn) → WriteCall sector given (failure T e) old.disk disk → IsState (flushed old disk old.flush group true) hidden
-      load_not_written {E} T e group call =
-          flushed_state disk old.flush group true (record { staged = λ is. is; rests = λ is. is; going = λ (is : true ≡ false). cc }) (in_flight Staged turn (λ (is : Staged ≡ Resting). cc)) call.keeps
+      pub load_not_written : {E : Type 0} (T : Type 0) (e : E) (group : Turn) (stopped : Bool) → stopped ≡ true → WriteCall sector given (failure T e) old.disk disk → IsState (flushed old disk old.flush group stopped) hidden
+      load_not_written {E} T e group stopped stops call =
+          flushed_state disk old.flush group stopped (record { staged = λ is. is; rests = λ is. is; going = λ (is : stopped ≡ false). cc }) (in_flight Staged turn (λ (is : Staged ≡ Resting). cc)) call.keeps
           (λ sound honest. subst (λ (p : Flush). IsHeldBy (setting_of old) (held.flushed (standing_of old) p) sound.behind disk.history.now) (sym turn)
           (held_while_load_is_written T E (List RowView) Command (setting_of old) (standing_of old) sound.behind (failure T e) old.disk disk turn (call_so (failure T e) call) honest sound.held))
 
@@ -112,9 +119,9 @@ module _ (old : StateView) (hidden : Hidden) (has : IsState old hidden) where
           flushed_state disk Opened old.group old.stopped (record { staged = λ _. in_flight Stable turn (λ (is : Stable ≡ Resting). cc); rests = λ (is : Opened ≡ Resting). cc; going = λ is. is }) (in_flight Stable turn (λ (is : Stable ≡ Resting). cc)) call.keeps
           (λ sound honest. held_while_gate_is_opened T E (List RowView) Command (setting_of old) (standing_of old) sound.behind (success E v) old.disk disk turn (gate_so (success E v) call) honest sound.held)
 
-      pub gate_doubtful : {E : Type 0} (T : Type 0) (e : E) (group : Turn) → WriteCall sector given (failure T e) old.disk disk → IsState (flushed old disk Doubtful group true) hidden
-      gate_doubtful {E} T e group call =
-          flushed_state disk Doubtful group true (record { staged = λ _. in_flight Stable turn (λ (is : Stable ≡ Resting). cc); rests = λ (is : Doubtful ≡ Resting). cc; going = λ (is : true ≡ false). cc }) (in_flight Stable turn (λ (is : Stable ≡ Resting). cc)) call.keeps
+      pub gate_doubtful : {E : Type 0} (T : Type 0) (e : E) (group : Turn) (stopped : Bool) → stopped ≡ true → WriteCall sector given (failure T e) old.disk disk → IsState (flushed old disk Doubtful group stopped) hidden
+      gate_doubtful {E} T e group stopped stops call =
+          flushed_state disk Doubtful group stopped (record { staged = λ _. in_flight Stable turn (λ (is : Stable ≡ Resting). cc); rests = λ (is : Doubtful ≡ Resting). cc; going = λ (is : stopped ≡ false). cc }) (in_flight Stable turn (λ (is : Stable ≡ Resting). cc)) call.keeps
           (λ sound honest. held_while_gate_is_opened T E (List RowView) Command (setting_of old) (standing_of old) sound.behind (failure T e) old.disk disk turn (gate_so (failure T e) call) honest sound.held)
 
   module _ (disk : Disk) where
@@ -128,14 +135,14 @@ module _ (old : StateView) (hidden : Hidden) (has : IsState old hidden) where
         flushed_state disk Durable old.group old.stopped (record { staged = λ _. in_flight Opened turn (λ (is : Opened ≡ Resting). cc); rests = λ (is : Durable ≡ Resting). cc; going = λ is. is }) (in_flight Opened turn (λ (is : Opened ≡ Resting). cc)) call.keeps
         (λ sound honest. held_while_gate_is_synced T E (List RowView) Command (setting_of old) (standing_of old) sound.behind (success E v) old.disk disk turn call honest sound.held)
 
-    pub load_not_synced : {E : Type 0} (T : Type 0) (e : E) (group : Turn) → old.flush ≡ Written → SyncCall (failure T e) old.disk disk → IsState (flushed old disk old.flush group true) hidden
-    load_not_synced {E} T e group turn call =
-        flushed_state disk old.flush group true (record { staged = λ is. is; rests = λ is. is; going = λ (is : true ≡ false). cc }) (in_flight Written turn (λ (is : Written ≡ Resting). cc)) call.keeps
+    pub load_not_synced : {E : Type 0} (T : Type 0) (e : E) (group : Turn) (stopped : Bool) → stopped ≡ true → old.flush ≡ Written → SyncCall (failure T e) old.disk disk → IsState (flushed old disk old.flush group stopped) hidden
+    load_not_synced {E} T e group stopped stops turn call =
+        flushed_state disk old.flush group stopped (record { staged = λ is. is; rests = λ is. is; going = λ (is : stopped ≡ false). cc }) (in_flight Written turn (λ (is : Written ≡ Resting). cc)) call.keeps
         (λ sound honest. subst (λ (p : Flush). IsHeldBy (setting_of old) (held.flushed (standing_of old) p) sound.behind disk.history.now) (sym turn)
         (held_while_load_is_synced T E (List RowView) Command (setting_of old) (standing_of old) sound.behind (failure T e) old.disk disk turn call honest sound.held))
 
-    pub gate_not_synced : {E : Type 0} (T : Type 0) (e : E) (group : Turn) → old.flush ≡ Opened → SyncCall (failure T e) old.disk disk → IsState (flushed old disk old.flush group true) hidden
-    gate_not_synced {E} T e group turn call =
-        flushed_state disk old.flush group true (record { staged = λ is. is; rests = λ is. is; going = λ (is : true ≡ false). cc }) (in_flight Opened turn (λ (is : Opened ≡ Resting). cc)) call.keeps
+    pub gate_not_synced : {E : Type 0} (T : Type 0) (e : E) (group : Turn) (stopped : Bool) → stopped ≡ true → old.flush ≡ Opened → SyncCall (failure T e) old.disk disk → IsState (flushed old disk old.flush group stopped) hidden
+    gate_not_synced {E} T e group stopped stops turn call =
+        flushed_state disk old.flush group stopped (record { staged = λ is. is; rests = λ is. is; going = λ (is : stopped ≡ false). cc }) (in_flight Opened turn (λ (is : Opened ≡ Resting). cc)) call.keeps
         (λ sound honest. subst (λ (p : Flush). IsHeldBy (setting_of old) (held.flushed (standing_of old) p) sound.behind disk.history.now) (sym turn)
         (held_while_gate_is_synced T E (List RowView) Command (setting_of old) (standing_of old) sound.behind (failure T e) old.disk disk turn call honest sound.held))

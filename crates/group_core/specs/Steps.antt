@@ -41,6 +41,25 @@ pub record IsPlanTurn (value : Commit AtPlan) (view : StateView) : Type 0 where
 abbrev pub spent : Turn → Turn
 spent turn = record { number = turn.number; out = false }
 
+-- The head of a step, which gives the value itself where it is its turn and the state goes on. It is refused just where it isn't
+-- its turn, which changes nothing; and then just where the state had stopped, which spends the value and leaves the state `after`.
+abbrev pub TakesTurn : {P : Type 0} → Type 0 → Commit P → StateView → Result (Commit P) (StepError P) → StateView → StateView → Type 0
+TakesTurn turn value after (Ok same) old new = turn × (old.stopped ≡ false) × (same ≡ value) × (new ≡ old)
+TakesTurn turn value after (Err (Stranger back)) old new = (¬ turn) × (back ≡ value) × (new ≡ old)
+TakesTurn turn value after (Err Stopped) old new = turn × (old.stopped ≡ true) × (new ≡ after)
+TakesTurn turn value after (Err Fault) old new = ⊥
+TakesTurn turn value after (Err (NoMemory back)) old new = ⊥
+TakesTurn turn value after (Err Damaged) old new = ⊥
+
+abbrev pub TakesGroupTurn : {P : Type 0} → Flush → Commit P → Result (Commit P) (StepError P) → StateView → StateView → Type 0
+TakesGroupTurn phase value result old new = TakesTurn (IsFlushTurn phase value old) value (record old { group = spent old.group }) result old new
+
+abbrev pub TakesPlanTurn : {P : Type 0} → Check → Commit P → Result (Commit P) (StepError P) → StateView → StateView → Type 0
+TakesPlanTurn phase value result old new = TakesTurn (IsCheckTurn phase value old) value (record old { plan = spent old.plan }) result old new
+
+abbrev pub TakesChunkTurn : Commit AtPlan → Result (Commit AtPlan) (StepError AtPlan) → StateView → StateView → Type 0
+TakesChunkTurn value result old new = TakesTurn (IsPlanTurn value old) value (record old { plan = spent old.plan }) result old new
+
 -- A step of the flusher with its value, from a phase to the next, or to another where the device fails. It is refused just where
 -- it isn't this value's turn, which changes nothing; and then just where the state had stopped, which spends the value. Else the
 -- device's call decides: where it fails the value is spent and the state stops.

@@ -3,7 +3,7 @@
 ghost use Rattle.group_laws.specs.declared.phases.Flush.TheVariants.{Staged as staged, Written as written, Stable as stable};
 ghost use Rattle.group_laws.specs.declared.phases.Flush.TheVariants.{Opened as opened, Doubtful as doubtful, Durable as durable};
 ghost use Rattle.group_core.specs.StateView.{StepLeaves};
-ghost use Rattle.group_core.specs.Steps.{FlushStep};
+ghost use Rattle.group_core.specs.Steps.{FlushStep, TakesGroupTurn};
 
 use crate::error::StepError;
 use crate::gates::open_gate;
@@ -11,7 +11,7 @@ use crate::phases::{AtDurable, AtOpened, AtStable, AtStaged, AtWritten};
 use crate::places::journal_at;
 use crate::showcase::Showcase;
 use crate::state::State;
-use crate::values::{Durable, Opened, Stable, Staged, Written};
+use crate::values::{Commit, Durable, Opened, Stable, Staged, Written};
 use group_laws::Flush;
 use sector_dev::Device;
 
@@ -21,27 +21,14 @@ impl<D: Device, S: Showcase> State<D, S> {
         ensures step { FlushStep staged written staged value result self.old self.new }
         ensures any_moment { StepLeaves self.old self.new }
     {
-        match self.flush {
-            Flush::Staged if value.is_of(self.home, self.group.number) => {}
-            _ => return Err(StepError::Stranger(value)),
-        }
-        if self.stopped {
-            self.group.out = false;
-            value.spend();
-            return Err(StepError::Stopped);
-        }
+        let value = self.group_turn(Flush::Staged, value)?;
         let at = journal_at(self.geometry, self.half) + (self.gate + 1);
         match self.device.write(at, &self.staged) {
             Ok(()) => {
                 self.flush = Flush::Written;
                 Ok(value.at(AtWritten))
             }
-            Err(_) => {
-                self.group.out = false;
-                self.stopped = true;
-                value.spend();
-                Err(StepError::Fault)
-            }
+            Err(_) => Err(self.group.fault(&mut self.stopped, value)),
         }
     }
 
@@ -50,26 +37,13 @@ impl<D: Device, S: Showcase> State<D, S> {
         ensures step { FlushStep written stable written value result self.old self.new }
         ensures any_moment { StepLeaves self.old self.new }
     {
-        match self.flush {
-            Flush::Written if value.is_of(self.home, self.group.number) => {}
-            _ => return Err(StepError::Stranger(value)),
-        }
-        if self.stopped {
-            self.group.out = false;
-            value.spend();
-            return Err(StepError::Stopped);
-        }
+        let value = self.group_turn(Flush::Written, value)?;
         match self.device.sync() {
             Ok(()) => {
                 self.flush = Flush::Stable;
                 Ok(value.at(AtStable))
             }
-            Err(_) => {
-                self.group.out = false;
-                self.stopped = true;
-                value.spend();
-                Err(StepError::Fault)
-            }
+            Err(_) => Err(self.group.fault(&mut self.stopped, value)),
         }
     }
 
@@ -78,15 +52,7 @@ impl<D: Device, S: Showcase> State<D, S> {
         ensures step { FlushStep stable opened doubtful value result self.old self.new }
         ensures any_moment { StepLeaves self.old self.new }
     {
-        match self.flush {
-            Flush::Stable if value.is_of(self.home, self.group.number) => {}
-            _ => return Err(StepError::Stranger(value)),
-        }
-        if self.stopped {
-            self.group.out = false;
-            value.spend();
-            return Err(StepError::Stopped);
-        }
+        let value = self.group_turn(Flush::Stable, value)?;
         let at = journal_at(self.geometry, self.half) + self.gate;
         match self.device.write(at, &open_gate()) {
             Ok(()) => {
@@ -95,10 +61,7 @@ impl<D: Device, S: Showcase> State<D, S> {
             }
             Err(_) => {
                 self.flush = Flush::Doubtful;
-                self.group.out = false;
-                self.stopped = true;
-                value.spend();
-                Err(StepError::Fault)
+                Err(self.group.fault(&mut self.stopped, value))
             }
         }
     }
@@ -108,26 +71,32 @@ impl<D: Device, S: Showcase> State<D, S> {
         ensures step { FlushStep opened durable opened value result self.old self.new }
         ensures any_moment { StepLeaves self.old self.new }
     {
-        match self.flush {
-            Flush::Opened if value.is_of(self.home, self.group.number) => {}
-            _ => return Err(StepError::Stranger(value)),
-        }
-        if self.stopped {
-            self.group.out = false;
-            value.spend();
-            return Err(StepError::Stopped);
-        }
+        let value = self.group_turn(Flush::Opened, value)?;
         match self.device.sync() {
             Ok(()) => {
                 self.flush = Flush::Durable;
                 Ok(value.at(AtDurable))
             }
-            Err(_) => {
-                self.group.out = false;
-                self.stopped = true;
-                value.spend();
-                Err(StepError::Fault)
-            }
+            Err(_) => Err(self.group.fault(&mut self.stopped, value)),
         }
+    }
+
+    /// The value, where it is its turn and the state goes on; a state that has stopped spends it.
+    fn group_turn<P: Copy>(
+        &mut self,
+        phase: Flush,
+        value: Commit<P>,
+    ) -> Result<Commit<P>, StepError<P>>
+        ensures turn { TakesGroupTurn phase value result self.old self.new }
+        ensures any_moment { StepLeaves self.old self.new }
+    {
+        if self.flush != phase || !value.is_of(self.home, self.group.number) {
+            return Err(StepError::Stranger(value));
+        }
+        if self.stopped {
+            self.group.spend(value);
+            return Err(StepError::Stopped);
+        }
+        Ok(value)
     }
 }
