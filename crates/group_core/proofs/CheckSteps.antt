@@ -1,5 +1,6 @@
 -- The checkpointer's steps on a state.
 use Rattle.std.proofs.Common.{◌≡◌, ◌≢◌, inl, inr, ℕ, ◌+◌, ◌*◌, ◌≤◌, ◌++◌, Bool, true, false, List, [], ◌∷◌, length, Result, refl, sym, ◌∙◌, ap, subst, arith}
+use Rattle.std.proofs.lemmas.Bool.{eqb-true}
 use Rattle.std.specs.List.{AllByRecursion}
 use Rattle.byte_lists.specs.Content.{part}
 use Rattle.path_db.specs.Database.{RowView}
@@ -22,7 +23,11 @@ use Rattle.group_laws.specs.Standing.{load_of, IsHeldBy}
 use Rattle.group_laws.specs.HeldChecks as held
 use Rattle.group_laws.proofs.Exports.{held_while_chunk_is_written, held_while_chunks_are_synced, held_while_half_is_opened, held_while_half_is_synced, held_while_half_is_closed, held_while_close_is_synced, held_under_the_new_version}
 use Rattle.group_core.specs.declared.bookkeeping.Turn.{Turn}
+use Rattle.group_core.specs.declared.error.StepError.{StepError}
+use Rattle.group_core.specs.declared.phases.AtPlan.{AtPlan}
+use Rattle.group_core.specs.declared.values.Commit.{Commit}
 use Rattle.group_core.specs.StateView.{StateView, setting_of, standing_of}
+use Rattle.group_core.specs.Steps.{is_whole, TakesPlanTurn, TakesChunkTurn}
 use Rattle.group_core.specs.Invariant.{Hidden, FitsLoad, MayBePending, HasPlan, HasNextEpoch, CountsAt, Shape, Sound, IsState}
 use Rattle.group_core.proofs.Soundness.{sound_at_work, either_stays}
 use Rattle.group_core.proofs.FlushSteps.{success, failure}
@@ -60,6 +65,17 @@ module _ (small large : ℕ) (grows : small ≤ large) where
     fits.1,
   )
   load_larger geometry place gate Seal fits = tt
+
+-- what is so where a value had its turn: the phase; and that all is written, where the value tells so
+module _ {view new old : StateView} (is : view ≡ new) where
+  pub check_at : {P : Type 0} {phase : Check} {value same : Commit P} → TakesPlanTurn phase value (success (StepError P) same) old new → view.check ≡ phase
+  check_at taken = ap (λ (v : StateView). v.check) (is ∙ taken.3) ∙ taken.0.at
+
+  pub planned_at : {value same : Commit AtPlan} → TakesChunkTurn value (success (StepError AtPlan) same) old new → view.check ≡ Planned
+  planned_at taken = ap (λ (v : StateView). v.check) (is ∙ taken.3) ∙ taken.0.at
+
+  pub done_at : {value same : Commit AtPlan} → value.phase.done ≡ true → TakesChunkTurn value (success (StepError AtPlan) same) old new → 512 * view.written ≡ length view.checkpoint
+  done_at done taken = eqb-true _ _ (ap is_whole (is ∙ taken.3) ∙ sym taken.0.done ∙ done)
 
 module _ (old : StateView) (hidden : Hidden) (has : IsState old hidden) where
   -- the checkpointer is at work
@@ -118,12 +134,12 @@ module _ (old : StateView) (hidden : Hidden) (has : IsState old hidden) where
   counts_at check turn sound = subst (λ (p : Check). CountsAt p old.epoch old.checkpoint sound.behind.old sound.behind.new) turn sound.counts
 
   -- a call that fails leaves its phase
-  module _ (disk : Disk) (plan : Turn) (check : Check) (turn : old.check ≡ check) (other : check ≢ Ready) where
+  module _ (disk : Disk) (plan : Turn) (stopped : Bool) (stops : stopped ≡ true) (check : Check) (turn : old.check ≡ check) (other : check ≢ Ready) where
     stays : Keeps old.disk disk
         → ((sound : Sound old) → IsHonest old.disk → IsHeldBy (setting_of old) (held.checked (standing_of old) check old.written) sound.behind disk.history.now)
-        → IsState (checked old disk old.check old.written plan true) hidden
+        → IsState (checked old disk old.check old.written plan stopped) hidden
     stays keeps holds =
-        checked_state disk old.check old.written plan true (λ (is : true ≡ false). cc) check turn other keeps has.shape.plan has.shape.epoch (λ sound. sound.counts)
+        checked_state disk old.check old.written plan stopped (λ (is : stopped ≡ false). cc) check turn other keeps has.shape.plan has.shape.epoch (λ sound. sound.counts)
         (λ sound honest. subst (λ (p : Check). IsHeldBy (setting_of old) (held.checked (standing_of old) p old.written) sound.behind disk.history.now) (sym turn) (holds sound honest))
 
   module _ (disk : Disk) where
@@ -137,9 +153,9 @@ module _ (old : StateView) (hidden : Hidden) (has : IsState old hidden) where
           checked_state disk Laid old.written old.plan old.stopped (λ is. is) Planned turn (λ (is : Planned ≡ Ready). cc) call.keeps has.shape.plan (epoch_at Planned turn) (λ sound. (counts_at Planned turn sound).0)
           (λ sound honest. held_while_chunks_are_synced T E (List RowView) Command (setting_of old) (standing_of old) sound.behind (success E v) old.disk disk turn sound.held (all_written sound) call honest)
 
-      pub chunks_not_synced : {E : Type 0} (T : Type 0) (e : E) (plan : Turn) → SyncCall (failure T e) old.disk disk → IsState (checked old disk old.check old.written plan true) hidden
-      chunks_not_synced {E} T e plan call =
-          stays disk plan Planned turn (λ (is : Planned ≡ Ready). cc) call.keeps
+      pub chunks_not_synced : {E : Type 0} (T : Type 0) (e : E) (plan : Turn) (stopped : Bool) → stopped ≡ true → SyncCall (failure T e) old.disk disk → IsState (checked old disk old.check old.written plan stopped) hidden
+      chunks_not_synced {E} T e plan stopped stops call =
+          stays disk plan stopped stops Planned turn (λ (is : Planned ≡ Ready). cc) call.keeps
           (λ sound honest. held_while_chunks_are_synced T E (List RowView) Command (setting_of old) (standing_of old) sound.behind (failure T e) old.disk disk turn sound.held (all_written sound) call honest)
 
     -- the new half's gate
@@ -153,15 +169,15 @@ module _ (old : StateView) (hidden : Hidden) (has : IsState old hidden) where
           checked_state disk Switched old.written old.plan old.stopped (λ is. is) Laid turn (λ (is : Laid ≡ Ready). cc) call.keeps has.shape.plan (epoch_at Laid turn) (counts_at Laid turn)
           (λ sound honest. held_while_half_is_opened T E (List RowView) Command (setting_of old) (standing_of old) sound.behind (success E v) old.disk disk turn (gate_so (success E v) call) honest sound.held)
 
-      pub half_doubtful : {E : Type 0} (T : Type 0) (e : E) (plan : Turn) → WriteCall sector given (failure T e) old.disk disk → IsState (checked old disk SwitchFailed old.written plan true) hidden
-      half_doubtful {E} T e plan call =
-          checked_state disk SwitchFailed old.written plan true (λ (is : true ≡ false). cc) Laid turn (λ (is : Laid ≡ Ready). cc) call.keeps has.shape.plan tt (counts_at Laid turn)
+      pub half_doubtful : {E : Type 0} (T : Type 0) (e : E) (plan : Turn) (stopped : Bool) → stopped ≡ true → WriteCall sector given (failure T e) old.disk disk → IsState (checked old disk SwitchFailed old.written plan stopped) hidden
+      half_doubtful {E} T e plan stopped stops call =
+          checked_state disk SwitchFailed old.written plan stopped (λ (is : stopped ≡ false). cc) Laid turn (λ (is : Laid ≡ Ready). cc) call.keeps has.shape.plan tt (counts_at Laid turn)
           (λ sound honest. held_while_half_is_opened T E (List RowView) Command (setting_of old) (standing_of old) sound.behind (failure T e) old.disk disk turn (gate_so (failure T e) call) honest sound.held)
 
     -- it is synced
-    pub half_not_synced : {E : Type 0} (T : Type 0) (e : E) (plan : Turn) → old.check ≡ Switched → SyncCall (failure T e) old.disk disk → IsState (checked old disk old.check old.written plan true) hidden
-    half_not_synced {E} T e plan turn call =
-        stays disk plan Switched turn (λ (is : Switched ≡ Ready). cc) call.keeps
+    pub half_not_synced : {E : Type 0} (T : Type 0) (e : E) (plan : Turn) (stopped : Bool) → stopped ≡ true → old.check ≡ Switched → SyncCall (failure T e) old.disk disk → IsState (checked old disk old.check old.written plan stopped) hidden
+    half_not_synced {E} T e plan stopped stops turn call =
+        stays disk plan stopped stops Switched turn (λ (is : Switched ≡ Ready). cc) call.keeps
         (λ sound honest. held_while_half_is_synced T E (List RowView) Command (setting_of old) (standing_of old) sound.behind (failure T e) old.disk disk turn call honest sound.held)
 
     pub half_synced : {T : Type 0} (E : Type 0) (v : T) (version : ℕ) → version ≡ latest → old.check ≡ Switched → SyncCall (success E v) old.disk disk
@@ -213,9 +229,9 @@ module _ (old : StateView) (hidden : Hidden) (has : IsState old hidden) where
           checked_state disk Closing old.written old.plan old.stopped (λ is. is) Live turn (λ (is : Live ≡ Ready). cc) call.keeps has.shape.plan tt (counts_at Live turn)
           (λ sound honest. held_while_half_is_closed T E (List RowView) Command (setting_of old) (standing_of old) sound.behind (success E v) old.disk disk turn (gates_so (success E v) call) honest sound.held)
 
-      pub half_not_closed : {E : Type 0} (T : Type 0) (e : E) (plan : Turn) → WriteCall sector given (failure T e) old.disk disk → IsState (checked old disk CloseFailed old.written plan true) hidden
-      half_not_closed {E} T e plan call =
-          checked_state disk CloseFailed old.written plan true (λ (is : true ≡ false). cc) Live turn (λ (is : Live ≡ Ready). cc) call.keeps has.shape.plan tt (counts_at Live turn)
+      pub half_not_closed : {E : Type 0} (T : Type 0) (e : E) (plan : Turn) (stopped : Bool) → stopped ≡ true → WriteCall sector given (failure T e) old.disk disk → IsState (checked old disk CloseFailed old.written plan stopped) hidden
+      half_not_closed {E} T e plan stopped stops call =
+          checked_state disk CloseFailed old.written plan stopped (λ (is : stopped ≡ false). cc) Live turn (λ (is : Live ≡ Ready). cc) call.keeps has.shape.plan tt (counts_at Live turn)
           (λ sound honest. held_while_half_is_closed T E (List RowView) Command (setting_of old) (standing_of old) sound.behind (failure T e) old.disk disk turn (gates_so (failure T e) call) honest sound.held)
 
     -- and their sync
@@ -224,9 +240,9 @@ module _ (old : StateView) (hidden : Hidden) (has : IsState old hidden) where
         checked_state disk Ready old.written plan old.stopped (λ is. is) Closing turn (λ (is : Closing ≡ Ready). cc) call.keeps has.shape.plan tt (counts_at Closing turn)
         (λ sound honest. held_while_close_is_synced T E (List RowView) Command (setting_of old) (standing_of old) sound.behind (success E v) old.disk disk turn call honest sound.held)
 
-    pub close_not_synced : {E : Type 0} (T : Type 0) (e : E) (plan : Turn) → old.check ≡ Closing → SyncCall (failure T e) old.disk disk → IsState (checked old disk old.check old.written plan true) hidden
-    close_not_synced {E} T e plan turn call =
-        stays disk plan Closing turn (λ (is : Closing ≡ Ready). cc) call.keeps
+    pub close_not_synced : {E : Type 0} (T : Type 0) (e : E) (plan : Turn) (stopped : Bool) → stopped ≡ true → old.check ≡ Closing → SyncCall (failure T e) old.disk disk → IsState (checked old disk old.check old.written plan stopped) hidden
+    close_not_synced {E} T e plan stopped stops turn call =
+        stays disk plan stopped stops Closing turn (λ (is : Closing ≡ Ready). cc) call.keeps
         (λ sound honest. held_while_close_is_synced T E (List RowView) Command (setting_of old) (standing_of old) sound.behind (failure T e) old.disk disk turn call honest sound.held)
 
     -- the next sectors
@@ -256,7 +272,7 @@ module _ (old : StateView) (hidden : Hidden) (has : IsState old hidden) where
           (λ sound honest. subst (λ (p : Check). IsHeldBy (setting_of old) (held.checked (standing_of old) p (old.written + more)) sound.behind disk.history.now) (sym turn)
           (held_while_chunk_is_written T E (List RowView) Command (setting_of old) (standing_of old) sound.behind more (success E v) old.disk disk turn sound.held (inside_so sound) (chunk_so (success E v) sound call) honest))
 
-      pub chunk_not_written : {E : Type 0} (T : Type 0) (e : E) (plan : Turn) → WriteCall sector given (failure T e) old.disk disk → IsState (checked old disk old.check old.written plan true) hidden
-      chunk_not_written {E} T e plan call =
-          stays disk plan Planned turn (λ (is : Planned ≡ Ready). cc) call.keeps
+      pub chunk_not_written : {E : Type 0} (T : Type 0) (e : E) (plan : Turn) (stopped : Bool) → stopped ≡ true → WriteCall sector given (failure T e) old.disk disk → IsState (checked old disk old.check old.written plan stopped) hidden
+      chunk_not_written {E} T e plan stopped stops call =
+          stays disk plan stopped stops Planned turn (λ (is : Planned ≡ Ready). cc) call.keeps
           (λ sound honest. held_while_chunk_is_written T E (List RowView) Command (setting_of old) (standing_of old) sound.behind more (failure T e) old.disk disk turn sound.held (inside_so sound) (chunk_so (failure T e) sound call) honest)

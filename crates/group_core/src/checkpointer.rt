@@ -4,7 +4,7 @@ ghost use Rattle.std.specs.Prelude.{◌≡◌, true, false};
 ghost use Rattle.group_laws.specs.declared.phases.Check.TheVariants.{Laid as laid, Switched as switched, SwitchFailed as switch_failed};
 ghost use Rattle.group_laws.specs.declared.phases.Check.TheVariants.{Live as live, Closing as closing, CloseFailed as close_failed};
 ghost use Rattle.group_core.specs.StateView.{StepLeaves};
-ghost use Rattle.group_core.specs.Steps.{WritesChunk, SyncsChunks, WritesGate, SyncsHalf, SyncsClose};
+ghost use Rattle.group_core.specs.Steps.{WritesChunk, SyncsChunks, WritesGate, SyncsHalf, SyncsClose, TakesPlanTurn, TakesChunkTurn};
 
 use crate::error::StepError;
 use crate::gates::{closed_gates, open_gate};
@@ -12,7 +12,7 @@ use crate::phases::{AtClosing, AtLaid, AtLive, AtPlan, AtSwitched};
 use crate::places::{area_at, gate_at, other};
 use crate::showcase::Showcase;
 use crate::state::State;
-use crate::values::{Closing, Laid, Live, Plan, Switched};
+use crate::values::{Closing, Commit, Laid, Live, Plan, Switched};
 use ckpt_pair::LATEST;
 use group_laws::Check;
 use sector_dev::Device;
@@ -27,17 +27,8 @@ impl<D: Device, S: Showcase> State<D, S> {
         ensures step { WritesChunk value result self.old self.new }
         ensures any_moment { StepLeaves self.old self.new }
     {
+        let value = self.chunk_turn(value)?;
         let size = self.checkpoint.len() as u64;
-        match self.check {
-            Check::Planned
-                if value.is_of(self.home, self.plan.number) && 512 * self.written != size => {}
-            _ => return Err(StepError::Stranger(value)),
-        }
-        if self.stopped {
-            self.plan.out = false;
-            value.spend();
-            return Err(StepError::Stopped);
-        }
         let count = (size / 512 - self.written).min(CHUNK);
         let from = (512 * self.written) as usize;
         let to = (512 * (self.written + count)) as usize;
@@ -49,12 +40,7 @@ impl<D: Device, S: Showcase> State<D, S> {
                     done: 512 * self.written == size,
                 }))
             }
-            Err(_) => {
-                self.plan.out = false;
-                self.stopped = true;
-                value.spend();
-                Err(StepError::Fault)
-            }
+            Err(_) => Err(self.plan.fault(&mut self.stopped, value)),
         }
     }
 
@@ -64,28 +50,13 @@ impl<D: Device, S: Showcase> State<D, S> {
         ensures step { SyncsChunks value result self.old self.new }
         ensures any_moment { StepLeaves self.old self.new }
     {
-        let size = self.checkpoint.len() as u64;
-        match self.check {
-            Check::Planned
-                if value.is_of(self.home, self.plan.number) && 512 * self.written == size => {}
-            _ => return Err(StepError::Stranger(value)),
-        }
-        if self.stopped {
-            self.plan.out = false;
-            value.spend();
-            return Err(StepError::Stopped);
-        }
+        let value = self.chunk_turn(value)?;
         match self.device.sync() {
             Ok(()) => {
                 self.check = Check::Laid;
                 Ok(value.at(AtLaid))
             }
-            Err(_) => {
-                self.plan.out = false;
-                self.stopped = true;
-                value.spend();
-                Err(StepError::Fault)
-            }
+            Err(_) => Err(self.plan.fault(&mut self.stopped, value)),
         }
     }
 
@@ -94,15 +65,7 @@ impl<D: Device, S: Showcase> State<D, S> {
         ensures step { WritesGate laid switched switch_failed value result self.old self.new }
         ensures any_moment { StepLeaves self.old self.new }
     {
-        match self.check {
-            Check::Laid if value.is_of(self.home, self.plan.number) => {}
-            _ => return Err(StepError::Stranger(value)),
-        }
-        if self.stopped {
-            self.plan.out = false;
-            value.spend();
-            return Err(StepError::Stopped);
-        }
+        let value = self.plan_turn(Check::Laid, value)?;
         let at = gate_at(self.geometry, self.half);
         match self.device.write(at, &open_gate()) {
             Ok(()) => {
@@ -111,10 +74,7 @@ impl<D: Device, S: Showcase> State<D, S> {
             }
             Err(_) => {
                 self.check = Check::SwitchFailed;
-                self.plan.out = false;
-                self.stopped = true;
-                value.spend();
-                Err(StepError::Fault)
+                Err(self.plan.fault(&mut self.stopped, value))
             }
         }
     }
@@ -124,15 +84,7 @@ impl<D: Device, S: Showcase> State<D, S> {
         ensures step { SyncsHalf value result self.old self.new }
         ensures any_moment { StepLeaves self.old self.new }
     {
-        match self.check {
-            Check::Switched if value.is_of(self.home, self.plan.number) => {}
-            _ => return Err(StepError::Stranger(value)),
-        }
-        if self.stopped {
-            self.plan.out = false;
-            value.spend();
-            return Err(StepError::Stopped);
-        }
+        let value = self.plan_turn(Check::Switched, value)?;
         match self.device.sync() {
             Ok(()) => {
                 self.check = Check::Live;
@@ -140,12 +92,7 @@ impl<D: Device, S: Showcase> State<D, S> {
                 self.version = LATEST;
                 Ok(value.at(AtLive))
             }
-            Err(_) => {
-                self.plan.out = false;
-                self.stopped = true;
-                value.spend();
-                Err(StepError::Fault)
-            }
+            Err(_) => Err(self.plan.fault(&mut self.stopped, value)),
         }
     }
 
@@ -154,15 +101,7 @@ impl<D: Device, S: Showcase> State<D, S> {
         ensures step { WritesGate live closing close_failed value result self.old self.new }
         ensures any_moment { StepLeaves self.old self.new }
     {
-        match self.check {
-            Check::Live if value.is_of(self.home, self.plan.number) => {}
-            _ => return Err(StepError::Stranger(value)),
-        }
-        if self.stopped {
-            self.plan.out = false;
-            value.spend();
-            return Err(StepError::Stopped);
-        }
+        let value = self.plan_turn(Check::Live, value)?;
         let at = gate_at(self.geometry, other(self.half));
         match self.device.write(at, &closed_gates()) {
             Ok(()) => {
@@ -171,10 +110,7 @@ impl<D: Device, S: Showcase> State<D, S> {
             }
             Err(_) => {
                 self.check = Check::CloseFailed;
-                self.plan.out = false;
-                self.stopped = true;
-                value.spend();
-                Err(StepError::Fault)
+                Err(self.plan.fault(&mut self.stopped, value))
             }
         }
     }
@@ -184,28 +120,44 @@ impl<D: Device, S: Showcase> State<D, S> {
         ensures step { SyncsClose value result self.old self.new }
         ensures any_moment { StepLeaves self.old self.new }
     {
-        match self.check {
-            Check::Closing if value.is_of(self.home, self.plan.number) => {}
-            _ => return Err(StepError::Stranger(value)),
-        }
-        if self.stopped {
-            self.plan.out = false;
-            value.spend();
-            return Err(StepError::Stopped);
-        }
+        let value = self.plan_turn(Check::Closing, value)?;
         match self.device.sync() {
             Ok(()) => {
                 self.check = Check::Ready;
-                self.plan.out = false;
-                value.spend();
+                self.plan.spend(value);
                 Ok(())
             }
-            Err(_) => {
-                self.plan.out = false;
-                self.stopped = true;
-                value.spend();
-                Err(StepError::Fault)
-            }
+            Err(_) => Err(self.plan.fault(&mut self.stopped, value)),
         }
+    }
+
+    /// The value, where it is its turn and the state goes on; a state that has stopped spends it.
+    fn plan_turn<P: Copy>(
+        &mut self,
+        phase: Check,
+        value: Commit<P>,
+    ) -> Result<Commit<P>, StepError<P>>
+        ensures turn { TakesPlanTurn phase value result self.old self.new }
+        ensures any_moment { StepLeaves self.old self.new }
+    {
+        if self.check != phase || !value.is_of(self.home, self.plan.number) {
+            return Err(StepError::Stranger(value));
+        }
+        if self.stopped {
+            self.plan.spend(value);
+            return Err(StepError::Stopped);
+        }
+        Ok(value)
+    }
+
+    /// The same while the new checkpoint is being written, where the value tells whether all of it is.
+    fn chunk_turn(&mut self, value: Plan) -> Result<Plan, StepError<AtPlan>>
+        ensures turn { TakesChunkTurn value result self.old self.new }
+        ensures any_moment { StepLeaves self.old self.new }
+    {
+        if value.is_done() != (512 * self.written == self.checkpoint.len() as u64) {
+            return Err(StepError::Stranger(value));
+        }
+        self.plan_turn(Check::Planned, value)
     }
 }

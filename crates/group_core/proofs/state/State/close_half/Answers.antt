@@ -1,33 +1,24 @@
-use Rattle.std.proofs.Common.{◌≡◌, inr, false, refl, ◌∙◌, ap, arith}
+use Rattle.std.proofs.Common.{◌≡◌, inr, refl, ◌∙◌, ap, arith}
 use Rattle.image_laws.specs.Layout.{gate_at}
 use Rattle.store_open.specs.Geometry.{geometry_view}
 use Rattle.group_laws.specs.declared.phases.Check.TheVariants.{Ready as ready, CloseFailed as close_failed, Closing as closing, Live as live}
 use Rattle.group_core.proofs.Soundness.{checking}
-use Rattle.group_core.proofs.States.{leaves_none, leaves_pure, leaves_write}
-use Rattle.group_core.proofs.CheckSteps.{plan_spent, half_closed, half_not_closed}
+use Rattle.group_core.proofs.States.{leaves_write}
+use Rattle.group_core.proofs.CheckSteps.{check_at, half_closed, half_not_closed}
 use Rattle.group_core.proofs.Regions.{gates_inside}
 use Rattle.group_core.proofs.state.State.close_half.Goals as goal
 
 pub invariant_of-self : goal.invariant_of-self
-invariant_of-self g c = plan_spent _ _ c.self.invariant (record { number = c.self.inside.plan.number; out = false })
-
-pub invariant_of-self-in-Ok : goal.invariant_of-self-in-Ok
-invariant_of-self-in-Ok g c = half_closed _ _ c.self.invariant _ c.gate_at-at.result _ c.in-Live.is (c.gate_at-at.ensures ∙ ap (gate_at (geometry_view c.self.inside.geometry)) c.other.ensures) c.closed_gates.ensures.same _ _ c.in-Ok.ensures.write
+invariant_of-self g c = half_closed _ _ c.self.invariant _ c.gate_at-at.result _ (check_at c.self.view_is c.in_ok-value.ensures.turn) (c.gate_at-at.ensures ∙ ap (gate_at (geometry_view c.self.inside.geometry)) c.other.ensures) c.closed_gates.ensures.same _ _ c.in-Ok.ensures.write
 
 pub invariant_of-self-in-Err : goal.invariant_of-self-in-Err
-invariant_of-self-in-Err g c = half_not_closed _ _ c.self.invariant _ c.gate_at-at.result _ c.in-Live.is (c.gate_at-at.ensures ∙ ap (gate_at (geometry_view c.self.inside.geometry)) c.other.ensures) c.closed_gates.ensures.same _ _ (record { number = c.self.inside.plan.number; out = false }) c.in-Err.ensures.write
-
-pub returns-in_default-clause-any_moment : goal.returns-in_default-clause-any_moment
-returns-in_default-clause-any_moment g c = leaves_none c.self.view_is c.self.invariant
-
-pub returns-then-self-clause-any_moment : goal.returns-then-self-clause-any_moment
-returns-then-self-clause-any_moment g c = leaves_pure c.self.view_is c.self.invariant (invariant_of-self g c) refl
+invariant_of-self-in-Err g c = half_not_closed _ _ c.self.invariant _ c.gate_at-at.result _ (check_at c.self.view_is c.in_ok-value.ensures.turn) (c.gate_at-at.ensures ∙ ap (gate_at (geometry_view c.self.inside.geometry)) c.other.ensures) c.closed_gates.ensures.same _ _ _ _ c.fault.ensures.stopped c.in-Err.ensures.write
 
 pub returns-in-Ok-clause-any_moment : goal.returns-in-Ok-clause-any_moment
-returns-in-Ok-clause-any_moment g c = leaves_write c.self.view_is c.self.invariant (invariant_of-self-in-Ok g c) (checking live c.in-Live.is (λ (is : live ≡ ready). cc)) (inr (λ (is : closing ≡ ready). cc)) refl c.write.ensures.write
+returns-in-Ok-clause-any_moment g c = leaves_write (c.self.view_is ∙ c.in_ok-value.ensures.turn.3) c.self.invariant (invariant_of-self g c) (checking live (check_at c.self.view_is c.in_ok-value.ensures.turn) (λ (is : live ≡ ready). cc)) (inr (λ (is : closing ≡ ready). cc)) refl c.write.ensures.write
 
 pub returns-in-Err-clause-any_moment : goal.returns-in-Err-clause-any_moment
-returns-in-Err-clause-any_moment g c = leaves_write c.self.view_is c.self.invariant (invariant_of-self-in-Err g c) (checking live c.in-Live.is (λ (is : live ≡ ready). cc)) (inr (λ (is : close_failed ≡ ready). cc)) refl c.write.ensures.write
+returns-in-Err-clause-any_moment g c = leaves_write (c.self.view_is ∙ c.in_ok-value.ensures.turn.3) c.self.invariant (invariant_of-self-in-Err g c) (checking live (check_at c.self.view_is c.in_ok-value.ensures.turn) (λ (is : live ≡ ready). cc)) (inr (λ (is : close_failed ≡ ready). cc)) refl c.write.ensures.write
 
 pub write-requires-clause-inside : goal.write-requires-clause-inside
 write-requires-clause-inside g c =

@@ -1,27 +1,18 @@
-use Rattle.std.proofs.Common.{◌≡◌, inr, false, refl}
+use Rattle.std.proofs.Common.{◌≡◌, inr, ◌∙◌, refl}
 use Rattle.group_laws.specs.declared.phases.Check.TheVariants.{Ready as ready, Laid as laid, SwitchFailed as switch_failed, Switched as switched}
 use Rattle.group_core.proofs.Soundness.{checking}
-use Rattle.group_core.proofs.States.{leaves_none, leaves_pure, leaves_write}
-use Rattle.group_core.proofs.CheckSteps.{plan_spent, half_opened, half_doubtful}
+use Rattle.group_core.proofs.States.{leaves_write}
+use Rattle.group_core.proofs.CheckSteps.{check_at, half_opened, half_doubtful}
 use Rattle.group_core.proofs.state.State.open_half.Goals as goal
 
 pub invariant_of-self : goal.invariant_of-self
-invariant_of-self g c = plan_spent _ _ c.self.invariant (record { number = c.self.inside.plan.number; out = false })
-
-pub invariant_of-self-in-Ok : goal.invariant_of-self-in-Ok
-invariant_of-self-in-Ok g c = half_opened _ _ c.self.invariant _ c.gate_at-at.result _ c.in-Laid.is c.gate_at-at.ensures c.open_gate.ensures _ _ c.in-Ok.ensures.write
+invariant_of-self g c = half_opened _ _ c.self.invariant _ c.gate_at-at.result _ (check_at c.self.view_is c.in_ok-value.ensures.turn) c.gate_at-at.ensures c.open_gate.ensures _ _ c.in-Ok.ensures.write
 
 pub invariant_of-self-in-Err : goal.invariant_of-self-in-Err
-invariant_of-self-in-Err g c = half_doubtful _ _ c.self.invariant _ c.gate_at-at.result _ c.in-Laid.is c.gate_at-at.ensures c.open_gate.ensures _ _ (record { number = c.self.inside.plan.number; out = false }) c.in-Err.ensures.write
-
-pub returns-in_default-clause-any_moment : goal.returns-in_default-clause-any_moment
-returns-in_default-clause-any_moment g c = leaves_none c.self.view_is c.self.invariant
-
-pub returns-then-self-clause-any_moment : goal.returns-then-self-clause-any_moment
-returns-then-self-clause-any_moment g c = leaves_pure c.self.view_is c.self.invariant (invariant_of-self g c) refl
+invariant_of-self-in-Err g c = half_doubtful _ _ c.self.invariant _ c.gate_at-at.result _ (check_at c.self.view_is c.in_ok-value.ensures.turn) c.gate_at-at.ensures c.open_gate.ensures _ _ _ _ c.fault.ensures.stopped c.in-Err.ensures.write
 
 pub returns-in-Ok-clause-any_moment : goal.returns-in-Ok-clause-any_moment
-returns-in-Ok-clause-any_moment g c = leaves_write c.self.view_is c.self.invariant (invariant_of-self-in-Ok g c) (checking laid c.in-Laid.is (λ (is : laid ≡ ready). cc)) (inr (λ (is : switched ≡ ready). cc)) refl c.write.ensures.write
+returns-in-Ok-clause-any_moment g c = leaves_write (c.self.view_is ∙ c.in_ok-value.ensures.turn.3) c.self.invariant (invariant_of-self g c) (checking laid (check_at c.self.view_is c.in_ok-value.ensures.turn) (λ (is : laid ≡ ready). cc)) (inr (λ (is : switched ≡ ready). cc)) refl c.write.ensures.write
 
 pub returns-in-Err-clause-any_moment : goal.returns-in-Err-clause-any_moment
-returns-in-Err-clause-any_moment g c = leaves_write c.self.view_is c.self.invariant (invariant_of-self-in-Err g c) (checking laid c.in-Laid.is (λ (is : laid ≡ ready). cc)) (inr (λ (is : switch_failed ≡ ready). cc)) refl c.write.ensures.write
+returns-in-Err-clause-any_moment g c = leaves_write (c.self.view_is ∙ c.in_ok-value.ensures.turn.3) c.self.invariant (invariant_of-self-in-Err g c) (checking laid (check_at c.self.view_is c.in_ok-value.ensures.turn) (λ (is : laid ≡ ready). cc)) (inr (λ (is : switch_failed ≡ ready). cc)) refl c.write.ensures.write
