@@ -27,8 +27,7 @@ impl<D: Device, S: Showcase> State<D, S> {
             self.gate = 0;
             self.check = Check::Sealed;
             self.flush = Flush::Resting;
-            self.group.out = false;
-            value.spend();
+            self.group.spend(value);
             return Ok(());
         }
         let Ok(()) = self.show.show(&self.pending[..self.taken]) else {
@@ -39,8 +38,7 @@ impl<D: Device, S: Showcase> State<D, S> {
         self.pending.drain(..self.taken);
         self.taken = 0;
         self.flush = Flush::Resting;
-        self.group.out = false;
-        value.spend();
+        self.group.spend(value);
         Ok(())
     }
 }

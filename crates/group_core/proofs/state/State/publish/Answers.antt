@@ -1,7 +1,7 @@
 use Rattle.path_db.specs.declared.command.Command.{Command}
 use Rattle.image_laws.specs.StoreGrowth.{value_after}
 use Rattle.store_open.specs.PathStores.{store_format}
-use Rattle.std.proofs.Common.{List, take, false, refl, ◌∙◌, ap, subst, arith}
+use Rattle.std.proofs.Common.{List, take, refl, ◌∙◌, ap, subst, arith}
 use Rattle.group_core.proofs.States.{leaves_none, leaves_pure}
 use Rattle.group_core.proofs.Publish.{group_state_so, seal_state}
 use Rattle.group_core.proofs.Redeem.{shown_state}
@@ -9,7 +9,7 @@ use Rattle.group_core.specs.Showing.{IsFront}
 use Rattle.group_core.proofs.state.State.publish.Goals as goal
 
 pub invariant_of-self : goal.invariant_of-self
-invariant_of-self g c = seal_state _ _ c.self.invariant c.in-Durable.is (record { number = c.self.inside.group.number; out = false }) (omega arith) _ c.other-self-inside.ensures
+invariant_of-self g c = seal_state _ _ c.self.invariant c.in-Durable.is _ (omega arith) _ c.other-self-inside.ensures
 
 pub returns-in_default-clause-any_moment : goal.returns-in_default-clause-any_moment
 returns-in_default-clause-any_moment g c = leaves_none c.self.view_is c.self.invariant
@@ -25,7 +25,7 @@ returns-in_default-show-clause-any_moment g c =
 
 pub invariant_of-self-2 : goal.invariant_of-self-2
 invariant_of-self-2 g c =
-    group_state_so _ _ c.self.invariant c.in-Durable.is (record { number = c.self.inside.group.number; out = false }) (omega arith) _ _ _ _ _
+    group_state_so _ _ c.self.invariant c.in-Durable.is _ (omega arith) _ _ _ _ _
     (c.in-Ok.ensures.shown ∙ ap (λ (list : List Command). value_after store_format (g.S.Showcase.value c.self.inside.show) (take c.self.inside.taken list)) c.deref.ensures.value)
     (c.drop-drain.ensures.items ∙ c.drain.ensures.kept) (omega (arith, c.len.ensures)) refl c.in-Ok.ensures.paid
 
