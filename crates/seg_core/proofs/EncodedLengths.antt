@@ -1,16 +1,14 @@
 -- How many bytes encodings take.
-use Rattle.std.proofs.Common.{◌≡◌, ℕ, zero, suc, false, ◌+◌, ◌*◌, ◌/◌, ◌%◌, ◌^◌, ◌<◌, ◌≤◌, List, [], ◌∷◌, ◌++◌, length, drop, get_or, refl, sym, ap, ◌∙◌, arith, inl, inr, length-append, append_assoc, drop-cons, add-one}
+use Rattle.std.proofs.Common.{◌≡◌, ℕ, zero, suc, false, ◌+◌, ◌*◌, ◌/◌, ◌%◌, ◌^◌, ◌<◌, ◌≤◌, List, [], ◌∷◌, length, refl, sym, ap, ◌∙◌, arith, inl, inr, length-append}
 use Rattle.std.specs.Prelude.{◌==◌}
 use Rattle.std.proofs.lemmas.Bool.{cases_lt}
 use Rattle.pw_wire.specs.Varint.{encoding_within, varint_encoding}
 use Rattle.pw_wire.specs.Field.{bytes_field_encoding}
 use Rattle.pw_wire.proofs.Exports.{limit, encoding-last, encoding-goes_on, varint_encoding_is}
-use Rattle.seg_core.specs.declared.entry.Entry.{Entry}
-use Rattle.seg_core.specs.EntryView.{entry_view, entry_views}
 use Rattle.seg_core.specs.SegmentView.{EntryView}
-use Rattle.seg_core.specs.Encoding.{head_encoding, bytes_encoding, optional_encoding, signed_encoding, as_entry_encoding, entries_encoding}
+use Rattle.seg_core.specs.Encoding.{bytes_encoding, optional_encoding, signed_encoding, as_entry_encoding}
 use Rattle.seg_core.proofs.Sizes.{bytes_field-within}
-use Rattle.seg_core.proofs.EncodedFields.{bytes-within, entries-length}
+use Rattle.seg_core.proofs.EncodedFields.{bytes-within}
 
 -- ---- a varint
 
@@ -26,7 +24,7 @@ within_more (suc left) n lt = elim (cases_lt n 128) [
 ]
 
 -- a byte for the low seven bits, and the others
-pub varint-step : (n : ℕ) → 128 ≤ n → n < 2 ^ 64 → varint_encoding n ≡ (n % 128 + 128) ∷ varint_encoding (n / 128)
+varint-step : (n : ℕ) → 128 ≤ n → n < 2 ^ 64 → varint_encoding n ≡ (n % 128 + 128) ∷ varint_encoding (n / 128)
 unfolding varint_encoding
 varint-step n large lt = encoding-goes_on 8 n large ∙ ap (λ bytes. (n % 128 + 128) ∷ bytes) (sym (within_more 8 (n / 128) (omega arith)))
 
@@ -53,11 +51,6 @@ field-length k bytes lt =
     let tag = varint-length-last (k * 8 + 2) (omega arith) in
     simp length-append (omega arith)
 
--- a field is its head, and the bytes
-pub field-head : (k : ℕ) (bytes : List ℕ) → bytes_field_encoding k bytes ≡ head_encoding k (length bytes) ++ bytes
-unfolding bytes_field_encoding head_encoding
-field-head k bytes = sym (append_assoc (varint_encoding (k * 8 + 2)) (varint_encoding (length bytes)) bytes)
-
 -- ---- an entry
 
 -- the parts of an encoded entry, none of which is longer than it
@@ -76,36 +69,6 @@ entry-parts e = record {
   signed = bytes-within 1 e.signed;
   signature = bytes-within 2 e.signature;
 }
-
--- ---- the entries of a segment
-
--- what is left of the entries takes its first one, and what is left then
-pub entries-step : (es : List Entry) (i : ℕ) (d : Entry) → i < length es
-    → length (entries_encoding (entry_views (drop i es))) ≡ length (bytes_field_encoding 2 (as_entry_encoding (entry_view (get_or es i d)))) + length (entries_encoding (entry_views (drop (i + 1) es)))
-entries-step es i d lt =
-    let e = entry_view (get_or es i d) in
-    let others = entry_views (drop (i + 1) es) in
-    let split : drop i es ≡ get_or es i d ∷ drop (i + 1) es = rw add-one (drop-cons es i d lt) in
-    let first : entry_views (drop i es) ≡ e ∷ others = ap entry_views split in
-    ap (λ xs. length (entries_encoding xs)) first ∙ entries-length e others
-
--- the same for an entry that was read there
-pub entry_at : (es : List Entry) (i : ℕ) (e : Entry) → i < length es → e ≡ get_or es i e
-    → length (entries_encoding (entry_views (drop i es))) ≡ length (bytes_field_encoding 2 (as_entry_encoding (entry_view e))) + length (entries_encoding (entry_views (drop (i + 1) es)))
-entry_at es i e lt is =
-    entries-step es i e lt
-    ∙ ap (λ f. length (bytes_field_encoding 2 (as_entry_encoding (entry_view f))) + length (entries_encoding (entry_views (drop (i + 1) es)))) (sym is)
-
--- no entry is longer than all of them
-left_within : (es : List Entry) (i : ℕ) → length (entries_encoding (entry_views (drop i es))) ≤ length (entries_encoding (entry_views es))
-left_within es zero = omega arith
-left_within [] (suc i) = omega arith
-left_within (e ∷ es) (suc i) = omega (arith, entries-length (entry_view e) (entry_views es), left_within es i)
-
-pub entry_at-within : (es : List Entry) (i : ℕ) (e : Entry) → i < length es → e ≡ get_or es i e
-    → length (entries_encoding (entry_views es)) ≤ 16384 → length (as_entry_encoding (entry_view e)) ≤ 16384
-entry_at-within es i e lt is short =
-    omega (arith, entry_at es i e lt is, bytes_field-within 2 (as_entry_encoding (entry_view e)), left_within es i)
 
 -- ---- what a test tells
 

@@ -11,8 +11,9 @@ pub mod Misfits
 pub mod Types
 pub mod Rows
 pub mod EncodedLengths
-pub mod Fronts
 pub mod Written
+pub mod Places
+pub mod Kept
 pub mod Responses
 pub mod MessageSizes
 pub mod Registered

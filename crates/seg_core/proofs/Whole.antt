@@ -1,5 +1,5 @@
 -- Each segment that is read is whole.
-use Rattle.std.proofs.Common.{◌≡◌, ℕ, ◌≤◌, suc, true, List, [], ◌∷◌, ◌++◌, length, Ok, Option, refl, ap, subst, arith, length-append}
+use Rattle.std.proofs.Common.{◌≡◌, ℕ, ◌+◌, ◌≤◌, suc, true, List, [], ◌∷◌, ◌++◌, length, Ok, refl, ap, subst, arith, length-append}
 use Rattle.std.specs.Prelude.{nat_le}
 use Rattle.std.specs.List.{AllByRecursion}
 use Rattle.std.proofs.lemmas.Bool.{leb-true}
@@ -9,11 +9,11 @@ use Rattle.pw_wire.specs.Decoding.{IsBytes}
 use Rattle.pw_wire.specs.Field.{bytes_field_encoding}
 use Rattle.pw_wire.specs.Fields.{fields}
 use Rattle.seg_core.specs.declared.error.SegError.TheVariants.{Chain, Loop, Entries, TooLarge}
-use Rattle.seg_core.specs.declared.body.Body.{Body}
 use Rattle.seg_core.specs.Shapes.{path_segment_shape, as_entry_shape, signed_message_shape}
 use Rattle.seg_core.specs.Steps.{◌>>=◌, each}
 use Rattle.seg_core.specs.Message.{bytes_field, bytes_fields, bytes_field_or_empty}
 use Rattle.seg_core.specs.SegmentView.{EntryView, SegmentView}
+use Rattle.seg_core.specs.EntryView.{entry_of}
 use Rattle.seg_core.specs.Entry.{header_and_body_decoding, as_entry_decoding}
 use Rattle.seg_core.specs.WellFormed.{is_entry_count, is_chain, has_no_loop}
 use Rattle.seg_core.specs.Segment.{SegmentOutline, info_decoding, segment_outline, segment_decoding}
@@ -27,25 +27,12 @@ use Rattle.seg_core.proofs.Sizes.{encoded_len, bytes_field-mono, last-length, or
 
 -- ---- one entry
 
--- an entry of its parts
-abbrev entry_of : Body → List ℕ → List ℕ → Option (List ℕ) → EntryView
-entry_of body signed signature unsigned = record {
-  ia = body.ia;
-  next = body.next;
-  ingress = body.hop.ingress;
-  egress = body.hop.egress;
-  exp_time = body.hop.exp_time;
-  signed = signed;
-  signature = signature;
-  unsigned = unsigned;
-}
-
 -- an entry that was read from a message
-record WasRead (message : List ℕ) (e : EntryView) : Type 0 where
+pub record WasRead (message : List ℕ) (e : EntryView) : Type 0 where
   is_entry : IsEntry e
-  short : length (as_entry_encoding e) ≤ length message
+  pub short : length (as_entry_encoding e) ≤ length message
 
-entry_read : (message : List ℕ) (e : EntryView) → IsBytes message → as_entry_decoding message ≡ Ok e → WasRead message e
+pub entry_read : (message : List ℕ) (e : EntryView) → IsBytes message → as_entry_decoding message ≡ Ok e → WasRead message e
 unfolding as_entry_decoding
 entry_read message e are reading =
     let fs = fields message in
@@ -60,7 +47,7 @@ entry_read message e are reading =
     let parts_room = message-HasRoom signed (message_fields-are signed_message_shape signed _ e signed_bytes in_signed.2) in
     let in_parts = after_message_fields signed_message_shape signed _ e in_signed.2 in
     let in_body = step_ok (header_and_body_decoding (bytes_field_or_empty 1 parts)) _ e in_parts in
-    subst (WasRead message) (ok_is (entry_of in_body.0 (bytes_field_or_empty 1 parts) (bytes_field_or_empty 2 parts) (bytes_field 2 fs)) e in_body.2) (record {
+    subst (WasRead message) (ok_is (entry_of in_body.0 (record { signed = bytes_field_or_empty 1 parts; signature = bytes_field_or_empty 2 parts; unsigned = bytes_field 2 fs })) e in_body.2) (record {
       is_entry =
           let widths = header_and_body-fits (bytes_field_or_empty 1 parts) in_body.0 (bytes_field_or_empty-IsBytes 1 parts parts_fit) in_body.1 in
           record {
@@ -142,6 +129,16 @@ outline_read message outline are reading =
       info_says = info.1;
       counted = counted.0;
     })
+
+-- The encodings of its information and of its entries' messages are short, and so are those of its entries.
+pub outline-room : (message : List ℕ) (outline : SegmentOutline) → IsBytes message → segment_outline message ≡ Ok outline
+    → length (bytes_encoding 1 outline.info) + encoded_len 2 outline.entries ≤ 16384
+outline-room message outline are reading =
+    let fs = fields message in
+    let outlined = outline_read message outline are reading in
+    let le = outlined.le in
+    rw (outlined.info_is, outlined.entries_are)
+    (omega (arith, outlined.room.both, or_empty-length 1 (bytes_field 1 fs), last-length 1 (bytes_fields 1 fs)))
 
 -- what the reading of a segment tells of it
 record IsRead (message : List ℕ) (s : SegmentView) : Type 0 where

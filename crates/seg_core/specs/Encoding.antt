@@ -39,6 +39,10 @@ signed_encoding e = bytes_encoding 1 e.signed ++ bytes_encoding 2 e.signature
 abbrev pub as_entry_encoding : EntryView → List ℕ
 as_entry_encoding e = bytes_field_encoding 1 (signed_encoding e) ++ optional_encoding 2 e.unsigned
 
+-- what stands in it behind the tag and the length of its signed message
+abbrev pub pieces_encoding : EntryView → List ℕ
+pieces_encoding e = signed_encoding e ++ optional_encoding 2 e.unsigned
+
 abbrev pub entries_encoding : List EntryView → List ℕ
 entries_encoding es = flat_map (λ e. bytes_field_encoding 2 (as_entry_encoding e)) es
 

@@ -1,9 +1,15 @@
 -- What an entry and a segment stand for.
-use Rattle.std.specs.Prelude.{List, map}
+use Rattle.std.specs.Prelude.{ℕ, List, map}
+use Rattle.std.specs.Arc.{arc_value}
+use Rattle.std.specs.Option.{option_map}
 use Rattle.isd_as.specs.IsdAs.{number_of}
+use Rattle.seg_core.specs.declared.body.Body.{Body}
 use Rattle.seg_core.specs.declared.entry.Entry.{Entry}
+use Rattle.seg_core.specs.declared.entry.BorrowedEntry.{BorrowedEntry}
+use Rattle.seg_core.specs.declared.entry.MarkedEntry.{MarkedEntry}
 use Rattle.seg_core.specs.declared.segment.Parts.{Parts}
-use Rattle.seg_core.specs.SegmentView.{EntryView, SegmentView}
+use Rattle.seg_core.specs.SegmentView.{EntryView, PiecesView, SegmentView}
+use Rattle.seg_core.specs.Pieces.{piece_at, pieces_at}
 
 abbrev pub entry_view : Entry → EntryView
 entry_view e = record {
@@ -20,10 +26,37 @@ entry_view e = record {
 abbrev pub entry_views : List Entry → List EntryView
 entry_views entries = map entry_view entries
 
+-- an entry of what its body says, and of its pieces
+abbrev pub entry_of : Body → PiecesView → EntryView
+entry_of body pieces = record {
+  ia = body.ia;
+  next = body.next;
+  ingress = body.hop.ingress;
+  egress = body.hop.egress;
+  exp_time = body.hop.exp_time;
+  signed = pieces.signed;
+  signature = pieces.signature;
+  unsigned = pieces.unsigned;
+}
+
+-- the pieces of an entry as it came
+abbrev pub borrowed_pieces : BorrowedEntry → PiecesView
+borrowed_pieces e = record { signed = e.signed.now; signature = e.signature.now; unsigned = option_map (λ s. s.now) e.unsigned }
+
+abbrev pub borrowed_view : BorrowedEntry → EntryView
+borrowed_view e = entry_of e.body (borrowed_pieces e)
+
+-- an entry whose pieces stand in these bytes
+abbrev pub marked_view : List ℕ → MarkedEntry → EntryView
+marked_view bytes e = entry_of e.body (pieces_at bytes e.spans)
+
+abbrev pub marked_views : List ℕ → List MarkedEntry → List EntryView
+marked_views bytes entries = map (λ e. marked_view bytes e) entries
+
 abbrev pub segment_view : Parts → SegmentView
 segment_view parts = record {
   timestamp = parts.timestamp;
   segment_id = parts.segment_id;
-  info = parts.info.items;
+  info = piece_at (arc_value parts.encoding).items parts.info;
   entries = entry_views parts.entries.items;
 }

@@ -13,7 +13,7 @@ pub mod PathRefusals
 pub mod Request
 pub mod Registration
 pub mod Encoding
-pub mod Front
+pub mod Kept
 pub mod Equality
 pub mod EqualityLaws
 pub mod Earlier

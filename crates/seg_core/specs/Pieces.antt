@@ -1,21 +1,43 @@
--- The pieces of an entry: a signed text, its signature, and what is not signed, which may be missing.
-use Rattle.std.specs.Prelude.{ℕ, List, length, ◌+◌, ◌≤◌, Some, None, if◌then◌else◌}
+-- The pieces of an entry, by where they stand in an encoding: what is signed, its signature, and what is not signed, which
+-- may be missing.
+use Rattle.std.specs.Prelude.{ℕ, List, length, ◌≤◌}
+use Rattle.std.specs.Arc.{arc_value}
 use Rattle.std.specs.List.{between}
+use Rattle.std.specs.Option.{option_map, ForSome}
 use Rattle.seg_core.specs.SegmentView.{PiecesView}
+use Rattle.seg_core.specs.declared.pieces.Span.{Span}
+use Rattle.seg_core.specs.declared.pieces.Spans.{Spans}
 use Rattle.seg_core.specs.declared.pieces.Pieces.TheInside.{Inside}
 
--- the bytes in the buffer from one place up to another
-abbrev part : Inside → ℕ → ℕ → List ℕ
-part p from end = between from end p.bytes.items
+-- the bytes that stand there
+abbrev pub piece_at : List ℕ → Span → List ℕ
+piece_at bytes span = between span.start span.end bytes
 
--- each piece stands behind the one before it
-abbrev pub pieces_view : Inside → PiecesView
-pieces_view p = record {
-  signed = part p 0 p.signed_len;
-  signature = part p p.signed_len (p.signed_len + p.signature_len);
-  unsigned = if p.has_unsigned then Some (part p (p.signed_len + p.signature_len) (length p.bytes.items)) else None;
+-- they are all there
+pub record IsWithin (bytes : List ℕ) (span : Span) : Type 0 where
+  pub ordered : span.start ≤ span.end
+  pub within : span.end ≤ length bytes
+
+-- the pieces of an entry that stand there
+abbrev pub pieces_at : List ℕ → Spans → PiecesView
+pieces_at bytes spans = record {
+  signed = piece_at bytes spans.signed;
+  signature = piece_at bytes spans.signature;
+  unsigned = option_map (λ span. piece_at bytes span) spans.unsigned;
 }
 
--- the first two pieces are all there
+-- they are all there
+pub record AreWithin (bytes : List ℕ) (spans : Spans) : Type 0 where
+  pub signed : IsWithin bytes spans.signed
+  pub signature : IsWithin bytes spans.signature
+  pub unsigned : ForSome spans.unsigned (λ span. IsWithin bytes span)
+
+-- the encoding that the pieces stand in
+abbrev encoding_of : Inside → List ℕ
+encoding_of p = (arc_value p.encoding).items
+
+abbrev pub pieces_view : Inside → PiecesView
+pieces_view p = pieces_at (encoding_of p) p.spans
+
 abbrev pub ArePieces : Inside → Type 0
-ArePieces p = p.signed_len + p.signature_len ≤ length p.bytes.items
+ArePieces p = AreWithin (encoding_of p) p.spans

@@ -1,18 +1,21 @@
 //! The entries of a segment, one for each AS.
 
-ghost use Rattle.std.specs.Prelude.{◌≡◌};
+ghost use Rattle.std.specs.Prelude.{◌≡◌, IfOk};
+ghost use Rattle.std.specs.Arc.{arc_value};
 ghost use Rattle.std.specs.Option.{option_map};
-ghost use Rattle.seg_core.specs.Steps.{Gives};
+ghost use Rattle.seg_core.specs.Steps.{Reads};
+ghost use Rattle.seg_core.specs.Pieces.{AreWithin};
 ghost use Rattle.seg_core.specs.Entry.{as_entry_decoding};
-ghost use Rattle.seg_core.specs.EntryView.{entry_view};
+ghost use Rattle.seg_core.specs.EntryView.{entry_view, borrowed_view, marked_view};
 
-use crate::body::read_header_and_body;
+use crate::body::{Body, read_header_and_body};
 use crate::error::SegError;
-use crate::pieces::Pieces;
+use crate::pieces::{Pieces, Spans};
 use crate::shape::{AS_ENTRY, SIGNED_MESSAGE};
 use crate::slots::slots_of;
 use isd_as::IsdAs;
-use std::alloc::Global;
+use std::alloc::AllocError;
+use std::sync::Arc;
 
 /// The entry of one AS, whose signature covers `signed`.
 #[derive(Debug, Drop)]
@@ -31,6 +34,22 @@ pub struct Entry {
 }
 
 impl Entry {
+    /// The entry of which the pieces stand in this encoding.
+    pub(crate) fn new(encoding: &Arc<Vec<u8>>, marked: MarkedEntry) -> Result<Entry, AllocError>
+        requires { AreWithin (arc_value encoding.now).items marked.spans }
+        ensures { IfOk result (λ entry. entry_view entry ≡ marked_view (arc_value encoding.now).items marked) }
+    {
+        let MarkedEntry { body, spans } = marked;
+        Ok(Entry {
+            ia: IsdAs::from_u64(body.ia),
+            next: IsdAs::from_u64(body.next),
+            ingress: body.hop.ingress,
+            egress: body.hop.egress,
+            exp_time: body.hop.exp_time,
+            pieces: Pieces::new(encoding, spans)?,
+        })
+    }
+
     /// Header and body as they came, which the AS has signed.
     pub fn signed(&self) -> &[u8]
         ensures { result.now ≡ (entry_view self.now).signed }
@@ -53,22 +72,35 @@ impl Entry {
     }
 }
 
+/// An entry as it came: what its body says, and pieces of its message.
+#[derive(Clone, Copy)]
+pub(crate) struct BorrowedEntry<'a> {
+    pub body: Body,
+    pub signed: &'a [u8],
+    pub signature: &'a [u8],
+    pub unsigned: Option<&'a [u8]>,
+}
+
+/// An entry that was put: what its body says, and where its pieces stand.
+#[derive(Clone, Copy)]
+pub(crate) struct MarkedEntry {
+    pub body: Body,
+    pub spans: Spans,
+}
+
 #[tactic(auto, unfolding(crate::specs::Entry::as_entry_decoding))]
-pub(crate) fn read_as_entry(alloc: Global, message: &[u8]) -> Result<Entry, SegError>
-    ensures { Gives entry_view result (as_entry_decoding message.now) }
+pub(crate) fn read_as_entry(message: &[u8]) -> Result<BorrowedEntry<'_>, SegError>
+    ensures { Reads borrowed_view result (as_entry_decoding message.now) }
 {
     let slots = slots_of(&AS_ENTRY, message)?;
     let signed_message = slots.required_message(1)?;
     let parts = slots_of(&SIGNED_MESSAGE, signed_message)?;
     let signed = parts.bytes_field_or_empty(1);
-    let signature = parts.bytes_field_or_empty(2);
     let body = read_header_and_body(signed)?;
-    Ok(Entry {
-        ia: IsdAs::from_u64(body.ia),
-        next: IsdAs::from_u64(body.next),
-        ingress: body.hop.ingress,
-        egress: body.hop.egress,
-        exp_time: body.hop.exp_time,
-        pieces: Pieces::new(alloc, signed, signature, slots.bytes_field(2))?,
+    Ok(BorrowedEntry {
+        body,
+        signed,
+        signature: parts.bytes_field_or_empty(2),
+        unsigned: slots.bytes_field(2),
     })
 }

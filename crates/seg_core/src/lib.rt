@@ -7,7 +7,6 @@
 
 mod body;
 mod bytes_fields;
-mod comparing;
 mod decoding_laws;
 mod earlier;
 mod entry;
@@ -21,6 +20,7 @@ mod limits;
 mod outline;
 mod path;
 mod pieces;
+mod putting;
 mod registration;
 mod request;
 mod response;
@@ -30,7 +30,6 @@ mod shape;
 mod slots;
 mod writing;
 
-pub use comparing::is_encoding_of;
 pub use decoding_laws::{
     decodings_want_no_memory, first_misfit_is_exact, path_refusals_are_exact,
     type_numbers_are_exact,
@@ -42,10 +41,9 @@ pub use laws::{
     read_registrations_are_whole, read_segments_are_whole, responses_are_short,
     whole_segments_are_well_formed, written_responses_are_read, written_segments_are_read,
 };
-pub use lengths::encoded_len;
 pub use registration::read_registration;
 pub use request::read_request;
 pub use response::{write_response, write_response_of};
 pub use seg_type::SegType;
 pub use segment::{Segment, read_segment};
-pub use writing::{put_segment, write_segment};
+pub use writing::{encoded_len, is_encoding_of, put_segment, write_segment};

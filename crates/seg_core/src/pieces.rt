@@ -1,18 +1,44 @@
-//! The pieces that are kept of an entry as they came, in one buffer.
+//! The pieces that are kept of an entry as they came. They stand in the encoding of its segment.
 
-ghost use Rattle.std.specs.Prelude.{◌≡◌, IfOk};
+ghost use Rattle.std.specs.Prelude.{◌≡◌, ◌≤◌, length, IfOk};
+ghost use Rattle.std.specs.Arc.{arc_value};
 ghost use Rattle.std.specs.Option.{option_map};
+ghost use Rattle.seg_core.specs.Pieces.{IsWithin, AreWithin, piece_at, pieces_at};
 
-use std::alloc::{AllocError, Global};
+use std::alloc::AllocError;
 use std::marker::Model;
+use std::sync::Arc;
 
-/// What an AS has signed, its signature, and what is not signed, one behind the other.
+/// Where a piece stands in an encoding, which has at most 16,384 bytes.
+#[derive(Clone, Copy, Debug)]
+pub(crate) struct Span {
+    pub start: u16,
+    pub end: u16,
+}
+
+impl Span {
+    /// The bytes that stand there.
+    pub(crate) fn of(self, bytes: &[u8]) -> &[u8]
+        requires { IsWithin bytes.now self }
+        ensures { result.now ≡ piece_at bytes.now self }
+    {
+        &bytes[usize::from(self.start)..usize::from(self.end)]
+    }
+}
+
+/// Where the pieces of an entry stand: what its AS has signed, its signature, and what is not signed, which may be missing.
+#[derive(Clone, Copy, Debug)]
+pub(crate) struct Spans {
+    pub signed: Span,
+    pub signature: Span,
+    pub unsigned: Option<Span>,
+}
+
+/// What an AS has signed, its signature, and what is not signed, in an encoding that others share.
 #[derive(Debug, Drop)]
 pub struct Pieces {
-    bytes: Vec<u8>,
-    signed_len: usize,
-    signature_len: usize,
-    has_unsigned: bool,
+    encoding: Arc<Vec<u8>>,
+    spans: Spans,
 }
 
 impl Model for Pieces {
@@ -28,52 +54,34 @@ impl Model for Pieces {
 }
 
 impl Pieces {
-    /// Copies of pieces, of which the last may be missing.
-    pub(crate) fn new(
-        alloc: Global,
-        signed: &[u8],
-        signature: &[u8],
-        unsigned: Option<&[u8]>,
-    ) -> Result<Pieces, AllocError>
-        ensures signed { IfOk result (λ pieces. pieces.signed ≡ signed.now) }
-        ensures signature { IfOk result (λ pieces. pieces.signature ≡ signature.now) }
-        ensures unsigned { IfOk result (λ pieces. pieces.unsigned ≡ option_map (λ s. s.now) unsigned.entry) }
+    /// The pieces that stand there in an encoding, of which they take a share. It is refused where 2^63 share it.
+    pub(crate) fn new(encoding: &Arc<Vec<u8>>, spans: Spans) -> Result<Pieces, AllocError>
+        requires { AreWithin (arc_value encoding.now).items spans }
+        ensures { IfOk result (λ pieces. pieces ≡ pieces_at (arc_value encoding.now).items spans) }
     {
-        let rest = unsigned.unwrap_or(&[]);
-        let len = signed.len().saturating_add(signature.len());
-        let mut bytes = Vec::with_capacity(alloc, len.saturating_add(rest.len()))?;
-        bytes.extend_from_slice(signed)?;
-        bytes.extend_from_slice(signature)?;
-        bytes.extend_from_slice(rest)?;
-        Ok(Pieces {
-            bytes,
-            signed_len: signed.len(),
-            signature_len: signature.len(),
-            has_unsigned: unsigned.is_some(),
-        })
+        let encoding = Arc::try_clone(encoding)?;
+        Ok(Pieces { encoding, spans })
     }
 
     /// What the AS has signed.
     pub(crate) fn signed(&self) -> &[u8]
         ensures { result.now ≡ self.now.signed }
     {
-        &self.bytes[..self.signed_len]
+        self.spans.signed.of(&self.encoding)
     }
 
     /// The signature.
     pub(crate) fn signature(&self) -> &[u8]
         ensures { result.now ≡ self.now.signature }
     {
-        &self.bytes[self.signed_len..self.signed_len + self.signature_len]
+        self.spans.signature.of(&self.encoding)
     }
 
     /// What is not signed.
     pub(crate) fn unsigned(&self) -> Option<&[u8]>
         ensures { option_map (λ s. s.now) result ≡ self.now.unsigned }
     {
-        if !self.has_unsigned {
-            return None;
-        }
-        Some(&self.bytes[self.signed_len + self.signature_len..])
+        let span = self.spans.unsigned?;
+        Some(span.of(&self.encoding))
     }
 }

@@ -4,13 +4,16 @@ ghost use Rattle.std.specs.Prelude.{◌≡◌, ℕ, ◌+◌, ◌++◌, List, len
 ghost use Rattle.pw_wire.specs.Field.{bytes_field_encoding};
 ghost use Rattle.seg_core.specs.Encoding.{segments_encoding, of_type, map_entry_encoding, response_encoding, referred_rows};
 
-use crate::lengths::{encoded_len, head_len};
+use crate::lengths::head_len;
+use crate::putting::put_head;
 use crate::seg_type::SegType;
 use crate::segment::Segment;
-use crate::writing::{SLACK, put_head, put_segment};
+use crate::writing::{encoded_len, put_segment};
 use pw_wire::put_varint_field;
 use std::alloc::{AllocError, Global};
 
+/// The room that the last bytes of a response are asked for, beyond what they take: two varints of ten bytes.
+const SLACK: usize = 20;
 /// The bytes of the key of a map entry: a tag, and a type of one byte.
 const KEY_LEN: usize = 2;
 

@@ -1,31 +1,39 @@
 //! Path segments.
 
-ghost use Rattle.std.specs.Prelude.{◌≡◌, IfOk, IfErr, IsOk};
+ghost use Rattle.std.specs.Prelude.{◌≡◌, ◌+◌, ◌≤◌, ◌++◌, length, All, IfOk, IfErr, IsOk};
+ghost use Rattle.std.specs.Arc.{arc_value};
+ghost use Rattle.std.specs.List.{sum_by};
+ghost use Rattle.pw_wire.specs.Field.{bytes_field_encoding};
 ghost use Rattle.pw_wire.specs.Fields.{fields};
 ghost use Rattle.seg_core.specs.declared.error.SegError.TheVariants.{NoMemory};
+ghost use Rattle.seg_core.specs.declared.outline.TheConstants.{MOST_BYTES};
 ghost use Rattle.seg_core.specs.Steps.{Gives, each};
 ghost use Rattle.seg_core.specs.Message.{bytes_fields};
+ghost use Rattle.seg_core.specs.Pieces.{AreWithin};
 ghost use Rattle.seg_core.specs.Entry.{as_entry_decoding};
-ghost use Rattle.seg_core.specs.EntryView.{entry_views};
+ghost use Rattle.seg_core.specs.EntryView.{entry_views, marked_view, marked_views};
 ghost use Rattle.seg_core.specs.Segment.{segment_decoding, segment_outline};
-ghost use Rattle.seg_core.specs.Encoding.{IsSegment};
+ghost use Rattle.seg_core.specs.Encoding.{as_entry_encoding, entries_encoding, segment_encoding, IsSegment};
 
 use crate::bytes_fields::BytesFields;
-use crate::entry::{Entry, read_as_entry};
+use crate::entry::{Entry, MarkedEntry, read_as_entry};
 use crate::error::SegError;
 use crate::limits::check;
-use crate::outline::read_outline;
+use crate::outline::{MOST_BYTES, read_outline};
 use crate::path::{has_no_loop, is_chain};
+use crate::pieces::Span;
+use crate::putting::{put_bytes, put_entry};
 use std::alloc::{AllocError, Global};
 use std::marker::Model;
 use std::sync::Arc;
 
-/// What a segment has, which its copies share.
+/// What a segment has, which its copies share. Its information and the pieces of its entries stand in its encoding.
 #[derive(Debug, Drop)]
 struct Parts {
     timestamp: u32,
     segment_id: u16,
-    info: Vec<u8>,
+    encoding: Arc<Vec<u8>>,
+    info: Span,
     entries: Vec<Entry>,
 }
 
@@ -39,13 +47,13 @@ impl Model for Segment {
     ghost use Rattle.std.specs.Arc.{arc_value};
     ghost use Rattle.seg_core.specs.SegmentView.{SegmentView};
     ghost use Rattle.seg_core.specs.EntryView.{segment_view};
-    ghost use Rattle.seg_core.specs.Encoding.{IsSegment};
+    ghost use Rattle.seg_core.specs.Kept.{IsKept};
 
     ghost Value = { SegmentView };
 
     ghost view = { λ s. segment_view (arc_value s.shared) };
 
-    ghost invariant = { λ s. IsSegment (segment_view (arc_value s.shared)) };
+    ghost invariant = { λ s. IsKept (arc_value s.shared) };
 }
 
 impl Segment {
@@ -67,7 +75,15 @@ impl Segment {
     pub fn segment_info(&self) -> &[u8]
         ensures { result.now ≡ self.now.info }
     {
-        &self.shared.info
+        self.shared.info.of(&self.shared.encoding)
+    }
+
+    /// The segment's one encoding.
+    pub(crate) fn encoding(&self) -> &[u8]
+        ensures same { result.now ≡ segment_encoding self.now }
+        ensures whole { IsSegment self.now }
+    {
+        &self.shared.encoding
     }
 
     /// The entries, in the direction in which the segment was built.
@@ -88,13 +104,52 @@ impl Segment {
     }
 }
 
-/// Reads the entries of a segment, in order.
-fn read_entries(alloc: Global, messages: BytesFields<'_>) -> Result<Vec<Entry>, SegError>
-    ensures { Gives (λ v. entry_views v.items) result (each as_entry_decoding (bytes_fields messages.entry.field_number (fields messages.entry.rest.now))) }
+/// Reads an entry, and appends its encoding.
+fn read_entry(message: &[u8], out: &mut Vec<u8>) -> Result<MarkedEntry, SegError>
+    requires { length out.old.items + length (bytes_field_encoding 2 message.now) ≤ MOST_BYTES }
+    ensures decoding { Gives (λ e. marked_view out.new.items e) result (as_entry_decoding message.now) }
+    ensures put { IfOk result (λ e. out.new.items ≡ out.old.items ++ bytes_field_encoding 2 (as_entry_encoding (marked_view out.new.items e))) }
+    ensures within { IfOk result (λ e. AreWithin out.new.items e.spans) }
+    ensures short { IfOk result (λ _. length out.new.items ≤ length out.old.items + length (bytes_field_encoding 2 message.now)) }
 {
-    let mut entries = Vec::new(alloc);
+    let entry = read_as_entry(message)?;
+    let spans = put_entry(out, &entry)?;
+    Ok(MarkedEntry {
+        body: entry.body,
+        spans,
+    })
+}
+
+/// Reads the entries of a segment, in order, and appends their encodings.
+fn read_entries(
+    alloc: Global,
+    messages: BytesFields<'_>,
+    out: &mut Vec<u8>,
+) -> Result<Vec<MarkedEntry>, SegError>
+    requires { length out.old.items + sum_by (λ t. length (bytes_field_encoding 2 t)) (bytes_fields messages.field_number (fields messages.rest.now)) ≤ MOST_BYTES }
+    ensures decoding { Gives (λ v. marked_views out.new.items v.items) result (each as_entry_decoding (bytes_fields messages.entry.field_number (fields messages.entry.rest.now))) }
+    ensures put { IfOk result (λ v. out.new.items ≡ out.old.items ++ entries_encoding (marked_views out.new.items v.items)) }
+    ensures within { IfOk result (λ v. All (λ e. AreWithin out.new.items e.spans) v.items) }
+{
+    let mut marked = Vec::new(alloc);
     for message in messages {
-        entries.push(read_as_entry(alloc, message)?)?;
+        marked.push(read_entry(message, out)?)?;
+    }
+    Ok(marked)
+}
+
+/// The entries of which the pieces stand in this encoding. Their marks are let go.
+fn entries_in(
+    alloc: Global,
+    encoding: &Arc<Vec<u8>>,
+    marked: Vec<MarkedEntry>,
+) -> Result<Vec<Entry>, AllocError>
+    requires { All (λ e. AreWithin (arc_value encoding.now).items e.spans) marked.items }
+    ensures { IfOk result (λ entries. entry_views entries.items ≡ marked_views (arc_value encoding.now).items marked.items) }
+{
+    let mut entries = Vec::with_capacity(alloc, marked.len())?;
+    for entry in &marked {
+        entries.push(Entry::new(encoding, *entry)?)?;
     }
     Ok(entries)
 }
@@ -107,13 +162,19 @@ pub fn read_segment(alloc: Global, message: &[u8]) -> Result<Segment, SegError>
     ensures memory { IfErr result (λ e. e ≡ NoMemory → IsOk (segment_outline message.now)) }
 {
     let outline = read_outline(message)?;
-    let entries = read_entries(alloc, outline.entries)?;
+    let mut bytes = Vec::with_capacity(alloc, message.len())?;
+    let info = put_bytes(&mut bytes, 1, outline.info_bytes)?;
+    let marked = read_entries(alloc, outline.entries, &mut bytes)?;
+    bytes.shrink_to_fit();
+    let encoding = Arc::new(alloc, bytes)?;
+    let entries = entries_in(alloc, &encoding, marked)?;
     check(is_chain(&entries), SegError::Chain)?;
     check(has_no_loop(&entries), SegError::Loop)?;
     let parts = Parts {
         timestamp: outline.info.timestamp,
         segment_id: outline.info.segment_id,
-        info: Vec::from_slice(alloc, outline.info_bytes)?,
+        encoding,
+        info,
         entries,
     };
     let shared = Arc::new(alloc, parts)?;

@@ -11,7 +11,7 @@ loop-of-preserved c =
     elim c.if-eq.branch [
       | then-eq+in_ok-put_head+in_ok-put_segment w ↦
           rw w.out-is (segment-next c.args.kind rows c.loop-of.of-index c.loop-of-item.result w.encoded_len.result whole c.loop-of.out.items w.put_head.new.out.items w.put_segment.new.out.items
-          c.loop-of-test.true c.loop-of-item.is (sym c.eq.ensures ∙ w.if-eq.true) c.loop-of.invariant w.encoded_len.ensures.exact w.in_ok-put_head.ensures.ok w.in_ok-put_segment.ensures.ok)
+          c.loop-of-test.true c.loop-of-item.is (sym c.eq.ensures ∙ w.if-eq.true) c.loop-of.invariant w.encoded_len.ensures.exact w.in_ok-put_head.ensures w.in_ok-put_segment.ensures.ok)
       | else-eq w ↦
           rw w.out-is (other-next c.args.kind rows c.loop-of.of-index c.loop-of-item.result whole c.loop-of.out.items
           c.loop-of-test.true c.loop-of-item.is (sym c.eq.ensures ∙ w.if-eq.false) c.loop-of.invariant)

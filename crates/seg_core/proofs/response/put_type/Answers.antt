@@ -17,5 +17,5 @@ returns c =
     on_ok_weaker c.put_segments.result
     (type-put c.args.kind ss c.in_ok-value.value c.in_ok-content_len.field-0 c.args.out.now.items c.put_head.new.out.items c.put_varint_field.new.out.items c.put_head-2.new.out.items c.put_segments.new.out.items
     (λ none. c.if-value-eq0.false (c.in_ok-value.ensures ∙ none)) c.in_ok-value.ensures (c.in_ok-content_len.ensures (segments_encoding ss) (sym c.in_ok-value.ensures))
-    c.in_ok-put_head.ensures.ok (c.in_ok-put_varint_field.ensures.ok ∙ ap (λ n. c.put_head.new.out.items ++ varint_field_encoding 1 n) c.number.ensures) c.in_ok-put_head-2.ensures.ok)
+    c.in_ok-put_head.ensures (c.in_ok-put_varint_field.ensures.ok ∙ ap (λ n. c.put_head.new.out.items ++ varint_field_encoding 1 n) c.number.ensures) c.in_ok-put_head-2.ensures)
     c.put_segments.ensures
