@@ -2,7 +2,8 @@
 # Durable commands: groups of 32 registrations of a segment of 4 entries each, over a store in a file, submitted, flushed and redeemed by
 # one thread. It prints commands a second by the clock, beside those of the same writes and syncs alone, and beside LevelDB with as many
 # synced batches of the same segments; and the same with a step of a checkpointer behind each of the flusher's, over journals that are
-# sealed behind every 36 groups. Medians of nine rounds. Then the resident memory after 1,000 groups and after 100,000, with that
+# sealed behind every 36 groups. Medians of nine rounds, and of nine more in which each sync of all three takes a millisecond more, as
+# on a device that is slower to keep what it is given. Then the resident memory after 1,000 groups and after 100,000, with that
 # checkpointer, over a file in memory. It needs Python 3, gcc, g++, bc and Debian's libleveldb-dev. It proves and builds a program in a
 # temporary folder, and leaves no file behind; with a folder as its third argument it copies the program there.
 #
@@ -341,6 +342,7 @@ fn main(rt: HostRuntime) -> io::Result<()> {
 SOURCE
 git init -q "$work"
 gcc -O2 "$root/bench/group_writes.c" -o "$work/group_writes"
+gcc -O2 -shared -fPIC "$root/bench/slow_sync.c" -o "$work/slow_sync.so"
 g++ -O2 "$root/bench/leveldb_groups.cc" -o "$work/leveldb_groups" -lleveldb
 python3 "$root/bench/walks_rows.py" "$work/segments" 32 0 32
 
@@ -372,22 +374,35 @@ ours() { # the seconds by the clock and of the processor of so many groups in a 
   [ "$place" = $((32 * $2)) ] && [ "$rows" = 32 ]
 }
 
-for _ in 1 2 3 4 5 6 7 8 9; do
-  alone=$("$work/group_writes" "$work/plain/store" $((area + 2)) $((512 * sectors)) "$groups")
-  ours "$work/plain" "$groups"
-  [ "$epoch" = 1 ]
-  plain="$clock $processor"
-  ours "$work/sealed" "$groups"
-  [ "$epoch" -gt 1 ]
-  rm -rf "$work/leveldb"
-  theirs=$("$work/leveldb_groups" "$work/segments" "$work/leveldb" "$groups")
-  echo "$groups $alone $plain $clock $processor $theirs $epoch"
-done > "$work/rounds"
+rounds() { # nine rounds, in lines of the seconds of each
+  for _ in 1 2 3 4 5 6 7 8 9; do
+    alone=$("$work/group_writes" "$work/plain/store" $((area + 2)) $((512 * sectors)) "$groups")
+    ours "$work/plain" "$groups"
+    [ "$epoch" = 1 ]
+    plain="$clock $processor"
+    ours "$work/sealed" "$groups"
+    [ "$epoch" -gt 1 ]
+    rm -rf "$work/leveldb"
+    theirs=$("$work/leveldb_groups" "$work/segments" "$work/leveldb" "$groups")
+    echo "$groups $alone $plain $clock $processor $theirs $epoch"
+  done > "$work/rounds"
+}
+
+tell() {
+  echo "commands a second: ours, the writes and syncs alone, LevelDB; ours over each; with a checkpointer, over each; and the last epoch"
+  awk '{ n = 32 * $1; print n / $4, n / $2, n / $8, $2 / $4, $8 / $4, n / $6, $2 / $6, $8 / $6, $10 }' "$work/rounds" | python3 "$root/bench/median.py"
+}
+
+rounds
 uptime
-echo "commands a second: ours, the writes and syncs alone, LevelDB; ours over each; with a checkpointer, over each; and the last epoch"
-awk '{ n = 32 * $1; print n / $4, n / $2, n / $8, $2 / $4, $8 / $4, n / $6, $2 / $6, $8 / $6, $10 }' "$work/rounds" | python3 "$root/bench/median.py"
+tell
 echo "microseconds of the processor for a command: ours, the writes and syncs alone, LevelDB; ours with a checkpointer"
 awk '{ n = 32 * $1 / 1e6; print $5 / n, $3 / n, $9 / n, $7 / n }' "$work/rounds" | python3 "$root/bench/median.py"
+echo "with a millisecond more for each sync:"
+export LD_PRELOAD="$work/slow_sync.so" SYNC_MICROSECONDS=1000
+rounds
+unset LD_PRELOAD
+tell
 ours "$shm/many" "$many"
 echo "KiB of memory after 1,000 groups, then after $many, which $epoch epochs took $clock seconds of: the most, and what is resident"
 grep Vm "$shm/many/told" | tr -dc '0-9\n' | paste -sd ' '
