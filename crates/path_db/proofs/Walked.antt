@@ -20,7 +20,7 @@ use Rattle.seg_core.specs.declared.seg_type.SegType.{SegType}
 use Rattle.seg_core.specs.SegmentView.{EntryView}
 use Rattle.seg_core.specs.Message.{last_of}
 use Rattle.seg_core.specs.Registration.{type_number}
-use Rattle.seg_check.specs.Digest.{segment_digest}
+use Rattle.seg_core.specs.Digest.{segment_digest}
 use Rattle.end_index.specs.declared.place.Place.{Place}
 use Rattle.end_index.specs.Place.{place_cmp, is_same, has, stands_at}
 use Rattle.path_db.specs.Database.{RowView, key_of, IsRising, is_under, row_under}

@@ -9,7 +9,7 @@ use Rattle.seg_core.specs.declared.seg_type.SegType.{SegType}
 use Rattle.seg_core.specs.SegmentView.{SegmentView}
 use Rattle.seg_core.specs.Registration.{type_number}
 use Rattle.seg_core.specs.Encoding.{IsSegment, segment_encoding}
-use Rattle.seg_check.specs.Digest.{segment_digest}
+use Rattle.seg_core.specs.Digest.{segment_digest}
 
 -- a segment and its type
 abbrev pub RowView : Type 0

@@ -4,7 +4,7 @@ ghost use Rattle.std.specs.Prelude.{◌≡◌, ◌≤◌, length, IfOk};
 ghost use Rattle.std.specs.Ordering.{nat_cmp};
 ghost use Rattle.std.specs.Cmp.Lexicographic.{slice_cmp};
 ghost use Rattle.seg_core.specs.Encoding.{segment_encoding};
-ghost use Rattle.seg_check.specs.Digest.{segment_digest};
+ghost use Rattle.seg_core.specs.Digest.{segment_digest};
 ghost use Rattle.path_db.specs.Database.{key, key_of, row_len};
 
 use seg_check::seg_id;

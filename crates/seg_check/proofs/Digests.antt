@@ -6,7 +6,7 @@ use Rattle.sha2.specs.Sha256.{digest_bytes, sha256}
 use Rattle.pw_wire.specs.Decoding.{IsBytes}
 use Rattle.seg_core.specs.SegmentView.{EntryView, SegmentView}
 use Rattle.seg_core.proofs.Bytes.{bytes-nil, bytes-append}
-use Rattle.seg_check.specs.Digest.{hop_bytes, segment_digest}
+use Rattle.seg_core.specs.Digest.{hop_bytes, segment_digest}
 
 -- a hop has 12 bytes
 pub hop-length : (e : EntryView) → length (hop_bytes e) ≡ 12

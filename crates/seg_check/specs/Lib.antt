@@ -1,4 +1,3 @@
-pub mod Digest
 pub mod Expiry
 pub mod Signatures
 pub mod Checking

@@ -6,7 +6,7 @@ ghost use Rattle.std.specs.List.{Any};
 ghost use Rattle.pw_wire.specs.Decoding.{IsBytes};
 ghost use Rattle.seg_core.specs.SegmentView.{EntryView, SegmentView};
 ghost use Rattle.seg_core.specs.Encoding.{IsSegment};
-ghost use Rattle.seg_check.specs.Digest.{hop_bytes, segment_digest};
+ghost use Rattle.seg_core.specs.Digest.{hop_bytes, segment_digest};
 ghost use Rattle.seg_check.specs.Expiry.{hop_expiry, expiry_of};
 ghost use Rattle.seg_check.specs.Signatures.{Verdicts};
 ghost use Rattle.seg_check.specs.Checking.{IsAccepted, HasFirstBad, HasExpired, check_refusal};

@@ -9,6 +9,7 @@ use Rattle.seg_core.specs.Pieces.{piece_at, IsWithin}
 use Rattle.seg_core.specs.EntryView.{entry_views, marked_views, segment_view}
 use Rattle.seg_core.specs.Segment.{segment_decoding}
 use Rattle.seg_core.specs.Encoding.{bytes_encoding, entries_encoding, segment_encoding, IsSegment}
+use Rattle.seg_core.specs.Digest.{segment_digest}
 use Rattle.seg_core.specs.Kept.{IsKept}
 use Rattle.seg_core.proofs.Whole.{decoding-IsSegment}
 use Rattle.seg_core.proofs.Places.{IsWithin-kept, piece-kept}
@@ -40,8 +41,9 @@ encoding_is parts info headed marked were =
     ∙ ap (λ views. bytes_encoding 1 info ++ entries_encoding views) (sym were.entries)
 
 pub read-IsKept : (message : List ℕ) (parts : Parts) (info headed : List ℕ) (marked : List MarkedEntry) → IsBytes message
-    → segment_decoding message ≡ Ok (view_with parts info) → WerePut parts info headed marked → IsKept parts
-read-IsKept message parts info headed marked are reading were =
+    → segment_decoding message ≡ Ok (view_with parts info) → WerePut parts info headed marked
+    → parts.digest ≡ segment_digest (view_with parts info) → IsKept parts
+read-IsKept message parts info headed marked are reading were digest =
     let view = view_is parts info headed marked were in
     record {
       whole = subst IsSegment (sym view) (decoding-IsSegment message (view_with parts info) are reading);
@@ -49,4 +51,5 @@ read-IsKept message parts info headed marked are reading were =
       info =
           let bytes = (arc_value parts.encoding).items in
           subst (λ bs. IsWithin bs parts.info) (sym were.put) (IsWithin-kept headed (entries_encoding (marked_views bytes marked)) parts.info were.within);
+      digest = digest ∙ ap segment_digest (sym view);
     }

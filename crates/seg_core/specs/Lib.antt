@@ -5,6 +5,7 @@ pub mod Slots
 pub mod SegmentView
 pub mod Pieces
 pub mod EntryView
+pub mod Digest
 pub mod Entry
 pub mod WellFormed
 pub mod Segment

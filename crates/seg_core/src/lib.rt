@@ -8,6 +8,7 @@
 mod body;
 mod bytes_fields;
 mod decoding_laws;
+mod digest;
 mod earlier;
 mod entry;
 mod equality;

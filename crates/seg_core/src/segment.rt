@@ -11,11 +11,13 @@ ghost use Rattle.seg_core.specs.Steps.{Gives, each};
 ghost use Rattle.seg_core.specs.Message.{bytes_fields};
 ghost use Rattle.seg_core.specs.Pieces.{AreWithin};
 ghost use Rattle.seg_core.specs.Entry.{as_entry_decoding};
+ghost use Rattle.seg_core.specs.Digest.{segment_digest};
 ghost use Rattle.seg_core.specs.EntryView.{entry_views, marked_view, marked_views};
 ghost use Rattle.seg_core.specs.Segment.{segment_decoding, segment_outline};
 ghost use Rattle.seg_core.specs.Encoding.{as_entry_encoding, entries_encoding, segment_encoding, IsSegment};
 
 use crate::bytes_fields::BytesFields;
+use crate::digest::digest_of;
 use crate::entry::{Entry, MarkedEntry, read_as_entry};
 use crate::error::SegError;
 use crate::limits::check;
@@ -32,6 +34,7 @@ use std::sync::Arc;
 struct Parts {
     timestamp: u32,
     segment_id: u16,
+    digest: [u8; 32],
     encoding: Arc<Vec<u8>>,
     info: Span,
     entries: Vec<Entry>,
@@ -69,6 +72,14 @@ impl Segment {
         ensures { result ≡ self.now.segment_id }
     {
         self.shared.segment_id
+    }
+
+    /// SHA-256 (FIPS 180-4) over 12 bytes for each entry in order, its ISD-AS, ingress and egress, big-endian. It was computed when
+    /// the segment was read.
+    pub fn digest(&self) -> &[u8; 32]
+        ensures { result.now ≡ segment_digest self.now }
+    {
+        &self.shared.digest
     }
 
     /// The segment's information as it came.
@@ -173,6 +184,7 @@ pub fn read_segment(alloc: Global, message: &[u8]) -> Result<Segment, SegError>
     let parts = Parts {
         timestamp: outline.info.timestamp,
         segment_id: outline.info.segment_id,
+        digest: digest_of(&entries),
         encoding,
         info,
         entries,

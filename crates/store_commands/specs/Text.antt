@@ -7,7 +7,7 @@ use Rattle.isd_as.specs.Text.{as_text}
 use Rattle.seg_core.specs.declared.seg_type.SegType.{SegType}
 use Rattle.seg_core.specs.declared.seg_type.SegType.TheVariants.{Up, Down, Core}
 use Rattle.seg_core.specs.SegmentView.{EntryView}
-use Rattle.seg_check.specs.Digest.{segment_digest}
+use Rattle.seg_core.specs.Digest.{segment_digest}
 use Rattle.seg_check.specs.Expiry.{expiry_of}
 use Rattle.path_db.specs.Database.{RowView}
 

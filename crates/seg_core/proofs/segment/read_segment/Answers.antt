@@ -3,6 +3,7 @@ use Rattle.std.specs.Arc.{arc_value}
 use Rattle.seg_core.specs.declared.segment.Parts.{Parts}
 use Rattle.seg_core.specs.Outline.{outline_view}
 use Rattle.seg_core.specs.Segment.{segment_decoding}
+use Rattle.seg_core.specs.Digest.{segment_digest}
 use Rattle.seg_core.specs.Encoding.{bytes_encoding}
 use Rattle.seg_core.specs.Kept.{IsKept}
 use Rattle.seg_core.proofs.Whole.{outline-room}
@@ -22,7 +23,7 @@ read_entries-requires c =
 
 -- what was read is kept
 kept : (c : goal.In_ok-shared) → IsKept (arc_value c.in_ok-shared.shared)
-unfolding segment_decoding
+unfolding segment_decoding segment_digest
 kept c =
     let info = c.in_ok-outline.outline.info_bytes.now in
     let headed = c.put_bytes.new.out.items in
@@ -30,6 +31,7 @@ kept c =
     let parts : Parts = record {
       timestamp = c.in_ok-outline.outline.info.timestamp;
       segment_id = c.in_ok-outline.outline.info.segment_id;
+      digest = c.digest_of.result;
       encoding = c.in_ok-encoding.encoding;
       info = c.in_ok-info.info;
       entries = c.in_ok-entries.entries;
@@ -41,7 +43,7 @@ kept c =
       put = rw (frozen, c.shrink_to_fit.ensures.items) c.in_ok-marked.ensures.put;
       entries = search rules;
     } in
-    subst IsKept (sym c.in_ok-shared.ensures.ok) (read-IsKept c.args.message.now parts info headed c.in_ok-marked.marked.items (λ i. omega (arith, c.type_inv.message i)) (search rules) were)
+    subst IsKept (sym c.in_ok-shared.ensures.ok) (read-IsKept c.args.message.now parts info headed c.in_ok-marked.marked.items (λ i. omega (arith, c.type_inv.message i)) (search rules) were (rw c.deref-3.ensures.value at c.digest_of.ensures))
 
 pub invariant_of-result : goal.invariant_of-result
 invariant_of-result c = kept c

@@ -1,4 +1,4 @@
--- The id of a segment: a digest of where its path goes.
+-- A digest of where a path goes, which is the id of its segment.
 use Rattle.std.specs.Prelude.{ℕ, List, ◌++◌}
 use Rattle.std.specs.List.{flat_map}
 use Rattle.std.specs.Int.{w16, w64, to_be_bytes}

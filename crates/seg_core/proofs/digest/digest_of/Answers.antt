@@ -6,14 +6,14 @@ use Rattle.sha2.specs.Sha256.{sha256}
 use Rattle.sha2.specs.Hashers.{Holds256}
 use Rattle.seg_core.specs.declared.entry.Entry.{Entry}
 use Rattle.seg_core.specs.EntryView.{entry_view}
-use Rattle.seg_check.specs.Digest.{hop_bytes, segment_digest}
-use Rattle.seg_check.proofs.digest.seg_id.Goals as goal
+use Rattle.seg_core.specs.Digest.{hop_bytes}
+use Rattle.seg_core.proofs.digest.digest_of.Goals as goal
 
 -- one hop more
 pub loop-entry-preserved : goal.loop-entry-preserved
 loop-entry-preserved c =
     let hops = λ (e : Entry). hop_bytes (entry_view e) in
-    let entries = c.entries-entries.result.now in
+    let entries = c.args.entries.now in
     let earlier = take c.loop-entry.entry-index entries in
     let entry = c.entry-item.result in
     let more = take_more entries c.loop-entry.entry-index entry c.loop-entry-test.true ∙ ap (λ e. earlier ++ e ∷ []) (sym c.entry-item.is) in
@@ -22,10 +22,9 @@ loop-entry-preserved c =
 
 -- all hops
 pub returns : goal.returns
-unfolding segment_digest
 returns c =
     let hops = λ (e : Entry). hop_bytes (entry_view e) in
-    let entries = c.entries-entries.result.now in
+    let entries = c.args.entries.now in
     c.finalize.ensures _ c.loop-entry.invariant
     ∙ ap (λ l. sha256 (flat_map hops l)) (take_all c.loop-entry.entry-index entries c.loop-entry-test.false)
-    ∙ ap sha256 (sym (flat_map-map hop_bytes entry_view entries) ∙ ap (flat_map hop_bytes) c.entries-entries.ensures.same)
+    ∙ ap sha256 (sym (flat_map-map hop_bytes entry_view entries))

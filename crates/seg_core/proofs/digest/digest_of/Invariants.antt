@@ -2,8 +2,8 @@ use Rattle.std.proofs.Common.{take}
 use Rattle.std.specs.List.{flat_map}
 use Rattle.sha2.specs.Hashers.{Holds256}
 use Rattle.seg_core.specs.EntryView.{entry_view}
-use Rattle.seg_check.specs.Digest.{hop_bytes}
-use Rattle.seg_check.proofs.digest.seg_id.Given as goal
+use Rattle.seg_core.specs.Digest.{hop_bytes}
+use Rattle.seg_core.proofs.digest.digest_of.Given as goal
 
 -- The hasher holds the hops so far.
 abbrev pub invariant-loop-entry : goal.invariant-loop-entry
