@@ -1,5 +1,6 @@
 -- The places after puts: for `register`.
 use Rattle.std.proofs.Common.{◌≡◌, ◌⊎◌, inl, inr, ℕ, Bool, true, false, List, [], ◌∷◌, map, if◌then◌else◌, Option, Some, None, Result, Ok, Err, IsOk, OnOk, OnErr, refl, sym, ap, ◌∙◌, subst}
+use Rattle.std.specs.List.{AllByRecursion}
 use Rattle.std.proofs.lemmas.Bool.{false≢true}
 use Rattle.end_index.specs.declared.place.Place.{Place}
 use Rattle.end_index.specs.Place.{has}
@@ -7,38 +8,42 @@ use Rattle.path_db.specs.Database.{RowView, key_of, IsRising, AreWhole, IsDataba
 use Rattle.path_db.specs.Put.{is_newer, database_after_puts}
 use Rattle.path_db.specs.CommandLaws.{winner, left_by_put, left_by_puts}
 use Rattle.path_db.specs.RowMap.{place_key}
-use Rattle.path_db.specs.EndPlaces.{is_of, is_place, ends_at, stands, IsTouched, AreTouched, AreOldTouched, AreSavedTouched, IsIndex, IsCovered, IsGrown, HasAll}
+use Rattle.path_db.specs.EndPlaces.{is_of, is_place, ends_at, stands, IsSeenTo, AreSeenTo, IsIndex, IsCovered, IsGrown, HasAll}
 use Rattle.path_db.proofs.Keys.{its_key, puts_leave}
 use Rattle.path_db.proofs.PutRow.{found_is_under}
 use Rattle.path_db.proofs.Rising.{database_puts}
 use Rattle.path_db.proofs.Restored.{stood_under}
-use Rattle.path_db.proofs.Places.{EndOf, both_from}
+use Rattle.path_db.proofs.Places.{EndOf, both_from, second_from}
+
+-- it is seen to each row that is new, and to what stood under its key
+abbrev AreSeenIn : EndOf → List RowView → List Place → List RowView → Type 0
+AreSeenIn end old touched new = AllByRecursion (λ row. IsSeenTo end touched row (row_under (key_of row) old)) new
 
 module _ (end : EndOf) (old : List RowView) (touched : List Place) where
-  -- a new row stands there, and the places of it and of the row that stood there are touched
+  -- a new row stands there, to which it is seen
   abbrev IsPut : List ℕ → Option RowView → Type 0
-  IsPut k found = (new : RowView) × (found ≡ Some new) × IsTouched end touched new × ((r : RowView) → row_under k old ≡ Some r → IsTouched end touched r)
+  IsPut k found = (new : RowView) × (found ≡ Some new) × IsSeenTo end touched new (row_under k old)
 
-  put_first : (k : List ℕ) (row : RowView) (found : Option RowView) → IsTouched end touched row → ((r : RowView) → row_under k old ≡ Some r → IsTouched end touched r) → (Some (winner row found) ≡ found) ⊎ IsPut k (Some (winner row found))
-  put_first k row None new before = inr (row, refl, new, before)
-  put_first k row (Some r) new before = won (is_newer row r)
+  put_first : (k : List ℕ) (row : RowView) (found : Option RowView) → IsSeenTo end touched row (row_under k old) → (Some (winner row found) ≡ found) ⊎ IsPut k (Some (winner row found))
+  put_first k row None seen = inr (row, refl, seen)
+  put_first k row (Some r) seen = won (is_newer row r)
     where
       won : (b : Bool) → (Some (if b then row else r) ≡ Some r) ⊎ IsPut k (Some (if b then row else r))
-      won true = inr (row, refl, new, before)
+      won true = inr (row, refl, seen)
       won false = inl refl
 
-  put_one : (k : List ℕ) (row : RowView) (found : Option RowView) (b : Bool) → is_under k row ≡ b → IsTouched end touched row → ((r : RowView) → row_under (key_of row) old ≡ Some r → IsTouched end touched r)
+  put_one : (k : List ℕ) (row : RowView) (found : Option RowView) (b : Bool) → is_under k row ≡ b → IsSeenTo end touched row (row_under (key_of row) old)
       → ((if b then Some (winner row found) else found) ≡ found) ⊎ IsPut k (if b then Some (winner row found) else found)
-  put_one k row found true under new before = put_first k row found new (λ r e. before r (ap (λ l. row_under l old) (sym (its_key k row under)) ∙ e))
-  put_one k row found false under new before = inl refl
+  put_one k row found true under seen = put_first k row found (subst (λ l. IsSeenTo end touched row (row_under l old)) (sym (its_key k row under)) seen)
+  put_one k row found false under seen = inl refl
 
-  from_puts : (k : List ℕ) (found : Option RowView) (new : List RowView) → AreTouched end touched new → AreOldTouched end old touched new → (left_by_puts k found new ≡ found) ⊎ IsPut k (left_by_puts k found new)
-  from_puts k found [] all before = inl refl
-  from_puts k found (row ∷ new) all before = elim (from_puts k (left_by_put k found row) new all.1 before.1) [
+  from_puts : (k : List ℕ) (found : Option RowView) (new : List RowView) → AreSeenIn end old touched new → (left_by_puts k found new ≡ found) ⊎ IsPut k (left_by_puts k found new)
+  from_puts k found [] all = inl refl
+  from_puts k found (row ∷ new) all = elim (from_puts k (left_by_put k found row) new all.1) [
     | inr put ↦ inr put
-    | inl same ↦ elim (put_one k row found (is_under k row) refl all.0 before.0) [
+    | inl same ↦ elim (put_one k row found (is_under k row) refl all.0) [
       | inl first ↦ inl (same ∙ first)
-      | inr put ↦ inr (put.0, same ∙ put.1, put.2, put.3)
+      | inr put ↦ inr (put.0, same ∙ put.1, put.2)
     ]
   ]
 
@@ -54,19 +59,21 @@ has_place end rows q r found of = both_from (is_under (place_key q) r) (is_of (e
 
 -- ---- after puts
 
-module _ (end : EndOf) (old new : List RowView) (rising : IsRising old) (touched before after : List Place) (all : AreTouched end touched new) (olds : AreOldTouched end old touched new)
+module _ (end : EndOf) (old new : List RowView) (rising : IsRising old) (touched before after : List Place) (all : AreSeenIn end old touched new)
     (index : IsIndex end old before) (grown : IsGrown touched before after) (added : HasAll touched after) where
-  now : List RowView
-  now = database_after_puts old new
-
   at_key : (q : Place) → (row_under (place_key q) (database_after_puts old new) ≡ row_under (place_key q) old) ⊎ IsPut end old touched (place_key q) (row_under (place_key q) (database_after_puts old new))
-  at_key q = subst (λ found. (found ≡ row_under (place_key q) old) ⊎ IsPut end old touched (place_key q) found) (sym (puts_leave (place_key q) old new rising)) (from_puts end old touched (place_key q) (row_under (place_key q) old) new all olds)
+  at_key q = subst (λ found. (found ≡ row_under (place_key q) old) ⊎ IsPut end old touched (place_key q) found) (sym (puts_leave (place_key q) old new rising)) (from_puts end old touched (place_key q) (row_under (place_key q) old) new all)
 
   covers_kept : (q : Place) → stands end (database_after_puts old new) q ≡ true → has after q ≡ true
   covers_kept q so = elim (at_key q) [
     | inl same ↦ grown.kept q (index q ∙ ap (ends_at end q.isd_as) (sym same) ∙ so)
     | inr put ↦
-        added q (put.2 q (has_place end (database_after_puts old new) q put.0 put.1 (subst (λ found. ends_at end q.isd_as found ≡ true) put.1 so)))
+        let its = has_place end (database_after_puts old new) q put.0 put.1 (subst (λ found. ends_at end q.isd_as found ≡ true) put.1 so) in
+        elim put.2 [
+          | inl places ↦ added q (places.0 q its)
+          | inr one ↦
+              grown.kept q (index q ∙ ap (ends_at end q.isd_as) one.1 ∙ second_from (is_under (place_key q) one.0) (is_of (end one.0.1.entries) q.isd_as) (one.2.0 q its))
+        ]
   ]
 
   covers_within : (q : Place) → has after q ≡ true → (stands end (database_after_puts old new) q ≡ true) ⊎ (has touched q ≡ true)
@@ -75,9 +82,17 @@ module _ (end : EndOf) (old new : List RowView) (rising : IsRising old) (touched
     | inl first ↦
         let stood = sym (index q) ∙ first in
         let by = stands_by end q.isd_as (row_under (place_key q) old) stood in
+        let its = has_place end old q by.0 by.1 by.2 in
         elim (at_key q) [
           | inl same ↦ inl (ap (ends_at end q.isd_as) same ∙ stood)
-          | inr put ↦ inr (put.3 by.0 by.1 q (has_place end old q by.0 by.1 by.2))
+          | inr put ↦ elim put.2 [
+            | inl places ↦ inr (places.1 by.0 by.1 q its)
+            | inr one ↦
+                let same : by.0 ≡ one.0 = cc in
+                inl
+                (ap (ends_at end q.isd_as) put.1
+                ∙ second_from (is_under (place_key q) put.0) (is_of (end put.0.1.entries) q.isd_as) (one.2.1 q (subst (λ r. is_place end q r ≡ true) same its)))
+          ]
         ]
   ]
 
@@ -96,17 +111,17 @@ covers_same end rows touched before after index grown = record {
 
 -- ---- whether the puts were refused or not
 
-pub olds_from : (end : EndOf) (rows : List RowView) (places : List Place) (new : List RowView) → AreSavedTouched end places (map (stood_under rows) new) → AreOldTouched end rows places new
-olds_from end rows places [] all = tt
-olds_from end rows places (row ∷ new) all = (all.0, olds_from end rows places new all.1)
+pub seen_from : (end : EndOf) (rows : List RowView) (places : List Place) (new : List RowView) → AreSeenTo end places new (map (stood_under rows) new) → AreSeenIn end rows places new
+seen_from end rows places [] all = tt
+seen_from end rows places (row ∷ new) all = (all.0, seen_from end rows places new all.1)
 
 module _ {A B E F : Type 0} where
-  pub covers_either : (end : EndOf) (old new now : List RowView) (touched before after : List Place) (added : Result A E) (r : Result B F) → IsRising old → AreTouched end touched new → AreOldTouched end old touched new
+  pub covers_either : (end : EndOf) (old new now : List RowView) (touched before after : List Place) (added : Result A E) (r : Result B F) → IsRising old → AreSeenIn end old touched new
       → IsIndex end old before → IsGrown touched before after → OnOk added (HasAll touched after) → OnOk r (IsOk added) → OnOk r (now ≡ database_after_puts old new) → OnErr r (now ≡ old) → IsCovered end now touched after
-  covers_either end old new now touched before after (Ok x) (Ok y) rising all olds index grown added ok put same =
-      subst (λ l. IsCovered end l touched after) (sym put) (covers_puts end old new rising touched before after all olds index grown added)
-  covers_either end old new now touched before after (Err e) (Ok y) rising all olds index grown added ok put same = absurd (false≢true ok)
-  covers_either end old new now touched before after added (Err f) rising all olds index grown done ok put same =
+  covers_either end old new now touched before after (Ok x) (Ok y) rising all index grown added ok put same =
+      subst (λ l. IsCovered end l touched after) (sym put) (covers_puts end old new rising touched before after all index grown added)
+  covers_either end old new now touched before after (Err e) (Ok y) rising all index grown added ok put same = absurd (false≢true ok)
+  covers_either end old new now touched before after added (Err f) rising all index grown done ok put same =
       subst (λ l. IsCovered end l touched after) (sym same) (covers_same end old touched before after index grown)
 
 pub database_either : {B F : Type 0} (old new now : List RowView) (r : Result B F) → IsDatabase old → AreWhole new → OnOk r (now ≡ database_after_puts old new) → OnErr r (now ≡ old) → IsDatabase now

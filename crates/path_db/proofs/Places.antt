@@ -15,7 +15,6 @@ use Rattle.seg_core.specs.EntryView.{entry_view, entry_views}
 use Rattle.seg_core.specs.Message.{last_of}
 use Rattle.std.proofs.lemmas.Cmp.{nat_cmp_total, nat_list_cmp_total, tied_itself}
 use Rattle.std.proofs.lemmas.List.{map-append}
-use Rattle.std.specs.List.{list_any}
 use Rattle.std.proofs.lemmas.List.Folds.{list_any-append}
 use Rattle.std.proofs.Math.Seq.{take-suc, drop-cons}
 use Rattle.seg_core.specs.SegmentView.{EntryView}
@@ -26,7 +25,7 @@ use Rattle.path_db.specs.declared.row.Row.{Row}
 use Rattle.path_db.specs.Database.{RowView, key_of, is_under, row_under}
 use Rattle.path_db.specs.Row.{row_view, row_views}
 use Rattle.path_db.specs.RowMap.{place_key}
-use Rattle.path_db.specs.EndPlaces.{is_of, is_place, stands, IsTouched, AreTouched, AreSavedTouched, IsCovered}
+use Rattle.path_db.specs.EndPlaces.{is_of, is_place, stands, IsSeenTo, AreSeenTo, IsCovered}
 use Rattle.path_db.specs.Saved.{Stood}
 use Rattle.path_db.proofs.Found.{under_itself}
 use Rattle.path_db.proofs.Keys.{its_key, equal_from}
@@ -143,14 +142,6 @@ has_last q p places e = list_any-append (is_same q) places (p ∷ []) ∙ ap (λ
     or_true true = refl
     or_true false = refl
 
-pub touched_still : (end : EndOf) (p : Place) (places : List Place) (rows : List RowView) → AreTouched end places rows → AreTouched end (places ++ p ∷ []) rows
-touched_still end p places [] all = tt
-touched_still end p places (row ∷ rows) all = ((λ q e. has_more q p places (all.0 q e)), touched_still end p places rows all.1)
-
-pub touched_more : (end : EndOf) (p : Place) (places : List Place) (rows : List RowView) (row : RowView) → AreTouched end places rows → is_place end p row ≡ true → AreTouched end (places ++ p ∷ []) (rows ++ row ∷ [])
-touched_more end p places [] row all its = ((λ q e. has_last q p places (same_if q p (one_place end q p row e its))), tt)
-touched_more end p places (first ∷ rows) row all its = ((λ q e. has_more q p places (all.0 q e)), touched_more end p places rows row all.1 its)
-
 -- ---- loops over places and rows
 
 pub taken_more : {X : Type 0} (xs : List X) (i : ℕ) (x : X) → i < length xs → x ≡ get_or xs i x → take (i + 1) xs ≡ take i xs ++ x ∷ []
@@ -244,32 +235,60 @@ module _ (end : EndOf) (rows : List RowView) (now places : List Place) (i : ℕ)
     within = λ q there. within_less after q (is_same q p) (taken q) refl there;
   }
 
--- ---- rows that are saved
+-- ---- rows that are new, and what stood under their keys
 
-saved_still : (end : EndOf) (p : Place) (places : List Place) (saved : List Stood) → AreSavedTouched end places saved → AreSavedTouched end (places ++ p ∷ []) saved
-saved_still end p places [] all = tt
-saved_still end p places (stood ∷ saved) all = ((λ r e q its. has_more q p places (all.0 r e q its)), saved_still end p places saved all.1)
+place_same : (end : EndOf) (p q : Place) (row : RowView) → AreSame p q → is_place end p row ≡ is_place end q row
+place_same end p q row same = rw (same.kind, same.isd_as, same.id) refl
 
-saved_push : (end : EndOf) (places : List Place) (saved : List Stood) (stood : Stood) → AreSavedTouched end places saved → ((r : RowView) → stood.1 ≡ Some r → IsTouched end places r) → AreSavedTouched end places (saved ++ stood ∷ [])
-saved_push end places [] stood all one = (one, tt)
-saved_push end places (first ∷ saved) stood all one = (all.0, saved_push end places saved stood all.1 one)
+-- whoever is at a place is also at one that is the same
+moved : (end : EndOf) (p other q : Place) (new old : RowView) → AreSame p other → is_place end p new ≡ true → is_place end other old ≡ true → is_place end q new ≡ true → is_place end q old ≡ true
+moved end p other q new old same its others e =
+    let first = one_place end q p new e its in
+    place_same end q other old (record { kind = first.kind ∙ same.kind; isd_as = first.isd_as ∙ same.isd_as; id = first.id ∙ same.id }) ∙ others
 
-pub saved_some : (end : EndOf) (p : Place) (places : List Place) (saved : List Stood) (stood : Stood) (row : RowView) → AreSavedTouched end places saved → stood.1 ≡ Some row → is_place end p row ≡ true → AreSavedTouched end (places ++ p ∷ []) (saved ++ stood ∷ [])
-saved_some end p places saved stood row all is its =
-    saved_push end (places ++ p ∷ []) saved stood (saved_still end p places saved all)
-    (λ r e q so. let same : r ≡ row = cc in has_last q p places (same_if q p (one_place end q p row (subst (λ x. is_place end q x ≡ true) same so) its)))
+module _ (end : EndOf) (p : Place) (new : RowView) (its : is_place end p new ≡ true) where
+  pub seen_alone : (places : List Place) → IsSeenTo end (places ++ p ∷ []) new None
+  seen_alone places = inl ((λ q e. has_last q p places (same_if q p (one_place end q p new e its))), (λ r e. absurd (cc)))
 
--- its place is among these already
-pub saved_there : (end : EndOf) (p : Place) (places : List Place) (saved : List Stood) (stood : Stood) (row : RowView) → AreSavedTouched end places saved → stood.1 ≡ Some row → is_place end p row ≡ true → has places p ≡ true → AreSavedTouched end places (saved ++ stood ∷ [])
-saved_there end p places saved stood row all is its there =
-    saved_push end places saved stood all
-    (λ r e q so. let same : r ≡ row = cc in has_alike q p places (one_place end q p row (subst (λ x. is_place end q x ≡ true) same so) its) ∙ there)
-  where
-    has_alike : (q p : Place) (places : List Place) → AreSame q p → has places q ≡ has places p
-    has_alike q p places same = λ i. list_any (λ x. is_eq (ordering_then (nat_cmp (same.kind i) x.kind) (ordering_then (nat_cmp (same.isd_as i) x.isd_as) (slice_cmp nat_cmp (same.id i) x.id)))) places
+  module _ (other : Place) (old : RowView) (others : is_place end other old ≡ true) where
+    pub seen_both : (places : List Place) → IsSeenTo end ((places ++ other ∷ []) ++ p ∷ []) new (Some old)
+    seen_both places =
+        inl (
+          (λ q e. has_last q p (places ++ other ∷ []) (same_if q p (one_place end q p new e its))),
+          (λ r e q so.
+              let same : r ≡ old = cc in
+              has_more q p (places ++ other ∷ []) (has_last q other places (same_if q other (one_place end q other old (subst (λ x. is_place end q x ≡ true) same so) others)))),
+        )
 
-pub saved_none : (end : EndOf) (places : List Place) (saved : List Stood) (stood : Stood) → AreSavedTouched end places saved → stood.1 ≡ None → AreSavedTouched end places (saved ++ stood ∷ [])
-saved_none end places saved stood all is = saved_push end places saved stood all (λ r e. absurd (cc))
+    pub seen_same : (places : List Place) → is_same p other ≡ true → IsSeenTo end places new (Some old)
+    seen_same places e =
+        let same = same_from p other e in
+        inr (
+          old,
+          refl,
+          (
+            (λ q so. moved end p other q new old same its others so),
+            (λ q so. moved end other p q old new (record { kind = sym same.kind; isd_as = sym same.isd_as; id = sym same.id }) others its so),
+          ),
+        )
+
+-- more places do as well
+module _ (end : EndOf) (places more : List Place) (kept : (q : Place) → has places q ≡ true → has more q ≡ true) where
+  seen_kept : (new : RowView) (stood : Option RowView) → IsSeenTo end places new stood → IsSeenTo end more new stood
+  seen_kept new stood (inl touched) = inl ((λ q e. kept q (touched.0 q e)), (λ r e q so. kept q (touched.1 r e q so)))
+  seen_kept new stood (inr one) = inr one
+
+  pub seen_still : (rows : List RowView) (saved : List Stood) → AreSeenTo end places rows saved → AreSeenTo end more rows saved
+  seen_still [] [] all = tt
+  seen_still [] (stood ∷ saved) all = all
+  seen_still (row ∷ rows) [] all = all
+  seen_still (row ∷ rows) (stood ∷ saved) all = (seen_kept row stood.1 all.0, seen_still rows saved all.1)
+
+pub seen_push : (end : EndOf) (places : List Place) (rows : List RowView) (saved : List Stood) (row : RowView) (stood : Stood) → AreSeenTo end places rows saved → IsSeenTo end places row stood.1 → AreSeenTo end places (rows ++ row ∷ []) (saved ++ stood ∷ [])
+seen_push end places [] [] row stood all one = (one, tt)
+seen_push end places [] (s ∷ saved) row stood all one = absurd all
+seen_push end places (r ∷ rows) [] row stood all one = absurd all
+seen_push end places (r ∷ rows) (s ∷ saved) row stood all one = (all.0, seen_push end places rows saved row stood all.1 one)
 
 -- ---- places that stand
 

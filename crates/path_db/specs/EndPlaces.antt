@@ -1,13 +1,12 @@
 -- The rows by the ISD-AS at one of their ends.
-use Rattle.std.specs.Prelude.{◌≡◌, ◌⊎◌, ℕ, List, Bool, true, false, ◌==◌, ◌&&◌, Option, Some, None}
-use Rattle.std.specs.List.{AllByRecursion}
+use Rattle.std.specs.Prelude.{◌≡◌, ◌⊎◌, ℕ, List, [], ◌∷◌, Bool, true, false, ◌==◌, ◌&&◌, Option, Some, None}
 use Rattle.seg_core.specs.SegmentView.{EntryView}
 use Rattle.seg_core.specs.Message.{last_of}
 use Rattle.end_index.specs.declared.place.Place.{Place}
 use Rattle.end_index.specs.Place.{has}
 use Rattle.path_db.specs.declared.end.End.{End}
 use Rattle.path_db.specs.declared.end.End.TheVariants.{First, Last}
-use Rattle.path_db.specs.Database.{RowView, key_of, is_under, row_under}
+use Rattle.path_db.specs.Database.{RowView, is_under, row_under}
 use Rattle.path_db.specs.Answer.{first_of}
 use Rattle.path_db.specs.RowMap.{place_key}
 use Rattle.path_db.specs.Saved.{Stood}
@@ -39,13 +38,23 @@ stands end rows place = ends_at end place.isd_as (row_under (place_key place) ro
 abbrev pub IsTouched : (List EntryView → Option EntryView) → List Place → RowView → Type 0
 IsTouched end places row = (q : Place) → is_place end q row ≡ true → has places q ≡ true
 
--- the places of each of the rows are among these
-abbrev pub AreTouched : (List EntryView → Option EntryView) → List Place → List RowView → Type 0
-AreTouched end places rows = AllByRecursion (λ row. IsTouched end places row) rows
+-- two rows have the same place
+abbrev pub HaveOnePlace : (List EntryView → Option EntryView) → RowView → RowView → Type 0
+HaveOnePlace end new old =
+    ((q : Place) → is_place end q new ≡ true → is_place end q old ≡ true) × ((q : Place) → is_place end q old ≡ true → is_place end q new ≡ true)
 
--- the places of each row that stood under the key of one of these are among the places
-abbrev pub AreOldTouched : (List EntryView → Option EntryView) → List RowView → List Place → List RowView → Type 0
-AreOldTouched end old places rows = AllByRecursion (λ row. (r : RowView) → row_under (key_of row) old ≡ Some r → IsTouched end places r) rows
+-- Of a row that is new and what stood under its key: the places of both are among these, or they have the same place.
+abbrev pub IsSeenTo : (List EntryView → Option EntryView) → List Place → RowView → Option RowView → Type 0
+IsSeenTo end places new stood =
+    (IsTouched end places new × ((r : RowView) → stood ≡ Some r → IsTouched end places r))
+    ⊎ ((r : RowView) × (stood ≡ Some r) × HaveOnePlace end new r)
+
+-- so it is of each of the rows
+abbrev pub AreSeenTo : (List EntryView → Option EntryView) → List Place → List RowView → List Stood → Type 0
+AreSeenTo end places [] [] = Unit {0}
+AreSeenTo end places (row ∷ rows) (stood ∷ saved) = IsSeenTo end places row stood.1 × AreSeenTo end places rows saved
+AreSeenTo end places [] (stood ∷ saved) = ⊥
+AreSeenTo end places (row ∷ rows) [] = ⊥
 
 -- the places are just those of the rows
 abbrev pub IsIndex : (List EntryView → Option EntryView) → List RowView → List Place → Type 0
@@ -64,7 +73,3 @@ pub record IsGrown (touched before after : List Place) : Type 0 where
 -- all of these are among the places
 abbrev pub HasAll : List Place → List Place → Type 0
 HasAll touched places = (q : Place) → has touched q ≡ true → has places q ≡ true
-
--- the places of each row that is saved are among the places
-abbrev pub AreSavedTouched : (List EntryView → Option EntryView) → List Place → List Stood → Type 0
-AreSavedTouched end places saved = AllByRecursion (λ stood. (r : RowView) → stood.1 ≡ Some r → IsTouched end places r) saved

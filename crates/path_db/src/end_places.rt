@@ -3,12 +3,12 @@
 ghost use Rattle.std.specs.Prelude.{◌≡◌, ◌&&◌, map, ◌⊎◌, ◌<◌, true, length, IfOk, OnOk, OnErr};
 ghost use Rattle.end_index.specs.declared.place.Place.{Place};
 ghost use Rattle.end_index.specs.Place.{has};
-ghost use Rattle.std.specs.Option.{is_some};
+ghost use Rattle.std.specs.Option.{is_some, option_map};
 ghost use Rattle.path_db.specs.Database.{row_under};
 ghost use Rattle.path_db.specs.RowMap.{place_key};
 ghost use Rattle.path_db.specs.Row.{row_view, row_views};
 ghost use Rattle.path_db.specs.Saved.{saved_view};
-ghost use Rattle.path_db.specs.EndPlaces.{end_of, is_of, is_place, stands, AreTouched, AreSavedTouched, IsIndex, IsCovered, IsGrown, HasAll};
+ghost use Rattle.path_db.specs.EndPlaces.{end_of, is_of, is_place, stands, IsSeenTo, AreSeenTo, IsIndex, IsCovered, IsGrown, HasAll};
 
 use crate::end::End;
 use crate::row::Row;
@@ -40,19 +40,7 @@ fn isd_as_at(end: End, row: &Row) -> u64
     }
 }
 
-/// The places of rows.
-pub(crate) fn places_of(alloc: Global, end: End, rows: &[Row]) -> Result<Vec<Place>, AllocError>
-    ensures all { IfOk result (λ places. AreTouched (end_of end) places.items (row_views rows.now)) }
-    ensures memory { OnErr result (0 < length rows.now) }
-{
-    let mut places = Vec::new(alloc);
-    for row in rows {
-        places.push(place_of(end, row))?;
-    }
-    Ok(places)
-}
-
-/// The places of rows that are new, and of those that stood under their keys, where these are others than those of the new ones.
+/// The places of rows that are new and of those that stood under their keys, but for those that take each other's place.
 pub(crate) fn touched_places(
     alloc: Global,
     end: End,
@@ -60,30 +48,36 @@ pub(crate) fn touched_places(
     saved: &[Saved],
 ) -> Result<Vec<Place>, AllocError>
     requires { length saved.now ≡ length new.now }
-    ensures new { IfOk result (λ places. AreTouched (end_of end) places.items (row_views new.now)) }
-    ensures saved { IfOk result (λ places. AreSavedTouched (end_of end) places.items (map saved_view saved.now)) }
+    ensures seen { IfOk result (λ places. AreSeenTo (end_of end) places.items (row_views new.now) (map saved_view saved.now)) }
     ensures memory { OnErr result (0 < length new.now) }
 {
-    let mut places = places_of(alloc, end, new)?;
+    let mut places = Vec::new(alloc);
     for (k, old) in saved.iter().enumerate() {
-        if let Some(row) = &old.row {
-            let place = place_of(end, row);
-            if !is_at(&places, k, &place) {
-                places.push(place)?;
-            }
-        }
+        touch(&mut places, end, &new[k], &old.row)?;
     }
     Ok(places)
 }
 
-/// Whether a place stands at an index of these.
-fn is_at(places: &[Place], k: usize, place: &Place) -> bool
-    ensures { result ≡ true → has places.now place.now ≡ true }
+/// Appends the places of a row that is new and of what stood under its key, unless they are the same.
+fn touch(
+    places: &mut Vec<Place>,
+    end: End,
+    new: &Row,
+    stood: &Option<Row>,
+) -> Result<(), AllocError>
+    ensures kept { OnOk result ((q : Place) → has places.old.items q ≡ true → has places.new.items q ≡ true) }
+    ensures seen { OnOk result (IsSeenTo (end_of end) places.new.items (row_view new.now) (option_map row_view stood.now)) }
 {
-    match places.get(k) {
-        Some(other) => place.cmp(other).is_eq(),
-        None => false,
+    let place = place_of(end, new);
+    if let Some(row) = stood {
+        let other = place_of(end, row);
+        if place.cmp(&other).is_eq() {
+            return Ok(());
+        }
+        places.push(other)?;
     }
+    places.push(place)?;
+    Ok(())
 }
 
 /// Adds places. Where memory is refused, some of them stand.

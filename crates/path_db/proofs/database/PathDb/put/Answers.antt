@@ -4,8 +4,8 @@ use Rattle.path_db.specs.Put.{database_after_puts, changes_of}
 use Rattle.path_db.specs.Outcome.{outcome_of_puts}
 use Rattle.path_db.specs.Row.{row_views}
 use Rattle.path_db.specs.Saved.{Stood, saved_view}
-use Rattle.path_db.specs.EndPlaces.{end_of, AreTouched, AreSavedTouched, IsGrown, HasAll}
-use Rattle.path_db.proofs.Covered.{olds_from, covers_either, database_either}
+use Rattle.path_db.specs.EndPlaces.{end_of, AreSeenTo, IsGrown, HasAll}
+use Rattle.path_db.proofs.Covered.{seen_from, covers_either, database_either}
 use Rattle.path_db.proofs.PutRow.{no_items}
 use Rattle.path_db.proofs.Restored.{stood_under}
 use Rattle.path_db.proofs.Steps.{nothing_after, none_counted}
@@ -18,13 +18,13 @@ sweep-requires c =
     let new = row_views c.args.new.items in
     let touched = c.in_ok-firsts.firsts.items in
     let each : map saved_view c.in_ok-saved.saved.items ≡ map (stood_under rows) new = rw (← c.deref.ensures.value) c.in_ok-saved.ensures.each in
-    let all : AreTouched end touched new = rw (← c.deref-2.ensures.value) c.in_ok-firsts.ensures.new in
-    let saved : AreSavedTouched end touched (map saved_view c.in_ok-saved.saved.items) = rw (← c.deref-3.ensures.value) c.in_ok-firsts.ensures.saved in
+    let seen : AreSeenTo end touched new (map saved_view c.in_ok-saved.saved.items) =
+    rw (← c.deref-2.ensures.value, ← c.deref-3.ensures.value) c.in_ok-firsts.ensures.seen in
     let grown : IsGrown touched c.self.inside.by_first c.add_both-added.new.by_first = rw (← c.deref-6.ensures.value) c.add_both-added.ensures.first in
     let added : OnOk c.add_both-added.result (HasAll touched c.add_both-added.new.by_first) = rw (← c.deref-6.ensures.value) c.add_both-added.ensures.all_first in
     rw c.deref-8.ensures.value
-    (covers_either end rows new c.put_after-put.new.rows touched c.self.inside.by_first c.add_both-added.new.by_first c.add_both-added.result c.put_after-put.result c.self.invariant.database.rising all
-    (olds_from end rows touched new (subst (λ (l : List Stood). AreSavedTouched end touched l) each saved))
+    (covers_either end rows new c.put_after-put.new.rows touched c.self.inside.by_first c.add_both-added.new.by_first c.add_both-added.result c.put_after-put.result c.self.invariant.database.rising
+    (seen_from end rows touched new (subst (λ (l : List Stood). AreSeenTo end touched new l) each seen))
     c.self.invariant.first grown added c.put_after-put.ensures.added c.put_after-put.ensures.rows c.put_after-put.ensures.err)
 
 pub sweep-requires-2 : goal.sweep-requires-2
@@ -34,13 +34,13 @@ sweep-requires-2 c =
     let new = row_views c.args.new.items in
     let touched = c.in_ok-lasts.lasts.items in
     let each : map saved_view c.in_ok-saved.saved.items ≡ map (stood_under rows) new = rw (← c.deref.ensures.value) c.in_ok-saved.ensures.each in
-    let all : AreTouched end touched new = rw (← c.deref-4.ensures.value) c.in_ok-lasts.ensures.new in
-    let saved : AreSavedTouched end touched (map saved_view c.in_ok-saved.saved.items) = rw (← c.deref-5.ensures.value) c.in_ok-lasts.ensures.saved in
+    let seen : AreSeenTo end touched new (map saved_view c.in_ok-saved.saved.items) =
+    rw (← c.deref-4.ensures.value, ← c.deref-5.ensures.value) c.in_ok-lasts.ensures.seen in
     let grown : IsGrown touched c.self.inside.by_last c.add_both-added.new.by_last = rw (← c.deref-7.ensures.value) c.add_both-added.ensures.last in
     let added : OnOk c.add_both-added.result (HasAll touched c.add_both-added.new.by_last) = rw (← c.deref-7.ensures.value) c.add_both-added.ensures.all_last in
     rw c.deref-9.ensures.value
-    (covers_either end rows new c.put_after-put.new.rows touched c.self.inside.by_last c.add_both-added.new.by_last c.add_both-added.result c.put_after-put.result c.self.invariant.database.rising all
-    (olds_from end rows touched new (subst (λ (l : List Stood). AreSavedTouched end touched l) each saved))
+    (covers_either end rows new c.put_after-put.new.rows touched c.self.inside.by_last c.add_both-added.new.by_last c.add_both-added.result c.put_after-put.result c.self.invariant.database.rising
+    (seen_from end rows touched new (subst (λ (l : List Stood). AreSeenTo end touched new l) each seen))
     c.self.invariant.last grown added c.put_after-put.ensures.added c.put_after-put.ensures.rows c.put_after-put.ensures.err)
 
 pub invariant_of-self : goal.invariant_of-self
