@@ -9,7 +9,7 @@ mkdir -p "$work/crates/segments/src"
 for crate in isd_as pw_wire seg_core; do
   cp -r "$root/crates/$crate" "$work/crates/" # with what was proved of it, if it was
 done
-printf 'isd_as:\npw_wire: thiserror\nseg_core: isd_as pw_wire thiserror\nsegments: seg_core\n' > "$work/crates.txt"
+printf 'isd_as:\npw_wire: thiserror\nseg_core: sha2 isd_as pw_wire thiserror\nsegments: seg_core\n' > "$work/crates.txt"
 cat > "$work/crates/segments/src/main.rt" <<'SOURCE'
 #![tactic(auto)]
 
