@@ -99,6 +99,23 @@ module _ (end : EndOf) (old new : List RowView) (rising : IsRising old) (touched
   pub covers_puts : IsCovered end (database_after_puts old new) touched after
   covers_puts = record { kept = covers_kept; within = covers_within }
 
+-- where no place is touched, the index stays
+covered_index : (end : EndOf) (rows : List RowView) (places : List Place) → IsCovered end rows [] places → IsIndex end rows places
+covered_index end rows places covered q = both (has places q) (stands end rows q) (covered.within q) (covered.kept q)
+  where
+    both : (a b : Bool) → (a ≡ true → (b ≡ true) ⊎ (false ≡ true)) → (b ≡ true → a ≡ true) → a ≡ b
+    both true b within kept = elim (within refl) [
+      | inl e ↦ sym e
+      | inr f ↦ absurd (false≢true f)
+    ]
+    both false true within kept = kept refl
+    both false false within kept = refl
+
+pub index_kept : (end : EndOf) (old : List RowView) (row : RowView) (places : List Place) → IsRising old → IsIndex end old places → IsSeenTo end [] row (row_under (key_of row) old) → IsIndex end (database_after_puts old (row ∷ [])) places
+index_kept end old row places rising index seen =
+    covered_index end (database_after_puts old (row ∷ [])) places
+    (covers_puts end old (row ∷ []) rising [] places places (seen, tt) index (record { kept = λ q e. e; within = λ q e. inl e }) (λ q e. absurd (false≢true e)))
+
 pub covers_same : (end : EndOf) (rows : List RowView) (touched before after : List Place) → IsIndex end rows before → IsGrown touched before after → IsCovered end rows touched after
 covers_same end rows touched before after index grown = record {
   kept = λ q so. grown.kept q (index q ∙ so);

@@ -25,7 +25,7 @@ use Rattle.path_db.specs.declared.row.Row.{Row}
 use Rattle.path_db.specs.Database.{RowView, key_of, is_under, row_under}
 use Rattle.path_db.specs.Row.{row_view, row_views}
 use Rattle.path_db.specs.RowMap.{place_key}
-use Rattle.path_db.specs.EndPlaces.{is_of, is_place, stands, IsSeenTo, AreSeenTo, IsCovered}
+use Rattle.path_db.specs.EndPlaces.{is_of, is_place, stands, EndAlike, IsSeenTo, AreSeenTo, IsCovered}
 use Rattle.path_db.specs.Saved.{Stood}
 use Rattle.path_db.proofs.Found.{under_itself}
 use Rattle.path_db.proofs.Keys.{its_key, equal_from}
@@ -271,6 +271,19 @@ module _ (end : EndOf) (p : Place) (new : RowView) (its : is_place end p new ≡
             (λ q so. moved end other p q old new (record { kind = sym same.kind; isd_as = sym same.isd_as; id = sym same.id }) others its so),
           ),
         )
+
+-- rows with one key and one ISD-AS at an end have one place there
+module _ (end : EndOf) where
+  alike : (q : Place) (new old : RowView) → key_of new ≡ key_of old → EndAlike end new old → is_place end q new ≡ true → is_place end q old ≡ true
+  alike q new old keys ends e =
+      let under = first_from (is_under (place_key q) new) (is_of (end new.1.entries) q.isd_as) e in
+      let number = same_entry (end new.1.entries) ends.0 q.isd_as ends.1 (second_from (is_under (place_key q) new) (is_of (end new.1.entries) q.isd_as) e) in
+      let key : key_of old ≡ place_key q = sym (its_key (place_key q) new under ∙ keys) in
+      both_from (is_under (place_key q) old) (is_of (end old.1.entries) q.isd_as) (subst (λ k. is_under k old ≡ true) key (under_itself old))
+      (subst (λ n. is_of (end old.1.entries) n ≡ true) number ends.2)
+
+  pub seen_alike : (places : List Place) (new old : RowView) (found : Option RowView) → found ≡ Some old → key_of new ≡ key_of old → EndAlike end new old → IsSeenTo end places new found
+  seen_alike places new old found is keys ends = inr (old, is, ((λ q e. alike q new old keys ends e), (λ q e. alike q old new (sym keys) (ends.0, ends.2, ends.1) e)))
 
 -- more places do as well
 module _ (end : EndOf) (places more : List Place) (kept : (q : Place) → has places q ≡ true → has more q ≡ true) where

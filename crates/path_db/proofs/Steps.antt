@@ -46,6 +46,14 @@ outcome_more changes Inserted = outcomes_equal _ _ _ _ _ _ (one_more _ _ (count_
 outcome_more changes Updated = outcomes_equal _ _ _ _ _ _ (ap capped (count_no is_inserted changes Updated refl)) (one_more _ _ (count_yes is_updated changes Updated refl)) (ap capped (count_no is_kept changes Updated refl))
 outcome_more changes Kept = outcomes_equal _ _ _ _ _ _ (ap capped (count_no is_inserted changes Kept refl)) (ap capped (count_no is_updated changes Kept refl)) (one_more _ _ (count_yes is_kept changes Kept refl))
 
+pub one_counted : (rows : List RowView) (row : RowView) → outcome_of_puts (changes_of rows (row ∷ [])) ≡ outcome_after (change_of rows row) (outcome_of_puts [])
+unfolding changes_of
+one_counted rows row = outcome_more [] (change_of rows row)
+
+pub one_put : (rows : List RowView) (row : RowView) → database_after_puts rows (row ∷ []) ≡ database_after_put rows row
+unfolding database_after_puts
+one_put rows row = refl
+
 pub nothing_after : (rows : List RowView) → rows ≡ database_after_puts rows []
 unfolding database_after_puts
 nothing_after rows = refl

@@ -43,6 +43,10 @@ abbrev pub HaveOnePlace : (List EntryView → Option EntryView) → RowView → 
 HaveOnePlace end new old =
     ((q : Place) → is_place end q new ≡ true → is_place end q old ≡ true) × ((q : Place) → is_place end q old ≡ true → is_place end q new ≡ true)
 
+-- two rows have one ISD-AS at an end
+abbrev pub EndAlike : (List EntryView → Option EntryView) → RowView → RowView → Type 0
+EndAlike end new old = (number : ℕ) × (is_of (end new.1.entries) number ≡ true) × (is_of (end old.1.entries) number ≡ true)
+
 -- Of a row that is new and what stood under its key: the places of both are among these, or they have the same place.
 abbrev pub IsSeenTo : (List EntryView → Option EntryView) → List Place → RowView → Option RowView → Type 0
 IsSeenTo end places new stood =

@@ -1,8 +1,8 @@
 //! The database.
 
-ghost use Rattle.std.specs.Prelude.{◌≡◌, ◌-◌, ◌^◌, ◌<◌, ◌≤◌, [], length, min, max, not, count_by, if◌then◌else◌, IfOk, IfErr, OnOk, OnErr};
+ghost use Rattle.std.specs.Prelude.{◌≡◌, ◌-◌, ◌^◌, ◌<◌, ◌≤◌, [], ◌∷◌, None, length, min, max, not, count_by, if◌then◌else◌, IfOk, IfErr, OnOk, OnErr};
 ghost use Rattle.std.specs.List.{AllByRecursion};
-ghost use Rattle.std.specs.Option.{option_copied, option_map, is_some};
+ghost use Rattle.std.specs.Option.{option_copied, option_map, is_some, ForSome};
 ghost use Rattle.path_db.specs.declared.error.ApplyError.TheVariants.{Full};
 ghost use Rattle.path_db.specs.Database.{IsDatabase, AreWhole, key, row_under, rows_len};
 ghost use Rattle.path_db.specs.Put.{database_after_puts, changes_of};
@@ -16,13 +16,13 @@ ghost use Rattle.isd_as.specs.IsdAs.{number_of};
 use crate::answers::{Wanted, first_shown, is_indexed, shown_at};
 use crate::command::Command;
 use crate::end::End;
-use crate::end_places::{add_both, keep_standing, place_of, sweep, touched_places};
+use crate::end_places::{add_both, keep_standing, keeps_places, place_of, sweep, touched_places};
 use crate::error::ApplyError;
 use crate::outcome::Outcome;
 use crate::row::Row;
 use crate::row_list::Rows;
 use crate::row_map::RowMap;
-use crate::row_puts::{put_after, rows_of, saved_rows};
+use crate::row_puts::{put_after, put_row, rows_of, saved_rows};
 use crate::row_records::type_byte;
 use end_index::EndIndex;
 use isd_as::IsdAs;
@@ -140,8 +140,39 @@ impl PathDb {
         ensures memory { OnErr result (0 < length new.now) }
         ensures whole { IsDatabase self.new }
     {
+        if let [one] = new {
+            if let Some(outcome) = self.renew(one, most) {
+                return Ok(outcome);
+            }
+        }
         let new = rows_of(self.alloc, new)?;
         self.put(new, most)
+    }
+
+    /// Puts a segment, where a row stands under its key and at its ends, and with its own all rows have no more than `most` bytes.
+    /// Else nothing changes.
+    fn renew(&mut self, new: &(SegType, Segment), most: u128) -> Option<Outcome>
+        ensures database { ForSome result (λ _. self.new ≡ database_after_puts self.old (new.now ∷ [])) }
+        ensures outcome { ForSome result (λ outcome. outcome ≡ outcome_of_puts (changes_of self.old (new.now ∷ []))) }
+        ensures within { ForSome result (λ _. rows_len self.new ≤ most) }
+        ensures whole { ForSome result (λ _. IsDatabase self.new) }
+        ensures none { result ≡ None → self.new ≡ self.old }
+    {
+        let Ok(segment) = new.1.try_clone() else {
+            return None;
+        };
+        let row = Row::new(new.0, segment);
+        if most.saturating_sub(self.bytes) < u128::from(row.len())
+            || !keeps_places(&self.rows, &row)
+        {
+            return None;
+        }
+        let Ok(change) = put_row(&mut self.rows, &mut self.bytes, row) else {
+            return None;
+        };
+        let mut outcome = Outcome::nothing();
+        outcome.count(change);
+        Some(outcome)
     }
 
     /// Puts rows one after the other, or none of them where memory runs out or the rows would take more than `most` bytes.

@@ -1,9 +1,9 @@
 //! Puts into a map of rows.
 
-ghost use Rattle.std.specs.Prelude.{◌≡◌, ◌⊎◌, ◌<◌, ◌≤◌, map, IfOk, IfErr, OnOk, OnErr, IsOk, IsErr, length, vec_len};
+ghost use Rattle.std.specs.Prelude.{◌≡◌, ◌⊎◌, ◌+◌, ◌<◌, ◌≤◌, map, IfOk, IfErr, OnOk, OnErr, IsOk, IsErr, length, vec_len};
 ghost use Rattle.std.specs.Option.{option_map};
 ghost use Rattle.path_db.specs.declared.error.ApplyError.TheVariants.{NoMemory, Full};
-ghost use Rattle.path_db.specs.Database.{IsRising, AreWhole, key_of, row_under, rows_len};
+ghost use Rattle.path_db.specs.Database.{IsRising, AreWhole, key_of, row_under, row_len, rows_len};
 ghost use Rattle.path_db.specs.Put.{database_after_put, database_after_puts, change_of, changes_of};
 ghost use Rattle.path_db.specs.Outcome.{outcome_of_puts};
 ghost use Rattle.path_db.specs.Row.{row_view, row_views};
@@ -177,12 +177,14 @@ pub(crate) fn put_rows(
 }
 
 /// Puts a row.
-fn put_row(rows: &mut RowMap, bytes: &mut u128, row: Row) -> Result<Change, AllocError>
+pub(crate) fn put_row(rows: &mut RowMap, bytes: &mut u128, row: Row) -> Result<Change, AllocError>
     requires { bytes.old ≡ rows_len rows.old }
     ensures rows { OnOk result (rows.new ≡ database_after_put rows.old (row_view row)) }
     ensures change { IfOk result (λ change. change ≡ change_of rows.old (row_view row)) }
     ensures bytes { OnOk result (bytes.new ≡ rows_len rows.new) }
+    ensures more { OnOk result (bytes.new ≤ bytes.old + row_len (row_view row)) }
     ensures err { OnErr result (rows.new ≡ rows.old) }
+    ensures same { OnErr result (bytes.new ≡ bytes.old) }
 {
     if !wins(rows, &row) {
         return Ok(Change::Kept);
