@@ -1,5 +1,5 @@
 -- How many bytes rows have as records: for `encoding` and `rows_laws`.
-use Rattle.std.proofs.Common.{◌≡◌, ℕ, suc, ◌≤◌, List, [], ◌∷◌, ◌++◌, length, refl, ap, ◌∙◌, arith, append_assoc}
+use Rattle.std.proofs.Common.{◌≡◌, ℕ, suc, ◌+◌, ◌≤◌, List, [], ◌∷◌, ◌++◌, length, take, refl, sym, ap, ◌∙◌, arith, append_assoc}
 use Rattle.std.specs.Int.{w32, to_be_bytes}
 use Rattle.std.proofs.lemmas.List.{length-append}
 use Rattle.std.proofs.lemmas.List.Concat.{flat_map-cons}
@@ -23,9 +23,14 @@ pub fewer_rows : (rows : List RowView) → length rows ≤ rows_len rows
 fewer_rows [] = omega arith
 fewer_rows (row ∷ rows) = omega (arith, fewer_rows rows, sum_by-cons row_len row rows)
 
--- bytes put one after the other
-pub three_parts : (out a b c : List ℕ) → ((out ++ a) ++ b) ++ c ≡ out ++ (a ++ (b ++ c))
-three_parts out a b c = append_assoc (out ++ a) b c ∙ append_assoc out a (b ++ c)
+-- bytes put behind what stands before an offset
+pub put_behind : (at n : ℕ) (old new before bytes : List ℕ) → take at old ≡ before → length bytes ≡ n → take (at + length bytes) new ≡ take at old ++ bytes → take (at + n) new ≡ before ++ bytes
+put_behind at n old new before bytes is size put =
+    ap (λ (k : ℕ). take (at + k) new) (sym size) ∙ put ∙ ap (λ (list : List ℕ). list ++ bytes) is
 
-pub four_parts : (out a b c d : List ℕ) → (((out ++ a) ++ b) ++ c) ++ d ≡ out ++ (a ++ (b ++ (c ++ d)))
-four_parts out a b c d = three_parts (out ++ a) b c d ∙ append_assoc out a (b ++ (c ++ d))
+-- six parts and what is behind them, one after the other
+pub six_parts : (a b c d e f rows : List ℕ) → (((((a ++ b) ++ c) ++ d) ++ e) ++ f) ++ rows ≡ (a ++ (b ++ (c ++ d))) ++ (e ++ (f ++ rows))
+six_parts a b c d e f rows =
+    append_assoc ((((a ++ b) ++ c) ++ d) ++ e) f rows
+    ∙ append_assoc (((a ++ b) ++ c) ++ d) e (f ++ rows)
+    ∙ ap (λ (list : List ℕ). list ++ (e ++ (f ++ rows))) (append_assoc (a ++ b) c d ∙ append_assoc a b (c ++ d))

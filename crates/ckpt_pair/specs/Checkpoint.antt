@@ -1,13 +1,11 @@
 -- Checkpoints of the database.
-use Rattle.std.specs.Prelude.{◌≡◌, ℕ, ◌<◌, ◌^◌, List, ◌++◌, length, Ok}
-use Rattle.std.specs.Int.{w32, to_be_bytes}
+use Rattle.std.specs.Prelude.{◌≡◌, ℕ, ◌<◌, ◌^◌, List, Ok}
 use Rattle.byte_lists.specs.Content.{AreBytes}
 use Rattle.image_laws.specs.Checkpoint as laws
 use Rattle.image_laws.specs.Checkpoint.{CanBeHead, CanBeCheckpoint}
 use Rattle.image_laws.specs.CheckpointReading.{checkpoint_in}
 use Rattle.image_laws.specs.StoreFormat.{IsStorable}
 use Rattle.path_db.specs.Database.{RowView, IsDatabase, rows_len}
-use Rattle.path_db.specs.RowRecord.{rows_encoding}
 use Rattle.ckpt_pair.specs.Heads.{latest}
 use Rattle.ckpt_pair.specs.Rows.{rows_format}
 
@@ -30,7 +28,3 @@ abbrev pub ReadCheckpointsAreDatabases : Type 0
 ReadCheckpointsAreDatabases =
     (area : List ℕ) (checkpoint : laws.Checkpoint (List RowView)) → AreBytes area → checkpoint_in rows_format latest area ≡ Ok checkpoint
     → IsDatabase checkpoint.db
-
--- what stands behind the head: how many bytes the rows have, how many they are, and the rows
-abbrev pub rows_part : List RowView → List ℕ
-rows_part rows = to_be_bytes w32 (length (rows_encoding rows)) ++ (to_be_bytes w32 (length rows) ++ rows_encoding rows)

@@ -1,13 +1,13 @@
 //! Checkpoints as they are written.
 
-ghost use Rattle.std.specs.Prelude.{◌≡◌, ◌<◌, ◌^◌, ◌++◌, ◌*◌, ◌+◌, length, IfOk, OnOk};
-ghost use Rattle.image_laws.specs.Checkpoint.{checkpoint_encoding, head_encoding, CanBeCheckpoint};
+ghost use Rattle.std.specs.Prelude.{◌≡◌, ◌<◌, ◌≤◌, ◌^◌, ◌++◌, ◌+◌, length, take, IfOk, OnOk};
+ghost use Rattle.image_laws.specs.Checkpoint.{checkpoint_bytes, checkpoint_encoding, CanBeCheckpoint};
 ghost use Rattle.path_db.specs.Database.{IsDatabase, rows_len};
-ghost use Rattle.ckpt_pair.specs.Heads.{head_view};
+ghost use Rattle.path_db.specs.RowRecord.{rows_encoding};
 ghost use Rattle.ckpt_pair.specs.Rows.{rows_format};
-ghost use Rattle.ckpt_pair.specs.Checkpoint.{written_checkpoint, rows_part};
+ghost use Rattle.ckpt_pair.specs.Checkpoint.{written_checkpoint};
 
-use crate::head::{Head, LATEST, MAGIC};
+use crate::head::{LATEST, MAGIC};
 use byte_lists::{pad, sector_count};
 use path_db::{PathDb, write_rows};
 use std::alloc::{AllocError, Global};
@@ -29,41 +29,41 @@ pub fn encode_checkpoint(
     ensures spelled { IfOk result (λ bytes. bytes.items ≡ checkpoint_encoding rows_format (written_checkpoint epoch place db.now)) }
     ensures can { OnOk result (CanBeCheckpoint rows_format (written_checkpoint epoch place db.now)) }
 {
-    let size = db.encoded_len() as u32;
-    let sectors = sector_count(BEFORE_ROWS + size as usize);
+    let head = checkpoint_head(db, epoch, place);
+    let sectors = sector_count(BEFORE_ROWS + db.encoded_len() as usize);
     let mut out = Vec::with_capacity(alloc, SECTOR * sectors)?;
-    let head = Head {
-        version: LATEST,
-        epoch,
-        place,
-    };
-    put_head(head, &mut out)?;
-    put_rows(db, size, &mut out)?;
+    out.extend_from_slice(&head)?;
+    write_rows(db, &mut out)?;
     pad(&mut out)?;
     Ok(out)
 }
 
-/// Appends the 24 bytes of a head, or a part of them where memory is refused. Numbers are big-endian.
-fn put_head(head: Head, out: &mut Vec<u8>) -> Result<(), AllocError>
-    ensures { OnOk result (out.new.items ≡ out.old.items ++ head_encoding (head_view head)) }
+/// What that checkpoint begins with, before its rows: the magic, the version, the epoch and the place, how many bytes the rows
+/// have, and how many they are. Numbers are big-endian.
+pub fn checkpoint_head(db: &PathDb, epoch: u64, place: u64) -> [u8; 32]
+    requires { rows_len db.now < 2 ^ 32 }
+    ensures spelled { result ++ rows_encoding db.now ≡ checkpoint_bytes rows_format (written_checkpoint epoch place db.now) }
+    ensures can { CanBeCheckpoint rows_format (written_checkpoint epoch place db.now) }
 {
-    out.extend_from_slice(&MAGIC.to_be_bytes())?;
-    out.extend_from_slice(&head.version.to_be_bytes())?;
-    out.extend_from_slice(&head.epoch.to_be_bytes())?;
-    out.extend_from_slice(&head.place.to_be_bytes())?;
-    Ok(())
+    let size = db.encoded_len() as u32;
+    let count = row_count(db);
+    let mut head = [0; BEFORE_ROWS];
+    put(&mut head, 0, &MAGIC.to_be_bytes());
+    put(&mut head, 4, &LATEST.to_be_bytes());
+    put(&mut head, 8, &epoch.to_be_bytes());
+    put(&mut head, 16, &place.to_be_bytes());
+    put(&mut head, 24, &size.to_be_bytes());
+    put(&mut head, 28, &count.to_be_bytes());
+    head
 }
 
-/// Appends how many bytes rows have and how many they are, and the rows, or a part of it where memory is refused.
-fn put_rows(db: &PathDb, size: u32, out: &mut Vec<u8>) -> Result<(), AllocError>
-    requires { rows_len db.now ≡ size }
-    ensures put { OnOk result (out.new.items ≡ out.old.items ++ rows_part db.now) }
-    ensures whole { IsDatabase db.now }
+/// Puts bytes behind what stands before an offset.
+fn put(head: &mut [u8], at: usize, bytes: &[u8])
+    requires { at + length bytes.now ≤ length head.old }
+    ensures put { take (at + length bytes.now) head.new ≡ take at head.old ++ bytes.now }
+    ensures size { length head.new ≡ length head.old }
 {
-    let count = row_count(db);
-    out.extend_from_slice(&size.to_be_bytes())?;
-    out.extend_from_slice(&count.to_be_bytes())?;
-    write_rows(db, out)
+    head[at..at + bytes.len()].copy_from_slice(bytes);
 }
 
 /// How many rows there are, where their records have less than 4 GiB.

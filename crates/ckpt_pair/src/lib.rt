@@ -13,7 +13,7 @@ mod reading;
 mod rows_laws;
 
 pub use choice::{choose, openings_go_on_there, tail_half};
-pub use encoding::encode_checkpoint;
+pub use encoding::{checkpoint_head, encode_checkpoint};
 pub use error::PairError;
 pub use head::{Head, Heads, LATEST, read_head};
 pub use path_db::RowsReader;

@@ -43,5 +43,5 @@ pub use record_laws::{
 };
 pub use row::Row;
 pub use row_list::Rows;
-pub use row_records::{read_rows, write_rows};
+pub use row_records::{read_rows, row_head, write_rows};
 pub use rows_reader::RowsReader;

@@ -1,7 +1,6 @@
 //! Rows as records.
 
 ghost use Rattle.std.specs.Prelude.{◌≡◌, ◌≤◌, ◌<◌, ◌++◌, length, take, drop, IfOk, IfErr, OnOk, OnErr, IsOk, is_ok};
-ghost use Rattle.std.specs.Int.{w32, to_be_bytes};
 ghost use Rattle.seg_core.specs.Encoding.{IsSegment, segment_encoding};
 ghost use Rattle.seg_core.specs.Registration.{type_number, type_of};
 ghost use Rattle.seg_core.specs.Segment.{segment_outline};
@@ -54,23 +53,22 @@ fn put_rows(rows: Rows<'_>, out: &mut Vec<u8>) -> Result<(), AllocError>
 }
 
 /// Appends the record of a row, or a part of it where memory is refused.
-#[tactic(auto, unfolding(crate::specs::RowRecord::row_record))]
 pub(crate) fn put_row(kind: SegType, segment: &Segment, out: &mut Vec<u8>) -> Result<(), AllocError>
     ensures ok { OnOk result (out.new.items ≡ out.old.items ++ row_record (kind, segment.now)) }
     ensures kept { take (length out.old.items) out.new.items ≡ out.old.items }
 {
-    out.push(type_byte(kind))?;
-    put_size(segment, out)?;
+    out.extend_from_slice(&row_head(kind, segment))?;
     put_segment(segment, out)
 }
 
-/// Appends the length of a segment's encoding in four big-endian bytes.
-fn put_size(segment: &Segment, out: &mut Vec<u8>) -> Result<(), AllocError>
-    ensures ok { OnOk result (out.new.items ≡ out.old.items ++ to_be_bytes w32 (length (segment_encoding segment.now))) }
-    ensures err { OnErr result (out.new.items ≡ out.old.items) }
+/// What the record of a row begins with, before the segment's encoding: the type in one byte, and the length of that encoding in
+/// four.
+#[tactic(auto, unfolding(crate::specs::RowRecord::row_record))]
+pub fn row_head(kind: SegType, segment: &Segment) -> [u8; 5]
+    ensures { result ++ segment_encoding segment.now ≡ row_record (kind, segment.now) }
 {
-    let size = encoded_len(segment) as u32;
-    out.extend_from_slice(&size.to_be_bytes())
+    let size = (encoded_len(segment) as u32).to_be_bytes();
+    [type_byte(kind), size[0], size[1], size[2], size[3]]
 }
 
 /// The number of a type in one byte.

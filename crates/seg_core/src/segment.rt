@@ -90,7 +90,7 @@ impl Segment {
     }
 
     /// The segment's one encoding.
-    pub(crate) fn encoding(&self) -> &[u8]
+    pub fn encoding(&self) -> &[u8]
         ensures same { result.now ≡ segment_encoding self.now }
         ensures whole { IsSegment self.now }
     {

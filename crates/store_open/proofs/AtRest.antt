@@ -11,7 +11,7 @@ use Rattle.image_laws.specs.declared.half.Half.{Half}
 use Rattle.image_laws.specs.Journal.{Reading}
 use Rattle.image_laws.specs.Layout.{Geometry, other}
 use Rattle.image_laws.specs.Checkpoint.{Head, Checkpoint, CanBeCheckpoint, checkpoint_bytes, checkpoint_encoding}
-use Rattle.image_laws.specs.Opening.{Opening, limits_in, IsTail, IsOpening, StoreValue, value_of, db_at_seal, OpensTo}
+use Rattle.image_laws.specs.Opening.{Opening, limits_in, IsTail, IsOpening, StoreValue, value_of, db_at_seal}
 use Rattle.image_laws.specs.TakeOver.{taken_over, empty_journal}
 use Rattle.store_open.specs.Closing.{HasClosedGates}
 use Rattle.store_open.specs.NewStore.{HasRoomFor}
@@ -34,6 +34,10 @@ use Rattle.store_open.proofs.Rests.{sound_at_rest}
 pub left_alone : (old : StoreView) → IsStoreWhole old → (view : StoreView) → old ≡ view → Stretch view.disk view.disk (OpensToStore view)
 left_alone old whole view view_is =
     subst (λ (v : StoreView). Stretch v.disk v.disk (OpensToStore v)) view_is (stretch_here (OpensToStore old) old.disk (λ honest. (whole.sound honest).every))
+
+-- nothing is dirty where a checkpoint may be made
+pub settled_before : (old : StoreView) → IsStoreWhole old → (view : StoreView) → old ≡ view → MayCheckpoint view → IsHonest old.disk → old.disk.history.now.dirty ≡ []
+settled_before old whole view view_is may honest = ((whole.sound honest).rest (subst MayCheckpoint (sym view_is) may).whole).settled
 
 -- an opening whose journal isn't sealed has no tail
 no_tail : (opening : Opening (List RowView) Command) (image : List ℕ) → IsOpening store_format latest image opening → opening.journal.sealed ≡ false → opening.tail ≡ None

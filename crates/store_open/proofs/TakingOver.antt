@@ -14,7 +14,7 @@ use Rattle.store_open.specs.NewStore.{open_sector}
 use Rattle.store_open.specs.TakingOver.{IsTornAt, laid, switched, taken, IsTakingOver}
 
 -- what nothing was written to is torn nowhere
-torn_nowhere : (at n : ℕ) (content : List ℕ) → at + n ≤ length content → IsTornAt at n content content
+pub torn_nowhere : (at n : ℕ) (content : List ℕ) → at + n ≤ length content → IsTornAt at n content content
 torn_nowhere at n content inside = record {
   torn = part at n content;
   size = length-part at n content inside;

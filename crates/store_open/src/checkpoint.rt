@@ -4,10 +4,11 @@ ghost use Rattle.sector_dev.specs.Stretch.{Stretch};
 ghost use Rattle.store_open.specs.Allowing.{AllowsCheckpoint};
 ghost use Rattle.store_open.specs.Store.{Checkpoints, OpensToStore};
 
+use crate::laying::BUFFER;
 use crate::store::Store;
 use crate::store_error::StoreError;
 use crate::taking_over::take_over;
-use ckpt_pair::{Head, LATEST, encode_checkpoint};
+use ckpt_pair::{Head, LATEST, checkpoint_head};
 use path_db::written_rows_are_counted;
 use sector_dev::{Device, SECTOR};
 
@@ -15,8 +16,8 @@ use sector_dev::{Device, SECTOR};
 const BEFORE_ROWS: u64 = 32;
 
 impl<D: Device> Store<D> {
-    /// Writes all rows to the other half, with the next epoch, in the version that is written; syncs, opens that half, syncs,
-    /// closes the old one and its journal in one write, and syncs. A store whose device fails meanwhile is broken for good.
+    /// Writes all rows to the other half, with the next epoch, in the version that is written, piece by piece; syncs, opens that
+    /// half, syncs, closes the old one and its journal in one write, and syncs. A store whose device fails meanwhile is broken for good.
     pub fn checkpoint(&mut self) -> Result<(), StoreError>
         ensures answer { Checkpoints result self.old self.new }
 
@@ -26,10 +27,18 @@ impl<D: Device> Store<D> {
         written_rows_are_counted();
         self.may_checkpoint()?;
         let (epoch, place) = (self.head.epoch + 1, self.place);
-        let Ok(checkpoint) = encode_checkpoint(self.alloc, &self.db, epoch, place) else {
+        let Ok(mut buffer) = vec![in self.alloc; 0; BUFFER] else {
             return Err(StoreError::NoMemory);
         };
-        match take_over(&mut self.device, self.geometry, self.chosen, &checkpoint) {
+        let head = checkpoint_head(&self.db, epoch, place);
+        match take_over(
+            &mut self.device,
+            self.geometry,
+            self.chosen,
+            &head,
+            &self.db,
+            &mut buffer,
+        ) {
             Ok(()) => {
                 self.chosen = self.chosen.other();
                 self.head = Head {

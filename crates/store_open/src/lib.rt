@@ -14,6 +14,7 @@ mod folded;
 mod folding;
 mod geometry;
 mod heads;
+mod laying;
 mod new_store;
 mod new_store_laws;
 mod open_store;

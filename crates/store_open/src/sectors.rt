@@ -35,7 +35,7 @@ pub(crate) fn first_sector(geometry: Geometry) -> [u8; 512]
 }
 
 /// Puts these bytes at an offset.
-fn put(sector: &mut [u8], at: usize, bytes: &[u8])
+pub(crate) fn put(sector: &mut [u8], at: usize, bytes: &[u8])
     requires { at + length bytes.now ≤ length sector.old }
     ensures { sector.new ≡ overwrite at bytes.now sector.old }
 {

@@ -1,7 +1,9 @@
 //! One half takes over from the other, at rest.
 
-ghost use Rattle.std.specs.Prelude.{◌≡◌, ◌%◌, ◌*◌, ◌+◌, ◌≤◌, [], length, OnOk};
+ghost use Rattle.std.specs.Prelude.{◌≡◌, ◌%◌, ◌*◌, ◌+◌, ◌≤◌, ◌++◌, [], length, OnOk};
 ghost use Rattle.byte_lists.specs.Content.{overwrite};
+ghost use Rattle.byte_lists.specs.Sectors.{padded};
+ghost use Rattle.path_db.specs.RowRecord.{rows_encoding};
 ghost use Rattle.sector_dev.specs.Disk.{IsHonest, reads_of};
 ghost use Rattle.sector_dev.specs.Calls.{Keeps, count_after};
 ghost use Rattle.sector_dev.specs.Stretch.{Stretch};
@@ -10,37 +12,41 @@ ghost use Rattle.store_open.specs.Geometry.{geometry_view};
 ghost use Rattle.store_open.specs.TakingOver.{IsTornAt, IsTakingOver, taken};
 
 use crate::Geometry;
+use crate::laying::lay;
 use crate::sectors::open_gate;
 use image_laws::Half;
+use path_db::PathDb;
 use sector_dev::{DevError, Device, SECTOR};
 
-/// Writes a checkpoint to the other half's area, opens that half, and closes the old one and its journal in one write. Each
-/// write is synced before the next one. Nothing may be dirty.
+/// Lays a checkpoint in the other half's area, opens that half, and closes the old one and its journal in one write. Each of the
+/// three is synced before the next one. Nothing may be dirty.
 pub(crate) fn take_over<D: Device>(
     device: &mut D,
     geometry: Geometry,
     half: Half,
-    checkpoint: &[u8],
+    head: &[u8; 32],
+    db: &PathDb,
+    buffer: &mut [u8],
 ) -> Result<(), DevError>
     requires allowed { IsGeometry (geometry_view geometry) }
     requires room { image_sectors (geometry_view geometry) ≤ (D.disk device.old).sectors }
-    requires whole { length checkpoint.now % 512 ≡ 0 }
-    requires fits { length checkpoint.now ≤ 512 * geometry.checkpoint }
+    requires fits { length (padded (head.now ++ rows_encoding db.now)) ≤ 512 * geometry.checkpoint }
+    requires buffer { length buffer.old ≡ 147968 }
     requires clean { IsHonest (D.disk device.old) → (D.disk device.old).history.now.dirty ≡ [] }
 
-    // At every moment one of the three writes may be torn, and those before it are whole.
+    // At every moment one of the three may be torn, and those before it are whole.
     ensures any_moment { Stretch (D.disk device.old) (D.disk device.new)
-        (IsTakingOver (geometry_view geometry) half checkpoint.now (reads_of (D.disk device.old))) }
+        (IsTakingOver (geometry_view geometry) half (padded (head.now ++ rows_encoding db.now)) (reads_of (D.disk device.old))) }
 
     ensures settled { OnOk result (IsHonest (D.disk device.old) → (D.disk device.new).history.now.dirty ≡ []) }
     ensures taken { OnOk result (IsHonest (D.disk device.old)
-        → reads_of (D.disk device.new) ≡ taken (geometry_view geometry) half checkpoint.now (reads_of (D.disk device.old))) }
+        → reads_of (D.disk device.new) ≡ taken (geometry_view geometry) half (padded (head.now ++ rows_encoding db.now)) (reads_of (D.disk device.old))) }
 
     // It fails only where the device does.
     ensures faults { (D.disk device.new).faults ≡ count_after result (D.disk device.old).faults }
 {
     let new = half.other();
-    write_through(device, geometry.area_at(new), checkpoint)?;
+    lay(device, geometry.area_at(new), head, db, buffer)?;
     write_through(device, geometry.gate_at(new), &open_gate())?;
     write_through(device, geometry.gate_at(half), &[0; 2 * SECTOR])
 }

@@ -1,0 +1,11 @@
+-- How a checkpoint is laid piece by piece.
+use Rattle.std.specs.Prelude.{◌≡◌, ℕ, ◌+◌, ◌*◌, List, ◌++◌, length}
+use Rattle.byte_lists.specs.Content.{overwrite}
+use Rattle.sector_dev.specs.Disk.{Disk, IsHonest, reads_of}
+
+-- Of these bytes, which are to stand at a sector, some front is written, and up to which sector; the rest isn't yet.
+pub record IsPoured (old new : Disk) (at sector : ℕ) (rest bytes : List ℕ) : Type 0 where
+  pub front : List ℕ
+  pub parts : front ++ rest ≡ bytes
+  pub place : 512 * at + length front ≡ 512 * sector
+  pub written : IsHonest old → reads_of new ≡ overwrite (512 * at) front (reads_of old)

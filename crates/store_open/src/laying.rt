@@ -1,0 +1,146 @@
+//! A checkpoint is laid in its area, piece by piece.
+
+ghost use Rattle.std.specs.Prelude.{◌≡◌, ◌≤◌, ◌<◌, ◌+◌, ◌-◌, ◌*◌, ◌++◌, [], length, take, OnOk, IfOk};
+ghost use Rattle.byte_lists.specs.Content.{overwrite};
+ghost use Rattle.byte_lists.specs.Sectors.{padded};
+ghost use Rattle.path_db.specs.Row.{row_view};
+ghost use Rattle.path_db.specs.RowRecord.{row_record, rows_encoding};
+ghost use Rattle.sector_dev.specs.Disk.{IsHonest, reads_of};
+ghost use Rattle.sector_dev.specs.Calls.{WriteCall, count_after};
+ghost use Rattle.sector_dev.specs.Stretch.{Stretch};
+ghost use Rattle.store_open.specs.Pouring.{IsPoured};
+ghost use Rattle.store_open.specs.TakingOver.{IsTornAt};
+
+use crate::sectors::put;
+use byte_lists::sector_count;
+use path_db::{PathDb, Row, Rows, row_head};
+use sector_dev::{DevError, Device, SECTOR};
+
+/// The bytes that are written at once.
+const PIECE: usize = 131_072;
+
+/// The sectors that are written at once.
+const PIECE_SECTORS: u64 = 256;
+
+/// The bytes of the buffer: those of a piece, and of the greatest row, in whole sectors.
+pub(crate) const BUFFER: usize = 147_968;
+
+/// The bytes of a checkpoint before its rows.
+const BEFORE_ROWS: usize = 32;
+
+/// The bytes of a row before its segment.
+const ROW_HEAD: usize = 5;
+
+/// Writes what a checkpoint begins with and its rows from a sector on, filled with zeros to whole sectors, piece by piece from one
+/// buffer; then syncs. Nothing may be dirty.
+pub(crate) fn lay<D: Device>(
+    device: &mut D,
+    at: u64,
+    head: &[u8; 32],
+    db: &PathDb,
+    buffer: &mut [u8],
+) -> Result<(), DevError>
+    requires inside { 512 * at + length (padded (head.now ++ rows_encoding db.now)) ≤ 512 * (D.disk device.old).sectors }
+    requires buffer { length buffer.old ≡ 147968 }
+    requires clean { IsHonest (D.disk device.old) → (D.disk device.old).history.now.dirty ≡ [] }
+
+    // At every moment all but these sectors is as it was.
+    ensures any_moment { Stretch (D.disk device.old) (D.disk device.new)
+        (IsTornAt (512 * at) (length (padded (head.now ++ rows_encoding db.now))) (reads_of (D.disk device.old))) }
+
+    ensures settled { OnOk result (IsHonest (D.disk device.old) → (D.disk device.new).history.now.dirty ≡ []) }
+    ensures written { OnOk result (IsHonest (D.disk device.old)
+        → reads_of (D.disk device.new) ≡ overwrite (512 * at) (padded (head.now ++ rows_encoding db.now)) (reads_of (D.disk device.old))) }
+
+    // It fails only where the device does.
+    ensures faults { (D.disk device.new).faults ≡ count_after result (D.disk device.old).faults }
+{
+    put(buffer, 0, head);
+    let (sector, used) = pour(device, at, db.rows(), buffer, BEFORE_ROWS)?;
+    write_rest(device, sector, buffer, used)?;
+    device.sync()
+}
+
+/// Writes what is used of the buffer, and rows behind it, in whole pieces. Tells at which sector the rest is to stand, and how many
+/// bytes of the buffer it is.
+fn pour<D: Device>(
+    device: &mut D,
+    at: u64,
+    rows: Rows<'_>,
+    buffer: &mut [u8],
+    before: usize,
+) -> Result<(u64, usize), DevError>
+    requires inside { 512 * at + length (padded (take before buffer.old ++ rows_encoding rows)) ≤ 512 * (D.disk device.old).sectors }
+    requires buffer { length buffer.old ≡ 147968 }
+    requires used { before < 131072 }
+    requires clean { IsHonest (D.disk device.old) → (D.disk device.old).history.now.dirty ≡ [] }
+    ensures any_moment { Stretch (D.disk device.old) (D.disk device.new)
+        (IsTornAt (512 * at) (length (padded (take before buffer.old ++ rows_encoding rows.entry))) (reads_of (D.disk device.old))) }
+    ensures poured { IfOk result (λ rest. IsPoured (D.disk device.old) (D.disk device.new) at rest.0
+        (take rest.1 buffer.new) (take before buffer.old ++ rows_encoding rows.entry)) }
+    ensures buffer { length buffer.new ≡ length buffer.old }
+    ensures rest { IfOk result (λ rest. rest.1 < 131072) }
+    ensures faults { (D.disk device.new).faults ≡ count_after result (D.disk device.old).faults }
+{
+    let mut sector = at;
+    let mut used = before;
+    for row in rows {
+        used = put_row(buffer, used, row);
+        if used >= PIECE {
+            write_piece(device, sector, buffer, used)?;
+            sector += PIECE_SECTORS;
+            used -= PIECE;
+        }
+    }
+    Ok((sector, used))
+}
+
+/// Writes the piece at the front of the buffer, and moves what is used behind it to the front.
+fn write_piece<D: Device>(
+    device: &mut D,
+    sector: u64,
+    buffer: &mut [u8],
+    used: usize,
+) -> Result<(), DevError>
+    requires used { 131072 ≤ used }
+    requires buffer { used ≤ length buffer.old }
+    requires inside { 512 * sector + 131072 ≤ 512 * (D.disk device.old).sectors }
+    ensures write { WriteCall sector (take 131072 buffer.old) result (D.disk device.old) (D.disk device.new) }
+    ensures rest { OnOk result (take 131072 buffer.old ++ take (used - 131072) buffer.new ≡ take used buffer.old) }
+    ensures buffer { length buffer.new ≡ length buffer.old }
+{
+    device.write(sector, &buffer[..PIECE])?;
+    buffer.copy_within(PIECE..used, 0);
+    Ok(())
+}
+
+/// Writes what is used of the buffer, filled with zeros to whole sectors.
+fn write_rest<D: Device>(
+    device: &mut D,
+    sector: u64,
+    buffer: &mut [u8],
+    used: usize,
+) -> Result<(), DevError>
+    requires buffer { length buffer.old ≡ 147968 }
+    requires used { used ≤ 131072 }
+    requires inside { 512 * sector + length (padded (take used buffer.old)) ≤ 512 * (D.disk device.old).sectors }
+    ensures write { WriteCall sector (padded (take used buffer.old)) result (D.disk device.old) (D.disk device.new) }
+{
+    let end = SECTOR * sector_count(used);
+    buffer[used..end].fill(0);
+    device.write(sector, &buffer[..end])
+}
+
+/// Puts the record of a row behind what is used of the buffer, and tells how much of it is used then.
+fn put_row(buffer: &mut [u8], used: usize, row: &Row) -> usize
+    requires buffer { length buffer.old ≡ 147968 }
+    requires used { used < 131072 }
+    ensures put { take result buffer.new ≡ take used buffer.old ++ row_record (row_view row.now) }
+    ensures buffer { length buffer.new ≡ length buffer.old }
+    ensures inside { result ≤ used + 16389 }
+{
+    let bytes = row.segment.encoding();
+    put(buffer, used, &row_head(row.kind, &row.segment));
+    put(buffer, used + ROW_HEAD, bytes);
+    used + ROW_HEAD + bytes.len()
+}
