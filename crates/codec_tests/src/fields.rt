@@ -1,9 +1,12 @@
 //! Fields and varints of the wire format.
 
+use crate::same::{assert_bytes, assert_same};
 use pw_wire::{
     Field, Value, WireError, all_fields, encoded_fields, encoded_varint, field_or_fault,
     next_field, put_bytes_field, put_varint, put_varint_field,
 };
+use std::alloc::Global;
+use std::process::Abort;
 use std::test::Fail;
 
 const LARGEST: [u8; 10] = [255, 255, 255, 255, 255, 255, 255, 255, 255, 1];
@@ -28,73 +31,106 @@ fn varint_behind(message: &[u8]) -> Result<(u64, usize), WireError> {
     }
 }
 
+/// Varints, and what is read of each.
+const VARINTS: [(&[u8], Result<(u64, usize), WireError>); 6] = [
+    (&[0], Ok((0, 1))),
+    (&[0x80, 0], Ok((0, 2))),
+    (&[0x96, 1, 7], Ok((150, 2))),
+    (&LARGEST, Ok((u64::MAX, 10))),
+    (&GOES_ON, Err(WireError::LongVarint)),
+    (&[128; 9], Err(WireError::Truncated)),
+];
+
+/// A field of a varint.
+fn varint_field(alloc: Global, varint: &[u8]) -> Result<Vec<u8>, Fail> {
+    let mut message = Vec::from_slice(alloc, &[0x08])?;
+    message.extend_from_slice(varint)?;
+    Ok(message)
+}
+
 #[test]
 fn varint_encodings(rt: HostRuntime) -> Result<(), Fail> {
-    let cases: [(&[u8], Result<(u64, usize), WireError>); 6] = [
-        (&[0], Ok((0, 1))),
-        (&[0x80, 0], Ok((0, 2))),
-        (&[0x96, 1, 7], Ok((150, 2))),
-        (&LARGEST, Ok((u64::MAX, 10))),
-        (&GOES_ON, Err(WireError::LongVarint)),
-        (&GOES_ON[..9], Err(WireError::Truncated)),
-    ];
-    for (varint, expected) in cases {
-        let mut message = Vec::from_slice(rt.alloc(), &[0x08])?;
-        message.extend_from_slice(varint)?;
-        assert_eq!(rt; varint_behind(&message), expected, "{varint:?}");
+    for (varint, expected) in &VARINTS {
+        let message = varint_field(rt.alloc(), varint)?;
+        assert_same(&rt, &varint_behind(&message), expected, varint);
     }
     Ok(())
 }
 
-// The fields that protobuf's page on its encoding works through, each with a byte after it.
+/// The fields that protobuf's page on its encoding works through, each with a byte after it: a message, its field's number and
+/// value, and the bytes of the field.
+const FIELDS: [(&[u8], u32, Value<'static>, usize); 4] = [
+    (&[0x08, 0x96, 1, 9], 1, Value::Varint(150), 3),
+    (b"\x12\x07testing.", 2, Value::Bytes(b"testing"), 9),
+    (
+        &[0x19, 1, 2, 3, 4, 5, 6, 7, 8, 9],
+        3,
+        Value::Fixed64(0x0807060504030201),
+        9,
+    ),
+    (&[0x25, 1, 2, 3, 4, 9], 4, Value::Fixed32(0x04030201), 5),
+];
+
+/// Sees what a message's next field is.
+fn assert_field(
+    rt: &impl Abort,
+    message: &[u8],
+    wanted: Result<Option<(Field<'_>, usize)>, WireError>,
+) {
+    assert_same(rt, &next_field(message), &wanted, &message);
+}
+
 #[test]
 fn fields_of_each_wire_type(rt: HostRuntime) {
-    let cases: [(&[u8], u32, Value<'_>, usize); 4] = [
-        (&[0x08, 0x96, 1, 9], 1, Value::Varint(150), 3),
-        (b"\x12\x07testing.", 2, Value::Bytes(b"testing"), 9),
-        (
-            &[0x19, 1, 2, 3, 4, 5, 6, 7, 8, 9],
-            3,
-            Value::Fixed64(0x0807060504030201),
-            9,
-        ),
-        (&[0x25, 1, 2, 3, 4, 9], 4, Value::Fixed32(0x04030201), 5),
-    ];
-    for (message, number, value, len) in cases {
-        assert_eq!(rt;
-            next_field(message),
-            Ok(Some((Field { number, value }, len)))
-        );
+    for (message, number, value, len) in &FIELDS {
+        let field = Field {
+            number: *number,
+            value: *value,
+        };
+        assert_field(&rt, message, Ok(Some((field, *len))));
     }
 }
+
+/// Messages, and the faults of their first fields.
+const FAULTS: [(&[u8], WireError); 5] = [
+    (&[0x0a], WireError::Truncated),
+    (&TOO_LARGE, WireError::LongVarint),
+    (&[0], WireError::BadField),
+    (&[0x0b], WireError::GroupWire),
+    (&[0x0e], WireError::BadWire),
+];
 
 #[test]
 fn wire_faults(rt: HostRuntime) {
-    let cases: [(&[u8], WireError); 5] = [
-        (&[0x0a], WireError::Truncated),
-        (&TOO_LARGE, WireError::LongVarint),
-        (&[0], WireError::BadField),
-        (&[0x0b], WireError::GroupWire),
-        (&[0x0e], WireError::BadWire),
-    ];
-    for (message, error) in cases {
-        assert_eq!(rt; next_field(message), Err(error), "{message:?}");
+    for (message, error) in &FAULTS {
+        assert_field(&rt, message, Err(*error));
     }
-    assert_eq!(rt; next_field(&[]), Ok(None));
+    assert_field(&rt, &[], Ok(None));
 }
 
-#[test]
-fn encodings_that_are_put(rt: HostRuntime) -> Result<(), Fail> {
-    let mut put = Vec::new(rt.alloc());
+/// Two varints, and two fields between them.
+fn put_all(alloc: Global) -> Result<Vec<u8>, Fail> {
+    let mut put = Vec::new(alloc);
     put_varint(&mut put, 150)?;
     put_varint_field(&mut put, 1, 150)?;
     put_bytes_field(&mut put, 2, b"testing")?;
     put_varint(&mut put, u64::MAX)?;
+    Ok(put)
+}
 
-    let mut expected = Vec::from_slice(rt.alloc(), &[0x96, 1, 0x08, 0x96, 1])?;
+/// What they are encoded as.
+fn all_put(alloc: Global) -> Result<Vec<u8>, Fail> {
+    let mut expected = Vec::from_slice(alloc, &[0x96, 1, 0x08, 0x96, 1])?;
     expected.extend_from_slice(b"\x12\x07testing")?;
     expected.extend_from_slice(&LARGEST)?;
-    assert_eq!(rt; put.as_slice(), expected.as_slice());
+    Ok(expected)
+}
+
+#[test]
+fn encodings_that_are_put(rt: HostRuntime) -> Result<(), Fail> {
+    let put = put_all(rt.alloc())?;
+    let expected = all_put(rt.alloc())?;
+    assert_bytes(&rt, &put, &expected);
     Ok(())
 }
 

@@ -10,6 +10,8 @@ mod messages;
 #[cfg(test)]
 mod numbers;
 #[cfg(test)]
+mod same;
+#[cfg(test)]
 mod segments;
 #[cfg(test)]
 mod worked;

@@ -1,9 +1,13 @@
 //! Registrations, requests and responses.
 
+use crate::same::{assert_bytes, assert_same};
 use crate::worked::{CORE, DOWN, SEGMENT};
 use pw_wire::WireError;
-use seg_core::{SegError, SegType, read_registration, read_request, read_segment, write_response};
+use seg_core::{
+    SegError, SegType, Segment, read_registration, read_request, read_segment, write_response,
+};
 use std::alloc::Global;
+use std::process::Abort;
 use std::test::Fail;
 
 /// The worked segment, registered as a down segment.
@@ -13,29 +17,64 @@ fn registration(alloc: Global) -> Result<Vec<u8>, Fail> {
     Ok(message)
 }
 
+/// The rows that a message registers.
+fn rows_of(alloc: Global, message: &[u8]) -> Result<Vec<(SegType, Segment)>, SegError> {
+    read_registration(alloc, message)
+}
+
+/// Sees that these rows are answered with these bytes.
+fn assert_answered(
+    rt: &impl Abort,
+    alloc: Global,
+    rows: &[(SegType, Segment)],
+    expected: &[u8],
+) -> Result<(), Fail> {
+    let response = write_response(alloc, rows)?;
+    assert_bytes(rt, &response, expected);
+    Ok(())
+}
+
+/// Sees that a row of a down segment is the only one.
+fn assert_down(rt: &impl Abort, rows: &[(SegType, Segment)]) {
+    assert!(rt; rows.len() == 1 && rows[0].0 == SegType::Down);
+}
+
 #[test]
 fn registration_is_answered(rt: HostRuntime) -> Result<(), Fail> {
     let message = registration(rt.alloc())?;
-    let rows = read_registration(rt.alloc(), &message)?;
-    assert!(rt; rows.len() == 1 && rows[0].0 == SegType::Down);
-    let response = write_response(rt.alloc(), &rows)?;
-    assert_eq!(rt; response.as_slice(), message.as_slice());
+    let rows = rows_of(rt.alloc(), &message)?;
+    assert_down(&rt, &rows);
+    assert_answered(&rt, rt.alloc(), &rows, &message)
+}
+
+/// Appends the worked segment as a row of this type.
+fn push_row(alloc: Global, rows: &mut Vec<(SegType, Segment)>, kind: SegType) -> Result<(), Fail> {
+    rows.push((kind, read_segment(alloc, &SEGMENT)?))?;
     Ok(())
+}
+
+/// The worked segment as a core segment and as a down segment.
+fn both(alloc: Global) -> Result<Vec<(SegType, Segment)>, Fail> {
+    let mut rows = Vec::new(alloc);
+    push_row(alloc, &mut rows, SegType::Core)?;
+    push_row(alloc, &mut rows, SegType::Down)?;
+    Ok(rows)
+}
+
+/// The worked segment, answered as a down segment and as a core segment.
+fn both_answered(alloc: Global) -> Result<Vec<u8>, Fail> {
+    let mut expected = registration(alloc)?;
+    expected.extend_from_slice(&CORE)?;
+    expected.extend_from_slice(&SEGMENT)?;
+    Ok(expected)
 }
 
 #[test]
 fn types_are_answered_by_number(rt: HostRuntime) -> Result<(), Fail> {
-    let mut rows = Vec::new(rt.alloc());
-    rows.push((SegType::Core, read_segment(rt.alloc(), &SEGMENT)?))?;
-    rows.push((SegType::Down, read_segment(rt.alloc(), &SEGMENT)?))?;
-    let mut expected = registration(rt.alloc())?;
-    expected.extend_from_slice(&CORE)?;
-    expected.extend_from_slice(&SEGMENT)?;
-    for (rows, expected) in [(rows.as_slice(), expected.as_slice()), (&[], &[])] {
-        let response = write_response(rt.alloc(), rows)?;
-        assert_eq!(rt; response.as_slice(), expected);
-    }
-    Ok(())
+    let rows = both(rt.alloc())?;
+    let expected = both_answered(rt.alloc())?;
+    assert_answered(&rt, rt.alloc(), &rows, &expected)?;
+    assert_answered(&rt, rt.alloc(), &[], &[])
 }
 
 /// The ends that a request names, as numbers.
@@ -44,19 +83,15 @@ fn ends_of(message: &[u8]) -> Result<(u64, u64), SegError> {
     Ok((source.to_u64(), destination.to_u64()))
 }
 
-// A request from 1-ff00:0:110 to 1-ff00:0:111, and an empty one.
+/// A request from 1-ff00:0:110 to 1-ff00:0:111.
+const REQUEST: [u8; 16] = *b"\x08\x90\x82\x80\x80\x80\xe0\x7f\x10\x91\x82\x80\x80\x80\xe0\x7f";
+
+// That request, and an empty one.
 #[test]
 fn request_is_read(rt: HostRuntime) {
-    let cases: [(&[u8], (u64, u64)); 2] = [
-        (
-            b"\x08\x90\x82\x80\x80\x80\xe0\x7f\x10\x91\x82\x80\x80\x80\xe0\x7f",
-            (0x0001_ff00_0000_0110, 0x0001_ff00_0000_0111),
-        ),
-        (b"", (0, 0)),
-    ];
-    for (message, ends) in cases {
-        assert_eq!(rt; ends_of(message), Ok(ends));
-    }
+    let ends = (0x0001_ff00_0000_0110, 0x0001_ff00_0000_0111);
+    assert_same(&rt, &ends_of(&REQUEST), &Ok(ends), &"a request");
+    assert_same(&rt, &ends_of(b""), &Ok((0, 0)), &"an empty one");
 }
 
 /// How many segments a registration has.
@@ -64,39 +99,41 @@ fn count(alloc: Global, message: &[u8]) -> Result<usize, SegError> {
     Ok(read_registration(alloc, message)?.len())
 }
 
+/// Messages, and how many segments each registers.
+const MESSAGES: [(&[u8], Result<usize, SegError>); 15] = [
+    (b"", Ok(0)),
+    (b"\x0a", Err(SegError::Wire(WireError::Truncated))),
+    (
+        b"\xff\xff\xff\xff\xff\xff\xff\xff\xff\x02",
+        Err(SegError::Wire(WireError::LongVarint)),
+    ),
+    (b"\x00", Err(SegError::Wire(WireError::BadField))),
+    (b"\x0b", Err(SegError::Wire(WireError::GroupWire))),
+    (b"\x0e", Err(SegError::Wire(WireError::BadWire))),
+    (b"\x08\x00", Err(SegError::KindOfField)),
+    (b"\x0a\x04\x12\x00\x12\x00", Err(SegError::RepeatedMessage)),
+    (
+        b"\x0a\x02\x08\x02\x0a\x02\x08\x02",
+        Err(SegError::RepeatedMessage),
+    ),
+    (
+        b"\x0a\x08\x08\x02\x12\x04\x0a\x02\x12\x00",
+        Err(SegError::MissingField),
+    ),
+    (
+        b"\x0a\x15\x08\x02\x12\x11\x0a\x0f\x0a\x0b\x08\xff\xff\xff\xff\xff\xff\xff\xff\xff\x01\x12\x00",
+        Err(SegError::Range),
+    ),
+    (b"\x0a\x06\x08\x02\x12\x02\x0a\x00", Err(SegError::Entries)),
+    (b"\x0a\x00", Err(SegError::BadType)),
+    (b"\x10\x00", Ok(0)),
+    (b"\x0a\x02\x08\x01", Ok(0)),
+];
+
 #[test]
 fn messages_are_refused(rt: HostRuntime) {
-    let cases: [(&[u8], Result<usize, SegError>); 15] = [
-        (b"", Ok(0)),
-        (b"\x0a", Err(SegError::Wire(WireError::Truncated))),
-        (
-            b"\xff\xff\xff\xff\xff\xff\xff\xff\xff\x02",
-            Err(SegError::Wire(WireError::LongVarint)),
-        ),
-        (b"\x00", Err(SegError::Wire(WireError::BadField))),
-        (b"\x0b", Err(SegError::Wire(WireError::GroupWire))),
-        (b"\x0e", Err(SegError::Wire(WireError::BadWire))),
-        (b"\x08\x00", Err(SegError::KindOfField)),
-        (b"\x0a\x04\x12\x00\x12\x00", Err(SegError::RepeatedMessage)),
-        (
-            b"\x0a\x02\x08\x02\x0a\x02\x08\x02",
-            Err(SegError::RepeatedMessage),
-        ),
-        (
-            b"\x0a\x08\x08\x02\x12\x04\x0a\x02\x12\x00",
-            Err(SegError::MissingField),
-        ),
-        (
-            b"\x0a\x15\x08\x02\x12\x11\x0a\x0f\x0a\x0b\x08\xff\xff\xff\xff\xff\xff\xff\xff\xff\x01\x12\x00",
-            Err(SegError::Range),
-        ),
-        (b"\x0a\x06\x08\x02\x12\x02\x0a\x00", Err(SegError::Entries)),
-        (b"\x0a\x00", Err(SegError::BadType)),
-        (b"\x10\x00", Ok(0)),
-        (b"\x0a\x02\x08\x01", Ok(0)),
-    ];
-    for (message, expected) in cases {
-        assert_eq!(rt; count(rt.alloc(), message), expected, "{message:?}");
+    for (message, expected) in &MESSAGES {
+        assert_same(&rt, &count(rt.alloc(), message), expected, message);
     }
 }
 
@@ -114,10 +151,18 @@ fn repeated(alloc: Global, head: &[u8], times: usize) -> Result<Vec<u8>, Fail> {
 #[test]
 fn seventeen_segments_are_refused(rt: HostRuntime) -> Result<(), Fail> {
     let sixteen = repeated(rt.alloc(), b"\x0a\xa5\x0b\x08\x02\x12\xa0\x0b", 16)?;
-    assert_eq!(rt; count(rt.alloc(), &sixteen), Ok(16));
+    assert_same(&rt, &count(rt.alloc(), &sixteen), &Ok(16), &16);
     let seventeen = repeated(rt.alloc(), b"\x0a\xff\x0b\x08\x02\x12\xfa\x0b", 17)?;
-    assert_eq!(rt; count(rt.alloc(), &seventeen), Err(SegError::TooLarge));
+    let refused = Err(SegError::TooLarge);
+    assert_same(&rt, &count(rt.alloc(), &seventeen), &refused, &17);
     Ok(())
+}
+
+/// Sees that rows are answered with these bytes, or not at all.
+fn assert_answer(rt: &impl Abort, alloc: Global, rows: &[(SegType, Segment)], expected: &[u8]) {
+    if let Ok(response) = write_response(alloc, rows) {
+        assert_bytes(rt, &response, expected);
+    }
 }
 
 // Run with each allocation failing in turn: the answer is the right one, or that memory ran out.
@@ -126,12 +171,8 @@ fn refused_memory_is_told(rt: HostRuntime) {
     let mut message = [0; 96];
     message[..8].copy_from_slice(&DOWN);
     message[8..].copy_from_slice(&SEGMENT);
-    match read_registration(rt.alloc(), &message) {
+    match rows_of(rt.alloc(), &message) {
         Err(refusal) => assert_eq!(rt; refusal, SegError::NoMemory),
-        Ok(rows) => {
-            if let Ok(response) = write_response(rt.alloc(), &rows) {
-                assert_eq!(rt; response.as_slice(), message.as_slice());
-            }
-        }
+        Ok(rows) => assert_answer(&rt, rt.alloc(), &rows, &message),
     }
 }

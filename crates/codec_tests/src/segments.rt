@@ -1,8 +1,13 @@
 //! Segments: a worked one, and paths that are none.
 
+use crate::same::{assert_bytes, assert_same};
 use crate::worked::SEGMENT;
 use isd_as::IsdAs;
-use seg_core::{Entry, SegError, encoded_len, is_encoding_of, read_segment, write_segment};
+use seg_core::{
+    Entry, SegError, Segment, encoded_len, is_encoding_of, read_segment, write_segment,
+};
+use std::alloc::Global;
+use std::process::Abort;
 use std::test::Fail;
 
 /// An entry's AS and its next one, its interfaces and its expiry.
@@ -14,32 +19,66 @@ fn hop_of(entry: &Entry) -> (IsdAs, IsdAs, (u16, u16, u8)) {
     )
 }
 
+/// Sees that an entry has this AS, next AS, interfaces and expiry, and these signed bytes, and neither of its other parts.
+fn assert_entry(
+    rt: &impl Abort,
+    entry: &Entry,
+    hop: (IsdAs, IsdAs, (u16, u16, u8)),
+    signed: &[u8],
+) {
+    assert_same(rt, &hop_of(entry), &hop, &"the hop");
+    assert_bytes(rt, entry.signed(), signed);
+    assert!(rt; entry.signature().is_empty() && entry.unsigned().is_none());
+}
+
+/// Sees that a segment has the worked one's information, and as many entries.
+fn assert_information(rt: &impl Abort, segment: &Segment) {
+    assert_same(rt, &segment.timestamp(), &1_700_000_000, &"timestamp");
+    assert_same(rt, &segment.segment_id(), &7, &"segment id");
+    assert_same(rt, &segment.entries().len(), &2, &"entries");
+}
+
+/// Sees that two entries are those of the worked segment.
+fn assert_entries(rt: &impl Abort, one: &Entry, two: &Entry) {
+    let first = IsdAs::from_u64(0x0001_ff00_0000_0110);
+    let second = IsdAs::from_u64(0x0001_ff00_0000_0111);
+    let last = IsdAs::from_u64(0);
+    assert_entry(rt, one, (first, second, (0, 1, 63)), &SEGMENT[16..53]);
+    assert_entry(rt, two, (second, last, (2, 0, 63)), &SEGMENT[59..]);
+}
+
+/// Sees that a segment is the worked one.
+fn assert_worked(rt: &impl Abort, segment: &Segment) {
+    assert_information(rt, segment);
+    if let [one, two] = segment.entries() {
+        assert_entries(rt, one, two);
+    }
+}
+
+/// Sees that a copy of a segment is the same, and is written as the worked one.
+fn assert_copied(
+    rt: &impl Abort,
+    alloc: Global,
+    segment: &Segment,
+    copy: &Segment,
+) -> Result<(), Fail> {
+    let written = write_segment(alloc, copy)?;
+    assert_bytes(rt, &written, &SEGMENT);
+    assert!(rt; copy == segment && is_encoding_of(&written, copy) && encoded_len(copy) == 88);
+    Ok(())
+}
+
 #[test]
 fn segment_is_read_and_written(rt: HostRuntime) -> Result<(), Fail> {
     let segment = read_segment(rt.alloc(), &SEGMENT)?;
-    let found = (
-        segment.timestamp(),
-        segment.segment_id(),
-        segment.entries().len(),
-    );
-    assert_eq!(rt; found, (1_700_000_000, 7, 2));
-
-    let first = IsdAs::from_u64(0x0001_ff00_0000_0110);
-    let second = IsdAs::from_u64(0x0001_ff00_0000_0111);
-    let expected = [
-        ((first, second, (0, 1, 63)), &SEGMENT[16..53]),
-        ((second, IsdAs::from_u64(0), (2, 0, 63)), &SEGMENT[59..]),
-    ];
-    for (entry, (hop, signed)) in segment.entries().iter().zip(expected) {
-        assert_eq!(rt; (hop_of(entry), entry.signed()), (hop, signed));
-        assert!(rt; entry.signature().is_empty() && entry.unsigned().is_none());
-    }
-
+    assert_worked(&rt, &segment);
     let copy = segment.try_clone()?;
-    let written = write_segment(rt.alloc(), &copy)?;
-    assert_eq!(rt; written.as_slice(), SEGMENT.as_slice());
-    assert!(rt; copy == segment && is_encoding_of(&written, &copy) && encoded_len(&copy) == 88);
-    Ok(())
+    assert_copied(&rt, rt.alloc(), &segment, &copy)
+}
+
+/// Sees that a message is no segment, and why.
+fn assert_refused(rt: &impl Abort, alloc: Global, message: &[u8], error: SegError) {
+    assert_eq!(rt; read_segment(alloc, message).err(), Some(error));
 }
 
 // Changed bytes of the segment, each at its place: the entries are no chain, or come back to the first AS.
@@ -50,7 +89,6 @@ fn paths_are_refused(rt: HostRuntime) {
     let mut closed = SEGMENT;
     closed[27] = 0x90;
     closed[62] = 0x90;
-    for (message, error) in [(broken, SegError::Chain), (closed, SegError::Loop)] {
-        assert_eq!(rt; read_segment(rt.alloc(), &message).err(), Some(error));
-    }
+    assert_refused(&rt, rt.alloc(), &broken, SegError::Chain);
+    assert_refused(&rt, rt.alloc(), &closed, SegError::Loop);
 }
