@@ -1,12 +1,14 @@
 //! The calls that the tests make of a device of four sectors, and what it then holds.
+use crate::same::assert_same;
 use sector_dev::{DevError, Device, SECTOR};
+use std::fmt::Debug;
 use std::process::Abort;
 
 /// How many calls `call` has.
-pub const CALLS: u64 = 6;
+pub(crate) const CALLS: u64 = 6;
 
 /// One of the calls.
-pub fn call<D: Device>(rt: &impl Abort, device: &mut D, number: u64) -> Result<(), DevError> {
+fn call<D: Device>(rt: &impl Abort, device: &mut D, number: u64) -> Result<(), DevError> {
     assert_eq!(rt; device.sectors(), 4);
     match number {
         0 => device.write(1, &[0x11; 512]),
@@ -18,18 +20,59 @@ pub fn call<D: Device>(rt: &impl Abort, device: &mut D, number: u64) -> Result<(
     }
 }
 
-/// Sees that each sector holds its two bytes: the first one, and the one that all its others are.
-pub fn assert_sectors<D: Device>(rt: &impl Abort, device: &mut D, wanted: [(u8, u8); 4]) {
-    for (at, (first, rest)) in [0, 1, 2, 3].into_iter().zip(wanted) {
-        let mut bytes = [0; SECTOR];
-        assert_eq!(rt; device.sectors(), 4);
-        assert!(rt; device.read(at, &mut bytes).is_ok());
-        for (i, byte) in bytes.iter().enumerate() {
-            assert_eq!(rt;
-                *byte,
-                if i == 0 { first } else { rest },
-                "byte {i} of sector {at}"
-            );
-        }
+/// Makes one of the calls in a case, and sees whether it succeeds.
+pub(crate) fn assert_answer<D: Device, C: Debug>(
+    rt: &impl Abort,
+    device: &mut D,
+    number: u64,
+    is_ok: bool,
+    case: &C,
+) {
+    let answer = call(rt, device, number);
+    assert_same(rt, &answer.is_ok(), &is_ok, case);
+}
+
+/// Does so, and sees how many faults the device then tells.
+pub(crate) fn assert_call<D: Device, C: Debug>(
+    rt: &impl Abort,
+    device: &mut D,
+    number: u64,
+    (is_ok, faults): (bool, u64),
+    case: &C,
+) {
+    assert_answer(rt, device, number, is_ok, case);
+    assert_same(rt, &device.faults(), &faults, case);
+}
+
+/// Makes all calls in a case, and sees that each succeeds.
+pub(crate) fn assert_calls<D: Device, C: Debug>(rt: &impl Abort, device: &mut D, case: &C) {
+    for number in 0..CALLS {
+        assert_answer(rt, device, number, true, case);
     }
+}
+
+/// Sees that a sector holds these two bytes.
+fn assert_filled(rt: &impl Abort, at: u64, bytes: &[u8], (first, rest): (u8, u8)) {
+    for (i, byte) in bytes.iter().enumerate() {
+        let wanted = if i == 0 { first } else { rest };
+        assert_same(rt, byte, &wanted, &(i, at));
+    }
+}
+
+/// Reads a sector, and sees that it holds these two bytes.
+fn assert_sector<D: Device>(rt: &impl Abort, device: &mut D, at: u64, wanted: (u8, u8)) {
+    let mut bytes = [0; SECTOR];
+    assert!(rt; at < 4);
+    assert_eq!(rt; device.sectors(), 4);
+    assert!(rt; device.read(at, &mut bytes).is_ok());
+    assert_filled(rt, at, &bytes, wanted);
+}
+
+/// Sees that each sector holds its two bytes: the first one, and the one that all its others are.
+pub(crate) fn assert_sectors<D: Device>(rt: &impl Abort, device: &mut D, wanted: [(u8, u8); 4]) {
+    let [zero, one, two, three] = wanted;
+    assert_sector(rt, device, 0, zero);
+    assert_sector(rt, device, 1, one);
+    assert_sector(rt, device, 2, two);
+    assert_sector(rt, device, 3, three);
 }

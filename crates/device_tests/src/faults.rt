@@ -1,6 +1,7 @@
 //! A device of which one call fails.
-use crate::calls::{CALLS, assert_sectors, call};
-use sector_dev::{DevError, Device, FaultDevice, MemDevice};
+use crate::calls::{CALLS, assert_call, assert_sectors};
+use sector_dev::{DevError, FaultDevice, MemDevice};
+use std::process::Abort;
 use std::test::Fail;
 
 // Which call fails, and what is then in sectors 1, 2 and 3.
@@ -14,17 +15,22 @@ const FAULTS: [(u64, [u8; 3]); 7] = [
     (6, [0x33, 0x22, 0x22]),
 ];
 
+// Makes the calls of a device of which this one fails, and sees what is then in sectors 1, 2 and 3.
+fn assert_one_fails(rt: &impl Abort, mut device: FaultDevice, failing: u64, sectors: [u8; 3]) {
+    for number in 0..CALLS {
+        let wanted = (number != failing, u64::from(failing <= number));
+        assert_call(rt, &mut device, number, wanted, &failing);
+    }
+    let [one, two, three] = sectors;
+    let wanted = [(0, 0), (one, one), (two, two), (three, three)];
+    assert_sectors(rt, &mut device.into_mem(), wanted);
+}
+
 #[test]
 fn one_call_fails_and_the_others_go_on(rt: HostRuntime) -> Result<(), Fail> {
-    for (failing, [one, two, three]) in FAULTS {
-        let mut device = FaultDevice::new(MemDevice::new(rt.alloc(), 4)?, failing);
-        for number in 0..CALLS {
-            let answer = call(&rt, &mut device, number);
-            assert_eq!(rt; answer.is_err(), number == failing, "{failing}");
-            assert_eq!(rt; device.faults(), u64::from(failing <= number), "{failing}");
-        }
-        let wanted = [(0, 0), (one, one), (two, two), (three, three)];
-        assert_sectors(&rt, &mut device.into_mem(), wanted);
+    for (failing, sectors) in &FAULTS {
+        let device = FaultDevice::new(MemDevice::new(rt.alloc(), 4)?, *failing);
+        assert_one_fails(&rt, device, *failing, *sectors);
     }
     Ok(())
 }

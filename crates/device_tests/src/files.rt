@@ -1,35 +1,50 @@
 //! A device over a file in memory.
-use crate::calls::{CALLS, assert_sectors, call};
+use crate::calls::{assert_call, assert_calls, assert_sectors};
+use crate::same::assert_same;
 use sector_dev::{Device, FileDevice, MemFile};
+use std::alloc::Global;
+use std::process::Abort;
 use std::test::Fail;
+
+// A device over so many sevens, of which so many at most are moved at a time.
+fn device_of(alloc: Global, len: usize, at_most: usize) -> Result<FileDevice<MemFile>, Fail> {
+    let bytes = vec![in alloc; 7; len]?;
+    Ok(FileDevice::new(MemFile::new(bytes, at_most))?)
+}
+
+// Makes all calls, and sees what the sectors then are.
+fn assert_written<D: Device>(rt: &impl Abort, device: &mut D, at_most: usize) {
+    assert_calls(rt, device, &at_most);
+    let wanted = [(7, 7), (0x33, 0x33), (0x22, 0x22), (0x22, 0x22)];
+    assert_sectors(rt, device, wanted);
+    assert_same(rt, &device.faults(), &0, &at_most);
+}
 
 #[test]
 fn short_transfers_are_made_whole(rt: HostRuntime) -> Result<(), Fail> {
     for at_most in [1, 100, 512, 4096] {
         // Four sectors and a part of one.
-        let bytes = vec![in rt.alloc(); 7; 2100]?;
-        let mut device = FileDevice::new(MemFile::new(bytes, at_most))?;
-        for number in 0..CALLS {
-            assert!(rt;
-                call(&rt, &mut device, number).is_ok(),
-                "{at_most}: {number}"
-            );
-        }
-        let wanted = [(7, 7), (0x33, 0x33), (0x22, 0x22), (0x22, 0x22)];
-        assert_sectors(&rt, &mut device, wanted);
-        assert_eq!(rt; device.faults(), 0);
+        let mut device = device_of(rt.alloc(), 2100, at_most)?;
+        assert_written(&rt, &mut device, at_most);
     }
     Ok(())
 }
 
+// Whether each call succeeds, and how many faults there are then: a sync moves nothing.
+const MOVES: [(bool, u64); 6] = [
+    (false, 1),
+    (true, 1),
+    (false, 2),
+    (false, 3),
+    (false, 4),
+    (true, 4),
+];
+
 #[test]
 fn a_file_that_moves_nothing_is_a_fault(rt: HostRuntime) -> Result<(), Fail> {
-    let mut device = FileDevice::new(MemFile::new(vec![in rt.alloc(); 7; 2048]?, 0))?;
-    for (number, faults) in [1, 1, 2, 3, 4, 4].into_iter().enumerate() {
-        let is_sync = number == 1 || number == 5;
-        let answer = call(&rt, &mut device, number as u64);
-        assert_eq!(rt; answer.is_ok(), is_sync, "{number}");
-        assert_eq!(rt; device.faults(), faults, "{number}");
+    let mut device = device_of(rt.alloc(), 2048, 0)?;
+    for (number, wanted) in MOVES.iter().enumerate() {
+        assert_call(&rt, &mut device, number as u64, *wanted, &number);
     }
     Ok(())
 }

@@ -1,6 +1,7 @@
 //! A fuse that stops at every call.
-use crate::calls::{CALLS, assert_sectors, call};
+use crate::calls::{CALLS, assert_answer, assert_sectors};
 use sector_dev::{Device, FuseDevice, MemDevice, Tear};
+use std::process::Abort;
 use std::test::Fail;
 
 // Stands for the byte that fills what is torn off.
@@ -36,23 +37,39 @@ fn filled(byte: u8, fill: u8) -> u8 {
     if byte == FILL { fill } else { byte }
 }
 
+// The first byte of a sector and its others, with this byte in what is torn off.
+fn torn((first, rest): (u8, u8), fill: u8) -> (u8, u8) {
+    (filled(first, fill), filled(rest, fill))
+}
+
+// Makes the calls of a fuse of so many, and sees that the others fail, and what is then in sectors 1, 2 and 3.
+fn assert_stop(rt: &impl Abort, mut fuse: FuseDevice, calls: u64, wanted: [(u8, u8); 4]) {
+    for number in 0..CALLS {
+        assert_answer(rt, &mut fuse, number, number < calls, &(calls, wanted));
+    }
+    assert_eq!(rt; fuse.faults(), CALLS.saturating_sub(calls));
+    assert_sectors(rt, &mut fuse.into_mem(), wanted);
+}
+
+// Sees so with this byte in what is torn off.
+fn assert_torn(
+    rt: &impl Abort,
+    memory: MemDevice,
+    (calls, keep): (u64, usize),
+    fill: u8,
+    [one, two, three]: [(u8, u8); 3],
+) {
+    let fuse = FuseDevice::new(memory, calls, Tear { keep, fill });
+    let sectors = [(0, 0), torn(one, fill), torn(two, fill), torn(three, fill)];
+    assert_stop(rt, fuse, calls, sectors);
+}
+
 #[test]
 fn a_fuse_stops_at_every_call(rt: HostRuntime) -> Result<(), Fail> {
-    for (calls, keep, sectors) in STOPS {
+    for (calls, keep, sectors) in &STOPS {
         for fill in [0x00, 0xA7] {
-            let tear = Tear { keep, fill };
-            let mut fuse = FuseDevice::new(MemDevice::new(rt.alloc(), 4)?, calls, tear);
-            for number in 0..CALLS {
-                let answer = call(&rt, &mut fuse, number);
-                assert_eq!(rt; answer.is_ok(), number < calls, "{calls} {keep} {fill}");
-            }
-            assert_eq!(rt; fuse.faults(), CALLS.saturating_sub(calls));
-            let torn = sectors.map(|(first, rest)| (filled(first, fill), filled(rest, fill)));
-            assert_sectors(
-                &rt,
-                &mut fuse.into_mem(),
-                [(0, 0), torn[0], torn[1], torn[2]],
-            );
+            let memory = MemDevice::new(rt.alloc(), 4)?;
+            assert_torn(&rt, memory, (*calls, *keep), fill, *sectors);
         }
     }
     Ok(())

@@ -1,7 +1,9 @@
 //! A device whose syncs pass a gate first.
-use crate::calls::{assert_sectors, call};
+use crate::calls::{assert_answer, assert_sectors};
+use crate::same::assert_same;
 use sector_dev::{DevError, Device, FaultDevice, Gate, HeldDevice, MemDevice};
 use std::cell::Cell;
+use std::process::Abort;
 use std::test::Fail;
 
 #[derive(Drop)]
@@ -19,19 +21,33 @@ impl Gate for PassCounter {
     }
 }
 
+// Makes a call, of which the sixth one fails, and sees how often the gate was passed by then.
+fn assert_passes<D: Device>(
+    rt: &impl Abort,
+    device: &mut HeldDevice<D, PassCounter>,
+    number: u64,
+    passes: u64,
+) {
+    assert_answer(rt, device, number, number < 5, &number);
+    assert_same(rt, &device.gate().passes, &passes, &number);
+}
+
+// Sees what the parts of the device are after the calls.
+fn assert_parts(rt: &impl Abort, device: HeldDevice<FaultDevice, PassCounter>) {
+    let (memory, counter) = device.into_parts();
+    assert_eq!(rt; counter.passes, 2);
+    let wanted = [(0, 0), (0x33, 0x33), (0x22, 0x22), (0x22, 0x22)];
+    assert_sectors(rt, &mut memory.into_mem(), wanted);
+}
+
 #[test]
 fn a_held_device_passes_its_gate_once_a_sync(rt: HostRuntime) -> Result<(), Fail> {
     let memory = FaultDevice::new(MemDevice::new(rt.alloc(), 4)?, 5);
     let mut device = HeldDevice::new(memory, PassCounter { passes: 0 });
-    for (number, passes) in [0, 1, 1, 1, 1, 2].into_iter().enumerate() {
-        let answer = call(&rt, &mut device, number as u64);
-        assert_eq!(rt; answer.is_ok(), number < 5, "{number}");
-        assert_eq!(rt; device.gate().passes, passes, "{number}");
+    for (number, passes) in [(0, 0), (1, 1), (2, 1), (3, 1), (4, 1), (5, 2)] {
+        assert_passes(&rt, &mut device, number, passes);
     }
-    let (memory, counter) = device.into_parts();
-    assert_eq!(rt; counter.passes, 2);
-    let wanted = [(0, 0), (0x33, 0x33), (0x22, 0x22), (0x22, 0x22)];
-    assert_sectors(&rt, &mut memory.into_mem(), wanted);
+    assert_parts(&rt, device);
     Ok(())
 }
 
@@ -88,6 +104,18 @@ impl<'a> Gate for Witness<'a> {
     }
 }
 
+// Sees that a sync succeeds, and that so many were before it when the gate was passed.
+fn assert_sync<'a>(
+    rt: &impl Abort,
+    device: &mut HeldDevice<SyncCounter<'a, MemDevice>, Witness<'a>>,
+    syncs: &Cell<u64>,
+    before: u64,
+) {
+    assert!(rt; device.sync().is_ok());
+    assert_eq!(rt; device.gate().seen, before);
+    assert_eq!(rt; syncs.get(), before.saturating_add(1));
+}
+
 #[test]
 fn a_gate_is_passed_before_its_sync(rt: HostRuntime) -> Result<(), Fail> {
     let syncs = Cell::new(0);
@@ -101,9 +129,7 @@ fn a_gate_is_passed_before_its_sync(rt: HostRuntime) -> Result<(), Fail> {
     };
     let mut device = HeldDevice::new(counter, witness);
     for before in [0, 1, 2] {
-        assert!(rt; device.sync().is_ok());
-        assert_eq!(rt; device.gate().seen, before);
-        assert_eq!(rt; syncs.get(), before + 1);
+        assert_sync(&rt, &mut device, &syncs, before);
     }
     Ok(())
 }
@@ -116,7 +142,7 @@ fn sent<T: Send>(value: T) -> T {
 fn a_device_may_go_to_another_thread(rt: HostRuntime) -> Result<(), Fail> {
     let held = HeldDevice::new(MemDevice::new(rt.alloc(), 4)?, PassCounter { passes: 0 });
     let mut device = sent(held);
-    assert!(rt; call(&rt, &mut device, 4).is_ok());
+    assert_answer(&rt, &mut device, 4, true, &4);
     assert_sectors(&rt, &mut device, [(0, 0), (0x33, 0x33), (0, 0), (0, 0)]);
     Ok(())
 }

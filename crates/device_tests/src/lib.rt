@@ -13,4 +13,6 @@ mod fuses;
 #[cfg(test)]
 mod gates;
 #[cfg(test)]
+mod same;
+#[cfg(test)]
 mod system_files;
