@@ -1,9 +1,11 @@
 //! Purges and removals, over a service that tells what it was given.
 
+use crate::same::assert_same;
 use seg_core::{SegType, Segment};
-use session_core::{Ack, Code, Outcome, Service, serve};
+use session_core::{Ack, Code, FrameError, Outcome, Service, serve};
 use std::alloc::{AllocError, Global};
 use std::io::Read;
+use std::process::Abort;
 use std::test::Fail;
 
 /// Counts the commands, and keeps nothing of them.
@@ -94,18 +96,32 @@ const OUTPUT: [u8; 93] = [
     0x00, 0x00, 0x00, 0x00, 0x00, 0x00, 0x00, 0x00, // kept, purged
 ];
 
+/// Serves an input that comes in two parts, and tells how many replies were written.
+fn served(
+    alloc: Global,
+    (front, rest): (&[u8], &[u8]),
+    output: &mut Vec<u8>,
+) -> Result<u64, FrameError> {
+    let mut service = Counter { place: 0 };
+    serve(alloc, &mut front.chain(rest), output, &mut service, 9)
+}
+
+/// Sees that an input that comes in two parts gets the replies.
+fn assert_cut(rt: &impl Abort, alloc: Global, input: (&[u8], &[u8])) -> Result<(), Fail> {
+    let cut = input.0.len();
+    let mut output = Vec::new(alloc);
+    let count = served(alloc, input, &mut output)?;
+    assert_same(rt, &count, &4, &cut);
+    assert_same(rt, &output.as_slice(), &OUTPUT.as_slice(), &cut);
+    Ok(())
+}
+
 // A session gives the same replies however its input is cut in two.
 #[test]
 fn any_cut(rt: HostRuntime) -> Result<(), Fail> {
-    let alloc = rt.alloc();
-    let input = input(alloc)?;
+    let input = input(rt.alloc())?;
     for cut in 0..=input.len() {
-        let (front, rest) = input.as_slice().split_at(cut);
-        let mut service = Counter { place: 0 };
-        let mut output = Vec::new(alloc);
-        let count = serve(alloc, &mut front.chain(rest), &mut output, &mut service, 9)?;
-        assert_eq!(rt; count, 4, "cut at {cut}");
-        assert_eq!(rt; output.as_slice(), OUTPUT.as_slice(), "cut at {cut}");
+        assert_cut(&rt, rt.alloc(), input.as_slice().split_at(cut))?;
     }
     Ok(())
 }

@@ -1,21 +1,54 @@
 //! Streams that come in pieces.
 
+use crate::same::assert_same;
 use crate::worked::{LOOKUP, REGISTER, stream};
-use session_core::{FrameError, Framer, Message};
+use session_core::{Fed, FrameError, Framer, Message};
 use std::alloc::{AllocError, Global};
+use std::fmt::Debug;
+use std::process::Abort;
 use std::test::Fail;
 
-/// Takes a piece, and adds the messages that it completes. Gives the fault behind them.
-fn take(
-    framer: &mut Framer,
-    piece: &[u8],
-    messages: &mut Vec<Message>,
-) -> Result<Option<FrameError>, AllocError> {
-    let fed = framer.feed(piece)?;
-    for message in fed.messages {
-        messages.push(message)?;
+/// A framer, and the messages that it completed.
+#[derive(Drop)]
+struct Taker {
+    framer: Framer,
+    messages: Vec<Message>,
+}
+
+impl Taker {
+    fn new(alloc: Global) -> Taker {
+        Taker {
+            framer: Framer::new(alloc),
+            messages: Vec::new(alloc),
+        }
     }
-    Ok(fed.fault)
+
+    /// Takes a piece, and adds the messages that it completes. Gives the fault behind them.
+    fn take(&mut self, piece: &[u8]) -> Result<Option<FrameError>, AllocError> {
+        let fed = self.framer.feed(piece)?;
+        for message in fed.messages {
+            self.messages.push(message)?;
+        }
+        Ok(fed.fault)
+    }
+}
+
+/// Takes a piece in a case, and sees whether a fault is behind it.
+fn assert_taken<C: Debug>(
+    rt: &impl Abort,
+    taker: &mut Taker,
+    piece: &[u8],
+    fault: Option<FrameError>,
+    case: &C,
+) -> Result<(), Fail> {
+    let found = taker.take(piece)?;
+    assert_same(rt, &found, &fault, case);
+    Ok(())
+}
+
+/// Sees that the messages of a case are these.
+fn assert_messages<C: Debug>(rt: &impl Abort, found: &[Message], wanted: &[Message], case: &C) {
+    assert_same(rt, &found, &wanted, case);
 }
 
 /// The two messages of the worked stream.
@@ -26,36 +59,45 @@ fn both(alloc: Global) -> Result<Vec<Message>, AllocError> {
     Ok(messages)
 }
 
+/// Takes the two parts of a stream, and sees that its messages are these.
+fn assert_cut(
+    rt: &impl Abort,
+    taker: &mut Taker,
+    (front, rest): (&[u8], &[u8]),
+    wanted: &[Message],
+) -> Result<(), Fail> {
+    let cut = front.len();
+    assert_taken(rt, taker, front, None, &cut)?;
+    assert_taken(rt, taker, rest, None, &cut)?;
+    assert_messages(rt, &taker.messages, wanted, &cut);
+    Ok(())
+}
+
 #[test]
 fn any_cut(rt: HostRuntime) -> Result<(), Fail> {
-    let alloc = rt.alloc();
     let bytes = stream();
-    let wanted = both(alloc)?;
+    let wanted = both(rt.alloc())?;
     for cut in 0..=bytes.len() {
-        let (front, rest) = bytes.split_at(cut);
-        let mut framer = Framer::new(alloc);
-        let mut messages = Vec::new(alloc);
-        for piece in [front, rest] {
-            assert_eq!(rt;
-                take(&mut framer, piece, &mut messages)?,
-                None,
-                "cut at {cut}"
-            );
-        }
-        assert_eq!(rt; messages.as_slice(), wanted.as_slice(), "cut at {cut}");
+        let mut taker = Taker::new(rt.alloc());
+        assert_cut(&rt, &mut taker, bytes.split_at(cut), &wanted)?;
+    }
+    Ok(())
+}
+
+/// Takes bytes one by one, and sees that none shows a fault.
+fn assert_bytes_taken(rt: &impl Abort, taker: &mut Taker, bytes: &[u8]) -> Result<(), Fail> {
+    for byte in bytes {
+        assert_taken(rt, taker, &[*byte], None, byte)?;
     }
     Ok(())
 }
 
 #[test]
 fn byte_by_byte(rt: HostRuntime) -> Result<(), Fail> {
-    let alloc = rt.alloc();
-    let mut framer = Framer::new(alloc);
-    let mut messages = Vec::new(alloc);
-    for byte in stream() {
-        assert_eq!(rt; take(&mut framer, &[byte], &mut messages)?, None);
-    }
-    assert_eq!(rt; messages.as_slice(), both(alloc)?.as_slice());
+    let wanted = both(rt.alloc())?;
+    let mut taker = Taker::new(rt.alloc());
+    assert_bytes_taken(&rt, &mut taker, &stream())?;
+    assert_messages(&rt, &taker.messages, &wanted, &"byte by byte");
     Ok(())
 }
 
@@ -76,47 +118,95 @@ const FAULTS: [(&[u8], FrameError); 13] = [
     (b"\0\x02\0\x01\x04", FrameError::Length),
 ];
 
+/// Takes a frame byte by byte and two pieces more, and sees where the fault is told, and that there is no message.
+fn assert_fault(
+    rt: &impl Abort,
+    taker: &mut Taker,
+    frame: &[u8],
+    fault: FrameError,
+) -> Result<(), Fail> {
+    for (at, byte) in frame.iter().enumerate() {
+        let shown = if at + 1 == frame.len() {
+            Some(fault)
+        } else {
+            None
+        };
+        assert_taken(rt, taker, &[*byte], shown, &frame)?;
+    }
+    assert_taken(rt, taker, &LOOKUP, Some(fault), &frame)?;
+    assert_taken(rt, taker, &[], Some(fault), &frame)?;
+    assert_same(rt, &taker.messages.is_empty(), &true, &frame);
+    Ok(())
+}
+
 // A fault is told at the byte that shows it, and again for each piece from then on, with no message.
 #[test]
 fn frame_faults(rt: HostRuntime) -> Result<(), Fail> {
-    for (frame, fault) in FAULTS {
-        let mut framer = Framer::new(rt.alloc());
-        let mut messages = Vec::new(rt.alloc());
-        for (at, byte) in frame.iter().enumerate() {
-            let shown = if at + 1 == frame.len() {
-                Some(fault)
-            } else {
-                None
-            };
-            assert_eq!(rt;
-                take(&mut framer, &[*byte], &mut messages)?,
-                shown,
-                "{frame:?}"
-            );
-        }
-        for piece in [LOOKUP.as_slice(), &[]] {
-            assert_eq!(rt;
-                take(&mut framer, piece, &mut messages)?,
-                Some(fault),
-                "{frame:?}"
-            );
-        }
-        assert!(rt; messages.is_empty(), "{frame:?}");
+    for (frame, fault) in &FAULTS {
+        let mut taker = Taker::new(rt.alloc());
+        assert_fault(&rt, &mut taker, frame, *fault)?;
     }
     Ok(())
+}
+
+/// The worked stream, this frame, and one more behind it.
+fn with_fault(alloc: Global, frame: &[u8]) -> Result<Vec<u8>, Fail> {
+    let mut piece = Vec::from_slice(alloc, &stream())?;
+    piece.extend_from_slice(frame)?;
+    piece.extend_from_slice(&LOOKUP)?;
+    Ok(piece)
+}
+
+/// What comes of one piece.
+fn fed(alloc: Global, piece: &[u8]) -> Result<Fed, AllocError> {
+    Framer::new(alloc).feed(piece)
+}
+
+/// Sees that these messages and this fault came of a piece with this frame.
+fn assert_fed(rt: &impl Abort, fed: &Fed, wanted: &[Message], fault: FrameError, frame: &[u8]) {
+    assert_messages(rt, &fed.messages, wanted, &frame);
+    assert_same(rt, &fed.fault, &Some(fault), &frame);
 }
 
 // What is whole before a fault in one piece is given, and nothing behind it.
 #[test]
 fn messages_before_a_fault(rt: HostRuntime) -> Result<(), Fail> {
     let wanted = both(rt.alloc())?;
-    for (frame, fault) in FAULTS {
-        let mut piece = Vec::from_slice(rt.alloc(), &stream())?;
-        piece.extend_from_slice(frame)?;
-        piece.extend_from_slice(&LOOKUP)?;
-        let fed = Framer::new(rt.alloc()).feed(&piece)?;
-        assert_eq!(rt; fed.messages.as_slice(), wanted.as_slice(), "{frame:?}");
-        assert_eq!(rt; fed.fault, Some(fault), "{frame:?}");
+    for (frame, fault) in &FAULTS {
+        let piece = with_fault(rt.alloc(), frame)?;
+        assert_fed(&rt, &fed(rt.alloc(), &piece)?, &wanted, *fault, frame);
+    }
+    Ok(())
+}
+
+/// A frame of the greatest length.
+fn greatest(alloc: Global) -> Result<Vec<u8>, Fail> {
+    let mut frame = Vec::from_slice(alloc, b"\0\x02\0\x01\x02")?;
+    frame.resize(131_077, 7)?;
+    Ok(frame)
+}
+
+/// Takes that frame in pieces of this size, and sees that no message comes before the last one.
+fn assert_pieces(
+    rt: &impl Abort,
+    taker: &mut Taker,
+    frame: &[u8],
+    size: usize,
+) -> Result<(), Fail> {
+    assert!(rt; size > 0);
+    for piece in frame.chunks(size) {
+        assert_same(rt, &taker.messages.is_empty(), &true, &size);
+        assert_taken(rt, taker, piece, None, &size)?;
+    }
+    Ok(())
+}
+
+/// Sees that a lookup of what stands behind the frame's head is the only message.
+fn assert_lookup(rt: &impl Abort, alloc: Global, messages: &[Message]) -> Result<(), Fail> {
+    assert_eq!(rt; messages.len(), 1);
+    for message in messages {
+        let body = vec![in alloc; 7; 131_072]?;
+        assert!(rt; *message == Message::Lookup(body));
     }
     Ok(())
 }
@@ -124,24 +214,11 @@ fn messages_before_a_fault(rt: HostRuntime) -> Result<(), Fail> {
 // A frame of the greatest length, in pieces of each size.
 #[test]
 fn greatest_frame(rt: HostRuntime) -> Result<(), Fail> {
-    let mut frame = Vec::from_slice(rt.alloc(), b"\0\x02\0\x01\x02")?;
-    frame.resize(131_077, 7)?;
+    let frame = greatest(rt.alloc())?;
     for size in [999, 65_536, 131_076, 200_000] {
-        let mut framer = Framer::new(rt.alloc());
-        let mut messages = Vec::new(rt.alloc());
-        for piece in frame.chunks(size) {
-            assert!(rt; messages.is_empty(), "pieces of {size}");
-            assert_eq!(rt;
-                take(&mut framer, piece, &mut messages)?,
-                None,
-                "pieces of {size}"
-            );
-        }
-        assert_eq!(rt; messages.len(), 1, "pieces of {size}");
-        for message in messages {
-            let body = Vec::from_slice(rt.alloc(), &frame.as_slice()[5..])?;
-            assert!(rt; message == Message::Lookup(body), "pieces of {size}");
-        }
+        let mut taker = Taker::new(rt.alloc());
+        assert_pieces(&rt, &mut taker, &frame, size)?;
+        assert_lookup(&rt, rt.alloc(), &taker.messages)?;
     }
     Ok(())
 }
@@ -155,6 +232,24 @@ fn is_worked(place: u8, message: &Message) -> bool {
     }
 }
 
+/// What comes of a piece, which is given again where it was refused.
+fn fed_again(framer: &mut Framer, piece: &[u8]) -> Result<Fed, AllocError> {
+    match framer.feed(piece) {
+        Ok(fed) => Ok(fed),
+        Err(_) => framer.feed(piece),
+    }
+}
+
+/// Sees that messages are those of the worked stream from this place on, and tells the place behind them.
+fn assert_worked(rt: &impl Abort, messages: &[Message], from: u8) -> u8 {
+    let mut place = from;
+    for message in messages {
+        assert_same(rt, &is_worked(place, message), &true, &place);
+        place = place.saturating_add(1);
+    }
+    place
+}
+
 // Run with each allocation failing in turn: a piece that was refused is given again, and each message comes once.
 #[test]
 fn refused_memory_keeps_the_stream(rt: HostRuntime) -> Result<(), Fail> {
@@ -162,14 +257,8 @@ fn refused_memory_keeps_the_stream(rt: HostRuntime) -> Result<(), Fail> {
     let mut framer = Framer::new(rt.alloc());
     let mut place = 0u8;
     for piece in bytes.chunks(50) {
-        let fed = match framer.feed(piece) {
-            Ok(fed) => fed,
-            Err(_) => framer.feed(piece)?,
-        };
-        for message in &fed.messages {
-            assert!(rt; is_worked(place, message), "message {place}");
-            place = place.saturating_add(1);
-        }
+        let fed = fed_again(&mut framer, piece)?;
+        place = assert_worked(&rt, &fed.messages, place);
     }
     assert_eq!(rt; place, 2);
     Ok(())

@@ -9,4 +9,6 @@ mod framers;
 #[cfg(test)]
 mod laws;
 #[cfg(test)]
+mod same;
+#[cfg(test)]
 mod worked;
