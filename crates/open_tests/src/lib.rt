@@ -11,6 +11,8 @@ mod formatting;
 #[cfg(test)]
 mod hostile;
 #[cfg(test)]
+mod pieces;
+#[cfg(test)]
 mod recovery;
 #[cfg(test)]
 mod refused;

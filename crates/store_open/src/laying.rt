@@ -10,6 +10,7 @@ ghost use Rattle.sector_dev.specs.Calls.{WriteCall, count_after};
 ghost use Rattle.sector_dev.specs.Stretch.{Stretch};
 ghost use Rattle.store_open.specs.Pouring.{IsPoured};
 ghost use Rattle.store_open.specs.TakingOver.{IsTornAt};
+ghost use Rattle.store_open.specs.declared.laying.TheConstants.{BUFFER, PIECE};
 
 use crate::sectors::put;
 use byte_lists::sector_count;
@@ -41,7 +42,7 @@ pub(crate) fn lay<D: Device>(
     buffer: &mut [u8],
 ) -> Result<(), DevError>
     requires inside { 512 * at + length (padded (head.now ++ rows_encoding db.now)) ≤ 512 * (D.disk device.old).sectors }
-    requires buffer { length buffer.old ≡ 147968 }
+    requires buffer { length buffer.old ≡ BUFFER }
     requires clean { IsHonest (D.disk device.old) → (D.disk device.old).history.now.dirty ≡ [] }
 
     // At every moment all but these sectors is as it was.
@@ -71,15 +72,15 @@ fn pour<D: Device>(
     before: usize,
 ) -> Result<(u64, usize), DevError>
     requires inside { 512 * at + length (padded (take before buffer.old ++ rows_encoding rows)) ≤ 512 * (D.disk device.old).sectors }
-    requires buffer { length buffer.old ≡ 147968 }
-    requires used { before < 131072 }
+    requires buffer { length buffer.old ≡ BUFFER }
+    requires used { before < PIECE }
     requires clean { IsHonest (D.disk device.old) → (D.disk device.old).history.now.dirty ≡ [] }
     ensures any_moment { Stretch (D.disk device.old) (D.disk device.new)
         (IsTornAt (512 * at) (length (padded (take before buffer.old ++ rows_encoding rows.entry))) (reads_of (D.disk device.old))) }
     ensures poured { IfOk result (λ rest. IsPoured (D.disk device.old) (D.disk device.new) at rest.0
         (take rest.1 buffer.new) (take before buffer.old ++ rows_encoding rows.entry)) }
     ensures buffer { length buffer.new ≡ length buffer.old }
-    ensures rest { IfOk result (λ rest. rest.1 < 131072) }
+    ensures rest { IfOk result (λ rest. rest.1 < PIECE) }
     ensures faults { (D.disk device.new).faults ≡ count_after result (D.disk device.old).faults }
 {
     let mut sector = at;
@@ -102,11 +103,11 @@ fn write_piece<D: Device>(
     buffer: &mut [u8],
     used: usize,
 ) -> Result<(), DevError>
-    requires used { 131072 ≤ used }
+    requires used { PIECE ≤ used }
     requires buffer { used ≤ length buffer.old }
-    requires inside { 512 * sector + 131072 ≤ 512 * (D.disk device.old).sectors }
-    ensures write { WriteCall sector (take 131072 buffer.old) result (D.disk device.old) (D.disk device.new) }
-    ensures rest { OnOk result (take 131072 buffer.old ++ take (used - 131072) buffer.new ≡ take used buffer.old) }
+    requires inside { 512 * sector + PIECE ≤ 512 * (D.disk device.old).sectors }
+    ensures write { WriteCall sector (take PIECE buffer.old) result (D.disk device.old) (D.disk device.new) }
+    ensures rest { OnOk result (take PIECE buffer.old ++ take (used - PIECE) buffer.new ≡ take used buffer.old) }
     ensures buffer { length buffer.new ≡ length buffer.old }
 {
     device.write(sector, &buffer[..PIECE])?;
@@ -121,8 +122,8 @@ fn write_rest<D: Device>(
     buffer: &mut [u8],
     used: usize,
 ) -> Result<(), DevError>
-    requires buffer { length buffer.old ≡ 147968 }
-    requires used { used ≤ 131072 }
+    requires buffer { length buffer.old ≡ BUFFER }
+    requires used { used ≤ PIECE }
     requires inside { 512 * sector + length (padded (take used buffer.old)) ≤ 512 * (D.disk device.old).sectors }
     ensures write { WriteCall sector (padded (take used buffer.old)) result (D.disk device.old) (D.disk device.new) }
 {
@@ -133,8 +134,8 @@ fn write_rest<D: Device>(
 
 /// Puts the record of a row behind what is used of the buffer, and tells how much of it is used then.
 fn put_row(buffer: &mut [u8], used: usize, row: &Row) -> usize
-    requires buffer { length buffer.old ≡ 147968 }
-    requires used { used < 131072 }
+    requires buffer { length buffer.old ≡ BUFFER }
+    requires used { used < PIECE }
     ensures put { take result buffer.new ≡ take used buffer.old ++ row_record (row_view row.now) }
     ensures buffer { length buffer.new ≡ length buffer.old }
     ensures inside { result ≤ used + 16389 }

@@ -9,6 +9,7 @@ ghost use Rattle.sector_dev.specs.Calls.{Keeps, count_after};
 ghost use Rattle.sector_dev.specs.Stretch.{Stretch};
 ghost use Rattle.image_laws.specs.Layout.{IsGeometry, image_sectors};
 ghost use Rattle.store_open.specs.Geometry.{geometry_view};
+ghost use Rattle.store_open.specs.declared.laying.TheConstants.{BUFFER};
 ghost use Rattle.store_open.specs.TakingOver.{IsTornAt, IsTakingOver, taken};
 
 use crate::Geometry;
@@ -31,7 +32,7 @@ pub(crate) fn take_over<D: Device>(
     requires allowed { IsGeometry (geometry_view geometry) }
     requires room { image_sectors (geometry_view geometry) ≤ (D.disk device.old).sectors }
     requires fits { length (padded (head.now ++ rows_encoding db.now)) ≤ 512 * geometry.checkpoint }
-    requires buffer { length buffer.old ≡ 147968 }
+    requires buffer { length buffer.old ≡ BUFFER }
     requires clean { IsHonest (D.disk device.old) → (D.disk device.old).history.now.dirty ≡ [] }
 
     // At every moment one of the three may be torn, and those before it are whole.
