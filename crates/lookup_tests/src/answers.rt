@@ -1,11 +1,19 @@
 //! What a database shows of a lookup.
 
+use crate::same::assert_same;
 use crate::worked::{CORE_SEGMENT, EGRESS, EXPIRY, SEGMENT, register, roster};
 use isd_as::parse;
 use path_db::PathDb;
 use seg_core::{SegType, Segment};
-use seg_lookup::{Roster, answer, classify};
+use seg_lookup::{Query, Roster, answer, classify};
+use std::alloc::Global;
+use std::process::Abort;
 use std::test::Fail;
+
+/// What a source and a destination ask for.
+fn query_of(cores: &Roster, source: &str, destination: &str) -> Result<Query, Fail> {
+    Ok(classify(cores, parse(source)?, parse(destination)?)?)
+}
 
 /// The segments that a lookup shows.
 fn found(
@@ -15,8 +23,59 @@ fn found(
     destination: &str,
     now: u64,
 ) -> Result<Vec<Segment>, Fail> {
-    let query = classify(cores, parse(source)?, parse(destination)?)?;
+    let query = query_of(cores, source, destination)?;
     Ok(answer(db, &query, now)?)
+}
+
+/// Sees how many segments a lookup shows at a moment.
+fn assert_shown(
+    rt: &impl Abort,
+    db: &PathDb,
+    cores: &Roster,
+    (source, destination, now): (&str, &str, u64),
+    shown: usize,
+) -> Result<(), Fail> {
+    let segments = found(db, cores, source, destination, now)?;
+    assert_same(rt, &segments.len(), &shown, &(source, destination, now));
+    Ok(())
+}
+
+/// Sees how many segments each of these lookups shows at moment 0.
+fn assert_all_shown(
+    rt: &impl Abort,
+    db: &PathDb,
+    cores: &Roster,
+    lookups: &[(&str, &str, usize)],
+) -> Result<(), Fail> {
+    for (source, destination, shown) in lookups {
+        assert_shown(rt, db, cores, (*source, *destination, 0), *shown)?;
+    }
+    Ok(())
+}
+
+/// A database of one segment.
+fn one_row(alloc: Global, kind: SegType, bytes: &[u8]) -> Result<PathDb, Fail> {
+    let mut db = PathDb::new(alloc);
+    register(alloc, &mut db, kind, bytes)?;
+    Ok(db)
+}
+
+/// Moments, and how many segments are shown at each.
+const MOMENTS: [(u64, usize); 5] = [
+    (0, 1),
+    (3_400_000_674, 1),
+    (3_400_000_675, 0),
+    (3_400_000_676, 0),
+    (u64::MAX, 0),
+];
+
+/// Sees that a database shows so many segments at each of those moments.
+fn assert_moments(rt: &impl Abort, db: &PathDb, cores: &Roster) -> Result<(), Fail> {
+    for (now, shown) in &MOMENTS {
+        let lookup = ("1-ff00:0:110", "1-ff00:0:111", *now);
+        assert_shown(rt, db, cores, lookup, *shown)?;
+    }
+    Ok(())
 }
 
 // A segment that expires at 3,400,000,675 half seconds.
@@ -25,62 +84,46 @@ fn expiry_boundary_hidden(rt: HostRuntime) -> Result<(), Fail> {
     let cores = roster(rt.alloc(), &["1-ff00:0:110"])?;
     let mut bytes = SEGMENT;
     bytes[EXPIRY] = 0;
-    let mut db = PathDb::new(rt.alloc());
-    register(rt.alloc(), &mut db, SegType::Down, &bytes)?;
-    for (now, shown) in [
-        (0, 1),
-        (3_400_000_674, 1),
-        (3_400_000_675, 0),
-        (3_400_000_676, 0),
-        (u64::MAX, 0),
-    ] {
-        let segments = found(&db, &cores, "1-ff00:0:110", "1-ff00:0:111", now)?;
-        assert_eq!(rt; segments.len(), shown, "at {now}");
-    }
-    Ok(())
+    let db = one_row(rt.alloc(), SegType::Down, &bytes)?;
+    assert_moments(&rt, &db, &cores)
 }
 
-// One core segment, from 2-64512 to 1-ff00:0:110.
+/// Lookups in a database of one core segment, from 2-64512 to 1-ff00:0:110.
+const CORE_LOOKUPS: [(&str, &str, usize); 10] = [
+    ("1-0", "0-0", 1),
+    ("2-0", "0-0", 0),
+    ("1-0", "2-0", 1),
+    ("1-ff00:0:110", "2-64512", 1),
+    ("2-64512", "1-ff00:0:110", 0),
+    ("1-ff00:0:110", "0-0", 1),
+    ("0-0", "2-64512", 1),
+    ("0-0", "1-0", 0),
+    ("1-ff00:0:111", "0-0", 0),
+    ("0-0", "1-ff00:0:110", 0),
+];
+
 #[test]
 fn wildcard_core_lookup(rt: HostRuntime) -> Result<(), Fail> {
     let cores = roster(rt.alloc(), &["1-ff00:0:110", "2-64512"])?;
-    let mut db = PathDb::new(rt.alloc());
-    register(rt.alloc(), &mut db, SegType::Core, &CORE_SEGMENT)?;
-    for (source, destination, shown) in [
-        ("1-0", "0-0", 1),
-        ("2-0", "0-0", 0),
-        ("1-0", "2-0", 1),
-        ("1-ff00:0:110", "2-64512", 1),
-        ("2-64512", "1-ff00:0:110", 0),
-        ("1-ff00:0:110", "0-0", 1),
-        ("0-0", "2-64512", 1),
-        ("0-0", "1-0", 0),
-        ("1-ff00:0:111", "0-0", 0),
-        ("0-0", "1-ff00:0:110", 0),
-    ] {
-        let segments = found(&db, &cores, source, destination, 0)?;
-        assert_eq!(rt; segments.len(), shown, "{source} to {destination}");
-    }
-    Ok(())
+    let db = one_row(rt.alloc(), SegType::Core, &CORE_SEGMENT)?;
+    assert_all_shown(&rt, &db, &cores, &CORE_LOOKUPS)
 }
+
+/// Lookups in a database of the worked segment as a down segment.
+const DOWN_LOOKUPS: [(&str, &str, usize); 5] = [
+    ("1-ff00:0:110", "1-ff00:0:111", 1),
+    ("1-ff00:0:111", "1-ff00:0:110", 0),
+    ("1-0", "1-ff00:0:111", 1),
+    ("0-0", "1-ff00:0:111", 1),
+    ("1-ff00:0:110", "0-0", 0),
+];
 
 // The worked segment, as up and as down.
 #[test]
 fn types_are_apart(rt: HostRuntime) -> Result<(), Fail> {
     let cores = roster(rt.alloc(), &["1-ff00:0:110"])?;
-    let mut db = PathDb::new(rt.alloc());
-    register(rt.alloc(), &mut db, SegType::Down, &SEGMENT)?;
-    for (source, destination, shown) in [
-        ("1-ff00:0:110", "1-ff00:0:111", 1),
-        ("1-ff00:0:111", "1-ff00:0:110", 0),
-        ("1-0", "1-ff00:0:111", 1),
-        ("0-0", "1-ff00:0:111", 1),
-        ("1-ff00:0:110", "0-0", 0),
-    ] {
-        let segments = found(&db, &cores, source, destination, 0)?;
-        assert_eq!(rt; segments.len(), shown, "{source} to {destination}");
-    }
-    Ok(())
+    let db = one_row(rt.alloc(), SegType::Down, &SEGMENT)?;
+    assert_all_shown(&rt, &db, &cores, &DOWN_LOOKUPS)
 }
 
 /// The interfaces 1 to 65, in the order of the ids of the worked segment with each.
@@ -90,21 +133,36 @@ const BY_ID: [u16; 65] = [
     43, 42, 19, 57, 8, 60, 13, 48, 30, 16, 41, 62, 20, 33, 4, 25,
 ];
 
+/// The worked segment as a down segment with each of these interfaces.
+fn all_rows(alloc: Global) -> Result<PathDb, Fail> {
+    let mut db = PathDb::new(alloc);
+    for egress in 1..=65 {
+        let mut bytes = SEGMENT;
+        bytes[EGRESS] = egress;
+        register(alloc, &mut db, SegType::Down, &bytes)?;
+    }
+    Ok(db)
+}
+
+/// The interface out of a segment's first AS.
+fn egress_of(segment: &Segment) -> Option<u16> {
+    segment.entries().first().map(|entry| entry.egress)
+}
+
+/// Sees that segments are left by these interfaces.
+fn assert_left_by(rt: &impl Abort, segments: &[Segment], egresses: &[u16]) {
+    for (segment, egress) in segments.iter().zip(egresses) {
+        assert_same(rt, &egress_of(segment), &Some(*egress), egress);
+    }
+}
+
 // Of 65 rows that match the first 64 by key are shown.
 #[test]
 fn first_rows_are_shown(rt: HostRuntime) -> Result<(), Fail> {
     let cores = roster(rt.alloc(), &["1-ff00:0:110"])?;
-    let mut db = PathDb::new(rt.alloc());
-    for egress in 1..=65 {
-        let mut bytes = SEGMENT;
-        bytes[EGRESS] = egress;
-        register(rt.alloc(), &mut db, SegType::Down, &bytes)?;
-    }
+    let db = all_rows(rt.alloc())?;
     let segments = found(&db, &cores, "1-ff00:0:110", "1-ff00:0:111", 0)?;
-    assert_eq!(rt; segments.len(), 64);
-    for (segment, egress) in segments.iter().zip(BY_ID) {
-        let first = segment.entries().first().map(|entry| entry.egress);
-        assert_eq!(rt; first, Some(egress));
-    }
+    assert_same(&rt, &segments.len(), &64, &"of 65");
+    assert_left_by(&rt, &segments, &BY_ID);
     Ok(())
 }

@@ -11,4 +11,6 @@ mod filter;
 #[cfg(test)]
 mod laws;
 #[cfg(test)]
+mod same;
+#[cfg(test)]
 mod worked;
