@@ -228,19 +228,30 @@ fn joined_once(alloc: Global, parts: &[&[Line]]) -> Result<Vec<Line>, AllocError
 
 /// The events of these lines. Where memory is refused for their list, it is asked for once more.
 pub(crate) fn events_of(rt: &impl Abort, alloc: Global, lines: &[Line]) -> Vec<Event> {
-    let room = match Vec::with_capacity(alloc, lines.len()) {
-        Err(_) => Vec::with_capacity(alloc, lines.len()),
-        given => given,
-    };
-    let Ok(mut events) = room else {
-        panic!(rt; "out of memory");
-    };
+    let mut events = room_for(rt, alloc, lines.len());
     for (act, _said) in lines {
-        if let Err(_event) = events.push(event_of(rt, alloc, *act)) {
-            panic!(rt; "out of memory");
-        }
+        push_event(rt, alloc, &mut events, *act);
     }
     events
+}
+
+/// A list with room for so many events. Where memory is refused, it is asked for once more.
+fn room_for(rt: &impl Abort, alloc: Global, count: usize) -> Vec<Event> {
+    let room = match Vec::with_capacity(alloc, count) {
+        Err(_) => Vec::with_capacity(alloc, count),
+        given => given,
+    };
+    match room {
+        Ok(events) => events,
+        Err(_) => panic!(rt; "out of memory"),
+    }
+}
+
+/// Appends an event.
+fn push_event(rt: &impl Abort, alloc: Global, events: &mut Vec<Event>, act: Act) {
+    if let Err(_event) = events.push(event_of(rt, alloc, act)) {
+        panic!(rt; "out of memory");
+    }
 }
 
 /// What a reply says.

@@ -2,6 +2,7 @@
 
 use crate::acts::{Act, Line};
 use crate::runs::{begun, done, ended};
+use crate::same::assert_same;
 use crate::scripts::{
     Ending, Left, NONE_LEFT, SECTORS, Script, calls_device, fronted, seen, wide_store,
 };
@@ -105,7 +106,7 @@ fn failing_openings<F: Failure>(
 fn assert_none_calls(rt: &impl Abort, lines: &[Line], from: usize, to: usize) {
     for (number, line) in lines.iter().enumerate() {
         if from <= number && number < to {
-            assert!(rt; !calls_device(*line), "{number}");
+            assert_same(rt, &calls_device(*line), &false, &number);
         }
     }
 }
@@ -123,18 +124,19 @@ fn next_event(rt: &impl Abort, lines: &[Line], next: usize, ending: Ending) -> u
             lines.len()
         }
         Ending::Failed(number) => {
-            let behind = number.saturating_add(1);
-            if behind == next {
-                assert!(rt;
-                    matches!(lines.get(number), Some((Act::Begin, _))),
-                    "{number}"
-                );
-            }
-            assert!(rt; next <= behind, "{next} {number}");
+            assert_next(rt, lines, next, number);
             assert_none_calls(rt, lines, next, number);
-            behind
+            number.saturating_add(1)
         }
     }
+}
+
+/// Sees that the event of this number isn't before the next one; it may be that of beginning a checkpoint again.
+fn assert_next(rt: &impl Abort, lines: &[Line], next: usize, number: usize) {
+    let behind = number.saturating_add(1);
+    let is_begin = matches!(lines.get(number), Some((Act::Begin, _)));
+    let is_next = next < behind || (next == behind && is_begin);
+    assert_same(rt, &is_next, &true, &(next, number));
 }
 
 /// Has a script's run fail at each call of the device in turn, and openings of what it leaves behind each `apart`-th one: how many

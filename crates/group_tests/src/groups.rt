@@ -1,8 +1,11 @@
 //! How many commands a group takes, and the order in which tickets are redeemed.
 
-use crate::stores::{new_store, old_store, opened, read_sector, told};
-use crate::work::{Paid, Told, work_of};
+use crate::stores::{new_store, old_store, opened, opens_to, read_sector};
+use crate::work::{Paid, Work, work_of};
 use path_db::Outcome;
+use sector_dev::MemDevice;
+use std::alloc::Global;
+use std::process::Abort;
 use std::test::Fail;
 
 /// What a purge of no rows does.
@@ -30,45 +33,73 @@ const VERSIONS: [(u32, usize, [u8; 16], [u8; 16]); 2] = [
     ),
 ];
 
+/// A new store of this version.
+fn store_of(rt: &impl Abort, alloc: Global, version: u32) -> MemDevice {
+    if version == 1 {
+        old_store(rt, alloc)
+    } else {
+        new_store(rt, alloc)
+    }
+}
+
+/// Redeems tickets up to this place, the newest or the oldest of them first.
+fn redeem_in_turn(rt: &impl Abort, work: &mut Work<MemDevice>, most: usize, newest_first: bool) {
+    for place in 0..=most {
+        if newest_first {
+            let last = most.saturating_sub(place);
+            work.redeems(rt, last, Paid::Committed(last as u64, NOTHING));
+        } else {
+            work.redeems(rt, 0, Paid::Committed(place as u64, NOTHING));
+        }
+    }
+}
+
+/// Commits so many purges and one more, in two groups, and redeems their tickets.
+fn two_groups(
+    rt: &impl Abort,
+    work: Work<MemDevice>,
+    most: usize,
+    newest_first: bool,
+) -> Work<MemDevice> {
+    let mut work = work;
+    work.purge(rt, most.saturating_add(1));
+    work.redeems(rt, 0, Paid::Waiting(0));
+    let mut work = work.flushes_group(rt);
+    work.redeems(rt, most, Paid::Waiting(most as u64));
+    let mut work = work.flushes_group(rt);
+    redeem_in_turn(rt, &mut work, most, newest_first);
+    work
+}
+
+/// Sees how a sector begins.
+fn assert_begins(rt: &impl Abort, device: &mut MemDevice, at: u64, wanted: &[u8; 16]) {
+    let sector = read_sector(device, at);
+    assert!(rt; sector.starts_with(wanted), "{at}");
+}
+
+/// Sees that so many purges are in one group and one more is in another, and how their payloads begin.
+fn assert_groups(
+    rt: &impl Abort,
+    alloc: Global,
+    version: u32,
+    (most, first, second): (usize, &[u8; 16], &[u8; 16]),
+    newest_first: bool,
+) {
+    let store = opened(rt, alloc, store_of(rt, alloc, version));
+    let work = two_groups(rt, work_of(rt, alloc, store), most, newest_first);
+    let pair = (0, 0, (most as u64).saturating_add(1));
+    let mut device = work.ends(rt, pair);
+    assert_begins(rt, &mut device, 5, first);
+    assert_begins(rt, &mut device, 7, second);
+    let _device = opens_to(rt, alloc, device, pair);
+}
+
 #[test]
 fn groups_of_thirty_two(rt: HostRuntime) -> Result<(), Fail> {
-    for (version, most, first, second) in VERSIONS {
+    for (version, most, first, second) in &VERSIONS {
         for newest_first in [false, true] {
-            let device = if version == 1 {
-                old_store(&rt, rt.alloc())
-            } else {
-                new_store(&rt, rt.alloc())
-            };
-            let mut work = work_of(&rt, rt.alloc(), opened(&rt, rt.alloc(), device));
-            work.purge(&rt, most.saturating_add(1));
-            assert_eq!(rt; work.redeem(&rt, 0), Paid::Waiting(0));
-            let (mut work, told_first) = work.flush_group(&rt);
-            assert_eq!(rt; told_first, Told::Ended);
-            assert_eq!(rt; work.redeem(&rt, most), Paid::Waiting(most as u64));
-            let (mut work, told_second) = work.flush_group(&rt);
-            assert_eq!(rt; told_second, Told::Ended);
-            for place in 0..=most {
-                let (index, place) = if newest_first {
-                    (most.saturating_sub(place), most.saturating_sub(place))
-                } else {
-                    (0, place)
-                };
-                assert_eq!(rt;
-                    work.redeem(&rt, index),
-                    Paid::Committed(place as u64, NOTHING)
-                );
-            }
-            let (mut device, pair) = work.end(&rt);
-            assert_eq!(rt; pair, (0, 0, most as u64 + 1));
-            assert!(rt;
-                read_sector(&mut device, 5).starts_with(&first),
-                "{version}"
-            );
-            assert!(rt;
-                read_sector(&mut device, 7).starts_with(&second),
-                "{version}"
-            );
-            assert_eq!(rt; told(&rt, rt.alloc(), device).0, pair);
+            let groups = (*most, first, second);
+            assert_groups(&rt, rt.alloc(), *version, groups, newest_first);
         }
     }
     Ok(())

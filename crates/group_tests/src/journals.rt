@@ -1,9 +1,10 @@
 //! Journals that are filled to their ends.
 
-use crate::stores::{new_store, opened, read_sector, told};
+use crate::stores::{new_store, opened, opens_to, read_sector};
 use crate::work::{Paid, Told, Work, work_of};
 use group_core::StageError;
 use sector_dev::{Device, MemDevice};
+use std::alloc::Global;
 use std::process::Abort;
 use std::test::Fail;
 
@@ -29,99 +30,96 @@ fn commit_to<D: Device>(rt: &impl Abort, work: Work<D>, from: u64, to: u64) -> W
     let mut work = work;
     for place in from..to {
         work.purge(rt, 1);
-        let ended;
-        (work, ended) = work.flush_group(rt);
-        assert_eq!(rt; ended, Told::Ended);
-        assert!(rt;
-            matches!(work.redeem(rt, 0), Paid::Committed(at, _) if at == place),
-            "{place}"
-        );
+        work = work.flushes_group(rt);
+        work.redeems_at(rt, place);
     }
     work
 }
 
-/// Ends a state, opens its device again, and sees how some of its sectors begin.
+/// Sees how a sector begins, and that zeros are behind that.
+fn assert_sector(rt: &impl Abort, device: &mut MemDevice, at: u64, bytes: &[u8]) {
+    let sector = read_sector(device, at);
+    let is_so = sector.starts_with(bytes) && sector.iter().skip(bytes.len()).all(|byte| *byte == 0);
+    assert!(rt; is_so, "{at}");
+}
+
+/// Sees how some sectors of a device begin.
 fn assert_begin(rt: &impl Abort, device: MemDevice, sectors: &[(u64, &[u8])]) -> MemDevice {
     let mut device = device;
     for (at, bytes) in sectors {
-        let sector = read_sector(&mut device, *at);
-        assert!(rt; sector.starts_with(bytes), "{at}");
-        assert!(rt;
-            sector.iter().skip(bytes.len()).all(|byte| *byte == 0),
-            "{at}"
-        );
+        assert_sector(rt, &mut device, *at, bytes);
     }
     device
+}
+
+/// What stands on the device where the first journal is sealed and the second one is full, with a checkpoint between them.
+const FULL: [(u64, &[u8]); 8] = [
+    (3, &[]),
+    (4, &[]),
+    (518, &[0xa7]),
+    (519, &SEAL),
+    (520, &AREA),
+    (522, &[0xa7]),
+    (523, &[0xa7]),
+    (524, &BEHIND),
+];
+
+/// What stands there once the second journal is sealed too.
+const SEALED: [(u64, &[u8]); 4] = [
+    (3, &[]),
+    (4, &[0xa7]),
+    (1037, &[0xa7]),
+    (1038, &[2, 0, 0, 0, 0, 0, 0, 0, 0, 0, 0, 0, 0, 0, 2, 2]),
+];
+
+/// Fills the first journal, which is sealed then, and the second one.
+fn filled(rt: &impl Abort, work: Work<MemDevice>) -> Work<MemDevice> {
+    let mut work = commit_to(rt, work, 0, GROUPS);
+    work.purge(rt, 1);
+    let mut work = work.flushes_group(rt);
+    // That was a seal.
+    work.redeems(rt, 0, Paid::Waiting(GROUPS));
+    let mut work = work.flushes_group(rt);
+    work.redeems_at(rt, GROUPS);
+    commit_to(rt, work, GROUPS + 1, 2 * GROUPS)
+}
+
+/// What is answered where a journal has no room.
+const NO_ROOM: Told = Told::Stage(StageError::NoRoom);
+
+/// Makes a checkpoint while a purge is pending for which the journal has no room.
+fn without_room(rt: &impl Abort, work: Work<MemDevice>) -> Work<MemDevice> {
+    let mut work = work;
+    work.purge(rt, 1);
+    for _again in 0..2 {
+        work = work.flushes(rt, NO_ROOM);
+    }
+    // Neither has the journal room while its checkpoint is being written.
+    for _step in 0..6 {
+        work = work.checks(rt, Told::Done).flushes(rt, NO_ROOM);
+    }
+    work.checks(rt, Told::Ended)
+}
+
+/// Seals the second half's journal, and has the first half take a purge: the device.
+fn sealed_again(rt: &impl Abort, alloc: Global, device: MemDevice) -> MemDevice {
+    let mut work = work_of(rt, alloc, opened(rt, alloc, device));
+    work.purge(rt, 1);
+    let mut work = work.flushes_group(rt).flushes_group(rt);
+    work.redeems_at(rt, 514);
+    work.device(rt)
 }
 
 #[test]
 fn journal_fills_then_seal_then_no_room(rt: HostRuntime) -> Result<(), Fail> {
     let store = opened(&rt, rt.alloc(), new_store(&rt, rt.alloc()));
-    let work = work_of(&rt, rt.alloc(), store);
-    let mut work = commit_to(&rt, work, 0, GROUPS);
-    work.purge(&rt, 1);
-    let (mut work, ended) = work.flush_group(&rt);
-    assert_eq!(rt; ended, Told::Ended);
-    // That was a seal.
-    assert_eq!(rt; work.redeem(&rt, 0), Paid::Waiting(GROUPS));
-    let (mut work, ended) = work.flush_group(&rt);
-    assert_eq!(rt; ended, Told::Ended);
-    assert!(rt; matches!(work.redeem(&rt, 0), Paid::Committed(GROUPS, _)));
-    let mut work = commit_to(&rt, work, GROUPS + 1, 2 * GROUPS);
-    work.purge(&rt, 1);
-    for _again in 0..2 {
-        let refused;
-        (work, refused) = work.flush(&rt);
-        assert_eq!(rt; refused, Told::Stage(StageError::NoRoom));
-    }
-    // Neither has the journal room while its checkpoint is being written.
-    for _step in 0..6 {
-        let step;
-        (work, step) = work.check(&rt);
-        assert_eq!(rt; step, Told::Done);
-        let refused;
-        (work, refused) = work.flush(&rt);
-        assert_eq!(rt; refused, Told::Stage(StageError::NoRoom));
-    }
-    let (work, ended) = work.check(&rt);
-    assert_eq!(rt; ended, Told::Ended);
-    let (device, pair) = work.end(&rt);
-    assert_eq!(rt; pair, (0, 0, 2 * GROUPS));
-    let device = assert_begin(
-        &rt,
-        device,
-        &[
-            (3, &[]),
-            (4, &[]),
-            (518, &[0xa7]),
-            (519, &SEAL),
-            (520, &AREA),
-            (522, &[0xa7]),
-            (523, &[0xa7]),
-            (524, &BEHIND),
-        ],
-    );
-    let (pair, device) = told(&rt, rt.alloc(), device);
-    assert_eq!(rt; pair, (0, 0, 2 * GROUPS));
-    // Then the second half's journal is sealed, and the first half takes what follows.
-    let mut work = work_of(&rt, rt.alloc(), opened(&rt, rt.alloc(), device));
-    work.purge(&rt, 1);
-    let (work, ended) = work.flush_group(&rt);
-    assert_eq!(rt; ended, Told::Ended);
-    let (mut work, ended) = work.flush_group(&rt);
-    assert_eq!(rt; ended, Told::Ended);
-    assert!(rt; matches!(work.redeem(&rt, 0), Paid::Committed(514, _)));
-    let (pair, device) = told(&rt, rt.alloc(), work.device(&rt));
-    assert_eq!(rt; pair, (0, 0, 2 * GROUPS + 1));
-    let _device = assert_begin(
-        &rt,
-        device,
-        &[
-            (3, &[]),
-            (4, &[0xa7]),
-            (1037, &[0xa7]),
-            (1038, &[2, 0, 0, 0, 0, 0, 0, 0, 0, 0, 0, 0, 0, 0, 2, 2]),
-        ],
-    );
+    let work = filled(&rt, work_of(&rt, rt.alloc(), store));
+    let pair = (0, 0, 2 * GROUPS);
+    let device = without_room(&rt, work).ends(&rt, pair);
+    let device = assert_begin(&rt, device, &FULL);
+    let device = opens_to(&rt, rt.alloc(), device, pair);
+    let device = sealed_again(&rt, rt.alloc(), device);
+    let device = opens_to(&rt, rt.alloc(), device, (0, 0, 2 * GROUPS + 1));
+    let _device = assert_begin(&rt, device, &SEALED);
     Ok(())
 }

@@ -1,7 +1,8 @@
 //! Commands that are refused, each by the first reason, and that a refusal leaves all as it was.
 
-use crate::stores::{change, new_store, old_store, opened, register, told};
-use crate::work::{Paid, Told, Work, work_of};
+use crate::same::assert_same;
+use crate::stores::{change, new_store, old_store, opened, opens_to, register};
+use crate::work::{Paid, Work, work_of};
 use group_core::SubmitError;
 use path_db::{Command, Outcome};
 use sector_dev::MemDevice;
@@ -26,48 +27,58 @@ fn worked(rt: &impl Abort, alloc: Global, version: u8, place: u64) -> Work<MemDe
     work_of(rt, alloc, store)
 }
 
+/// Submits a segment left by this interface, which is answered so.
+fn registers(
+    rt: &impl Abort,
+    alloc: Global,
+    work: &mut Work<MemDevice>,
+    egress: u8,
+    wanted: Result<u64, SubmitError>,
+) {
+    work.submits(rt, register(rt, alloc, egress, 1), wanted);
+}
+
+/// Submits what there is room for, and more.
+fn fill(rt: &impl Abort, alloc: Global, work: &mut Work<MemDevice>) {
+    for egress in 1..11 {
+        registers(rt, alloc, work, egress, Ok(u64::from(egress) - 1));
+    }
+    for _again in 0..2 {
+        registers(rt, alloc, work, 11, Err(SubmitError::Full));
+    }
+    work.purge(rt, 246);
+    for _again in 0..2 {
+        work.submits(rt, Command::Purge(0), Err(SubmitError::Busy));
+        registers(rt, alloc, work, 11, Err(SubmitError::Busy));
+    }
+}
+
+/// What the command at a place does: one of ten new segments, a purge of nothing, and one of them again.
+fn outcome_at(place: u64) -> Outcome {
+    Outcome {
+        inserted: u32::from(place < 10),
+        updated: 0,
+        kept: u32::from(place == 256),
+        purged: 0,
+    }
+}
+
 #[test]
 fn busy_and_full(rt: HostRuntime) -> Result<(), Fail> {
     let mut work = worked(&rt, rt.alloc(), 2, 0);
-    for egress in 1..11 {
-        let place = work.submit(&rt, register(&rt, rt.alloc(), egress, 1));
-        assert_eq!(rt; place, Ok(u64::from(egress) - 1));
-    }
-    for _again in 0..2 {
-        let place = work.submit(&rt, register(&rt, rt.alloc(), 11, 1));
-        assert_eq!(rt; place, Err(SubmitError::Full));
-    }
-    work.purge(&rt, 246);
-    for _again in 0..2 {
-        let place = work.submit(&rt, Command::Purge(0));
-        assert_eq!(rt; place, Err(SubmitError::Busy));
-        let place = work.submit(&rt, register(&rt, rt.alloc(), 11, 1));
-        assert_eq!(rt; place, Err(SubmitError::Busy));
-    }
-    let (mut work, ended) = work.flush_group(&rt);
-    assert_eq!(rt; ended, Told::Ended);
-    let place = work.submit(&rt, register(&rt, rt.alloc(), 11, 1));
-    assert_eq!(rt; place, Err(SubmitError::Full));
+    fill(&rt, rt.alloc(), &mut work);
+    let mut work = work.flushes_group(&rt);
+    registers(&rt, rt.alloc(), &mut work, 11, Err(SubmitError::Full));
     // What is there already takes no more room.
-    let place = work.submit(&rt, register(&rt, rt.alloc(), 10, 1));
-    assert_eq!(rt; place, Ok(256));
+    registers(&rt, rt.alloc(), &mut work, 10, Ok(256));
     for _group in 0..8 {
-        let ended;
-        (work, ended) = work.flush_group(&rt);
-        assert_eq!(rt; ended, Told::Ended);
+        work = work.flushes_group(&rt);
     }
     for place in 0..257 {
-        let outcome = Outcome {
-            inserted: u32::from(place < 10),
-            updated: 0,
-            kept: u32::from(place == 256),
-            purged: 0,
-        };
-        assert_eq!(rt; work.redeem(&rt, 0), Paid::Committed(place, outcome));
+        work.redeems(&rt, 0, Paid::Committed(place, outcome_at(place)));
     }
-    let (device, pair) = work.end(&rt);
-    assert_eq!(rt; pair, (10, 930, 257));
-    assert_eq!(rt; told(&rt, rt.alloc(), device).0, pair);
+    let device = work.ends(&rt, (10, 930, 257));
+    let _device = opens_to(&rt, rt.alloc(), device, (10, 930, 257));
     Ok(())
 }
 
@@ -166,18 +177,23 @@ const CASES: [Case; 20] = [
     (1, 7, 3, false, Kind::Segment, Ok(10)),
 ];
 
+/// Sees how a case is answered, and that nothing is shown of it.
+fn assert_answer(rt: &impl Abort, alloc: Global, case: &Case) {
+    let (version, place, pending, halted, kind, wanted) = *case;
+    let mut work = worked(rt, alloc, version, place);
+    work.purge(rt, pending);
+    if halted {
+        work.state.halt();
+    }
+    let answer = work.submit(rt, command_of(rt, alloc, kind));
+    assert_same(rt, &answer, &wanted, case);
+    let _device = work.ends(rt, (0, 0, place));
+}
+
 #[test]
 fn the_first_refusal_is_answered(rt: HostRuntime) -> Result<(), Fail> {
-    for (version, place, pending, halted, kind, wanted) in CASES {
-        let mut work = worked(&rt, rt.alloc(), version, place);
-        work.purge(&rt, pending);
-        if halted {
-            work.state.halt();
-        }
-        let answer = work.submit(&rt, command_of(&rt, rt.alloc(), kind));
-        assert_eq!(rt; answer, wanted, "{kind:?} at {place} behind {pending}");
-        let (_device, pair) = work.end(&rt);
-        assert_eq!(rt; pair, (0, 0, place));
+    for case in &CASES {
+        assert_answer(&rt, rt.alloc(), case);
     }
     Ok(())
 }

@@ -3,9 +3,10 @@
 
 use crate::acts::{Act, GONE, INSERTED, Line, Said, event_of, events_of, heard};
 use crate::runs::{done, ended, rested, sealed_run};
-use crate::stores::{pair_of, told};
+use crate::same::assert_same;
+use crate::stores::{assert_pair, opens_to, pair_of};
 use group_core::{BeginError, StageError, SubmitError};
-use group_runs::{PublishRefusal, Run, run};
+use group_runs::{PublishRefusal, Reply, Run, run};
 use sector_dev::MemDevice;
 use std::alloc::Global;
 use std::process::Abort;
@@ -92,10 +93,10 @@ fn told_event(rt: &impl Abort, alloc: Global, held: Run<MemDevice>, line: Line) 
     if is_refusal(got) {
         let after;
         (held, after) = rows_of(rt, alloc, held);
-        assert_eq!(rt; after, before, "{act:?}");
+        assert_same(rt, &after, &before, &act);
         (held, got) = answered(rt, alloc, held, act);
     }
-    assert_eq!(rt; got, wanted, "{act:?}");
+    assert_same(rt, &got, &wanted, &act);
     held
 }
 
@@ -112,7 +113,7 @@ fn told_events(rt: &impl Abort, alloc: Global, count: usize) -> Run<MemDevice> {
 fn refused_events_may_be_tried_again(rt: HostRuntime) -> Result<(), Fail> {
     let held = told_events(&rt, rt.alloc(), usize::MAX);
     let (place, db) = rested(&rt, rt.alloc(), held);
-    assert_eq!(rt; pair_of(&db, place), (2, 186, 4));
+    assert_pair(&rt, pair_of(&db, place), (2, 186, 4));
     Ok(())
 }
 
@@ -123,12 +124,24 @@ fn refused_ends_may_be_tried_again(rt: HostRuntime) -> Result<(), Fail> {
         Ok(device) => device,
         Err(held) => {
             let (held, rows) = rows_of(&rt, rt.alloc(), held);
-            assert_eq!(rt; rows, Said::Shows(0b10));
+            assert_same(&rt, &rows, &Said::Shows(0b10), &DURABLE);
             ended(&rt, held)
         }
     };
-    assert_eq!(rt; told(&rt, rt.alloc(), device).0, (2, 186, 4));
+    let _device = opens_to(&rt, rt.alloc(), device, (2, 186, 4));
     Ok(())
+}
+
+/// Sees that replies are as told up to the first where memory was refused.
+fn assert_front(rt: &impl Abort, replies: &[Reply]) {
+    assert_eq!(rt; replies.len(), STEPS.len());
+    for (reply, (act, wanted)) in replies.iter().zip(&STEPS) {
+        let got = heard(reply);
+        if is_refusal(got) {
+            break;
+        }
+        assert_same(rt, &got, wanted, act);
+    }
 }
 
 #[test]
@@ -136,14 +149,7 @@ fn a_run_without_room_for_replies_comes_back(rt: HostRuntime) -> Result<(), Fail
     let events = events_of(&rt, rt.alloc(), &STEPS);
     let held = sealed_run(&rt, rt.alloc());
     let (held, replies) = done(&rt, rt.alloc(), held, &events);
-    assert_eq!(rt; replies.len(), STEPS.len());
-    for (reply, (act, wanted)) in replies.iter().zip(&STEPS) {
-        let got = heard(reply);
-        if is_refusal(got) {
-            break;
-        }
-        assert_eq!(rt; got, *wanted, "{act:?}");
-    }
+    assert_front(&rt, &replies);
     let _device = ended(&rt, held);
     Ok(())
 }

@@ -3,6 +3,7 @@
 use crate::acts::{
     Act, EIGHT_OLDER, GONE, GROUP, INSERTED, Line, Said, events_of, heard, joined, query, shown,
 };
+use crate::same::assert_same;
 use crate::stores::{SECTORS, bytes_of, opened, sealed_store};
 use crate::work::state_of;
 use group_core::{BeginError, PlainShow, Redeemed, StageError, State, StepError, SubmitError};
@@ -184,13 +185,25 @@ pub(crate) fn done<D: Device>(
     held: Run<D>,
     events: &[Event],
 ) -> (Run<D>, Vec<Reply>) {
-    let again = match run(alloc, held, events) {
-        Err((held, _refused)) => run(alloc, held, events),
+    let again = match ran(alloc, held, events) {
+        Err(held) => ran(alloc, held, events),
         answer => answer,
     };
     match again {
         Ok(done) => done,
-        Err((_held, _refused)) => panic!(rt; "out of memory"),
+        Err(_held) => panic!(rt; "out of memory"),
+    }
+}
+
+/// Does events, unless memory is refused for their replies.
+fn ran<D: Device>(
+    alloc: Global,
+    held: Run<D>,
+    events: &[Event],
+) -> Result<(Run<D>, Vec<Reply>), Run<D>> {
+    match run(alloc, held, events) {
+        Ok(done) => Ok(done),
+        Err((held, _refused)) => Err(held),
     }
 }
 
@@ -224,7 +237,7 @@ fn device_bytes(rt: &impl Abort, alloc: Global, held: Run<MemDevice>) -> Vec<u8>
 fn assert_told(rt: &impl Abort, lines: &[Line], replies: &[Reply]) {
     assert_eq!(rt; replies.len(), lines.len());
     for (reply, (act, wanted)) in replies.iter().zip(lines) {
-        assert_eq!(rt; heard(reply), *wanted, "{act:?}");
+        assert_same(rt, &heard(reply), wanted, act);
     }
 }
 
@@ -239,6 +252,42 @@ fn every_event_is_answered(rt: HostRuntime) -> Result<(), Fail> {
     Ok(())
 }
 
+/// Does events in a run, and sees what they are answered.
+fn assert_done(
+    rt: &impl Abort,
+    alloc: Global,
+    held: Run<MemDevice>,
+    lines: &[Line],
+    events: &[Event],
+) -> Run<MemDevice> {
+    let (held, replies) = done(rt, alloc, held, events);
+    assert_told(rt, lines, &replies);
+    held
+}
+
+/// Sees that events that are cut in two behind so many leave the same bytes.
+fn assert_cut(
+    rt: &impl Abort,
+    alloc: Global,
+    lines: &[Line],
+    events: &[Event],
+    count: usize,
+    whole: &[u8],
+) {
+    assert!(rt; count <= events.len() && count <= lines.len());
+    let (front, rest) = events.split_at(count);
+    let (told, told_next) = lines.split_at(count);
+    let held = assert_done(rt, alloc, sealed_run(rt, alloc), told, front);
+    let held = assert_done(rt, alloc, held, told_next, rest);
+    assert_bytes(rt, alloc, held, whole, count);
+}
+
+/// Sees which bytes the device of a run has that has ended.
+fn assert_bytes(rt: &impl Abort, alloc: Global, held: Run<MemDevice>, whole: &[u8], count: usize) {
+    let bytes = device_bytes(rt, alloc, held);
+    assert_same(rt, &(bytes.as_slice() == whole), &true, &count);
+}
+
 #[test]
 fn lists_may_be_cut_in_two(rt: HostRuntime) -> Result<(), Fail> {
     let lines = told_lines(&rt, rt.alloc());
@@ -251,17 +300,24 @@ fn lists_may_be_cut_in_two(rt: HostRuntime) -> Result<(), Fail> {
         if count % 3 > 0 {
             continue;
         }
-        let (front, rest) = events.split_at(count);
-        let (told, told_next) = lines.split_at(count);
-        let held = sealed_run(&rt, rt.alloc());
-        let (held, first) = done(&rt, rt.alloc(), held, front);
-        assert_told(&rt, told, &first);
-        let (held, second) = done(&rt, rt.alloc(), held, rest);
-        assert_told(&rt, told_next, &second);
-        let bytes = device_bytes(&rt, rt.alloc(), held);
-        assert!(rt; bytes.as_slice() == whole.as_slice(), "{count}");
+        assert_cut(&rt, rt.alloc(), &lines, &events, count, &whole);
     }
     Ok(())
+}
+
+/// Sees to what the device of a run opens that ends behind these events.
+fn assert_end(rt: &impl Abort, alloc: Global, front: &[Event]) -> Result<(), Fail> {
+    let (held, _replies) = done(rt, alloc, sealed_run(rt, alloc), front);
+    let (place, db) = rested(rt, alloc, held);
+    let rows = rows_shown(&db)?;
+    let count = front.len();
+    assert_same(rt, &(place, rows), &place_behind(count), &count);
+    Ok(())
+}
+
+/// The interfaces by which the segments of a database's rows are left: a bit for each.
+fn rows_shown(db: &PathDb) -> Result<u64, Fail> {
+    Ok(shown(&answer(db, &query(), 0)?))
 }
 
 #[test]
@@ -271,11 +327,7 @@ fn runs_end_anywhere(rt: HostRuntime) -> Result<(), Fail> {
     assert_eq!(rt; events.len(), 105);
     for count in 0..=events.len() {
         let (front, _rest) = events.split_at(count);
-        let held = sealed_run(&rt, rt.alloc());
-        let (held, _replies) = done(&rt, rt.alloc(), held, front);
-        let (place, db) = rested(&rt, rt.alloc(), held);
-        let rows = shown(&answer(&db, &query(), 0)?);
-        assert_eq!(rt; (place, rows), place_behind(count), "{count}");
+        assert_end(&rt, rt.alloc(), front)?;
     }
     Ok(())
 }

@@ -2,10 +2,11 @@
 
 use crate::acts::{Act, Line, Said, events_of, heard, joined};
 use crate::long_runs::{NEW, OLD};
+use crate::same::assert_same;
 use crate::stores::{bytes_of, change, formatted};
 use group_core::{BeginError, StageError, SubmitError};
 use group_runs::{Event, Reply, StepRefusal};
-use path_db::{PathDb, write_rows};
+use path_db::{Command, PathDb, write_rows};
 use sector_dev::{Device, MemDevice};
 use std::alloc::Global;
 use std::process::Abort;
@@ -99,14 +100,44 @@ fn folds_of(
 ) -> Result<Vec<Vec<u8>>, Fail> {
     let mut db = PathDb::new(alloc);
     let mut folds = Vec::new(alloc);
-    folds.push(records(rt, alloc, &db))?;
-    for ((_act, wanted), event) in lines.iter().zip(events) {
-        if let (Event::Submit(command), Said::Accepted(_place)) = (event, wanted) {
-            db.apply(command)?;
-            folds.push(records(rt, alloc, &db))?;
-        }
+    push_fold(rt, alloc, &db, &mut folds)?;
+    for (line, event) in lines.iter().zip(events) {
+        fold_line(rt, alloc, &mut db, &mut folds, *line, event)?;
     }
     Ok(folds)
+}
+
+/// Appends the records of the rows of a database.
+fn push_fold(
+    rt: &impl Abort,
+    alloc: Global,
+    db: &PathDb,
+    folds: &mut Vec<Vec<u8>>,
+) -> Result<(), Fail> {
+    folds.push(records(rt, alloc, db))?;
+    Ok(())
+}
+
+/// Applies a command that is told to be accepted, and appends the rows behind it.
+fn fold_line(
+    rt: &impl Abort,
+    alloc: Global,
+    db: &mut PathDb,
+    folds: &mut Vec<Vec<u8>>,
+    (_act, wanted): Line,
+    event: &Event,
+) -> Result<(), Fail> {
+    if let (Event::Submit(command), Said::Accepted(_place)) = (event, wanted) {
+        apply(db, command)?;
+        push_fold(rt, alloc, db, folds)?;
+    }
+    Ok(())
+}
+
+/// Applies a command.
+fn apply(db: &mut PathDb, command: &Command) -> Result<(), Fail> {
+    db.apply(command)?;
+    Ok(())
 }
 
 /// The script that starts from a new store of version 1 or 2.
@@ -144,13 +175,23 @@ pub(crate) fn fronted<D: Device>(
     (least, most): (u64, u64),
 ) -> (u64, D) {
     let place = store.place();
+    assert_between(rt, place, least, most);
+    assert_fold(rt, alloc, script, store.db(), place);
+    (place, store.into_device())
+}
+
+/// Sees that a place is between these.
+fn assert_between(rt: &impl Abort, place: u64, least: u64, most: u64) {
     assert!(rt; least <= place && place <= most, "{least} {place} {most}");
-    let rows = records(rt, alloc, store.db());
+}
+
+/// Sees that rows are the fold of so many of a script's commands.
+fn assert_fold(rt: &impl Abort, alloc: Global, script: &Script, db: &PathDb, place: u64) {
+    let rows = records(rt, alloc, db);
     let Some(fold) = script.folds.get(place as usize) else {
         panic!(rt; "{place}");
     };
-    assert!(rt; fold.as_slice() == rows.as_slice(), "{place}");
-    (place, store.into_device())
+    assert_same(rt, &(fold.as_slice() == rows.as_slice()), &true, &place);
 }
 
 /// Whether an event was refused since the device failed in it.
@@ -313,24 +354,50 @@ impl Left {
     }
 }
 
+/// What is out behind an event that the device failed in, or that was answered as told: whether it failed.
+fn seen_before(
+    rt: &impl Abort,
+    out: Out,
+    number: usize,
+    (act, wanted): Line,
+    got: Said,
+) -> (Out, bool) {
+    if is_failure(got) {
+        assert_same(rt, &calls_device((act, wanted)), &true, &(act, number));
+        return (out.without(act), true);
+    }
+    assert_same(rt, &got, &wanted, &(act, number));
+    (out.after((act, wanted)), false)
+}
+
+/// What is out behind an event that is answered as by a state that has stopped.
+fn seen_behind(
+    rt: &impl Abort,
+    out: Out,
+    left: &Left,
+    number: usize,
+    line: Line,
+    got: Said,
+) -> Out {
+    let (out, told) = out.stopped(left.accepted, line);
+    assert_same(rt, &got, &told, &(line.0, number));
+    out
+}
+
 /// Sees that replies are as told up to the event in which the device failed, and behind it as those of a state that has stopped.
 pub(crate) fn seen(rt: &impl Abort, lines: &[Line], replies: &[Reply]) -> Left {
     let mut left = NONE_LEFT;
     let mut out = NONE_OUT;
     for (number, (line, reply)) in lines.iter().zip(replies).enumerate() {
         let got = heard(reply);
-        let (act, wanted) = *line;
-        if left.ending != Ending::Whole {
-            let told;
-            (out, told) = out.stopped(left.accepted, *line);
-            assert_eq!(rt; got, told, "{act:?}, {number} behind {left:?}");
-        } else if is_failure(got) {
-            assert!(rt; calls_device(*line), "{act:?}, {number}");
-            left.ending = Ending::Failed(number);
-            out = out.without(act);
+        if left.ending == Ending::Whole {
+            let has_failed;
+            (out, has_failed) = seen_before(rt, out, number, *line, got);
+            if has_failed {
+                left.ending = Ending::Failed(number);
+            }
         } else {
-            assert_eq!(rt; got, wanted, "{act:?}, {number}");
-            out = out.after(*line);
+            out = seen_behind(rt, out, &left, number, *line, got);
         }
         left = left.with(got);
     }

@@ -1,7 +1,8 @@
 //! States of stores of each kind.
 
+use crate::same::assert_same;
 use crate::stores::{
-    REGISTERED, change, new_store, old_store, opened, read_sector, register, segment, told,
+    Pair, REGISTERED, change, new_store, old_store, opened, opens_to, register, segment,
 };
 use crate::work::{Told, assert_stopped, work_of};
 use group_core::{StageError, SubmitError};
@@ -11,25 +12,42 @@ use seg_core::SegType;
 use std::alloc::Global;
 use std::process::Abort;
 use std::test::Fail;
-use store_open::{StoreError, open};
+use store_open::{Store, StoreError, open};
 
 /// More calls than it takes to open a store and to make a checkpoint.
 const MANY: u64 = 200;
 
+/// Submits a removal to a store of this version, which is answered so, and makes a checkpoint: the store then.
+fn upgraded(
+    rt: &impl Abort,
+    alloc: Global,
+    store: Store<MemDevice>,
+    version: u32,
+    wanted: Result<u64, SubmitError>,
+) -> Store<MemDevice> {
+    assert_same(rt, &store.version(), &version, &"version");
+    let mut work = work_of(rt, alloc, store);
+    work.submits(rt, Command::Remove(SegType::Down, [0; 32]), wanted);
+    let (mut work, _ended) = work.flush_group(rt);
+    let _paid = work.redeem_all(rt);
+    let store = opened(rt, alloc, work.device(rt));
+    let place = u64::from(version.saturating_sub(1));
+    assert_same(rt, &store.place(), &place, &"place");
+    checkpointed(rt, store)
+}
+
+/// A store behind a checkpoint.
+fn checkpointed(rt: &impl Abort, store: Store<MemDevice>) -> Store<MemDevice> {
+    let mut store = store;
+    assert_eq!(rt; store.checkpoint(), Ok(()));
+    store
+}
+
 #[test]
 fn removals_are_accepted_behind_an_upgrade(rt: HostRuntime) -> Result<(), Fail> {
-    let mut store = opened(&rt, rt.alloc(), old_store(&rt, rt.alloc()));
-    for (version, wanted) in [(1, Err(SubmitError::OldStore)), (2, Ok(0))] {
-        assert_eq!(rt; store.version(), version);
-        let mut work = work_of(&rt, rt.alloc(), store);
-        let answer = work.submit(&rt, Command::Remove(SegType::Down, [0; 32]));
-        assert_eq!(rt; answer, wanted);
-        let (mut work, _ended) = work.flush_group(&rt);
-        let _paid = work.redeem_all(&rt);
-        store = opened(&rt, rt.alloc(), work.device(&rt));
-        assert_eq!(rt; store.place(), u64::from(version.saturating_sub(1)));
-        assert_eq!(rt; store.checkpoint(), Ok(()));
-    }
+    let store = opened(&rt, rt.alloc(), old_store(&rt, rt.alloc()));
+    let store = upgraded(&rt, rt.alloc(), store, 1, Err(SubmitError::OldStore));
+    let store = upgraded(&rt, rt.alloc(), store, 2, Ok(0));
     let _device = store.into_device();
     Ok(())
 }
@@ -39,31 +57,34 @@ fn place_at_maximum(rt: HostRuntime) -> Result<(), Fail> {
     let mut device = new_store(&rt, rt.alloc());
     change(&mut device, 1, 16, &[0xff; 8]);
     let store = opened(&rt, rt.alloc(), device);
-    assert_eq!(rt; store.place(), u64::MAX);
+    assert_same(&rt, &store.place(), &u64::MAX, &"place");
     let mut work = work_of(&rt, rt.alloc(), store);
     for _again in 0..2 {
-        let answer = work.submit(&rt, Command::Purge(0));
-        assert_eq!(rt; answer, Err(SubmitError::Exhausted));
+        work.submits(&rt, Command::Purge(0), Err(SubmitError::Exhausted));
     }
-    let (work, refused) = work.flush(&rt);
-    assert_eq!(rt; refused, Told::Stage(StageError::Empty));
-    let (pair, _device) = told(&rt, rt.alloc(), work.device(&rt));
-    assert_eq!(rt; pair, (0, 0, u64::MAX));
+    let work = work.flushes(&rt, Told::Stage(StageError::Empty));
+    let _device = opens_to(&rt, rt.alloc(), work.device(&rt), (0, 0, u64::MAX));
     Ok(())
+}
+
+/// Commits ten rows to a new store, and makes a checkpoint: the device.
+fn ten_rows(rt: &impl Abort, alloc: Global) -> MemDevice {
+    let mut work = work_of(rt, alloc, opened(rt, alloc, new_store(rt, alloc)));
+    for egress in 1..11 {
+        work.submits(
+            rt,
+            register(rt, alloc, egress, 1),
+            Ok(u64::from(egress) - 1),
+        );
+    }
+    let mut work = work.flushes_group(rt);
+    work.redeems_all(rt, 10);
+    checkpointed(rt, opened(rt, alloc, work.device(rt))).into_device()
 }
 
 /// A store whose second half has ten rows at place 0 in its checkpoint, and an eleventh one in its journal.
 fn overfull_store(rt: &impl Abort, alloc: Global) -> MemDevice {
-    let mut work = work_of(rt, alloc, opened(rt, alloc, new_store(rt, alloc)));
-    for egress in 1..11 {
-        assert!(rt; work.submit(rt, register(rt, alloc, egress, 1)).is_ok());
-    }
-    let (mut work, ended) = work.flush_group(rt);
-    assert_eq!(rt; ended, Told::Ended);
-    assert_eq!(rt; work.redeem_all(rt), 10);
-    let mut store = opened(rt, alloc, work.device(rt));
-    assert_eq!(rt; store.checkpoint(), Ok(()));
-    let mut device = store.into_device();
+    let mut device = ten_rows(rt, alloc);
     change(&mut device, 520, 16, &[0; 8]);
     change(&mut device, 524, 0, &REGISTERED);
     change(&mut device, 524, REGISTERED.len(), &segment(11));
@@ -79,27 +100,56 @@ const PURGE: [u8; 29] = [
     0xff, 0xff, 0xff,
 ];
 
+/// Sees that a device opens to this, and that a state of its store has stopped.
+fn assert_larger(rt: &impl Abort, alloc: Global, device: MemDevice, pair: Pair) -> MemDevice {
+    let device = opens_to(rt, alloc, device, pair);
+    assert_stopped(rt, work_of(rt, alloc, opened(rt, alloc, device)))
+}
+
+/// Purges all rows behind a seal.
+fn purge_behind_a_seal(device: &mut MemDevice) {
+    change(device, 526, 0, &SEAL);
+    change(device, 525, 0, &[0xa7]);
+    change(device, 5, 0, &PURGE);
+    change(device, 5, PURGE.len(), &[0; 483]);
+    change(device, 6, 0, &[0]);
+    change(device, 4, 0, &[0xa7]);
+}
+
+/// Sees that the rows up to the seal have this many bytes.
+fn assert_sealed(rt: &impl Abort, store: &Store<MemDevice>, len: u64) {
+    assert_eq!(rt; (store.is_sealed(), store.sealed_len()), (true, len));
+}
+
 #[test]
 fn fold_larger_than_area(rt: HostRuntime) -> Result<(), Fail> {
     let device = overfull_store(&rt, rt.alloc());
-    let (pair, mut device) = told(&rt, rt.alloc(), device);
-    assert_eq!(rt; pair, (11, 1023, 1));
-    let work = work_of(&rt, rt.alloc(), opened(&rt, rt.alloc(), device));
-    device = assert_stopped(&rt, work);
+    let mut device = assert_larger(&rt, rt.alloc(), device, (11, 1023, 1));
     // Behind a seal all rows are purged, but those up to the seal have no room.
-    change(&mut device, 526, 0, &SEAL);
-    change(&mut device, 525, 0, &[0xa7]);
-    change(&mut device, 5, 0, &PURGE);
-    change(&mut device, 5, PURGE.len(), &[0; 483]);
-    change(&mut device, 6, 0, &[0]);
-    change(&mut device, 4, 0, &[0xa7]);
+    purge_behind_a_seal(&mut device);
     let store = opened(&rt, rt.alloc(), device);
-    assert_eq!(rt; (store.is_sealed(), store.sealed_len()), (true, 1023));
-    let (pair, device) = told(&rt, rt.alloc(), store.into_device());
-    assert_eq!(rt; pair, (0, 0, 2));
-    let work = work_of(&rt, rt.alloc(), opened(&rt, rt.alloc(), device));
-    let _device = assert_stopped(&rt, work);
+    assert_sealed(&rt, &store, 1023);
+    let _device = assert_larger(&rt, rt.alloc(), store.into_device(), (0, 0, 2));
     Ok(())
+}
+
+/// Sees that a state of a store whose checkpoint failed has stopped, and that nothing is there.
+fn assert_broken(rt: &impl Abort, alloc: Global, store: Store<FaultDevice>) {
+    let device = assert_stopped(rt, work_of(rt, alloc, store));
+    let _device = opens_to(rt, alloc, device.into_mem(), (0, 0, 0));
+}
+
+/// Makes a checkpoint of a store, and sees that a state of the store has stopped where that failed: whether it did.
+fn breaks(rt: &impl Abort, alloc: Global, store: Store<FaultDevice>) -> bool {
+    let mut store = store;
+    let answer = store.checkpoint();
+    if answer == Ok(()) {
+        let _device = store.into_device();
+        return false;
+    }
+    assert_eq!(rt; answer, Err(StoreError::Fault));
+    assert_broken(rt, alloc, store);
+    true
 }
 
 #[test]
@@ -107,19 +157,13 @@ fn states_of_broken_stores_have_stopped(rt: HostRuntime) -> Result<(), Fail> {
     let mut broken = 0u64;
     for number in 0..MANY {
         let device = FaultDevice::new(new_store(&rt, rt.alloc()), number);
-        let Ok(mut store) = open(rt.alloc(), device) else {
+        let Ok(store) = open(rt.alloc(), device) else {
             continue;
         };
-        let answer = store.checkpoint();
-        if answer == Ok(()) {
-            let _device = store.into_device();
+        if !breaks(&rt, rt.alloc(), store) {
             break;
         }
-        assert_eq!(rt; answer, Err(StoreError::Fault));
         broken = broken.saturating_add(1);
-        let device = assert_stopped(&rt, work_of(&rt, rt.alloc(), store));
-        let (pair, _device) = told(&rt, rt.alloc(), device.into_mem());
-        assert_eq!(rt; pair, (0, 0, 0));
     }
     assert_eq!(rt; broken, 6);
     Ok(())

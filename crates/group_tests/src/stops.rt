@@ -1,8 +1,9 @@
 //! Stops of a device within the steps of an actor, and one call that fails, at each of them in turn.
 
 use crate::acts::INSERTED;
-use crate::stores::{Pair, TEARS, new_store, opened, register, sealed_store, told};
-use crate::work::{Paid, Told, Work, assert_stopped, work_of};
+use crate::same::assert_same;
+use crate::stores::{Pair, TEARS, new_store, opened, opens_to, register, sealed_store, told};
+use crate::work::{Paid, Told, Work, assert_stopped, assert_told, work_of};
 use group_core::BeginError;
 use path_db::Command;
 use sector_dev::{FaultDevice, FuseDevice, MemDevice, Tear};
@@ -25,19 +26,26 @@ fn stopped_group(rt: &impl Abort, alloc: Global, device: FuseDevice) -> (Option<
         }
     };
     let mut work = work_of(rt, alloc, store);
-    assert_eq!(rt; work.submit(rt, Command::Purge(5)), Ok(0));
+    work.submits(rt, Command::Purge(5), Ok(0));
+    let (work, made) = flushed(rt, work);
+    let (device, _pair) = work.end(rt);
+    (Some(made), device.into_mem())
+}
+
+/// Makes the steps of a flusher: how many were made before the one that failed.
+fn flushed(rt: &impl Abort, work: Work<FuseDevice>) -> (Work<FuseDevice>, u64) {
+    let mut work = work;
     let mut made = 0u64;
     for _step in 0..6 {
         let step;
         (work, step) = work.flush(rt);
         if step != Told::Done {
-            assert_eq!(rt; step, if made == 5 { Told::Ended } else { Told::Fault });
+            assert_told(rt, step, if made == 5 { Told::Ended } else { Told::Fault });
             break;
         }
         made = made.saturating_add(1);
     }
-    let (device, _pair) = work.end(rt);
-    (Some(made), device.into_mem())
+    (work, made)
 }
 
 /// The place that a stop leaves within the step behind so many: the group counts once its gate is open.
@@ -49,27 +57,40 @@ fn place_after(made: u64, tear: Tear) -> u64 {
     }
 }
 
+/// Sees where a group's stop is with this tear, which lets so many calls pass: in the step behind how many.
+fn stopped_group_at(rt: &impl Abort, alloc: Global, calls: u64, tear: Tear) -> Option<u64> {
+    let fuse = FuseDevice::new(new_store(rt, alloc), calls, tear);
+    let (made, device) = stopped_group(rt, alloc, fuse);
+    let place = match made {
+        Some(made) => place_after(made, tear),
+        None => 0,
+    };
+    let (pair, _device) = told(rt, alloc, device);
+    assert_same(rt, &pair, &(0, 0, place), &(made, tear.keep, tear.fill));
+    made
+}
+
+/// Sees so for each number of calls: each stop is one step behind the one before.
+fn assert_group_stops(rt: &impl Abort, alloc: Global, tear: Tear) {
+    let mut steps = 0u64;
+    for calls in 0..MANY {
+        let Some(made) = stopped_group_at(rt, alloc, calls, tear) else {
+            continue;
+        };
+        // Staging makes no call of the device, and neither does publishing.
+        assert_same(rt, &made, &steps.saturating_add(1), &calls);
+        steps = made;
+        if made == 5 {
+            break;
+        }
+    }
+    assert_same(rt, &steps, &5, &"steps");
+}
+
 #[test]
 fn stop_within_group_writes(rt: HostRuntime) -> Result<(), Fail> {
-    for tear in TEARS {
-        let mut steps = 0u64;
-        for calls in 0..MANY {
-            let fuse = FuseDevice::new(new_store(&rt, rt.alloc()), calls, tear);
-            let (made, device) = stopped_group(&rt, rt.alloc(), fuse);
-            let place = made.map_or(0, |made| place_after(made, tear));
-            let (pair, _device) = told(&rt, rt.alloc(), device);
-            assert_eq!(rt; pair, (0, 0, place), "{made:?} {} {}", tear.keep, tear.fill);
-            let Some(made) = made else {
-                continue;
-            };
-            // Staging makes no call of the device, and neither does publishing.
-            assert_eq!(rt; made, steps.saturating_add(1));
-            steps = made;
-            if made == 5 {
-                break;
-            }
-        }
-        assert_eq!(rt; steps, 5);
+    for tear in &TEARS {
+        assert_group_stops(&rt, rt.alloc(), *tear);
     }
     Ok(())
 }
@@ -80,12 +101,10 @@ const PAIR: Pair = (3, 279, 3);
 /// A sealed store with these groups.
 fn with_two_groups(rt: &impl Abort, alloc: Global) -> MemDevice {
     let mut work = work_of(rt, alloc, opened(rt, alloc, sealed_store(rt, alloc, 2)));
-    for egress in [2, 3] {
-        assert!(rt; work.submit(rt, register(rt, alloc, egress, 1)).is_ok());
-        let ended;
-        (work, ended) = work.flush_group(rt);
-        assert_eq!(rt; ended, Told::Ended);
-        assert_eq!(rt; work.redeem_all(rt), 1);
+    for (egress, place) in [(2, 1), (3, 2)] {
+        work.submits(rt, register(rt, alloc, egress, 1), Ok(place));
+        work = work.flushes_group(rt);
+        work.redeems_all(rt, 1);
     }
     work.device(rt)
 }
@@ -100,23 +119,36 @@ fn stopped_round(rt: &impl Abort, alloc: Global, device: FuseDevice) -> (Option<
             return (None, device.into_mem());
         }
     };
-    let mut work = work_of(rt, alloc, store);
+    let (work, made) = checked(rt, work_of(rt, alloc, store));
+    let device = work.ends(rt, PAIR);
+    (Some(made), device.into_mem())
+}
+
+/// Makes the steps of a checkpointer: how many were made before the one that failed.
+fn checked(rt: &impl Abort, work: Work<FuseDevice>) -> (Work<FuseDevice>, u64) {
+    let mut work = work;
     let mut made = 0u64;
     for _step in 0..7 {
         let step;
         (work, step) = work.check(rt);
-        match step {
-            Told::Done | Told::Ended => made = made.saturating_add(1),
-            Told::Begin(e) => assert_eq!(rt; e, BeginError::Fault),
-            _ => assert_eq!(rt; step, Told::Fault),
+        if is_made(rt, step) {
+            made = made.saturating_add(1);
         }
         if step != Told::Done {
             break;
         }
     }
-    let (device, pair) = work.end(rt);
-    assert_eq!(rt; pair, PAIR);
-    (Some(made), device.into_mem())
+    (work, made)
+}
+
+/// Whether a step was made, where the device failed otherwise.
+fn is_made(rt: &impl Abort, step: Told) -> bool {
+    match step {
+        Told::Done | Told::Ended => return true,
+        Told::Begin(e) => assert_eq!(rt; e, BeginError::Fault),
+        _ => assert_told(rt, step, Told::Fault),
+    }
+    false
 }
 
 /// The epoch that a stop leaves within the step behind so many: the new half counts once its gate is open.
@@ -131,32 +163,43 @@ fn epoch_after(made: u64, tear: Tear) -> u64 {
 /// Sees that a device opens to what is committed, by a half of this epoch.
 fn assert_opens(rt: &impl Abort, alloc: Global, device: MemDevice, epoch: u64) -> MemDevice {
     let store = opened(rt, alloc, device);
-    assert_eq!(rt; store.epoch(), epoch);
-    let (pair, device) = told(rt, alloc, store.into_device());
-    assert_eq!(rt; pair, PAIR);
-    device
+    assert_same(rt, &store.epoch(), &epoch, &"epoch");
+    opens_to(rt, alloc, store.into_device(), PAIR)
+}
+
+/// Sees where a round's stop is with this tear, which lets so many calls pass: in the step behind how many.
+fn stopped_round_at(rt: &impl Abort, alloc: Global, calls: u64, tear: Tear) -> Option<u64> {
+    let fuse = FuseDevice::new(with_two_groups(rt, alloc), calls, tear);
+    let (made, device) = stopped_round(rt, alloc, fuse);
+    let epoch = match made {
+        Some(made) => epoch_after(made, tear),
+        None => 1,
+    };
+    let _device = assert_opens(rt, alloc, device, epoch);
+    made
+}
+
+/// Sees so for each number of calls: each stop is at most one step behind the one before.
+fn assert_round_stops(rt: &impl Abort, alloc: Global, tear: Tear) {
+    let mut last = 0u64;
+    for calls in 0..MANY {
+        let Some(made) = stopped_round_at(rt, alloc, calls, tear) else {
+            continue;
+        };
+        // Each step behind the first makes one call of the device.
+        assert!(rt; made <= last.saturating_add(1));
+        last = made;
+        if made == 7 {
+            break;
+        }
+    }
+    assert_same(rt, &last, &7, &"steps");
 }
 
 #[test]
 fn stop_within_half_opening(rt: HostRuntime) -> Result<(), Fail> {
-    for tear in TEARS {
-        let mut last = 0u64;
-        for calls in 0..MANY {
-            let fuse = FuseDevice::new(with_two_groups(&rt, rt.alloc()), calls, tear);
-            let (made, device) = stopped_round(&rt, rt.alloc(), fuse);
-            let epoch = made.map_or(1, |made| epoch_after(made, tear));
-            let _device = assert_opens(&rt, rt.alloc(), device, epoch);
-            let Some(made) = made else {
-                continue;
-            };
-            // Each step behind the first makes one call of the device.
-            assert!(rt; made <= last.saturating_add(1));
-            last = made;
-            if made == 7 {
-                break;
-            }
-        }
-        assert_eq!(rt; last, 7);
+    for tear in &TEARS {
+        assert_round_stops(&rt, rt.alloc(), *tear);
     }
     Ok(())
 }
@@ -173,31 +216,42 @@ fn calls_before(rt: &impl Abort, alloc: Global, steps: u64) -> u64 {
     panic!(rt; "no stop there")
 }
 
+/// Opens a device that stops: whether it opened, and the device.
+fn opened_or_not(rt: &impl Abort, alloc: Global, fuse: FuseDevice) -> (bool, FuseDevice) {
+    match open(alloc, fuse) {
+        Ok(store) => (true, store.into_device()),
+        Err((device, e)) => {
+            assert_eq!(rt; e, OpenError::Device);
+            (false, device)
+        }
+    }
+}
+
+/// Stops a round where the old half is closed, and the opening behind so many calls: whether that was done.
+fn is_recovered(rt: &impl Abort, alloc: Global, closing: u64, calls: u64, tear: Tear) -> bool {
+    let fuse = FuseDevice::new(with_two_groups(rt, alloc), closing, tear);
+    let (made, torn) = stopped_round(rt, alloc, fuse);
+    assert_same(rt, &made, &Some(5), &calls);
+    let (done, device) = opened_or_not(rt, alloc, FuseDevice::new(torn, calls, tear));
+    let _device = assert_opens(rt, alloc, device.into_mem(), 2);
+    done
+}
+
+/// Does so for each number of calls, until the opening is done.
+fn assert_recovered(rt: &impl Abort, alloc: Global, closing: u64, tear: Tear) {
+    for calls in 0..MANY {
+        if is_recovered(rt, alloc, closing, calls, tear) {
+            return;
+        }
+    }
+    panic!(rt; "never done")
+}
+
 #[test]
 fn stop_within_old_half_closing_and_recovery(rt: HostRuntime) -> Result<(), Fail> {
     let closing = calls_before(&rt, rt.alloc(), 5);
-    for tear in TEARS {
-        let mut done = false;
-        for calls in 0..MANY {
-            let fuse = FuseDevice::new(with_two_groups(&rt, rt.alloc()), closing, tear);
-            let (made, torn) = stopped_round(&rt, rt.alloc(), fuse);
-            assert_eq!(rt; made, Some(5));
-            let device = match open(rt.alloc(), FuseDevice::new(torn, calls, tear)) {
-                Ok(store) => {
-                    done = true;
-                    store.into_device()
-                }
-                Err((device, e)) => {
-                    assert_eq!(rt; e, OpenError::Device);
-                    device
-                }
-            };
-            let _device = assert_opens(&rt, rt.alloc(), device.into_mem(), 2);
-            if done {
-                break;
-            }
-        }
-        assert!(rt; done);
+    for tear in &TEARS {
+        assert_recovered(&rt, rt.alloc(), closing, *tear);
     }
     Ok(())
 }
@@ -215,31 +269,48 @@ fn failed(rt: &impl Abort, alloc: Global, number: u64) -> Option<(u64, Work<Faul
             return None;
         }
     };
-    let mut work = work_of(rt, alloc, store);
+    Some(steps_made(rt, alloc, work_of(rt, alloc, store)))
+}
+
+/// Submits what is to be there before the step behind so many.
+fn submit_before(rt: &impl Abort, alloc: Global, work: &mut Work<FaultDevice>, made: u64) {
+    match made {
+        0 => work.submits(rt, register(rt, alloc, 2, 1), Ok(1)),
+        13 => work.submits(rt, register(rt, alloc, 3, 1), Ok(2)),
+        _ => {}
+    }
+}
+
+/// Makes the step behind so many.
+fn step_behind(rt: &impl Abort, work: Work<FaultDevice>, made: u64) -> (Work<FaultDevice>, Told) {
+    match made {
+        6..=12 => work.check(rt),
+        _ => work.flush(rt),
+    }
+}
+
+/// Whether the device failed in the step behind so many; it was made otherwise.
+fn has_failed(rt: &impl Abort, made: u64, step: Told) -> bool {
+    match (made, step) {
+        (5 | 12 | 18, Told::Ended) | (_, Told::Done) => return false,
+        (6, Told::Begin(e)) => assert_eq!(rt; e, BeginError::Fault),
+        _ => assert_same(rt, &step, &Told::Fault, &made),
+    }
+    true
+}
+
+/// Makes the steps of a group, a round and a further group: how many were made before the one that failed.
+fn steps_made(rt: &impl Abort, alloc: Global, work: Work<FaultDevice>) -> (u64, Work<FaultDevice>) {
+    let mut work = work;
     for made in 0..STEPS {
-        match made {
-            0 => assert_eq!(rt; work.submit(rt, register(rt, alloc, 2, 1)), Ok(1)),
-            13 => assert_eq!(rt; work.submit(rt, register(rt, alloc, 3, 1)), Ok(2)),
-            _ => {}
-        }
+        submit_before(rt, alloc, &mut work, made);
         let step;
-        (work, step) = match made {
-            6..=12 => work.check(rt),
-            _ => work.flush(rt),
-        };
-        match (made, step) {
-            (5 | 12 | 18, Told::Ended) | (_, Told::Done) => {}
-            (6, Told::Begin(e)) => {
-                assert_eq!(rt; e, BeginError::Fault);
-                return Some((made, work));
-            }
-            _ => {
-                assert_eq!(rt; step, Told::Fault, "{made}");
-                return Some((made, work));
-            }
+        (work, step) = step_behind(rt, work, made);
+        if has_failed(rt, made, step) {
+            return (made, work);
         }
     }
-    Some((STEPS, work))
+    (STEPS, work)
 }
 
 /// Behind how many steps the next one is that makes a call of the device: staging and publishing make none.
@@ -252,6 +323,18 @@ fn next_call(made: u64) -> u64 {
     }
 }
 
+/// Sees what is left of a run of which the step behind so many failed, or none: whether one did.
+fn assert_left(rt: &impl Abort, alloc: Global, made: u64, work: Work<FaultDevice>) -> bool {
+    if made < STEPS {
+        assert_failed(rt, alloc, made, work);
+        return true;
+    }
+    let mut work = work;
+    work.redeems_all(rt, 2);
+    let _device = assert_opens(rt, alloc, work.device(rt).into_mem(), 2);
+    false
+}
+
 #[test]
 fn each_failed_call_stops(rt: HostRuntime) -> Result<(), Fail> {
     let mut last = 0u64;
@@ -261,38 +344,39 @@ fn each_failed_call_stops(rt: HostRuntime) -> Result<(), Fail> {
         };
         // Beginning a round makes several calls.
         if (made, last) != (6, 6) {
-            assert_eq!(rt; made, next_call(last));
+            assert_same(&rt, &made, &next_call(last), &number);
         }
         last = made;
-        if made == STEPS {
-            let mut work = work;
-            assert_eq!(rt; work.redeem_all(&rt), 2);
-            let _device = assert_opens(&rt, rt.alloc(), work.device(&rt).into_mem(), 2);
+        if !assert_left(&rt, rt.alloc(), made, work) {
             break;
         }
-        assert_failed(&rt, rt.alloc(), made, work);
     }
-    assert_eq!(rt; last, STEPS);
+    assert_same(&rt, &last, &STEPS, &"steps");
     Ok(())
+}
+
+/// Sees which commands are known of a state that has stopped in the step behind so many.
+fn assert_known(rt: &impl Abort, work: &mut Work<FaultDevice>, made: u64) {
+    if made < 6 {
+        work.redeems(rt, 0, Paid::Unknown(1));
+    } else {
+        work.redeems(rt, 0, Paid::Committed(1, INSERTED));
+    }
+    if made > 13 {
+        work.redeems(rt, 0, Paid::Unknown(2));
+    }
 }
 
 /// Sees that a state has stopped in the step behind so many, and what is there then.
 fn assert_failed(rt: &impl Abort, alloc: Global, made: u64, work: Work<FaultDevice>) {
     let mut work = work;
-    if made < 6 {
-        assert_eq!(rt; work.redeem(rt, 0), Paid::Unknown(1));
-    } else {
-        assert_eq!(rt; work.redeem(rt, 0), Paid::Committed(1, INSERTED));
-    }
-    if made > 13 {
-        assert_eq!(rt; work.redeem(rt, 0), Paid::Unknown(2));
-    }
+    assert_known(rt, &mut work, made);
     let device = assert_stopped(rt, work).into_mem();
     // Of a write that failed nothing has landed; the gates that weren't synced have.
     let place = 1 + u64::from(made > 3) + u64::from(made > 16);
     let epoch = 1 + u64::from(made > 9);
     let store = opened(rt, alloc, device);
-    assert_eq!(rt; store.epoch(), epoch, "{made}");
+    assert_same(rt, &store.epoch(), &epoch, &made);
     let (pair, _device) = told(rt, alloc, store.into_device());
-    assert_eq!(rt; pair, (place as usize, 93 * place, place), "{made}");
+    assert_same(rt, &pair, &(place as usize, 93 * place, place), &made);
 }

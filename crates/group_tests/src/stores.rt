@@ -2,7 +2,7 @@
 
 use path_db::{Command, PathDb, Registration};
 use sector_dev::{Device, MemDevice, SECTOR, Tear};
-use seg_core::{SegType, read_segment};
+use seg_core::{SegType, Segment, read_segment};
 use std::alloc::{AllocError, Global};
 use std::process::Abort;
 use store_open::{Geometry, OpenError, Store, format, open};
@@ -164,10 +164,15 @@ fn large_registration(alloc: Global, egresses: &[u8], later: u8) -> Option<Regis
     let mut rows = Vec::new(alloc);
     for egress in egresses {
         let message = large_bytes(alloc, *egress, later).ok()?;
-        let segment = read_segment(alloc, &message).ok()?;
-        rows.push((SegType::Down, segment)).ok()?;
+        push_row(alloc, &mut rows, &message)?;
     }
     Some(Registration::new(rows))
+}
+
+/// Appends a segment as a down segment, unless memory is refused.
+fn push_row(alloc: Global, rows: &mut Vec<(SegType, Segment)>, message: &[u8]) -> Option<()> {
+    let segment = read_segment(alloc, message).ok()?;
+    rows.push((SegType::Down, segment)).ok()
 }
 
 /// The bytes of the first sectors of a device, at most 4,096 of them. Where memory is refused, it is asked for once more.
@@ -230,6 +235,28 @@ pub(crate) fn told(rt: &impl Abort, alloc: Global, device: MemDevice) -> (Pair, 
     (pair, store.into_device())
 }
 
+/// Sees what rows and a place are told as.
+pub(crate) fn assert_pair(rt: &impl Abort, pair: Pair, wanted: Pair) {
+    assert_eq!(rt; pair, wanted);
+}
+
+/// Sees what a device opens to.
+pub(crate) fn opens_to(
+    rt: &impl Abort,
+    alloc: Global,
+    device: MemDevice,
+    wanted: Pair,
+) -> MemDevice {
+    let (pair, device) = told(rt, alloc, device);
+    assert_pair(rt, pair, wanted);
+    device
+}
+
+/// Sees of which epoch a store's half is, and whether its journal is sealed.
+pub(crate) fn assert_half<D: Device>(rt: &impl Abort, store: &Store<D>, wanted: (u64, bool)) {
+    assert_eq!(rt; (store.epoch(), store.is_sealed()), wanted);
+}
+
 /// The command that registers the segment as a down segment, its first AS being left by this interface, below 128: so many times.
 /// Where memory is refused, it is asked for once more.
 pub(crate) fn register(rt: &impl Abort, alloc: Global, egress: u8, times: usize) -> Command {
@@ -248,8 +275,7 @@ fn registration(alloc: Global, egress: u8, times: usize) -> Option<Registration>
     let message = segment(egress);
     let mut rows = Vec::new(alloc);
     for _each in 0..times {
-        let segment = read_segment(alloc, &message).ok()?;
-        rows.push((SegType::Down, segment)).ok()?;
+        push_row(alloc, &mut rows, &message)?;
     }
     Some(Registration::new(rows))
 }

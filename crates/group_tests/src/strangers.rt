@@ -1,7 +1,8 @@
 //! Tickets and values that are another state's, and second values while one is out.
 
-use crate::stores::{change, new_store, opened, register, sealed_store, told};
-use crate::work::{Group, Paid, Round, Told, Work, state_of, work_of};
+use crate::same::assert_same;
+use crate::stores::{change, new_store, opened, opens_to, register, sealed_store, told};
+use crate::work::{Group, Round, Told, Work, state_of, work_of};
 use group_core::{
     BeginError, PlainShow, PublishError, Redeemed, StageError, State, StepError, Ticket,
 };
@@ -128,38 +129,47 @@ fn assert_unknown(rt: &impl Abort, answer: Redeemed<()>) {
     }
 }
 
+/// Makes the steps of a group and of a round but the last one, each value being handed to two other states between them.
+fn all_handed(
+    rt: &impl Abort,
+    work: Work<MemDevice>,
+    other: &mut State<MemDevice, PlainShow>,
+    halted: &mut State<MemDevice, PlainShow>,
+) -> Work<MemDevice> {
+    let mut work = work;
+    for _step in 0..6 {
+        (work, _) = work.flush(rt);
+        work = hand_to(rt, hand_to(rt, work, other), halted);
+        (work, _) = work.check(rt);
+        work = hand_to(rt, hand_to(rt, work, other), halted);
+    }
+    work
+}
+
+/// A state of the sealed store, at work.
+fn sealed_work(rt: &impl Abort, alloc: Global) -> Work<MemDevice> {
+    work_of(rt, alloc, opened(rt, alloc, sealed_store(rt, alloc, 2)))
+}
+
 #[test]
 fn strangers_come_back(rt: HostRuntime) -> Result<(), Fail> {
-    let mut work = work_of(
-        &rt,
-        rt.alloc(),
-        opened(&rt, rt.alloc(), sealed_store(&rt, rt.alloc(), 2)),
-    );
-    assert_eq!(rt; work.submit(&rt, register(&rt, rt.alloc(), 2, 1)), Ok(1));
+    let mut work = sealed_work(&rt, rt.alloc());
+    work.submits(&rt, register(&rt, rt.alloc(), 2, 1), Ok(1));
     let (mut other, ticket) = sealed_state(&rt, rt.alloc(), 2);
     let (mut halted, last) = sealed_state(&rt, rt.alloc(), 3);
     halted.halt();
-    for _step in 0..6 {
-        (work, _) = work.flush(&rt);
-        work = hand_to(&rt, work, &mut other);
-        work = hand_to(&rt, work, &mut halted);
-        (work, _) = work.check(&rt);
-        work = hand_to(&rt, work, &mut other);
-        work = hand_to(&rt, work, &mut halted);
-    }
-    let (mut work, ended) = work.check(&rt);
-    assert_eq!(rt; ended, Told::Ended);
+    let mut work = all_handed(&rt, work, &mut other, &mut halted).checks(&rt, Told::Ended);
     let ticket = stranger(&rt, work.state.redeem(ticket));
     let last = stranger(&rt, other.redeem(last));
-    assert_eq!(rt; (ticket.place(), last.place()), (1, 1));
+    assert_same(&rt, &ticket.place(), &1, &"ticket");
+    assert_same(&rt, &last.place(), &1, &"last");
     other.halt();
     assert_unknown(&rt, other.redeem(ticket));
     assert_unknown(&rt, halted.redeem(last));
     let (_device, _show) = other.into_parts();
     let (_device, _show) = halted.into_parts();
-    assert!(rt; matches!(work.redeem(&rt, 0), Paid::Committed(1, _)));
-    let (pair, _device) = told(&rt, rt.alloc(), work.device(&rt));
-    assert_eq!(rt; pair, (2, 186, 2));
+    work.redeems_at(&rt, 1);
+    let _device = opens_to(&rt, rt.alloc(), work.device(&rt), (2, 186, 2));
     Ok(())
 }
 
@@ -179,83 +189,111 @@ fn no_round(rt: &impl Abort, work: &mut Work<MemDevice>) -> BeginError {
     }
 }
 
+/// Sees why nothing is staged.
+fn stages_none(rt: &impl Abort, work: &mut Work<MemDevice>, wanted: StageError) {
+    let refusal = no_group(rt, work);
+    assert_eq!(rt; refusal, wanted);
+}
+
+/// Sees why no checkpoint is begun.
+fn begins_none(rt: &impl Abort, work: &mut Work<MemDevice>, wanted: BeginError) {
+    let refusal = no_round(rt, work);
+    assert_eq!(rt; refusal, wanted);
+}
+
+/// Makes all steps of a group and of a round but the last ones, and sees that neither is begun twice.
+fn one_of_each(rt: &impl Abort, work: Work<MemDevice>) -> Work<MemDevice> {
+    let mut work = work;
+    for _step in 0..5 {
+        work = work.flushes(rt, Told::Done);
+        stages_none(rt, &mut work, StageError::InFlight);
+    }
+    for _step in 0..6 {
+        work = work.checks(rt, Told::Done);
+        begins_none(rt, &mut work, BeginError::InFlight);
+    }
+    work
+}
+
+/// Sees so where so many purges are pending.
+fn assert_one_of_each(rt: &impl Abort, alloc: Global, pending: usize) {
+    let mut work = sealed_work(rt, alloc);
+    stages_none(rt, &mut work, StageError::Empty);
+    work.purge(rt, pending);
+    let work = one_of_each(rt, work);
+    let mut work = work.flushes(rt, Told::Ended).checks(rt, Told::Ended);
+    begins_none(rt, &mut work, BeginError::NotSealed);
+    if pending == 1 {
+        stages_none(rt, &mut work, StageError::Empty);
+    }
+    let _device = work.ends(rt, (1, 93, pending.min(32) as u64 + 1));
+}
+
 #[test]
 fn one_value_of_a_kind_is_out(rt: HostRuntime) -> Result<(), Fail> {
     // The whole tail is in the group, or one command is behind it.
     for pending in [1, 33] {
-        let store = opened(&rt, rt.alloc(), sealed_store(&rt, rt.alloc(), 2));
-        let mut work = work_of(&rt, rt.alloc(), store);
-        assert_eq!(rt; no_group(&rt, &mut work), StageError::Empty);
-        work.purge(&rt, pending);
-        for _step in 0..5 {
-            let step;
-            (work, step) = work.flush(&rt);
-            assert_eq!(rt; step, Told::Done);
-            assert_eq!(rt; no_group(&rt, &mut work), StageError::InFlight);
-        }
-        for _step in 0..6 {
-            let step;
-            (work, step) = work.check(&rt);
-            assert_eq!(rt; step, Told::Done);
-            assert_eq!(rt; no_round(&rt, &mut work), BeginError::InFlight);
-        }
-        let step;
-        (work, step) = work.flush(&rt);
-        assert_eq!(rt; step, Told::Ended);
-        let step;
-        (work, step) = work.check(&rt);
-        assert_eq!(rt; step, Told::Ended);
-        assert_eq!(rt; no_round(&rt, &mut work), BeginError::NotSealed);
-        if pending == 1 {
-            assert_eq!(rt; no_group(&rt, &mut work), StageError::Empty);
-        }
-        let (_device, pair) = work.end(&rt);
-        assert_eq!(rt; pair, (1, 93, pending.min(32) as u64 + 1));
+        assert_one_of_each(&rt, rt.alloc(), pending);
     }
     Ok(())
+}
+
+/// Makes so many steps of a group and of a round, whatever they are answered.
+fn steps_of_both(rt: &impl Abort, work: Work<MemDevice>, steps: usize) -> Work<MemDevice> {
+    let mut work = work;
+    for _step in 0..steps {
+        (work, _) = work.flush(rt);
+        (work, _) = work.check(rt);
+    }
+    work
+}
+
+/// Stops a state behind so many steps, and sees that nothing is staged or begun, and what is shown and stands then.
+fn assert_halted(rt: &impl Abort, alloc: Global, steps: usize) {
+    let mut work = sealed_work(rt, alloc);
+    work.purge(rt, steps);
+    let mut work = steps_of_both(rt, work, steps);
+    work.state.halt();
+    stages_none(rt, &mut work, StageError::Stopped);
+    begins_none(rt, &mut work, BeginError::Stopped);
+    let (device, (_, _, shown)) = work.end(rt);
+    // A group that is durable is published where the state has stopped too.
+    assert_same(rt, &shown, if steps == 5 { &6 } else { &1 }, &steps);
+    let ((_, _, place), _device) = told(rt, alloc, device);
+    let wanted = if steps > 3 {
+        (steps as u64).saturating_add(1)
+    } else {
+        1
+    };
+    assert_same(rt, &place, &wanted, &steps);
 }
 
 #[test]
 fn stopped_states_stage_and_begin_nothing(rt: HostRuntime) -> Result<(), Fail> {
     for steps in 0..6 {
-        let store = opened(&rt, rt.alloc(), sealed_store(&rt, rt.alloc(), 2));
-        let mut work = work_of(&rt, rt.alloc(), store);
-        work.purge(&rt, steps);
-        for _step in 0..steps {
-            (work, _) = work.flush(&rt);
-            (work, _) = work.check(&rt);
-        }
-        work.state.halt();
-        assert_eq!(rt; no_group(&rt, &mut work), StageError::Stopped);
-        assert_eq!(rt; no_round(&rt, &mut work), BeginError::Stopped);
-        let (device, pair) = work.end(&rt);
-        // A group that is durable is published where the state has stopped too.
-        assert_eq!(rt; pair.2, if steps == 5 { 6 } else { 1 });
-        assert_eq!(rt; told(&rt, rt.alloc(), device).0.2, if steps > 3 { steps as u64 + 1 } else { 1 });
+        assert_halted(&rt, rt.alloc(), steps);
     }
     Ok(())
 }
 
+/// Sees that no checkpoint is begun of a store at the last epoch, and that a group is committed to it.
+fn assert_last_epoch(rt: &impl Abort, alloc: Global, device: MemDevice, wanted: BeginError) {
+    let mut device = device;
+    change(&mut device, 1, 8, &[0xff; 8]);
+    let mut work = work_of(rt, alloc, opened(rt, alloc, device));
+    begins_none(rt, &mut work, wanted);
+    work.purge(rt, 1);
+    let mut work = work.flushes_group(rt);
+    begins_none(rt, &mut work, wanted);
+    work.redeems_all(rt, 1);
+    let _device = work.device(rt);
+}
+
 #[test]
 fn no_epoch_is_left(rt: HostRuntime) -> Result<(), Fail> {
-    for (sealed, wanted) in [
-        (true, BeginError::Exhausted),
-        (false, BeginError::NotSealed),
-    ] {
-        let mut device = if sealed {
-            sealed_store(&rt, rt.alloc(), 2)
-        } else {
-            new_store(&rt, rt.alloc())
-        };
-        change(&mut device, 1, 8, &[0xff; 8]);
-        let mut work = work_of(&rt, rt.alloc(), opened(&rt, rt.alloc(), device));
-        assert_eq!(rt; no_round(&rt, &mut work), wanted);
-        work.purge(&rt, 1);
-        let (mut work, ended) = work.flush_group(&rt);
-        assert_eq!(rt; ended, Told::Ended);
-        assert_eq!(rt; no_round(&rt, &mut work), wanted);
-        assert_eq!(rt; work.redeem_all(&rt), 1);
-        let _device = work.device(&rt);
-    }
+    let device = sealed_store(&rt, rt.alloc(), 2);
+    assert_last_epoch(&rt, rt.alloc(), device, BeginError::Exhausted);
+    let device = new_store(&rt, rt.alloc());
+    assert_last_epoch(&rt, rt.alloc(), device, BeginError::NotSealed);
     Ok(())
 }

@@ -1,6 +1,6 @@
 //! A state at work, with the tickets that it gave and the values that its actors hold.
 
-use crate::stores::{Pair, pair_of};
+use crate::stores::{Pair, assert_pair, pair_of};
 use group_core::{
     BeginError, Closing, Durable, Laid, Live, Opened, PlainShow, Plan, PublishError, Redeemed,
     Stable, StageError, Staged, State, StepError, SubmitError, Switched, Ticket, Written,
@@ -87,18 +87,23 @@ pub(crate) fn state_of<D: Device>(
 
 /// A state of a store, of home 1, at work.
 pub(crate) fn work_of<D: Device>(rt: &impl Abort, alloc: Global, store: Store<D>) -> Work<D> {
+    Work {
+        state: state_of(rt, alloc, store, 1),
+        tickets: room_for_tickets(rt, alloc),
+        group: Group::Nothing,
+        round: Round::Nothing,
+    }
+}
+
+/// A list with room for the tickets. Where memory is refused, it is asked for once more.
+fn room_for_tickets(rt: &impl Abort, alloc: Global) -> Vec<Ticket> {
     let room = match Vec::with_capacity(alloc, MOST_TICKETS) {
         Err(_) => Vec::with_capacity(alloc, MOST_TICKETS),
         given => given,
     };
-    let Ok(tickets) = room else {
-        panic!(rt; "out of memory");
-    };
-    Work {
-        state: state_of(rt, alloc, store, 1),
-        tickets,
-        group: Group::Nothing,
-        round: Round::Nothing,
+    match room {
+        Ok(tickets) => tickets,
+        Err(_) => panic!(rt; "out of memory"),
     }
 }
 
@@ -115,6 +120,17 @@ impl<D: Device> Work<D> {
             }
             Err((_command, refusal)) => Err(refusal),
         }
+    }
+
+    /// Submits a command, which is answered so.
+    pub(crate) fn submits(
+        &mut self,
+        rt: &impl Abort,
+        command: Command,
+        wanted: Result<u64, SubmitError>,
+    ) {
+        let answer = self.submit(rt, command);
+        assert_eq!(rt; answer, wanted);
     }
 
     /// Submits so many purges of what expires at moment 0, each of which is accepted.
@@ -141,6 +157,27 @@ impl<D: Device> Work<D> {
                 Paid::Waiting(place)
             }
         }
+    }
+
+    /// Redeems the ticket that is held at an index, for this.
+    pub(crate) fn redeems(&mut self, rt: &impl Abort, index: usize, wanted: Paid) {
+        let paid = self.redeem(rt, index);
+        assert_eq!(rt; paid, wanted);
+    }
+
+    /// Redeems the oldest ticket, whose command is committed at this place.
+    pub(crate) fn redeems_at(&mut self, rt: &impl Abort, place: u64) {
+        let paid = self.redeem(rt, 0);
+        assert!(rt;
+            matches!(paid, Paid::Committed(at, _) if at == place),
+            "{place}"
+        );
+    }
+
+    /// Redeems the oldest ticket as long as it is committed: so many are.
+    pub(crate) fn redeems_all(&mut self, rt: &impl Abort, wanted: u64) {
+        let paid = self.redeem_all(rt);
+        assert_eq!(rt; paid, wanted);
     }
 
     /// Redeems the oldest ticket as long as it is committed; how many are.
@@ -199,7 +236,7 @@ impl<D: Device> Work<D> {
         let mut work = self;
         let mut told = Told::Done;
         for _step in 0..6 {
-            if told == Told::Done {
+            if matches!(told, Told::Done) {
                 (work, told) = work.flush(rt);
             }
         }
@@ -211,11 +248,39 @@ impl<D: Device> Work<D> {
         let mut work = self;
         let mut told = Told::Done;
         for _step in 0..7 {
-            if told == Told::Done {
+            if matches!(told, Told::Done) {
                 (work, told) = work.check(rt);
             }
         }
         (work, told)
+    }
+
+    /// The flusher's next step, which is answered so.
+    pub(crate) fn flushes(self, rt: &impl Abort, wanted: Told) -> Work<D> {
+        let (work, told) = self.flush(rt);
+        assert_told(rt, told, wanted);
+        work
+    }
+
+    /// The checkpointer's next step, which is answered so.
+    pub(crate) fn checks(self, rt: &impl Abort, wanted: Told) -> Work<D> {
+        let (work, told) = self.check(rt);
+        assert_told(rt, told, wanted);
+        work
+    }
+
+    /// The flusher's steps until a group or a seal is published, which none refuses.
+    pub(crate) fn flushes_group(self, rt: &impl Abort) -> Work<D> {
+        let (work, told) = self.flush_group(rt);
+        assert_told(rt, told, Told::Ended);
+        work
+    }
+
+    /// The checkpointer's steps until a checkpoint has ended, which none refuses.
+    pub(crate) fn checks_all(self, rt: &impl Abort) -> Work<D> {
+        let (work, told) = self.check_all(rt);
+        assert_told(rt, told, Told::Ended);
+        work
     }
 
     /// Hands the device out, where no ticket is left and no value is out.
@@ -264,21 +329,28 @@ impl<D: Device> Work<D> {
     }
 }
 
+impl<D: Device> Work<D> {
+    /// Stops the state as `end` does, which shows this: the device.
+    pub(crate) fn ends(self, rt: &impl Abort, wanted: Pair) -> D {
+        let (device, pair) = self.end(rt);
+        assert_pair(rt, pair, wanted);
+        device
+    }
+}
+
+/// Sees what a step was answered.
+pub(crate) fn assert_told(rt: &impl Abort, told: Told, wanted: Told) {
+    assert_eq!(rt; told, wanted);
+}
+
 /// Sees that a state has stopped, of which no ticket is left and no value is out: its device.
 pub(crate) fn assert_stopped<D: Device>(rt: &impl Abort, work: Work<D>) -> D {
     let mut work = work;
     assert!(rt; work.state.is_free());
-    assert_eq!(rt;
-        work.submit(rt, Command::Purge(0)),
-        Err(SubmitError::Stopped)
-    );
-    let refused;
-    (work, refused) = work.flush(rt);
-    assert_eq!(rt; refused, Told::Stage(StageError::Stopped));
-    let refused;
-    (work, refused) = work.check(rt);
-    assert_eq!(rt; refused, Told::Begin(BeginError::Stopped));
-    work.device(rt)
+    work.submits(rt, Command::Purge(0), Err(SubmitError::Stopped));
+    work.flushes(rt, Told::Stage(StageError::Stopped))
+        .checks(rt, Told::Begin(BeginError::Stopped))
+        .device(rt)
 }
 
 /// A step of the flusher with what it holds.
