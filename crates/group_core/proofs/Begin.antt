@@ -279,7 +279,7 @@ module _ (old : StateView) (hidden : Hidden) (has : IsState old hidden) (whole :
       looked_so looks,
       looks.faults,
       refl,
-      λ honest. record { sealed = made_so.sealed; reads = made_so.reads honest; spelled = made_so.spelled },
+      made_so,
       (sectors_fit (old.epoch + 1) old.geometry.checkpoint made_so.sealed bytes made_so.spelled made_so.fits).2,
     )
 

@@ -27,13 +27,8 @@ checkpoint_of epoch sealed = written_checkpoint epoch sealed.place sealed.rows
 abbrev pub FitsArea : Geometry → Checkpoint (List RowView) → Type 0
 FitsArea geometry checkpoint = checkpoint_size rows_format checkpoint ≤ 512 * geometry.checkpoint
 
--- bytes are those of the checkpoint of what is read of a sealed half
-pub record AreOfSealed (geometry : Geometry) (epoch : ℕ) (reading : Option SealedHalf) (bytes : List ℕ) : Type 0 where
-  pub sealed : SealedHalf
-  pub reads : reading ≡ Some sealed
-  pub spelled : bytes ≡ checkpoint_encoding rows_format (checkpoint_of epoch sealed)
-
--- what was made of a half that was read: of an honest device it is what reads give
+-- Bytes are those of a checkpoint of this epoch that fits an area, whatever the device is; of an honest one it is the checkpoint
+-- of what reads give of its sealed half.
 pub record IsEncoded (geometry : Geometry) (epoch : ℕ) (disk : Disk) (reading : Option SealedHalf) (bytes : List ℕ) : Type 0 where
   pub sealed : SealedHalf
   pub reads : IsHonest disk → reading ≡ Some sealed
@@ -93,7 +88,7 @@ abbrev pub Begins : Result (Commit AtPlan) BeginError → StateView → StateVie
 Begins (Ok plan) old new =
     MayBegin old × IsPlanOf new plan × IsLookedAt old.disk new.disk × (new.disk.faults ≡ old.disk.faults)
     × (new ≡ begun old new.disk new.checkpoint)
-    × (IsHonest old.disk → AreOfSealed old.geometry (old.epoch + 1) (sealed_half old.geometry (other old.half) (reads_of old.disk)) new.checkpoint)
+    × IsEncoded old.geometry (old.epoch + 1) old.disk (sealed_half old.geometry (other old.half) (reads_of old.disk)) new.checkpoint
     × (1 ≤ length new.checkpoint)
 Begins (Err Stopped) old new = (old.stopped ≡ true) × (new ≡ old)
 Begins (Err InFlight) old new = (old.stopped ≡ false) × (old.plan.out ≡ true) × (new ≡ old)
