@@ -6,6 +6,7 @@ use Rattle.path_db.specs.Database.{RowView}
 use Rattle.path_db.specs.RowRecord.{rows_encoding}
 use Rattle.path_db.specs.declared.command.Command.{Command}
 use Rattle.sector_dev.specs.Disk.{History, Disk, IsHonest, IsWhole, reads_of}
+use Rattle.sector_dev.specs.Image.{IsFromImage}
 use Rattle.sector_dev.specs.Stretch.{Leaves}
 use Rattle.sector_dev.proofs.Images.{image_of_reads}
 use Rattle.sector_dev.proofs.Stretches.{honest_before, leaves_here}
@@ -20,6 +21,7 @@ use Rattle.gate_journal.specs.Commands.{command_format}
 use Rattle.ckpt_pair.specs.Heads.{latest}
 use Rattle.ckpt_pair.specs.Rows.{rows_format}
 use Rattle.store_open.specs.PathStores.{store_format}
+use Rattle.store_open.specs.NewStore.{SameBehind}
 use Rattle.store_open.specs.Sealed.{SealedHalf, sealed_half, folded_in, folded_behind, ReadsSealed, LooksAtHalf}
 use Rattle.store_open.specs.declared.sealed.SealedError.{SealedError}
 use Rattle.store_open.specs.declared.sealed.SealedError.TheVariants as half
@@ -236,6 +238,12 @@ module _ {old view : StateView} {old_hidden : Hidden} (is : old ≡ view) (has :
           (leaves_here (OpensAroundCall (setting_of old) (standing_of old) (standing_of new)) old.disk.history (λ image left. inl (may_open old old_hidden has honest image left)));
     };
     exit = may_open new new_hidden now;
+    behind = record {
+      keeps = looked.keeps;
+      leaves = λ honest.
+          subst (λ (h : History). Leaves old.disk.history h (IsFromImage old.disk.history.now (SameBehind old.geometry))) (sym (looked.history honest))
+          (leaves_here (IsFromImage old.disk.history.now (SameBehind old.geometry)) old.disk.history (λ image left. record { before = image; image = left; related = λ at n far. refl }));
+    };
   })
 
 -- a half that isn't read makes no bytes

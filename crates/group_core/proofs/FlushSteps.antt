@@ -1,11 +1,12 @@
 -- The flusher's steps on a state.
-use Rattle.std.proofs.Common.{◌≡◌, ◌≢◌, inl, ℕ, ◌+◌, Bool, true, false, List, Result, Ok, Err, refl, sym, ◌∙◌, ap, subst, arith}
+use Rattle.std.proofs.Common.{◌≡◌, ◌≢◌, inl, ℕ, ◌+◌, ◌*◌, ◌≤◌, Bool, true, false, List, length, Result, Ok, Err, refl, sym, ◌∙◌, ap, subst, arith}
 use Rattle.path_db.specs.Database.{RowView}
 use Rattle.path_db.specs.declared.command.Command.{Command}
 use Rattle.sector_dev.specs.Disk.{Disk, IsHonest}
 use Rattle.sector_dev.specs.Calls.{Keeps, WriteCall, SyncCall}
 use Rattle.sector_dev.proofs.Stretches.{honest_before}
-use Rattle.image_laws.specs.Layout.{journal_at}
+use Rattle.image_laws.specs.Limits.{limits_of}
+use Rattle.image_laws.specs.Layout.{journal_at, image_sectors}
 use Rattle.gate_journal.specs.Commands.{command_format}
 use Rattle.group_laws.specs.declared.phases.Flush.{Flush}
 use Rattle.group_laws.specs.declared.phases.Flush.TheVariants.{Resting, Staged, Written, Stable, Opened, Doubtful, Durable}
@@ -19,6 +20,7 @@ use Rattle.group_core.specs.declared.values.Commit.{Commit}
 use Rattle.group_core.specs.StateView.{StateView, setting_of, standing_of}
 use Rattle.group_core.specs.Steps.{TakesGroupTurn}
 use Rattle.group_core.specs.Invariant.{Hidden, Shape, Sound, IsState}
+use Rattle.group_core.proofs.Regions.{load_inside}
 use Rattle.group_core.proofs.Soundness.{sound_at_work, either_stays}
 
 -- a result, of which only the kind counts
@@ -46,6 +48,17 @@ module _ (old : StateView) (hidden : Hidden) (has : IsState old hidden) where
   -- something is in flight
   in_flight : (phase : Flush) → old.flush ≡ phase → phase ≢ Resting → old.flush ≢ Resting
   in_flight phase turn other = subst (λ (p : Flush). p ≢ Resting) (sym turn) other
+
+  -- what is staged ends within the store
+  pub staged_inside : (sector : ℕ) (given : List ℕ) → old.flush ≡ Staged → sector ≡ journal_at old.geometry old.half + (old.gate + 1) → given ≡ hidden.staged
+      → 512 * sector + length given ≤ 512 * image_sectors old.geometry
+  staged_inside sector given turn at bytes =
+      omega (
+        arith,
+        at,
+        ap length (bytes ∙ has.shape.staged (in_flight Staged turn (λ (is : Staged ≡ Resting). cc))),
+        load_inside (limits_of old.version) old.geometry old.half old.value.place old.gate (load_of (standing_of old)) has.shape.load has.shape.room,
+      )
 
   module _ (disk : Disk) (flush : Flush) (group : Turn) (stopped : Bool) (later : IsLater flush stopped) where
     pub flushed_shape : disk.sectors ≡ old.disk.sectors → Shape (flushed old disk flush group stopped) hidden

@@ -1,15 +1,18 @@
 -- What a call leaves, from state to state.
-use Rattle.std.proofs.Common.{◌≡◌, ◌⊎◌, inl, inr, ℕ, List, Result, sym, subst}
+use Rattle.std.proofs.Common.{◌≡◌, ◌⊎◌, inl, inr, ℕ, ◌+◌, ◌*◌, ◌≤◌, List, length, Result, sym, ◌∙◌, subst, arith}
+use Rattle.byte_lists.proofs.Contents.{part_above}
 use Rattle.path_db.specs.Database.{RowView}
 use Rattle.path_db.specs.declared.command.Command.{Command}
-use Rattle.sector_dev.specs.Disk.{Disk, IsHonest}
-use Rattle.sector_dev.specs.Image.{EveryImage}
+use Rattle.sector_dev.specs.Disk.{Disk, IsHonest, IsWhole}
+use Rattle.sector_dev.specs.Image.{EveryImage, IsFromImage}
 use Rattle.sector_dev.specs.Calls.{WriteCall, SyncCall}
 use Rattle.sector_dev.specs.Stretch.{Stretch}
-use Rattle.sector_dev.proofs.Stretches.{stretch_here}
-use Rattle.image_laws.specs.Layout.{Geometry}
+use Rattle.sector_dev.proofs.Stretches.{stretch_here, from_write}
+use Rattle.image_laws.specs.Layout.{Geometry, image_sectors}
 use Rattle.ckpt_pair.specs.Heads.{latest}
 use Rattle.store_open.specs.PathStores.{store_format}
+use Rattle.store_open.specs.NewStore.{SameBehind}
+use Rattle.store_open.proofs.Behind.{kept_here, kept_synced}
 use Rattle.group_laws.specs.Standing.{IsHeld}
 use Rattle.group_laws.specs.HeldSteps.{OpensAroundCall}
 use Rattle.group_laws.proofs.Exports.{opens_by_both_parts, writes_leave_fronts, sync_moments}
@@ -40,6 +43,7 @@ module _ {old view : StateView} {old_hidden : Hidden} (is : old ≡ view) (has :
   leaves_none = subst (λ (v : StateView). StepLeaves v v) is (record {
     moments = stretch_here (OpensAroundCall (setting_of old) (standing_of old) (standing_of old)) old.disk (around old);
     exit = may_open old old_hidden has;
+    behind = kept_here old.geometry old.disk;
   })
 
   module _ {new : StateView} {new_hidden : Hidden} (now : IsState new new_hidden) where
@@ -49,20 +53,26 @@ module _ {old view : StateView} {old_hidden : Hidden} (is : old ≡ view) (has :
       moments = subst (λ (d : Disk). Stretch old.disk d (OpensAroundCall (setting_of old) (standing_of old) (standing_of new))) (sym same)
           (stretch_here (OpensAroundCall (setting_of old) (standing_of old) (standing_of new)) old.disk (around new));
       exit = may_open new new_hidden now;
+      behind = subst (λ (d : Disk). Stretch old.disk d (IsFromImage old.disk.history.now (SameBehind old.geometry))) (sym same) (kept_here old.geometry old.disk);
     })
 
-    -- a write, and a sync
+    -- a write within the store, and a sync
     pub leaves_write : {T E : Type 0} {sector : ℕ} {bytes : List ℕ} {result : Result T E} → AtWork old.flush old.check → AtWork new.flush new.check → new.geometry ≡ old.geometry → WriteCall sector bytes result old.disk new.disk
-        → StepLeaves view new
-    leaves_write {T} {E} {sector} {bytes} {result} was work same call = subst (λ (v : StateView). StepLeaves v new) is (record {
+        → (IsHonest old.disk → IsWhole old.disk) → 512 * sector + length bytes ≤ 512 * image_sectors old.geometry → StepLeaves view new
+    leaves_write {T} {E} {sector} {bytes} {result} was work same call whole inside = subst (λ (v : StateView). StepLeaves v new) is (record {
       moments =
           writes_leave_fronts T E (List RowView) Command (setting_of old) (standing_of old) (standing_of new) sector bytes result old.disk new.disk call (held old old_hidden has was)
           (λ honest. subst (λ (g : Geometry). IsHeld (record { format = store_format; latest = latest; geometry = g }) (standing_of new) new.disk.history.now) same (held new new_hidden now work honest));
       exit = may_open new new_hidden now;
+      behind =
+          from_write (SameBehind old.geometry) old.disk old.disk new.disk sector bytes result (omega (arith, inside, has.shape.sectors)) whole (kept_here old.geometry old.disk) call
+          (λ before content torn long size kept at n far.
+          part_above (512 * sector) torn content at n (omega (arith, size, inside, has.shape.sectors, long)) (omega (arith, size, inside, far)) ∙ kept at n far);
     })
 
     pub leaves_sync : {T E : Type 0} {result : Result T E} → SyncCall result old.disk new.disk → StepLeaves view new
     leaves_sync {T} {E} {result} call = subst (λ (v : StateView). StepLeaves v new) is (record {
       moments = sync_moments (OpensAroundCall (setting_of old) (standing_of old) (standing_of new)) result old.disk new.disk call (around new);
       exit = may_open new new_hidden now;
+      behind = kept_synced old.geometry old.disk old.disk new.disk result (kept_here old.geometry old.disk) call;
     })

@@ -4,13 +4,14 @@ use Rattle.path_db.specs.Database.{RowView}
 use Rattle.path_db.specs.declared.command.Command.{Command}
 use Rattle.path_db.specs.declared.outcome.Outcome.{Outcome}
 use Rattle.sector_dev.specs.Disk.{Disk, IsHonest}
-use Rattle.sector_dev.specs.Image.{EveryImage}
+use Rattle.sector_dev.specs.Image.{EveryImage, IsFromImage}
 use Rattle.sector_dev.specs.Stretch.{Stretch}
 use Rattle.image_laws.specs.declared.half.Half.{Half}
 use Rattle.image_laws.specs.Layout.{Geometry}
 use Rattle.image_laws.specs.Opening.{StoreValue}
 use Rattle.ckpt_pair.specs.Heads.{latest}
 use Rattle.store_open.specs.PathStores.{store_format}
+use Rattle.store_open.specs.NewStore.{SameBehind}
 use Rattle.group_laws.specs.declared.phases.Flush.{Flush}
 use Rattle.group_laws.specs.declared.phases.Check.{Check}
 use Rattle.group_laws.specs.Setting.{Setting}
@@ -66,7 +67,8 @@ abbrev pub MayOpen : StateView → List ℕ → Type 0
 MayOpen view image = OpensToFront (setting_of view) (standing_of view) image
 
 -- What a call leaves: at each moment since its entry what a stop may leave of the state before it or after it, and at its exit
--- what one may leave of the state after it.
+-- what one may leave of the state after it; and at every moment what stands behind the store is as it was.
 pub record StepLeaves (old new : StateView) : Type 0 where
   pub moments : Stretch old.disk new.disk (OpensAroundCall (setting_of old) (standing_of old) (standing_of new))
   pub exit : IsHonest new.disk → EveryImage new.disk.history.now (MayOpen new)
+  pub behind : Stretch old.disk new.disk (IsFromImage old.disk.history.now (SameBehind old.geometry))

@@ -15,10 +15,12 @@ pub invariant_of-self-in-Err : goal.invariant_of-self-in-Err
 invariant_of-self-in-Err g c = half_not_closed _ _ c.self.invariant _ c.gate_at-at.result _ (check_at c.self.view_is c.in_ok-value.ensures.turn) (c.gate_at-at.ensures ∙ ap (gate_at (geometry_view c.self.inside.geometry)) c.other.ensures) c.closed_gates.ensures.same _ _ _ _ c.fault.ensures.stopped c.in-Err.ensures.write
 
 pub returns-in-Ok-clause-any_moment : goal.returns-in-Ok-clause-any_moment
-returns-in-Ok-clause-any_moment g c = leaves_write (c.self.view_is ∙ c.in_ok-value.ensures.turn.3) c.self.invariant (invariant_of-self g c) (checking live (check_at c.self.view_is c.in_ok-value.ensures.turn) (λ (is : live ≡ ready). cc)) (inr (λ (is : closing ≡ ready). cc)) refl c.write.ensures.write
+returns-in-Ok-clause-any_moment g c = leaves_write (c.self.view_is ∙ c.in_ok-value.ensures.turn.3) c.self.invariant (invariant_of-self g c) (checking live (check_at c.self.view_is c.in_ok-value.ensures.turn) (λ (is : live ≡ ready). cc)) (inr (λ (is : closing ≡ ready). cc)) refl c.write.ensures.write (g.met.D.Device.whole c.self.inside.device)
+    (omega (arith, c.gate_at-at.ensures ∙ ap (gate_at (geometry_view c.self.inside.geometry)) c.other.ensures, c.closed_gates.ensures.size, gates_inside (geometry_view c.self.inside.geometry) c.self.inside.half (c.self.invariant.shape.limits)))
 
 pub returns-in-Err-clause-any_moment : goal.returns-in-Err-clause-any_moment
-returns-in-Err-clause-any_moment g c = leaves_write (c.self.view_is ∙ c.in_ok-value.ensures.turn.3) c.self.invariant (invariant_of-self-in-Err g c) (checking live (check_at c.self.view_is c.in_ok-value.ensures.turn) (λ (is : live ≡ ready). cc)) (inr (λ (is : close_failed ≡ ready). cc)) refl c.write.ensures.write
+returns-in-Err-clause-any_moment g c = leaves_write (c.self.view_is ∙ c.in_ok-value.ensures.turn.3) c.self.invariant (invariant_of-self-in-Err g c) (checking live (check_at c.self.view_is c.in_ok-value.ensures.turn) (λ (is : live ≡ ready). cc)) (inr (λ (is : close_failed ≡ ready). cc)) refl c.write.ensures.write (g.met.D.Device.whole c.self.inside.device)
+    (omega (arith, c.gate_at-at.ensures ∙ ap (gate_at (geometry_view c.self.inside.geometry)) c.other.ensures, c.closed_gates.ensures.size, gates_inside (geometry_view c.self.inside.geometry) c.self.inside.half (c.self.invariant.shape.limits)))
 
 pub write-requires-clause-inside : goal.write-requires-clause-inside
 write-requires-clause-inside g c =

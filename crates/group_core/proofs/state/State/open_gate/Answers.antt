@@ -1,7 +1,9 @@
-use Rattle.std.proofs.Common.{◌≡◌, inl, ◌+◌, refl, ◌∙◌, arith}
+use Rattle.std.proofs.Common.{◌≡◌, inl, ◌+◌, length, refl, ◌∙◌, ap, arith}
+use Rattle.store_open.specs.Geometry.{geometry_view}
 use Rattle.group_laws.specs.declared.phases.Flush.TheVariants.{Resting as resting, Stable as stable, Opened as opened, Doubtful as doubtful}
 use Rattle.group_core.proofs.Soundness.{flushing}
 use Rattle.group_core.proofs.States.{leaves_write}
+use Rattle.group_core.proofs.Regions.{journal_inside}
 use Rattle.group_core.proofs.FlushSteps.{flush_at, gate_opened, gate_doubtful}
 use Rattle.group_core.proofs.state.State.open_gate.Goals as goal
 
@@ -15,8 +17,10 @@ invariant_of-self-in-Err g c =
 
 pub returns-in-Ok-clause-any_moment : goal.returns-in-Ok-clause-any_moment
 returns-in-Ok-clause-any_moment g c =
-    leaves_write (c.self.view_is ∙ c.in_ok-value.ensures.turn.3) c.self.invariant (invariant_of-self g c) (flushing stable (flush_at c.self.view_is c.in_ok-value.ensures.turn) (λ (is : stable ≡ resting). cc)) (inl (λ (is : opened ≡ resting). cc)) refl c.write.ensures.write
+    leaves_write (c.self.view_is ∙ c.in_ok-value.ensures.turn.3) c.self.invariant (invariant_of-self g c) (flushing stable (flush_at c.self.view_is c.in_ok-value.ensures.turn) (λ (is : stable ≡ resting). cc)) (inl (λ (is : opened ≡ resting). cc)) refl c.write.ensures.write (g.met.D.Device.whole c.self.inside.device)
+    (omega (arith, c.journal_at.ensures, ap length c.open_gate.ensures, c.self.invariant.shape.room, journal_inside (geometry_view c.self.inside.geometry) c.self.inside.half))
 
 pub returns-in-Err-clause-any_moment : goal.returns-in-Err-clause-any_moment
 returns-in-Err-clause-any_moment g c =
-    leaves_write (c.self.view_is ∙ c.in_ok-value.ensures.turn.3) c.self.invariant (invariant_of-self-in-Err g c) (flushing stable (flush_at c.self.view_is c.in_ok-value.ensures.turn) (λ (is : stable ≡ resting). cc)) (inl (λ (is : doubtful ≡ resting). cc)) refl c.write.ensures.write
+    leaves_write (c.self.view_is ∙ c.in_ok-value.ensures.turn.3) c.self.invariant (invariant_of-self-in-Err g c) (flushing stable (flush_at c.self.view_is c.in_ok-value.ensures.turn) (λ (is : stable ≡ resting). cc)) (inl (λ (is : doubtful ≡ resting). cc)) refl c.write.ensures.write (g.met.D.Device.whole c.self.inside.device)
+    (omega (arith, c.journal_at.ensures, ap length c.open_gate.ensures, c.self.invariant.shape.room, journal_inside (geometry_view c.self.inside.geometry) c.self.inside.half))
