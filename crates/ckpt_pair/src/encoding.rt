@@ -72,9 +72,5 @@ fn row_count(db: &PathDb) -> u32
     ensures count { result ≡ length db.now }
     ensures whole { IsDatabase db.now }
 {
-    let mut count = 0;
-    for _row in db.rows() {
-        count += 1;
-    }
-    count
+    db.len() as u32
 }

@@ -94,12 +94,5 @@ fn read_counted(alloc: Global, bytes: &[u8], count: u32) -> Result<PathDb, PairE
 pub(crate) fn has_count(db: &PathDb, count: u32) -> bool
     ensures { result ≡ (length db.now == count) }
 {
-    let mut left = count;
-    for _row in db.rows() {
-        if left == 0 {
-            return false;
-        }
-        left -= 1;
-    }
-    left == 0
+    db.len() == count as usize
 }

@@ -283,6 +283,14 @@ impl PathDb {
         first_shown(self.alloc, self.rows.of_type(kind), wanted, limit)
     }
 
+    /// How many rows there are. It costs nothing.
+    pub fn len(&self) -> usize
+        ensures count { result ≡ length self.now }
+        ensures whole { IsDatabase self.now }
+    {
+        self.rows.len()
+    }
+
     /// The bytes of all rows as records: for each a type in one, a length in four, and the segment's encoding. A greater
     /// count is told as 2^64 - 1. It costs nothing, as it is kept up to date.
     pub fn encoded_len(&self) -> u64

@@ -1,8 +1,6 @@
-use Rattle.std.proofs.Common.{rules}
+use Rattle.std.proofs.Common.{arith}
 use Rattle.ckpt_pair.proofs.Lengths.{fewer_rows}
 use Rattle.ckpt_pair.proofs.encoding.row_count.Goals as goal
 
-pub overflow_add-count : goal.overflow_add-count
-overflow_add-count c =
-    let few = fewer_rows c.args.db.now in
-    search (rules, few)
+pub overflow_cast-result : goal.overflow_cast-result
+overflow_cast-result c = omega (arith, c.len.ensures.count, fewer_rows c.args.db.now, c.requires)
