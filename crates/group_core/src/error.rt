@@ -3,7 +3,8 @@
 use crate::values::{Commit, Durable};
 
 /// Why a step with a value of phase `P` was refused. The first that holds is answered, in this order: `Stranger`, `Stopped`, and
-/// then the others. `NoMemory` and `Damaged` are answered where the next sectors of a checkpoint are written, and nowhere else.
+/// then `Fault`. `NoMemory` and `Damaged` are for a checkpoint of which only the next sectors are held; now all of them are, and no
+/// step answers these two.
 pub enum StepError<P> {
     /// The device failed: the value is spent, and the state has stopped.
     Fault,
