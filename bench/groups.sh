@@ -2,10 +2,11 @@
 # Durable commands: groups of 32 registrations of a segment of 4 entries each, over a store in a file, submitted, flushed and redeemed by
 # one thread. It prints commands a second by the clock, beside those of the same writes and syncs alone, and beside LevelDB with as many
 # synced batches of the same segments; and the same with a step of a checkpointer behind each of the flusher's, over journals that are
-# sealed behind every 36 groups. Medians of nine rounds, and of nine more in which each sync of all three takes a millisecond more, as
-# on a device that is slower to keep what it is given. Then the resident memory after 1,000 groups and after 100,000, with that
-# checkpointer, over a file in memory. It needs Python 3, gcc, g++, bc and Debian's libleveldb-dev. It proves and builds a program in a
-# temporary folder, and leaves no file behind; with a folder as its third argument it copies the program there.
+# sealed behind every 36 groups. Medians of nine rounds, and of nine more each in which every sync of all three takes a tenth of a
+# millisecond more, and a millisecond, as on a device that is slower to keep what it is given. Then the resident memory after 1,000
+# groups and after 100,000, with that checkpointer, over a file in memory. It needs Python 3, gcc, g++, bc and Debian's
+# libleveldb-dev. It proves and builds a program in a temporary folder, and leaves no file behind; with a folder as its third argument it
+# copies the program there.
 #
 #     bench/groups.sh [GROUPS [MANY [FOLDER]]]
 set -euo pipefail
@@ -398,11 +399,13 @@ uptime
 tell
 echo "microseconds of the processor for a command: ours, the writes and syncs alone, LevelDB; ours with a checkpointer"
 awk '{ n = 32 * $1 / 1e6; print $5 / n, $3 / n, $9 / n, $7 / n }' "$work/rounds" | python3 "$root/bench/median.py"
-echo "with a millisecond more for each sync:"
-export LD_PRELOAD="$work/slow_sync.so" SYNC_MICROSECONDS=1000
-rounds
-unset LD_PRELOAD
-tell
+for longer in 100 1000; do
+  echo "with $longer microseconds more for each sync:"
+  export LD_PRELOAD="$work/slow_sync.so" SYNC_MICROSECONDS=$longer
+  rounds
+  unset LD_PRELOAD
+  tell
+done
 ours "$shm/many" "$many"
 echo "KiB of memory after 1,000 groups, then after $many, which $epoch epochs took $clock seconds of: the most, and what is resident"
 grep Vm "$shm/many/told" | tr -dc '0-9\n' | paste -sd ' '
