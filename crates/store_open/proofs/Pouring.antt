@@ -1,16 +1,15 @@
 -- Bytes that are written piece by piece: what a stop leaves meanwhile, and how much is written.
-use Rattle.std.proofs.Common.{◌≡◌, inl, inr, ℕ, ◌+◌, ◌-◌, ◌*◌, ◌≤◌, List, [], ◌∷◌, ◌++◌, length, length-drop, get_or, take, drop, replicate, refl, sym, ◌∙◌, ap, subst, arith, append_assoc, length-append, Result, OnOk}
+use Rattle.std.proofs.Common.{◌≡◌, inl, inr, ℕ, ◌+◌, ◌-◌, ◌*◌, ◌≤◌, List, [], ◌++◌, length, length-drop, get_or, take, drop, replicate, refl, sym, ◌∙◌, ap, subst, arith, append_assoc, length-append, Result, OnOk}
 use Rattle.std.specs.List.{copy_within}
 use Rattle.std.proofs.lemmas.Bool.{cases_lt}
 use Rattle.std.proofs.lemmas.List.{length-take-le}
-use Rattle.std.proofs.lemmas.List.Concat.{flat_map-cons}
 use Rattle.std.proofs.Math.Seq.{paste, take-add}
 use Rattle.std.proofs.lemmas.List.Edits.{take-paste, paste_all, paste-paste}
 use Rattle.byte_lists.specs.Content.{part, overwrite}
 use Rattle.byte_lists.specs.Sectors.{sectors_of, padded}
 use Rattle.byte_lists.proofs.Contents.{length-overwrite, overwrite_before, overwrite_within, overwrite_behind, length-part, get_or-part, same_content, overwrite_same, part_new}
 use Rattle.path_db.specs.Database.{RowView}
-use Rattle.path_db.specs.RowRecord.{row_record, rows_encoding}
+use Rattle.path_db.specs.RowRecord.{rows_encoding}
 use Rattle.sector_dev.specs.Disk.{History, Disk, IsHonest, IsWhole, reads_of}
 use Rattle.sector_dev.specs.Calls.{Keeps, WriteCall}
 use Rattle.sector_dev.specs.Stretch.{Stretch}
@@ -103,16 +102,16 @@ poured_none at bytes start whole inside = record {
   written = λ honest. sym (overwrite_same (512 * at) 0 (reads_of start) (omega (arith, (whole honest).size, inside)));
 }
 
--- with a row more behind what is used of the buffer, that has room
+-- with some rows more behind what is used of the buffer, that has room
 pub record HasRowMore (start now : Disk) (at sector used : ℕ) (buffer : List ℕ) (left : List RowView) (bytes : List ℕ) : Type 0 where
   pub poured : IsPoured start now at sector (take used buffer ++ rows_encoding left) bytes
   pub size : length (take used buffer) ≡ used
   pub room : 512 * sector + used ≤ 512 * at + length (padded bytes)
   pub since : 512 * at ≤ 512 * sector
 
-pub row_more : (start now : Disk) (at sector used more : ℕ) (before after : List ℕ) (row : RowView) (rows left : List RowView) (bytes : List ℕ) → IsPoured start now at sector (take used before ++ rows_encoding rows) bytes
-    → rows ≡ row ∷ left → take more after ≡ take used before ++ row_record row → more ≤ length after → HasRowMore start now at sector more after left bytes
-row_more start now at sector used more before after row rows left bytes so_far next put fits = record {
+pub row_more : (start now : Disk) (at sector used more : ℕ) (before after : List ℕ) (rows all left : List RowView) (bytes : List ℕ) → IsPoured start now at sector (take used before ++ rows_encoding rows) bytes
+    → rows ≡ all → take more after ++ rows_encoding left ≡ take used before ++ rows_encoding all → more ≤ length after → HasRowMore start now at sector more after left bytes
+row_more start now at sector used more before after rows all left bytes so_far next put fits = record {
   poured = poured;
   size = size;
   room = omega (
@@ -127,16 +126,16 @@ row_more start now at sector used more before after row rows left bytes so_far n
   since = omega (arith, poured.place);
 }
   where
-    same : take used before ++ rows_encoding rows ≡ take more after ++ rows_encoding left
-    same =
-        ap (λ (list : List RowView). take used before ++ rows_encoding list) next ∙ ap (λ (list : List ℕ). take used before ++ list) (flat_map-cons row_record row left)
-        ∙ sym (append_assoc (take used before) (row_record row) (rows_encoding left)) ∙ ap (λ (list : List ℕ). list ++ rows_encoding left) (sym put)
-
     poured : IsPoured start now at sector (take more after ++ rows_encoding left) bytes
-    poured = subst (λ (rest : List ℕ). IsPoured start now at sector rest bytes) same so_far
+    poured = subst (λ (rest : List ℕ). IsPoured start now at sector rest bytes) (ap (λ (list : List RowView). take used before ++ rows_encoding list) next ∙ sym put) so_far
 
     size : length (take more after) ≡ more
     size = length-take-le more after fits
+
+-- bytes that were left are put behind others
+pub put_next : (before after bytes left rest : List ℕ) → after ≡ before ++ bytes → left ≡ bytes ++ rest → after ++ rest ≡ before ++ left
+put_next before after bytes left rest put is =
+    ap (λ (list : List ℕ). list ++ rest) put ∙ append_assoc before bytes rest ∙ ap (λ (list : List ℕ). before ++ list) (sym is)
 
 -- a piece that is written, and what is behind it is the rest
 pub poured_piece : {T E : Type 0} (at sector count : ℕ) (held piece rest left bytes : List ℕ) (answer : Result T E) (start now later : Disk) → IsPoured start now at sector (held ++ left) bytes → Keeps start now

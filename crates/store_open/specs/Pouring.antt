@@ -1,7 +1,14 @@
 -- How a checkpoint is laid piece by piece.
-use Rattle.std.specs.Prelude.{◌≡◌, ℕ, ◌+◌, ◌*◌, List, ◌++◌, length}
+use Rattle.std.specs.Prelude.{◌≡◌, ℕ, ◌+◌, ◌*◌, List, [], ◌++◌, length, Option, Some, None}
 use Rattle.byte_lists.specs.Content.{overwrite}
+use Rattle.path_db.specs.Database.{RowView}
+use Rattle.path_db.specs.RowRecord.{row_record}
 use Rattle.sector_dev.specs.Disk.{Disk, IsHonest, reads_of}
+
+-- the record of a row, where there is one
+abbrev pub record_if_any : Option RowView → List ℕ
+record_if_any None = []
+record_if_any (Some row) = row_record row
 
 -- Of these bytes, which are to stand at a sector, some front is written, and up to which sector; the rest isn't yet.
 pub record IsPoured (old new : Disk) (at sector : ℕ) (rest bytes : List ℕ) : Type 0 where

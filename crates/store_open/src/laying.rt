@@ -1,6 +1,7 @@
 //! A checkpoint is laid in its area, piece by piece.
 
-ghost use Rattle.std.specs.Prelude.{◌≡◌, ◌≤◌, ◌<◌, ◌+◌, ◌-◌, ◌*◌, ◌++◌, [], length, take, OnOk, IfOk};
+ghost use Rattle.std.specs.Prelude.{◌≡◌, ◌≤◌, ◌<◌, ◌+◌, ◌-◌, ◌*◌, ◌∷◌, ◌++◌, [], length, take, OnOk, IfOk};
+ghost use Rattle.std.specs.Option.{option_map, ForSome};
 ghost use Rattle.byte_lists.specs.Content.{overwrite};
 ghost use Rattle.byte_lists.specs.Sectors.{padded};
 ghost use Rattle.path_db.specs.Row.{row_view};
@@ -8,7 +9,8 @@ ghost use Rattle.path_db.specs.RowRecord.{row_record, rows_encoding};
 ghost use Rattle.sector_dev.specs.Disk.{IsHonest, reads_of};
 ghost use Rattle.sector_dev.specs.Calls.{WriteCall, count_after};
 ghost use Rattle.sector_dev.specs.Stretch.{Stretch};
-ghost use Rattle.store_open.specs.Pouring.{IsPoured};
+ghost use Rattle.seg_core.specs.Encoding.{segment_encoding};
+ghost use Rattle.store_open.specs.Pouring.{IsPoured, record_if_any};
 ghost use Rattle.store_open.specs.TakingOver.{IsTornAt};
 ghost use Rattle.store_open.specs.declared.laying.TheConstants.{BUFFER, PIECE};
 
@@ -23,8 +25,8 @@ const PIECE: usize = 131_072;
 /// The sectors that are written at once.
 const PIECE_SECTORS: u64 = 256;
 
-/// The bytes of the buffer: those of a piece, and of the greatest row, in whole sectors.
-pub(crate) const BUFFER: usize = 147_968;
+/// The bytes of the buffer: those of a piece, and of the seven greatest rows, in whole sectors.
+pub(crate) const BUFFER: usize = 246_272;
 
 /// The bytes of a checkpoint before its rows.
 const BEFORE_ROWS: usize = 32;
@@ -83,10 +85,11 @@ fn pour<D: Device>(
     ensures rest { IfOk result (λ rest. rest.1 < PIECE) }
     ensures faults { (D.disk device.new).faults ≡ count_after result (D.disk device.old).faults }
 {
+    let mut rows = rows;
     let mut sector = at;
     let mut used = before;
-    for row in rows {
-        used = put_row(buffer, used, row);
+    while let Some(row) = rows.next() {
+        used = put_seven(buffer, used, row, &mut rows);
         if used >= PIECE {
             write_piece(device, sector, buffer, used)?;
             sector += PIECE_SECTORS;
@@ -132,16 +135,67 @@ fn write_rest<D: Device>(
     device.write(sector, &buffer[..end])
 }
 
-/// Puts the record of a row behind what is used of the buffer, and tells how much of it is used then.
-fn put_row(buffer: &mut [u8], used: usize, row: &Row) -> usize
+/// Puts the records of a row and of the next six behind what is used of the buffer, and tells how much of it is used then. They are
+/// looked at together, before any is copied: so the memory of each is waited for beside that of the others.
+fn put_seven(buffer: &mut [u8], used: usize, first: &Row, rows: &mut Rows<'_>) -> usize
     requires buffer { length buffer.old ≡ BUFFER }
     requires used { used < PIECE }
+    ensures put { take result buffer.new ++ rows_encoding rows.new ≡ take used buffer.old ++ rows_encoding (row_view first.now ∷ rows.old) }
+    ensures buffer { length buffer.new ≡ length buffer.old }
+    ensures inside { result ≤ used + 114723 }
+    ensures fewer { length rows.new ≤ length rows.old }
+{
+    let encoding = first.segment.encoding();
+    let second = next_seen(rows);
+    let third = next_seen(rows);
+    let fourth = next_seen(rows);
+    let fifth = next_seen(rows);
+    let sixth = next_seen(rows);
+    let seventh = next_seen(rows);
+    let used = put_row(buffer, used, first, encoding);
+    let used = put_seen(buffer, used, second);
+    let used = put_seen(buffer, used, third);
+    let used = put_seen(buffer, used, fourth);
+    let used = put_seen(buffer, used, fifth);
+    let used = put_seen(buffer, used, sixth);
+    put_seen(buffer, used, seventh)
+}
+
+/// The next row, where there is one, and the encoding of its segment.
+fn next_seen<'a>(rows: &mut Rows<'a>) -> Option<(&'a Row, &'a [u8])>
+    ensures next { rows_encoding rows.old ≡ record_if_any (option_map (λ seen. row_view seen.0.now) result) ++ rows_encoding rows.new }
+    ensures seen { ForSome result (λ seen. seen.1.now ≡ segment_encoding seen.0.now.segment) }
+    ensures fewer { length rows.new ≤ length rows.old }
+{
+    match rows.next() {
+        Some(row) => Some((row, row.segment.encoding())),
+        None => None,
+    }
+}
+
+/// Puts the record of a row, where there is one, behind what is used of the buffer, and tells how much of it is used then.
+fn put_seen(buffer: &mut [u8], used: usize, seen: Option<(&Row, &[u8])>) -> usize
+    requires room { used + 16389 ≤ length buffer.old }
+    requires seen { ForSome seen (λ seen. seen.1.now ≡ segment_encoding seen.0.now.segment) }
+    ensures put { take result buffer.new ≡ take used buffer.old ++ record_if_any (option_map (λ seen. row_view seen.0.now) seen.entry) }
+    ensures buffer { length buffer.new ≡ length buffer.old }
+    ensures inside { result ≤ used + 16389 }
+{
+    match seen {
+        Some((row, encoding)) => put_row(buffer, used, row, encoding),
+        None => used,
+    }
+}
+
+/// Puts the record of a row behind what is used of the buffer, and tells how much of it is used then.
+fn put_row(buffer: &mut [u8], used: usize, row: &Row, encoding: &[u8]) -> usize
+    requires room { used + 16389 ≤ length buffer.old }
+    requires encoding { encoding.now ≡ segment_encoding row.now.segment }
     ensures put { take result buffer.new ≡ take used buffer.old ++ row_record (row_view row.now) }
     ensures buffer { length buffer.new ≡ length buffer.old }
     ensures inside { result ≤ used + 16389 }
 {
-    let bytes = row.segment.encoding();
     put(buffer, used, &row_head(row.kind, &row.segment));
-    put(buffer, used + ROW_HEAD, bytes);
-    used + ROW_HEAD + bytes.len()
+    put(buffer, used + ROW_HEAD, encoding);
+    used + ROW_HEAD + encoding.len()
 }

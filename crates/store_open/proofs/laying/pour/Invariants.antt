@@ -11,11 +11,11 @@ use Rattle.store_open.proofs.laying.pour.Given as goal
 -- What is used of the buffer, and the rows that are left, are what is to stand behind what is written.
 abbrev pub invariant-loop-row : goal.invariant-loop-row
 invariant-loop-row g l = record {
-  poured : IsPoured (g.D.Device.disk l.fn.device) (g.D.Device.disk l.device) l.fn.at l.sector (take l.used l.buffer ++ rows_encoding l.row-iterator)
+  poured : IsPoured (g.D.Device.disk l.fn.device) (g.D.Device.disk l.device) l.fn.at l.sector (take l.used l.buffer ++ rows_encoding l.rows)
       (take l.fn.before l.fn.buffer ++ rows_encoding l.fn.rows);
   torn : Stretch (g.D.Device.disk l.fn.device) (g.D.Device.disk l.device)
       (IsTornAt (512 * l.fn.at) (length (padded (take l.fn.before l.fn.buffer ++ rows_encoding l.fn.rows))) (reads_of (g.D.Device.disk l.fn.device)));
   faults : (g.D.Device.disk l.device).faults ≡ (g.D.Device.disk l.fn.device).faults;
   used : l.used < 131072;
-  buffer : length l.buffer ≡ 147968;
+  buffer : length l.buffer ≡ 246272;
 }
