@@ -176,3 +176,24 @@ stretch_weaker P Q old new follows so_far = record {
       (λ content image. follows content (leaves_at_entry P old.history new.history leaves content image))
       (All-weaker (λ (m : Moment). EveryImage m P) (λ (m : Moment). EveryImage m Q) (λ m each content image. follows content (each content image)) leaves.later (All-tail (λ (m : Moment). EveryImage m P) old.history.now leaves.later (all_since P old.history new.history leaves)));
 }
+
+-- So it is where that follows on an honest device alone.
+pub stretch_honest : (P Q : List ℕ → Type 0) (old new : Disk) → (IsHonest old → (content : List ℕ) → P content → Q content) → Stretch old new P → Stretch old new Q
+stretch_honest P Q old new follows so_far = record {
+  keeps = so_far.keeps;
+  leaves = λ honest. (stretch_weaker P Q old new (follows honest) so_far).leaves honest;
+}
+
+-- What has P in a stretch and has Q in it has both.
+pub stretch_both : (P Q : List ℕ → Type 0) (old new : Disk) → Stretch old new P → Stretch old new Q → Stretch old new (λ content. P content × Q content)
+stretch_both P Q old new one two = record {
+  keeps = one.keeps;
+  leaves = λ honest.
+      let first = one.leaves honest in
+      let second = two.leaves honest in
+      record {
+        later = first.later;
+        goes_on = first.goes_on;
+        every = λ k other inside content image. (first.every k other inside content image, second.every k other inside content image);
+      };
+}

@@ -1,21 +1,21 @@
 -- What a stop within an upgrade leaves: first what `open` leaves, and then what a checkpoint does.
-use Rattle.std.proofs.Common.{◌≡◌, inl, inr, ℕ, List, Result, Ok, Err, IfOk, IfErr, refl, sym, subst}
-use Rattle.sector_dev.specs.Disk.{Disk, IsHonest, IsWhole, reads_of}
-use Rattle.sector_dev.specs.Image.{IsFromImage}
+use Rattle.std.proofs.Common.{◌≡◌, inl, inr, ℕ, List, Result, Ok, Err, IfOk, IfErr, refl, sym, ◌∙◌, subst}
+use Rattle.sector_dev.specs.Disk.{Disk, IsHonest, reads_of}
+use Rattle.sector_dev.specs.Image.{IsImage, IsFromImage}
 use Rattle.sector_dev.specs.Stretch.{Stretch}
-use Rattle.sector_dev.proofs.Images.{image_of_reads}
-use Rattle.sector_dev.proofs.Stretches.{honest_before, stretch_here, stretch_then, stretch_weaker}
+use Rattle.sector_dev.proofs.Stretches.{honest_before, at_exit, stretch_here, stretch_then, stretch_weaker, stretch_both, from_here, stretch_honest}
+use Rattle.image_laws.specs.Layout.{Geometry}
 use Rattle.image_laws.specs.Opening.{value_of}
+use Rattle.store_open.specs.NewStore.{SameBehind}
 use Rattle.store_open.specs.Open.{OpensAlike, IsOpened}
 use Rattle.store_open.specs.PathStores.{store_format}
-use Rattle.store_open.specs.Store.{StoreView, OpensToStore}
+use Rattle.store_open.specs.Store.{StoreView, IsAtRest, OpensToStore}
 use Rattle.store_open.specs.StoreShape.{IsStoreWhole}
-use Rattle.store_open.proofs.Rests.{stretch_honest}
+use Rattle.store_open.proofs.Rests.{opened_as_behind}
 use Rattle.store_commands.specs.Devices.{device_after}
 use Rattle.store_commands.specs.Stops.{StandsForTheSame, KeepsItsStore}
 use Rattle.store_commands.specs.declared.error.Fault.{Fault}
 use Rattle.store_commands.specs.declared.error.Fault.TheVariants.{Output}
-use Rattle.store_commands.proofs.Upgraded.{stands_for}
 
 -- what opens alike stands for the same
 same_store : (before behind : List ℕ) → OpensAlike before behind → StandsForTheSame before behind
@@ -27,6 +27,7 @@ same_store before behind (inr both) =
       place = (value_of store_format both.opening).place;
       before_is = record { opening = both.opening; is = both.opens_before; stands_for = refl };
       behind_is = record { opening = both.opening; is = both.opens_behind; stands_for = refl };
+      beyond = both.beyond;
     })
 
 pub opened_moments : (start mid : Disk) → Stretch start mid (IsFromImage start.history.now OpensAlike) → KeepsItsStore start mid
@@ -39,20 +40,42 @@ opened_moments start mid so =
 pub store_stays : (store : StoreView) → IsStoreWhole store → Stretch store.disk store.disk (OpensToStore store)
 store_stays store whole = stretch_here (OpensToStore store) store.disk (λ honest. (whole.sound honest).every)
 
--- behind an opening, what opens to the store stands for what reads gave before it
-pub then_moments : (start new : Disk) (store : StoreView) → (IsHonest start → IsWhole start) → Stretch start store.disk (IsFromImage start.history.now OpensAlike)
-    → (IsHonest start → IsOpened (reads_of start) store) → Stretch store.disk new (OpensToStore store) → KeepsItsStore start new
-then_moments start new store whole opening opened behind =
-    stretch_then (IsFromImage start.history.now StandsForTheSame) start store.disk new (opened_moments start store.disk opening)
-    (stretch_honest (OpensToStore store) (IsFromImage start.history.now StandsForTheSame) store.disk new
-    (λ honest_mid content opens.
-    let honest = honest_before start store.disk opening.keeps honest_mid in
-    record {
-      before = reads_of start;
-      image = image_of_reads start.history.now (whole honest).bytes;
-      related = inr (record { rows = store.rows; place = store.place; before_is = stands_for (reads_of start) store (opened honest); behind_is = opens.opens });
-    })
-    behind)
+-- nor of what stands behind it
+pub rest_stays : (store : StoreView) → Stretch store.disk store.disk (IsFromImage store.disk.history.now (SameBehind store.geometry))
+rest_stays store = from_here (SameBehind store.geometry) store.disk (λ content at n far. refl)
+
+-- Behind an opening, what opens to the store stands for what an image opened to before it.
+module _ (start new : Disk) (store : StoreView) (opening : Stretch start store.disk (IsFromImage start.history.now OpensAlike)) (opened : IsHonest start → IsOpened (reads_of start) store) where
+  abbrev OfStore : List ℕ → Type 0
+  OfStore content = OpensToStore store content × IsFromImage store.disk.history.now (SameBehind store.geometry) content
+
+  across : (rest : IsAtRest store) (before mid content : List ℕ) → OpensAlike before mid → IsImage store.disk.history.now mid → OpensToStore store content → SameBehind store.geometry mid content → StandsForTheSame before content
+  across rest before mid content alike image opens beyond =
+      let was = opened_as_behind before mid alike rest.opening (rest.every mid image) in
+      inr
+      (record {
+        rows = store.rows;
+        place = store.place;
+        before_is = record { opening = rest.opening; is = was.0; stands_for = rest.tells.value };
+        behind_is = opens.opens;
+        beyond = λ at n far. subst (λ (g : Geometry). SameBehind g mid content) (sym rest.tells.geometry) beyond at n far ∙ was.1 at n far;
+      })
+
+  meanwhile : IsHonest start → (content : List ℕ) → OfStore content → IsFromImage start.history.now StandsForTheSame content
+  meanwhile honest content of_store =
+      let from = of_store.1 in
+      let earlier = at_exit (IsFromImage start.history.now OpensAlike) start store.disk opening honest from.before from.image in
+      record {
+        before = earlier.before;
+        image = earlier.image;
+        related = across (opened honest).rest earlier.before from.before content earlier.related from.image of_store.0 from.related;
+      }
+
+  pub then_moments : Stretch store.disk new (OpensToStore store) → Stretch store.disk new (IsFromImage store.disk.history.now (SameBehind store.geometry)) → KeepsItsStore start new
+  then_moments opens beyond =
+      stretch_then (IsFromImage start.history.now StandsForTheSame) start store.disk new (opened_moments start store.disk opening)
+      (stretch_honest OfStore (IsFromImage start.history.now StandsForTheSame) store.disk new (λ honest_mid. meanwhile (honest_before start store.disk opening.keeps honest_mid))
+      (stretch_both (OpensToStore store) (IsFromImage store.disk.history.now (SameBehind store.geometry)) store.disk new opens beyond))
 
 -- the device that comes back with the print's answer
 pub printed_moments : {D : Type 0} (disk : D → Disk) (start : Disk) (device : D) → KeepsItsStore start (disk device) → (r : Result D (D × Fault)) → IfOk r (λ after. after ≡ device)

@@ -4,14 +4,16 @@ use Rattle.sector_dev.specs.Disk.{Disk}
 use Rattle.sector_dev.specs.Image.{IsFromImage}
 use Rattle.sector_dev.specs.Stretch.{Stretch}
 use Rattle.path_db.specs.Database.{RowView}
+use Rattle.store_open.specs.NewStore.{SameBehind}
 use Rattle.store_open.specs.PathStores.{IsStoreOf}
 
--- both open to the same rows at the same place
+-- both open to the same rows at the same place, and what stands behind their store is the same
 pub record OpenToTheSame (before behind : List ℕ) : Type 0 where
   pub rows : List RowView
   pub place : ℕ
   pub before_is : IsStoreOf rows place before
   pub behind_is : IsStoreOf rows place behind
+  pub beyond : SameBehind before_is.opening.geometry before behind
 
 -- The image is what it was, or opens to the rows at the place that it opened to. So it opens to nothing else, and one that
 -- doesn't open isn't changed.

@@ -3,7 +3,9 @@
 ghost use Rattle.std.specs.Prelude.{◌≡◌, OnOk, OnErr, IfOk, IfErr};
 ghost use Rattle.std.specs.Io.KnownBytes.{Appends};
 ghost use Rattle.sector_dev.specs.Disk.{IsHonest};
+ghost use Rattle.sector_dev.specs.Image.{IsFromImage};
 ghost use Rattle.sector_dev.specs.Stretch.{Stretch};
+ghost use Rattle.store_open.specs.NewStore.{SameBehind};
 ghost use Rattle.store_open.specs.Store.{OpensToStore};
 ghost use Rattle.store_commands.specs.Devices.{device_after, faults_left};
 ghost use Rattle.store_commands.specs.Stops.{KeepsItsStore};
@@ -30,7 +32,7 @@ pub fn upgrade<D: Device, W: Write>(
     ensures printed { OnOk result (Appends (W.contents writer.old) (W.contents writer.new) version_line) }
     ensures err { IfErr result (λ back. FailsToUpgrade back.1 (D.disk device) (D.disk back.0) (W.contents writer.old) (W.contents writer.new)) }
 
-    // A stop at any moment leaves what opens to the rows and the place of before.
+    // A stop at any moment leaves what opens to the rows and the place of before, and what stands behind the store.
     ensures any_moment { KeepsItsStore (D.disk device) (D.disk (device_after result)) }
 
     // It answers that the device failed just where it did.
@@ -53,6 +55,7 @@ pub fn upgrade<D: Device, W: Write>(
 fn make_latest<D: Device>(store: &mut Store<D>) -> Result<(), StoreError>
     ensures latest { BecomesLatest result store.old store.new }
     ensures any_moment { Stretch store.old.disk store.new.disk (OpensToStore store.old) }
+    ensures behind { Stretch store.old.disk store.new.disk (IsFromImage store.old.disk.history.now (SameBehind store.old.geometry)) }
 {
     if store.version() == 1 {
         return store.checkpoint();

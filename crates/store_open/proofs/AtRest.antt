@@ -3,10 +3,10 @@ use Rattle.std.proofs.Common.{◌≡◌, ℕ, ◌+◌, ◌*◌, ◌≤◌, true,
 use Rattle.byte_lists.specs.Sectors.{sectors_of}
 use Rattle.byte_lists.proofs.Padding.{length-padded}
 use Rattle.sector_dev.specs.Disk.{Disk, IsHonest, IsWhole, reads_of}
-use Rattle.sector_dev.specs.Image.{EveryImage}
+use Rattle.sector_dev.specs.Image.{EveryImage, IsFromImage}
 use Rattle.sector_dev.specs.Stretch.{Stretch}
 use Rattle.sector_dev.proofs.Images.{image_of_reads, image_is_reads}
-use Rattle.sector_dev.proofs.Stretches.{honest_before, stretch_here, at_exit}
+use Rattle.sector_dev.proofs.Stretches.{honest_before, stretch_here, at_exit, stretch_honest}
 use Rattle.image_laws.specs.declared.half.Half.{Half}
 use Rattle.image_laws.specs.Journal.{Reading}
 use Rattle.image_laws.specs.Layout.{Geometry, other}
@@ -14,7 +14,7 @@ use Rattle.image_laws.specs.Checkpoint.{Head, Checkpoint, CanBeCheckpoint, check
 use Rattle.image_laws.specs.Opening.{Opening, limits_in, IsTail, IsOpening, StoreValue, value_of, db_at_seal}
 use Rattle.image_laws.specs.TakeOver.{taken_over, empty_journal}
 use Rattle.store_open.specs.Closing.{HasClosedGates}
-use Rattle.store_open.specs.NewStore.{HasRoomFor}
+use Rattle.store_open.specs.NewStore.{HasRoomFor, SameBehind}
 use Rattle.path_db.specs.Database.{RowView, rows_len}
 use Rattle.path_db.specs.RowRecord.{rows_encoding}
 use Rattle.path_db.specs.RecordLaws.{WrittenRowsAreCounted}
@@ -27,7 +27,7 @@ use Rattle.store_open.specs.Store.{StoreView, Tells, IsAtRest, OpensToStore, May
 use Rattle.store_open.specs.StoreShape.{IsStoreWhole}
 use Rattle.store_open.specs.TakingOver.{IsTakingOver, taken}
 use Rattle.store_open.proofs.Switching.{MayTakeOver, same_value, taken_opens, taken_closed, opens_meanwhile}
-use Rattle.store_open.proofs.TakingOver.{stretch_honest}
+use Rattle.store_open.proofs.Behind.{taking_beyond}
 use Rattle.store_open.proofs.Rests.{sound_at_rest}
 
 -- nothing was done
@@ -182,6 +182,21 @@ module _ (old : StoreView) (whole : IsStoreWhole old) (device : IsHonest old.dis
 
     pub leaves_rows : Stretch view.disk new (OpensToStore view)
     leaves_rows = subst (λ (v : StoreView). Stretch v.disk new (OpensToStore v)) view_is leaves_old
+
+    abbrev Behind : StoreView → List ℕ → Type 0
+    Behind v = IsFromImage v.disk.history.now (SameBehind v.geometry)
+
+    beyond : (honest : IsHonest old.disk) (content : List ℕ) → IsTakingOver old.geometry old.chosen bytes (reads_of old.disk) content → Behind old content
+    beyond honest content is = record {
+      before = reads_of old.disk;
+      image = image_of_reads old.disk.history.now (device honest).bytes;
+      related = taking_beyond old.geometry whole.room.allowed old.chosen bytes (reads_of old.disk) fits (omega (arith, (device honest).size, whole.room.room)) content is;
+    }
+
+    pub leaves_behind : Stretch view.disk new (Behind view)
+    leaves_behind =
+        subst (λ (v : StoreView). Stretch v.disk new (Behind v)) view_is
+        (stretch_honest (IsTakingOver old.geometry old.chosen bytes (reads_of old.disk)) (Behind old) old.disk new beyond moments)
 
     still_room : HasRoomFor old.geometry new
     still_room = record { allowed = whole.room.allowed; room = omega (arith, whole.room.room, moments.keeps.sectors) }

@@ -1,16 +1,20 @@
--- What stands behind a store while it is made.
-use Rattle.std.proofs.Common.{◌≡◌, ℕ, ◌*◌, ◌<◌, List, length, refl, ◌∙◌, ap, arith, Result}
+-- What stands behind a store while it is made, and while one half takes over from the other.
+use Rattle.std.proofs.Common.{◌≡◌, inl, inr, ℕ, ◌+◌, ◌*◌, ◌<◌, ◌≤◌, List, length, refl, ◌∙◌, ap, arith, Result}
 use Rattle.byte_lists.specs.Sectors.{padded}
-use Rattle.byte_lists.proofs.Contents.{part_above}
+use Rattle.byte_lists.specs.Content.{part}
+use Rattle.byte_lists.proofs.Contents.{length-overwrite, part_above}
 use Rattle.sector_dev.specs.Disk.{Disk, IsHonest, IsWhole}
 use Rattle.sector_dev.specs.Image.{IsFromImage}
 use Rattle.sector_dev.specs.Calls.{WriteCall, SyncCall}
 use Rattle.sector_dev.specs.Stretch.{Stretch}
 use Rattle.sector_dev.proofs.Stretches.{stretch_sync, from_here, from_write}
+use Rattle.image_laws.specs.declared.half.Half.{Half}
 use Rattle.image_laws.specs.declared.half.Half.TheVariants.{First, Second}
-use Rattle.image_laws.specs.Layout.{Geometry, image_sectors, area_at, gate_at, journal_at}
+use Rattle.image_laws.specs.Layout.{Geometry, IsGeometry, image_sectors, other, area_at, gate_at, journal_at}
 use Rattle.image_laws.specs.FirstSector.{first_sector}
 use Rattle.store_open.specs.NewStore.{first_checkpoint_bytes, open_sector, closed_sector, HasRoomFor, SameBehind}
+use Rattle.store_open.specs.TakingOver.{IsTornAt, laid, switched, IsTakingOver}
+use Rattle.store_open.proofs.Gates.{gates_inside}
 
 module _ (geometry : Geometry) (start : Disk) where
   abbrev Kept : List ℕ → Type 0
@@ -54,3 +58,43 @@ module _ (geometry : Geometry) (start : Disk) where
     pub kept_second_journal : {T E : Type 0} (mid new : Disk) (sector : ℕ) (bytes : List ℕ) (result : Result T E) → sector ≡ journal_at geometry Second → bytes ≡ closed_sector → (IsHonest mid → IsWhole mid)
         → Stretch start mid Kept → WriteCall sector bytes result mid new → Stretch start new Kept
     kept_second_journal mid new sector bytes result at is whole so_far call = kept_written mid new sector bytes result (ap length is) (omega (arith, at, has.allowed)) whole so_far call
+
+-- one half takes over from the other
+module _ (geometry : Geometry) (limits : IsGeometry geometry) (half : Half) (bytes reads : List ℕ) (fits : length bytes ≤ 512 * geometry.checkpoint) (long : 512 * image_sectors geometry ≤ length reads) where
+  abbrev Beyond : List ℕ → Type 0
+  Beyond = SameBehind geometry reads
+
+  torn_beyond : (from n : ℕ) (old content : List ℕ) → length old ≡ length reads → from + n ≤ 512 * image_sectors geometry → Beyond old → IsTornAt from n old content → Beyond content
+  torn_beyond from n old content size inside kept tear at m far =
+      ap (part at m) tear.is ∙ part_above from tear.torn old at m (omega (arith, tear.size, inside, size, long)) (omega (arith, tear.size, inside, far)) ∙ kept at m far
+
+  area_inside : (h : Half) → 512 * area_at geometry h + length bytes ≤ 512 * image_sectors geometry
+  area_inside First = omega (arith, fits)
+  area_inside Second = omega (arith, fits)
+
+  gate_inside : (h : Half) → 512 * gate_at geometry h + 1024 ≤ 512 * image_sectors geometry
+  gate_inside h = omega (arith, gates_inside geometry h (omega (arith, limits.least_journal)))
+
+  laid_size : length (laid geometry half bytes reads) ≡ length reads
+  laid_size = length-overwrite (512 * area_at geometry (other half)) bytes reads (omega (arith, area_inside (other half), long))
+
+  laid_beyond : Beyond (laid geometry half bytes reads)
+  laid_beyond =
+      torn_beyond (512 * area_at geometry (other half)) (length bytes) reads (laid geometry half bytes reads) refl (area_inside (other half)) (λ at m far. refl)
+      (record { torn = bytes; size = refl; is = refl })
+
+  switched_size : length (switched geometry half bytes reads) ≡ length reads
+  switched_size = length-overwrite (512 * gate_at geometry (other half)) open_sector (laid geometry half bytes reads) (omega (arith, gate_inside (other half), laid_size, long)) ∙ laid_size
+
+  switched_beyond : Beyond (switched geometry half bytes reads)
+  switched_beyond =
+      torn_beyond (512 * gate_at geometry (other half)) 512 (laid geometry half bytes reads) (switched geometry half bytes reads) laid_size (omega (arith, gate_inside (other half))) laid_beyond
+      (record { torn = open_sector; size = refl; is = refl })
+
+  pub taking_beyond : (content : List ℕ) → IsTakingOver geometry half bytes reads content → Beyond content
+  taking_beyond content (inl tear) =
+      torn_beyond (512 * area_at geometry (other half)) (length bytes) reads content refl (area_inside (other half)) (λ at m far. refl) tear
+  taking_beyond content (inr (inl tear)) =
+      torn_beyond (512 * gate_at geometry (other half)) 512 (laid geometry half bytes reads) content laid_size (omega (arith, gate_inside (other half))) laid_beyond tear
+  taking_beyond content (inr (inr tear)) =
+      torn_beyond (512 * gate_at geometry half) 1024 (switched geometry half bytes reads) content switched_size (gate_inside half) switched_beyond tear

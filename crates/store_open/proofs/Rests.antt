@@ -1,5 +1,6 @@
 -- A device that is opened: what a stop leaves while it is brought to rest, and what it then tells.
-use Rattle.std.proofs.Common.{◌≡◌, inl, inr, ℕ, Bool, true, false, List, [], Result, Ok, Err, Option, Some, None, OnOk, refl, sym, ◌∙◌, ap, subst, arith}
+use Rattle.std.proofs.Common.{◌≡◌, inl, inr, ℕ, ◌≤◌, Bool, true, false, List, [], Result, Ok, Err, Option, Some, None, OnOk, refl, sym, ◌∙◌, ap, subst, arith}
+use Rattle.byte_lists.specs.Content.{part}
 use Rattle.path_db.specs.Database.{RowView}
 use Rattle.path_db.specs.declared.command.Command.{Command}
 use Rattle.sector_dev.specs.Disk.{History, Disk, IsHonest, IsWhole, reads_of}
@@ -9,7 +10,7 @@ use Rattle.sector_dev.specs.Stretch.{Leaves, Stretch}
 use Rattle.sector_dev.proofs.Images.{image_of_reads, image_is_reads}
 use Rattle.sector_dev.proofs.Results.{success}
 use Rattle.sector_dev.proofs.Parts.{history_synced, reads_synced}
-use Rattle.sector_dev.proofs.Stretches.{honest_after, honest_before, leaves_here, at_exit, stretch_here, stretch_then, stretch_sync, stretch_weaker, from_here}
+use Rattle.sector_dev.proofs.Stretches.{honest_after, honest_before, leaves_here, at_exit, stretch_here, stretch_then, stretch_sync, stretch_weaker, from_here, stretch_honest}
 use Rattle.image_laws.specs.declared.half.Half.{Half}
 use Rattle.image_laws.specs.Limits.{Limits}
 use Rattle.image_laws.specs.Journal.{Reading}
@@ -27,14 +28,9 @@ use Rattle.store_open.specs.Geometry.{geometry_view}
 use Rattle.store_open.specs.Open.{OpensAlike, IsOpened}
 use Rattle.store_open.specs.PathStores.{store_format}
 use Rattle.store_open.specs.Store.{StoreView, IsAtRest, IsSound}
+use Rattle.store_open.specs.NewStore.{SameBehind}
+use Rattle.store_open.proofs.Gates.{gates_inside}
 use Rattle.store_open.proofs.Kept.{kept_opening}
-
--- What follows on an honest device alone.
-pub stretch_honest : (P Q : List ℕ → Type 0) (old new : Disk) → (IsHonest old → (content : List ℕ) → P content → Q content) → Stretch old new P → Stretch old new Q
-stretch_honest P Q old new follows so_far = record {
-  keeps = so_far.keeps;
-  leaves = λ honest. (stretch_weaker P Q old new (follows honest) so_far).leaves honest;
-}
 
 -- A device on which nothing is dirty was only looked at: what a stop leaves is what reads give.
 pub stretch_looked : (P : List ℕ → Type 0) (start mid : Disk) → Keeps start mid → (IsHonest start → mid.history ≡ start.history) → (IsHonest start → start.history.now.dirty ≡ [])
@@ -100,6 +96,11 @@ no_tail_behind : (limits : Limits) (geometry : Geometry) (half : Half) (image : 
 no_tail_behind limits geometry half image journal None unsealed is = refl
 no_tail_behind limits geometry half image journal (Some behind) unsealed is = absurd (let clash = sym unsealed ∙ is.1.sealed in cc)
 
+-- what stands behind the store is as it was
+beyond_unused : (sealed : Bool) (geometry : Geometry) (half : Half) (reads image : List ℕ) → 1 ≤ geometry.journal → IsClosingUnused sealed geometry half reads image → SameBehind geometry reads image
+beyond_unused false geometry half reads image some closing at n far = closing.outside at n (inr (omega (arith, gates_inside geometry half some, far)))
+beyond_unused true geometry half reads image some same at n far = ap (part at n) same
+
 module _ (reads image : List ℕ) (opening : Opening (List RowView) Command) (is : IsOpening store_format latest reads opening) where
   kept_alone : opening.journal.sealed ≡ false → IsClosing opening.geometry (other opening.chosen) reads image → IsOpening store_format latest image opening
   kept_alone unsealed closing =
@@ -120,13 +121,15 @@ same_opening reads one two is_one is_two =
 pub alike : (reads image : List ℕ) (o : Opening (List RowView) Command) (geometry : Geometry) (chosen : Half) (sealed : Bool) → IsOpening store_format latest reads o
     → o.geometry ≡ geometry → o.chosen ≡ chosen → o.journal.sealed ≡ sealed → IsClosingUnused sealed geometry (other chosen) reads image → OpensAlike reads image
 alike reads image o geometry chosen sealed found its_geometry its_half its_seal closing =
+    let so : IsClosingUnused sealed o.geometry (other o.chosen) reads image =
+    subst (λ (g : Geometry). IsClosingUnused sealed g (other o.chosen) reads image) (sym its_geometry)
+    (subst (λ (h : Half). IsClosingUnused sealed geometry (other h) reads image) (sym its_half) closing) in
     inr
     (record {
       opening = o;
       opens_before = found;
-      opens_behind = kept reads image o found sealed its_seal
-          (subst (λ (g : Geometry). IsClosingUnused sealed g (other o.chosen) reads image) (sym its_geometry)
-          (subst (λ (h : Half). IsClosingUnused sealed geometry (other h) reads image) (sym its_half) closing));
+      opens_behind = kept reads image o found sealed its_seal so;
+      beyond = beyond_unused sealed o.geometry (other o.chosen) reads image (omega (arith, found.half.store.limits.least_journal)) so;
     })
 
 -- whatever the one opens with, the other does
@@ -135,6 +138,14 @@ opens_as_before : (before behind : List ℕ) → OpensAlike before behind → (o
 opens_as_before before behind (inl same) opening is = subst (λ (content : List ℕ). IsOpening store_format latest content opening) (sym same) is
 opens_as_before before behind (inr both) opening is =
     subst (IsOpening store_format latest behind) (same_opening before both.opening opening both.opens_before is) both.opens_behind
+
+-- and whatever the other opens with, the one did
+pub opened_as_behind : (before behind : List ℕ) → OpensAlike before behind → (opening : Opening (List RowView) Command) → IsOpening store_format latest behind opening
+    → IsOpening store_format latest before opening × SameBehind opening.geometry before behind
+opened_as_behind before behind (inl same) opening is = (subst (λ (content : List ℕ). IsOpening store_format latest content opening) same is, λ at n far. ap (part at n) same)
+opened_as_behind before behind (inr both) opening is =
+    subst (λ (o : Opening (List RowView) Command). IsOpening store_format latest before o × SameBehind o.geometry before behind)
+    (same_opening behind both.opening opening both.opens_behind is) (both.opens_before, both.beyond)
 
 -- ---- brought to rest
 

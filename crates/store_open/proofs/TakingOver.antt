@@ -7,7 +7,7 @@ use Rattle.sector_dev.specs.Disk.{Disk, IsHonest, IsWhole, reads_of}
 use Rattle.sector_dev.specs.Calls.{WriteCall, SyncCall}
 use Rattle.sector_dev.specs.Stretch.{Stretch}
 use Rattle.sector_dev.proofs.Images.{image_is_reads, every_written}
-use Rattle.sector_dev.proofs.Stretches.{honest_before, stretch_here, stretch_then, stretch_weaker, stretch_write, stretch_sync}
+use Rattle.sector_dev.proofs.Stretches.{honest_before, stretch_here, stretch_then, stretch_weaker, stretch_write, stretch_sync, stretch_honest}
 use Rattle.image_laws.specs.declared.half.Half.{Half}
 use Rattle.image_laws.specs.Layout.{Geometry, other, area_at, gate_at}
 use Rattle.store_open.specs.NewStore.{open_sector}
@@ -42,13 +42,6 @@ module _ (start : Disk) (at : ℕ) (bytes : List ℕ) (whole : IsHonest start �
 
     pub torn_sync : {U F : Type 0} (done : Result U F) (two : Disk) → SyncCall done one two → Stretch start two Torn
     torn_sync done two sync = stretch_sync Torn start one two done torn_write sync
-
--- what follows where the device is honest
-pub stretch_honest : (P Q : List ℕ → Type 0) (old new : Disk) → (IsHonest old → (content : List ℕ) → P content → Q content) → Stretch old new P → Stretch old new Q
-stretch_honest P Q old new follows so_far = record {
-  keeps = so_far.keeps;
-  leaves = λ honest. (stretch_weaker P Q old new (follows honest) so_far).leaves honest;
-}
 
 -- three writes, each with its sync
 module _ (geometry : Geometry) (half new : Half) (is_other : new ≡ other half) (bytes : List ℕ) (start : Disk) where

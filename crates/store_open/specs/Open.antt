@@ -26,6 +26,7 @@ use Rattle.store_open.specs.declared.error.OpenError.{OpenError}
 use Rattle.store_open.specs.declared.error.OpenError.TheVariants.{NotAStore, Device, Pair, Journal, NoMemory}
 use Rattle.store_open.specs.Geometry.{geometry_view}
 use Rattle.store_open.specs.Heads.{choice_by_heads}
+use Rattle.store_open.specs.NewStore.{SameBehind}
 use Rattle.store_open.specs.PathStores.{store_format}
 use Rattle.store_open.specs.Refusals.{faults_after}
 use Rattle.store_open.specs.Store.{StoreView, IsAtRest}
@@ -97,11 +98,12 @@ pub record WantsMemoryToOpen (image : List ℕ) : Type 0 where
   pub chosen : choice_by_heads geometry image ≡ Ok half
   pub front : IsOk (front_in latest (512 * geometry.checkpoint) (area_of geometry half image))
 
--- both open, and with the same
+-- both open, and with the same, and what stands behind their store is the same
 pub record OpenWithTheSame (before behind : List ℕ) : Type 0 where
   pub opening : Opening (List RowView) Command
   pub opens_before : IsOpening store_format latest before opening
   pub opens_behind : IsOpening store_format latest behind opening
+  pub beyond : SameBehind opening.geometry before behind
 
 -- the image is what it was, or opens with what it opened with: one that doesn't open isn't changed
 abbrev pub OpensAlike : List ℕ → List ℕ → Type 0

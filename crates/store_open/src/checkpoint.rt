@@ -1,7 +1,9 @@
 //! A checkpoint at rest.
 
+ghost use Rattle.sector_dev.specs.Image.{IsFromImage};
 ghost use Rattle.sector_dev.specs.Stretch.{Stretch};
 ghost use Rattle.store_open.specs.Allowing.{AllowsCheckpoint};
+ghost use Rattle.store_open.specs.NewStore.{SameBehind};
 ghost use Rattle.store_open.specs.Store.{Checkpoints, OpensToStore};
 
 use crate::laying::BUFFER;
@@ -23,6 +25,9 @@ impl<D: Device> Store<D> {
 
         // At every moment what a stop leaves opens to these rows at this place.
         ensures any_moment { Stretch self.old.disk self.new.disk (OpensToStore self.old) }
+
+        // At every moment what stands behind the store is as it was.
+        ensures behind { Stretch self.old.disk self.new.disk (IsFromImage self.old.disk.history.now (SameBehind self.old.geometry)) }
     {
         written_rows_are_counted();
         self.may_checkpoint()?;

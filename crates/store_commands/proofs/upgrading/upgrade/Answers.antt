@@ -23,10 +23,10 @@ pub returns-in-Ok-made-clause-any_moment : goal.returns-in-Ok-made-clause-any_mo
 returns-in-Ok-made-clause-any_moment g c =
     printed_moments g.D.Device.disk (g.D.Device.disk c.args.device) c.into_device-device.result
     (subst (λ (disk : Disk). KeepsItsStore (g.D.Device.disk c.args.device) disk) (sym c.into_device-device.ensures)
-    (then_moments _ _ c.in-Ok.store (g.met.D.Device.whole c.args.device) c.in-Ok.ensures.any_moment c.in-Ok.ensures.opened c.in-Ok-made.ensures.any_moment))
+    (then_moments _ _ c.in-Ok.store c.in-Ok.ensures.any_moment c.in-Ok.ensures.opened c.in-Ok-made.ensures.any_moment c.in-Ok-made.ensures.behind))
     c.print_version.result c.print_version.ensures.ok c.print_version.ensures.err
 
 pub returns-in-Err-made-clause-any_moment : goal.returns-in-Err-made-clause-any_moment
 returns-in-Err-made-clause-any_moment g c =
     subst (λ (disk : Disk). KeepsItsStore (g.D.Device.disk c.args.device) disk) (sym c.into_device-device.ensures)
-    (then_moments _ _ c.in-Ok.store (g.met.D.Device.whole c.args.device) c.in-Ok.ensures.any_moment c.in-Ok.ensures.opened c.in-Err-made.ensures.any_moment)
+    (then_moments _ _ c.in-Ok.store c.in-Ok.ensures.any_moment c.in-Ok.ensures.opened c.in-Err-made.ensures.any_moment c.in-Err-made.ensures.behind)
