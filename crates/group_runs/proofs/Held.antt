@@ -106,10 +106,11 @@ module _ {old new : StateView} (stays : PlanStays old new) where
   plan_stays (plan.Live value) holds = (plan_out_so holds.0, check_turn_so holds.1)
   plan_stays (plan.Closing value) holds = (plan_out_so holds.0, check_turn_so holds.1)
 
--- nothing that is committed or pending changes
+-- nothing that is committed or pending changes, nor do the sizes
 pub record Still (old new : StateView) : Type 0 where
   pub value : new.value ≡ old.value
   pub pending : new.pending ≡ old.pending
+  pub geometry : new.geometry ≡ old.geometry
 
 pub moves_none : {old new : StateView} → Still old new → Moves [] old new
 moves_none {old} {new} still = record {
@@ -117,6 +118,7 @@ moves_none {old} {new} still = record {
   inside = omega arith;
   value = still.value ∙ (λ i. record { db = old.value.db; place = same i });
   pending = still.pending ∙ sym (append-nil old.pending);
+  geometry = still.geometry;
 }
   where
     same : old.value.place ≡ old.value.place + 0
@@ -139,7 +141,7 @@ module _ (old : StateView) where
   flush_touched : (disk : Disk) (phase : Flush) (turn : Turn) (stopped : Bool) → (turn.out ≡ true → old.group.out ≡ true)
       → FlushRest old (record old { disk = disk; flush = phase; group = turn; stopped = stopped })
   flush_touched disk phase turn stopped out = record {
-    still = record { value = refl; pending = refl };
+    still = record { value = refl; pending = refl; geometry = refl };
     tickets = record { home = refl; next = refl; kept = refl };
     plan = record { home = refl; check = refl; plan = refl; checkpoint = refl; written = refl };
     seal = λ waits is none. waits (out is) none;
@@ -168,7 +170,7 @@ module _ (old : StateView) where
 
   pub stage_rest : (reply : Reply) (new : StateView) → StageEvent reply old new → FlushRest old new
   stage_rest reply.Done new step = record {
-    still = record { value = ap (λ (v : StateView). v.value) is; pending = ap (λ (v : StateView). v.pending) is };
+    still = record { value = ap (λ (v : StateView). v.value) is; pending = ap (λ (v : StateView). v.pending) is; geometry = ap (λ (v : StateView). v.geometry) is };
     tickets = subst (TicketsStay old) (sym is) (record { home = refl; next = refl; kept = refl });
     plan = subst (PlanStays old) (sym is) (record { home = refl; check = refl; plan = refl; checkpoint = refl; written = refl });
     seal = λ waits out none. ap (λ (v : StateView). v.check) is ∙ ready step.1.0 none;
@@ -186,7 +188,7 @@ module _ (old : StateView) where
   check_touched : (disk : Disk) (phase : Check) (turn : Turn) (bytes : List ℕ) (written epoch version : ℕ) (stopped : Bool) → (old.check ≡ check.Ready → phase ≡ check.Ready)
       → CheckRest old (record old { disk = disk; check = phase; plan = turn; checkpoint = bytes; written = written; epoch = epoch; version = version; stopped = stopped })
   check_touched disk phase turn bytes written epoch version stopped ready = record {
-    still = record { value = refl; pending = refl };
+    still = record { value = refl; pending = refl; geometry = refl };
     tickets = record { home = refl; next = refl; kept = refl };
     group = record { home = refl; flush = refl; group = refl };
     seal = λ waits is none. ready (waits is none);

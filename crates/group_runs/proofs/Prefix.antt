@@ -1,27 +1,32 @@
 -- What a stop leaves of a run, step by step.
-use Rattle.std.proofs.Common.{◌≡◌, inl, inr, ℕ, ◌+◌, ◌-◌, ◌≤◌, List, [], ◌++◌, length, take, drop, sym, ◌∙◌, ap, subst, arith, length-append, length-drop}
+use Rattle.std.proofs.Common.{◌≡◌, inl, inr, ℕ, ◌+◌, ◌-◌, ◌≤◌, List, [], ◌++◌, length, take, drop, refl, sym, ◌∙◌, ap, subst, arith, length-append, length-drop}
 use Rattle.std.proofs.lemmas.List.{take-append-le, drop-append-le, drop-drop, append-nil, length-take-le}
 use Rattle.std.proofs.Math.Seq.{take-add}
 use Rattle.path_db.specs.Database.{RowView}
 use Rattle.path_db.specs.declared.command.Command.{Command}
 use Rattle.sector_dev.specs.Disk.{IsHonest}
-use Rattle.sector_dev.specs.Image.{EveryImage}
-use Rattle.sector_dev.proofs.Stretches.{stretch_weaker, stretch_then, stretch_here}
+use Rattle.sector_dev.specs.Image.{EveryImage, IsFromImage}
+use Rattle.sector_dev.specs.Stretch.{Stretch}
+use Rattle.sector_dev.proofs.Stretches.{honest_before, at_exit, stretch_weaker, stretch_then, stretch_here, stretch_honest}
+use Rattle.image_laws.specs.Layout.{Geometry}
 use Rattle.image_laws.specs.Opening.{StoreValue, OpensTo}
 use Rattle.image_laws.specs.StoreGrowth.{value_after}
 use Rattle.image_laws.proofs.Exports.{folds_in_parts}
 use Rattle.ckpt_pair.specs.Heads.{latest}
+use Rattle.store_open.specs.NewStore.{SameBehind}
 use Rattle.store_open.specs.PathStores.{store_format}
 use Rattle.group_laws.specs.HeldSteps.{OpensAroundCall}
 use Rattle.group_core.specs.StateView.{StateView, setting_of, standing_of, MayOpen, StepLeaves}
 use Rattle.group_runs.specs.RunLeaves.{IsCommitted, OpensToPrefix, RunLeaves}
 
--- What a step makes of what is committed and pending: the first of these, so many, are committed, and more are accepted.
+-- What a step makes of what is committed and pending: the first of these, so many, are committed, and more are accepted. The
+-- sizes stay.
 pub record Moves (more : List Command) (old new : StateView) : Type 0 where
   pub shown : ℕ
   pub inside : shown ≤ length old.pending
   pub value : new.value ≡ value_after store_format old.value (take shown old.pending)
   pub pending : new.pending ≡ drop shown old.pending ++ more
+  pub geometry : new.geometry ≡ old.geometry
 
 length_drop : {A : Type 0} (n : ℕ) (list : List A) → n ≤ length list → length (drop n list) + n ≡ length list
 length_drop n list inside = omega (arith, length-drop n list)
@@ -94,12 +99,31 @@ exit_so : (start end : StateView) (order : List Command) → IsCommitted start o
 exit_so start end order is exit honest image left =
     subst (λ (n : ℕ). OpensToPrefix start order n image) (sym (done_is start end order is)) (to_prefix start end order is image (exit honest image left))
 
+-- what stands behind the store, from the state at the start on
+abbrev Behind : StateView → List ℕ → Type 0
+Behind view = IsFromImage view.disk.history.now (SameBehind view.geometry)
+
+behind_then : (start mid new : StateView) → mid.geometry ≡ start.geometry → Stretch start.disk mid.disk (Behind start) → Stretch mid.disk new.disk (Behind mid) → Stretch start.disk new.disk (Behind start)
+behind_then start mid new same so_far more =
+    stretch_then (Behind start) start.disk mid.disk new.disk so_far
+    (stretch_honest (Behind mid) (Behind start) mid.disk new.disk
+    (λ honest content from.
+    let earlier = at_exit (Behind start) start.disk mid.disk so_far (honest_before start.disk mid.disk so_far.keeps honest) from.before from.image in
+    record {
+      before = earlier.before;
+      image = earlier.image;
+      related = λ at n far. subst (λ (g : Geometry). SameBehind g from.before content) same from.related at n far ∙ earlier.related at n far;
+    })
+    more)
+
 -- before the first step
 pub leaves_at_first : (start : StateView) → StepLeaves start start → RunLeaves start (start.pending ++ []) start
 leaves_at_first start stays = record {
   committed = first;
   moments = stretch_here (OpensToPrefix start (start.pending ++ []) 0) start.disk (λ honest image left. less_prefix start (start.pending ++ []) 0 0 (omega arith) image (to_prefix start start (start.pending ++ []) first image (stays.exit honest image left)));
   exit = exit_so start start (start.pending ++ []) first stays.exit;
+  geometry = refl;
+  behind = stays.behind;
 }
   where
     first : IsCommitted start (start.pending ++ []) start
@@ -117,6 +141,8 @@ leaves_then start mid new order more so_far moves leaves = record {
       (stretch_weaker (OpensToPrefix start order 0) (OpensToPrefix start (order ++ more) 0) start.disk mid.disk (longer_prefix start order more 0) so_far.moments)
       (stretch_weaker (OpensAroundCall (setting_of mid) (standing_of mid) (standing_of new)) (OpensToPrefix start (order ++ more) 0) mid.disk new.disk around leaves.moments);
   exit = exit_so start new (order ++ more) after leaves.exit;
+  geometry = moves.geometry ∙ so_far.geometry;
+  behind = behind_then start mid new so_far.geometry so_far.behind leaves.behind;
 }
   where
     after : IsCommitted start (order ++ more) new

@@ -34,19 +34,20 @@ publish_moves : (reply : Reply) (old new : StateView) → old.taken ≤ length o
 publish_moves reply.Done old new inside step = by (none_or_some old.taken)
   where
     by : (old.taken ≡ 0) ⊎ (1 ≤ old.taken) → Moves [] old new
-    by (inl none) = let is = step.1.seal none in moves_none (record { value = ap (λ (v : StateView). v.value) is; pending = ap (λ (v : StateView). v.pending) is })
+    by (inl none) = let is = step.1.seal none in moves_none (record { value = ap (λ (v : StateView). v.value) is; pending = ap (λ (v : StateView). v.pending) is; geometry = ap (λ (v : StateView). v.geometry) is })
     by (inr some) = let is = step.1.group some in record {
       shown = old.taken;
       inside = inside;
       value = ap (λ (v : StateView). v.value) is;
       pending = ap (λ (v : StateView). v.pending) is ∙ sym (append-nil (drop old.taken old.pending));
+      geometry = ap (λ (v : StateView). v.geometry) is;
     }
-publish_moves (reply.PublishRefused publish.NoMemory) old new inside step = moves_none (record { value = ap (λ (v : StateView). v.value) step.2; pending = ap (λ (v : StateView). v.pending) step.2 })
-publish_moves reply.NoValue old new inside step = moves_none (record { value = ap (λ (v : StateView). v.value) step.1; pending = ap (λ (v : StateView). v.pending) step.1 })
+publish_moves (reply.PublishRefused publish.NoMemory) old new inside step = moves_none (record { value = ap (λ (v : StateView). v.value) step.2; pending = ap (λ (v : StateView). v.pending) step.2; geometry = ap (λ (v : StateView). v.geometry) step.2 })
+publish_moves reply.NoValue old new inside step = moves_none (record { value = ap (λ (v : StateView). v.value) step.1; pending = ap (λ (v : StateView). v.pending) step.1; geometry = ap (λ (v : StateView). v.geometry) step.1 })
 publish_moves _ old new inside step = absurd step
 
 still_so : {old new : StateView} → new ≡ old → Moves [] old new
-still_so is = moves_none (record { value = ap (λ (v : StateView). v.value) is; pending = ap (λ (v : StateView). v.pending) is })
+still_so is = moves_none (record { value = ap (λ (v : StateView). v.value) is; pending = ap (λ (v : StateView). v.pending) is; geometry = ap (λ (v : StateView). v.geometry) is })
 
 submit_moves : (command : Command) (reply : Reply) (old new : RunView) → SubmitEvent command reply old new → Moves (accepted_by (event.Submit command) reply) old.state new.state
 submit_moves command (reply.Accepted place) old new step = record {
@@ -54,6 +55,7 @@ submit_moves command (reply.Accepted place) old new step = record {
   inside = omega arith;
   value = ap (λ (v : StateView). v.value) step.3 ∙ (λ i. record { db = old.state.value.db; place = same i });
   pending = ap (λ (v : StateView). v.pending) step.3;
+  geometry = ap (λ (v : StateView). v.geometry) step.3;
 }
   where
     same : old.state.value.place ≡ old.state.value.place + 0
@@ -62,9 +64,9 @@ submit_moves command (reply.Refused e) old new step = still_so (ap (λ (r : RunV
 submit_moves command _ old new step = absurd step
 
 redeem_moves : (k : ℕ) (reply : Reply) (old new : RunView) → RedeemEvent k reply old new → Moves [] old.state new.state
-redeem_moves k (reply.Committed place outcome) old new step = moves_none (record { value = ap (λ (r : RunView). r.state.value) step.3; pending = ap (λ (r : RunView). r.state.pending) step.3 })
+redeem_moves k (reply.Committed place outcome) old new step = moves_none (record { value = ap (λ (r : RunView). r.state.value) step.3; pending = ap (λ (r : RunView). r.state.pending) step.3; geometry = ap (λ (r : RunView). r.state.geometry) step.3 })
 redeem_moves k (reply.Waiting place) old new step = still_so (ap (λ (r : RunView). r.state) step.3)
-redeem_moves k (reply.Unknown place) old new step = moves_none (record { value = ap (λ (r : RunView). r.state.value) step.3; pending = ap (λ (r : RunView). r.state.pending) step.3 })
+redeem_moves k (reply.Unknown place) old new step = moves_none (record { value = ap (λ (r : RunView). r.state.value) step.3; pending = ap (λ (r : RunView). r.state.pending) step.3; geometry = ap (λ (r : RunView). r.state.geometry) step.3 })
 redeem_moves k reply.NoValue old new step = still_so (ap (λ (r : RunView). r.state) step.1)
 redeem_moves k _ old new step = absurd step
 

@@ -2,11 +2,12 @@
 use Rattle.std.specs.Prelude.{◌≡◌, ℕ, ◌-◌, ◌≤◌, List, [], ◌∷◌, ◌++◌, length, take, drop}
 use Rattle.path_db.specs.declared.command.Command.{Command}
 use Rattle.sector_dev.specs.Disk.{IsHonest}
-use Rattle.sector_dev.specs.Image.{EveryImage}
+use Rattle.sector_dev.specs.Image.{EveryImage, IsFromImage}
 use Rattle.sector_dev.specs.Stretch.{Stretch}
 use Rattle.image_laws.specs.Opening.{OpensTo}
 use Rattle.image_laws.specs.StoreGrowth.{value_after}
 use Rattle.ckpt_pair.specs.Heads.{latest}
+use Rattle.store_open.specs.NewStore.{SameBehind}
 use Rattle.store_open.specs.PathStores.{store_format}
 use Rattle.group_runs.specs.declared.events.Event.{Event}
 use Rattle.group_runs.specs.declared.events.Event.TheVariants as event
@@ -43,8 +44,10 @@ pub record OpensToPrefix (start : StateView) (order : List Command) (least : ℕ
   pub opens : OpensTo store_format latest image (value_after store_format start.value (take kept order))
 
 -- What a run leaves: a front of the order is committed; at each moment since its entry every image opens to a front, and at its
--- exit to one that holds all that is committed then.
+-- exit to one that holds all that is committed then. The sizes stay, and at every moment what stands behind the store is as it was.
 pub record RunLeaves (start : StateView) (order : List Command) (end : StateView) : Type 0 where
   pub committed : IsCommitted start order end
   pub moments : Stretch start.disk end.disk (OpensToPrefix start order 0)
   pub exit : IsHonest end.disk → EveryImage end.disk.history.now (OpensToPrefix start order (end.value.place - start.value.place))
+  pub geometry : end.geometry ≡ start.geometry
+  pub behind : Stretch start.disk end.disk (IsFromImage start.disk.history.now (SameBehind start.geometry))
