@@ -8,22 +8,30 @@ use crate::showcase::Showcase;
 use path_db::{Command, PathDb};
 use std::alloc::AllocError;
 use std::marker::Model;
+use std::mem::replace;
 
 /// The committed rows, and the place that is reached.
+///
+/// It keeps a copy of the rows, which shares their segments, to which the next group is applied. Where memory ran out for
+/// that copy it is made anew with the next group.
 #[derive(Drop)]
 pub struct PlainShow {
     db: PathDb,
     place: u64,
+    copy: Option<PathDb>,
 }
 
 impl Model for PlainShow {
-    ghost use Rattle.std.specs.Prelude.{List};
+    ghost use Rattle.std.specs.Prelude.{◌≡◌, List};
+    ghost use Rattle.std.specs.Option.{ForSome};
     ghost use Rattle.path_db.specs.Database.{RowView};
     ghost use Rattle.image_laws.specs.Opening.{StoreValue};
 
     ghost Value = { StoreValue (List RowView) };
 
     ghost view = { λ s. record { db = s.db; place = s.place } };
+
+    ghost invariant = { λ s. ForSome s.copy (λ copy. copy ≡ s.db) };
 }
 
 impl PlainShow {
@@ -32,7 +40,11 @@ impl PlainShow {
         ensures db { result.db ≡ db }
         ensures place { result.place ≡ place }
     {
-        PlainShow { db, place }
+        PlainShow {
+            db,
+            place,
+            copy: None,
+        }
     }
 
     /// The rows.
@@ -62,10 +74,16 @@ impl Showcase for PlainShow {
     ghost tells = { λ value note. Unit {0} };
 
     fn show(&mut self, group: &[Command]) -> Result<(), AllocError> {
-        let mut db = self.db.try_clone()?;
-        apply_all(&mut db, group)?;
-        self.db = db;
+        let mut next = match self.copy.take() {
+            Some(copy) => copy,
+            None => self.db.try_clone()?,
+        };
+        apply_all(&mut next, group)?;
+        let mut old = replace(&mut self.db, next);
         self.place += group.len() as u64;
+        if apply_all(&mut old, group).is_ok() {
+            self.copy = Some(old);
+        }
         Ok(())
     }
 

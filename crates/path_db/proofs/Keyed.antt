@@ -6,11 +6,12 @@ use Rattle.std.specs.Ordering.{nat_cmp, is_eq, match_ordering}
 use Rattle.std.specs.Cmp.Lexicographic.{slice_cmp}
 use Rattle.std.specs.declared.cmp.Ordering.{Ordering}
 use Rattle.std.specs.declared.cmp.Ordering.TheVariants.{Less, Equal, Greater}
-use Rattle.std.specs.Option.{option_map, option_copied}
+use Rattle.std.specs.Option.{option_map, option_copied, is_some}
 use Rattle.std.specs.Borrow.{Bor}
-use Rattle.std.specs.Map.{keys_of, lookup, remove_entry}
+use Rattle.std.specs.Map.{keys_of, lookup, remove_entry, set_value}
 use Rattle.std.specs.BTreeMap.{insert_entry, is_at}
 use Rattle.std.specs.Cmp.{IsTotalOrder}
+use Rattle.std.proofs.lemmas.Bool.{false≢true}
 use Rattle.std.proofs.lemmas.Cmp.{nat_list_cmp_total, on_total}
 use Rattle.std.proofs.lemmas.List.Sums.{sum_by-cons}
 use Rattle.std.proofs.lemmas.Map.{lookup-none}
@@ -185,3 +186,36 @@ set_bytes q row (e ∷ es) sorted =
 pub sum_views : (rows : List Row) → sum_by (λ row. row_len (row_view row)) rows ≡ rows_len (row_views rows)
 sum_views [] = refl
 sum_views (row ∷ rows) = sum_by-cons (λ row. row_len (row_view row)) row rows ∙ ap (λ n. row_len (row_view row) + n) (sum_views rows) ∙ sym (sum_by-cons row_len (row_view row) (row_views rows))
+
+-- ---- a value that takes another's place
+
+placed_first : (o : Ordering) (q : RowKey) (row old : Row) (e : RowKey × Row) (es later after : List (RowKey × Row)) (found : Option Row) → (o ≡ Less → found ≡ None)
+    → cond (is_eq o) (Some e.1) found ≡ Some old → (found ≡ Some old → later ≡ after)
+    → cond (is_eq o) ((e.0, row) ∷ es) (e ∷ later) ≡ match_ordering o ((q, row) ∷ e ∷ es) ((e.0, row) ∷ es) (e ∷ after)
+placed_first Less q row old e es later after found none is more = absurd (false≢true (ap is_some (sym (none refl) ∙ is)))
+placed_first Equal q row old e es later after found none is more = refl
+placed_first Greater q row old e es later after found none is more = ap (λ rest. e ∷ rest) (more is)
+
+-- where a row stands under the key, to set its value is to insert it
+pub placed_is_set : (q : RowKey) (row old : Row) (es : List (RowKey × Row)) → IsStrictlySortedBy key_cmp (keys_of es) → lookup (is_at (key_cmp q)) es ≡ Some old
+    → set_value (is_at (key_cmp q)) es row ≡ insert_entry key_cmp es q row
+placed_is_set q row old [] sorted is = absurd (false≢true (ap is_some is))
+placed_is_set q row old (e ∷ es) sorted is =
+    placed_first (key_cmp q e.0) q row old e es (set_value (is_at (key_cmp q)) es row) (insert_entry key_cmp es q row) (lookup (is_at (key_cmp q)) es)
+    (λ below. lookup-none (is_at (key_cmp q)) es (none_below_head key_cmp_total q e es sorted below).1) is
+    (placed_is_set q row old es (sorted_tail key_cmp e.0 (keys_of es) sorted))
+
+same_first : (b : Bool) (old : Row) (e : RowKey × Row) (es later : List (RowKey × Row)) (found : Option Row) → cond b (Some e.1) found ≡ Some old → (found ≡ Some old → later ≡ es)
+    → cond b ((e.0, old) ∷ es) (e ∷ later) ≡ e ∷ es
+same_first true old e es later found is more = let one : e.1 ≡ old = cc in ap (λ row. (e.0, row) ∷ es) (sym one)
+same_first false old e es later found is more = ap (λ rest. e ∷ rest) (more is)
+
+-- to set the value that stands there changes nothing
+pub placed_same : (q : RowKey) (old : Row) (es : List (RowKey × Row)) → lookup (is_at (key_cmp q)) es ≡ Some old → set_value (is_at (key_cmp q)) es old ≡ es
+placed_same q old [] is = refl
+placed_same q old (e ∷ es) is = same_first (is_at (key_cmp q) e.0) old e es (set_value (is_at (key_cmp q)) es old) (lookup (is_at (key_cmp q)) es) is (placed_same q old es)
+
+-- what stands under the key of a row
+pub found_at : (q : RowKey) (row old : Row) (es : List (RowKey × Row)) → bytes_of q ≡ key_of (row_view row) → AreUnderTheirKeys es → lookup (is_at (key_cmp q)) es ≡ Some old
+    → row_under (key_of (row_view row)) (views_of es) ≡ Some (row_view old)
+found_at q row old es its own is = ap (λ k. row_under k (views_of es)) (sym its) ∙ sym (found_by q es own) ∙ ap (option_map row_view) is

@@ -16,13 +16,13 @@ ghost use Rattle.isd_as.specs.IsdAs.{number_of};
 use crate::answers::{Wanted, first_shown, is_indexed, shown_at};
 use crate::command::Command;
 use crate::end::End;
-use crate::end_places::{add_both, keep_standing, keeps_places, place_of, sweep, touched_places};
+use crate::end_places::{add_both, keep_standing, place_of, sweep, touched_places};
 use crate::error::ApplyError;
 use crate::outcome::Outcome;
 use crate::row::Row;
 use crate::row_list::Rows;
 use crate::row_map::RowMap;
-use crate::row_puts::{put_after, put_row, rows_of, saved_rows};
+use crate::row_puts::{put_after, rows_of, saved_rows};
 use crate::row_records::type_byte;
 use end_index::EndIndex;
 use isd_as::IsdAs;
@@ -162,14 +162,10 @@ impl PathDb {
             return None;
         };
         let row = Row::new(new.0, segment);
-        if most.saturating_sub(self.bytes) < u128::from(row.len())
-            || !keeps_places(&self.rows, &row)
-        {
+        if most.saturating_sub(self.bytes) < u128::from(row.len()) {
             return None;
         }
-        let Ok(change) = put_row(&mut self.rows, &mut self.bytes, row) else {
-            return None;
-        };
+        let change = self.rows.renew(&mut self.bytes, row)?;
         let mut outcome = Outcome::nothing();
         outcome.count(change);
         Some(outcome)

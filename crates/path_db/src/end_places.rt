@@ -1,11 +1,11 @@
 //! The rows by the ISD-AS at one of their ends.
 
-ghost use Rattle.std.specs.Prelude.{◌≡◌, ◌&&◌, [], map, ◌⊎◌, ◌<◌, true, length, IfOk, OnOk, OnErr};
+ghost use Rattle.std.specs.Prelude.{◌≡◌, ◌&&◌, map, ◌⊎◌, ◌<◌, true, length, IfOk, OnOk, OnErr};
 ghost use Rattle.end_index.specs.declared.place.Place.{Place};
 ghost use Rattle.end_index.specs.Place.{has};
 ghost use Rattle.std.specs.Option.{is_some, option_map};
 ghost use Rattle.path_db.specs.declared.end.End.TheVariants.{First, Last};
-ghost use Rattle.path_db.specs.Database.{key_of, row_under};
+ghost use Rattle.path_db.specs.Database.{row_under};
 ghost use Rattle.path_db.specs.RowMap.{place_key};
 ghost use Rattle.path_db.specs.Row.{row_view, row_views};
 ghost use Rattle.path_db.specs.Saved.{saved_view};
@@ -81,15 +81,12 @@ fn touch(
     Ok(())
 }
 
-/// Whether a row stands under the key of one that is new, and has its places.
-pub(crate) fn keeps_places(rows: &RowMap, new: &Row) -> bool
-    ensures first { result ≡ true → IsSeenTo (end_of First) [] (row_view new.now) (row_under (key_of (row_view new.now)) rows.now) }
-    ensures last { result ≡ true → IsSeenTo (end_of Last) [] (row_view new.now) (row_under (key_of (row_view new.now)) rows.now) }
+/// Whether two rows have the same ISD-ASes at both ends.
+pub(crate) fn keeps_places(new: &Row, old: &Row) -> bool
+    ensures first { result ≡ true → EndAlike (end_of First) (row_view new.now) (row_view old.now) }
+    ensures last { result ≡ true → EndAlike (end_of Last) (row_view new.now) (row_view old.now) }
 {
-    match rows.get(new.kind, &new.id) {
-        Some(old) => ends_alike(End::First, new, old) && ends_alike(End::Last, new, old),
-        None => false,
-    }
+    ends_alike(End::First, new, old) && ends_alike(End::Last, new, old)
 }
 
 /// Whether two rows have the same ISD-AS at this end.

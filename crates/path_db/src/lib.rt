@@ -14,6 +14,7 @@ mod database;
 mod end;
 mod end_places;
 mod error;
+mod key_order;
 mod outcome;
 mod outcome_laws;
 mod record_laws;

@@ -3,7 +3,7 @@
 ghost use Rattle.std.specs.Prelude.{◌≡◌, length};
 
 /// The key of a row: its type's number, and its id. Keys are in the order of their bytes.
-#[derive(Clone, Copy, PartialEq, Eq, PartialOrd, Ord)]
+#[derive(Clone, Copy)]
 pub(crate) struct RowKey {
     pub kind: u8,
     pub id: [u8; 32],

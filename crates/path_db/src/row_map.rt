@@ -1,13 +1,18 @@
 //! The rows of a database by their keys.
 
 ghost use Rattle.std.specs.Prelude.{◌≡◌, ◌+◌, ◌*◌, ◌<◌, ◌≤◌, ◌^◌, [], IfOk, OnErr, None, filter, length};
-ghost use Rattle.std.specs.Option.{option_map};
+ghost use Rattle.std.specs.Option.{ForSome, option_map};
+ghost use Rattle.path_db.specs.declared.end.End.TheVariants.{First, Last};
 ghost use Rattle.path_db.specs.Database.{IsRising, key, key_of, row_under, row_len, rows_len};
 ghost use Rattle.path_db.specs.Command.{database_after_purge, database_after_removal};
 ghost use Rattle.path_db.specs.Answer.{is_of_type};
+ghost use Rattle.path_db.specs.EndPlaces.{end_of, IsSeenTo};
+ghost use Rattle.path_db.specs.Put.{database_after_put, change_of};
 ghost use Rattle.path_db.specs.Row.{row_view};
 ghost use Rattle.path_db.specs.RowMap.{Holds, bytes_of, len_if_any, place_key};
 
+use crate::change::Change;
+use crate::end_places::keeps_places;
 use crate::row::Row;
 use crate::row_key::RowKey;
 use crate::row_list::Rows;
@@ -19,6 +24,7 @@ use seg_core::SegType;
 use std::alloc::{AllocError, Global};
 use std::collections::BTreeMap;
 use std::marker::Model;
+use std::mem::replace;
 
 /// Rows, each under its key, in the order of the keys.
 #[derive(Drop)]
@@ -133,6 +139,33 @@ impl RowMap {
         let key = row_key(row.kind, &row.id);
         let old = self.rows.insert(key, row)?;
         Ok(old)
+    }
+
+    /// Puts a row in the place of an older one under its key that stands at the same ends, or keeps one that is as new, and tells
+    /// which. It takes no memory. Where no such row stands there, nothing changes. `bytes` counts the bytes of all rows.
+    pub(crate) fn renew(&mut self, bytes: &mut u128, row: Row) -> Option<Change>
+        requires { bytes.old ≡ rows_len self.old }
+        ensures rows { ForSome result (λ _. self.new ≡ database_after_put self.old (row_view row)) }
+        ensures change { ForSome result (λ change. change ≡ change_of self.old (row_view row)) }
+        ensures first { ForSome result (λ _. IsSeenTo (end_of First) [] (row_view row) (row_under (key_of (row_view row)) self.old)) }
+        ensures last { ForSome result (λ _. IsSeenTo (end_of Last) [] (row_view row) (row_under (key_of (row_view row)) self.old)) }
+        ensures bytes { bytes.new ≡ rows_len self.new }
+        ensures more { bytes.new ≤ bytes.old + row_len (row_view row) }
+        ensures none { result ≡ None → self.new ≡ self.old }
+    {
+        let _count = self.len();
+        let key = row_key(row.kind, &row.id);
+        let old = self.rows.get_mut(&key)?;
+        if !keeps_places(&row, old) {
+            return None;
+        }
+        if old.segment.timestamp() >= row.segment.timestamp() {
+            return Some(Change::Kept);
+        }
+        *bytes += u128::from(row.len());
+        let old = replace(old, row);
+        *bytes -= u128::from(old.len());
+        Some(Change::Updated)
     }
 
     /// Takes out the row of a type and an id. That takes no memory.

@@ -5,7 +5,7 @@ use crate::PositionedFile;
 use crate::positioned_file::failures_after;
 use std::fs::File;
 use std::io;
-use std::io::{Read, Seek, SeekFrom, Write};
+use std::os::unix::fs::FileExt;
 
 /// A file of the system with a count of its failures, as far as that is below 2^64 - 1, which stays. No clause says what
 /// such a file gives or keeps, so it is not called honest.
@@ -33,22 +33,6 @@ impl SystemFile {
     }
 }
 
-// One read at an offset.
-fn read_once(file: &mut File, offset: u64, into: &mut [u8]) -> io::Result<usize>
-    ensures { IfOk result (λ n. n ≤ length into.new) }
-{
-    file.seek(SeekFrom::Start(offset))?;
-    file.read(into)
-}
-
-// One write at an offset.
-fn write_once(file: &mut File, offset: u64, bytes: &[u8]) -> io::Result<usize>
-    ensures { IfOk result (λ n. n ≤ length bytes.now) }
-{
-    file.seek(SeekFrom::Start(offset))?;
-    file.write(bytes)
-}
-
 impl PositionedFile for SystemFile {
     ghost use Rattle.std.proofs.Common.{arith};
     ghost use Rattle.sector_dev.specs.SystemFile.{system_state};
@@ -62,13 +46,13 @@ impl PositionedFile for SystemFile {
     }
 
     fn read_at(&mut self, offset: u64, into: &mut [u8]) -> io::Result<usize> {
-        let moved = read_once(&mut self.file, offset, into);
+        let moved = self.file.read_at(into, offset);
         self.failures = failures_after(into.len(), &moved, self.failures);
         moved
     }
 
     fn write_at(&mut self, offset: u64, bytes: &[u8]) -> io::Result<usize> {
-        let moved = write_once(&mut self.file, offset, bytes);
+        let moved = self.file.write_at(bytes, offset);
         self.failures = failures_after(bytes.len(), &moved, self.failures);
         moved
     }

@@ -16,13 +16,13 @@ invariant_of-self-2 c =
     let row = row_view c.new-row.result in
     let table = c.self.invariant in
     let is : row ≡ c.args.new.now = c.new-row.ensures ∙ ap (λ s. (c.args.new.now.0, s)) c.in-Ok.ensures.same in
-    let put : c.put_row.new.rows ≡ database_after_puts rows (row ∷ []) = c.in-Ok-put_row.ensures.rows ∙ sym (one_put rows row) in
+    let put : c.renew.new.self ≡ database_after_puts rows (row ∷ []) = c.in_ok-change.ensures.rows c.in_ok-change.change refl ∙ sym (one_put rows row) in
     let whole : AreWhole (c.args.new.now ∷ []) = (c.in-Ok.ensures.whole, tt) in
     record {
       database = subst IsDatabase (sym put) (database_puts rows (row ∷ []) table.database (subst (λ (r : RowView). AreWhole (r ∷ [])) (sym is) whole));
-      counted = c.in-Ok-put_row.ensures.bytes;
-      first = subst (λ l. IsIndex (end_of First) l c.self.inside.by_first) (sym put) (index_kept (end_of First) rows row c.self.inside.by_first table.database.rising table.first (c.if-not-keeps_places.ensures.first refl));
-      last = subst (λ l. IsIndex (end_of Last) l c.self.inside.by_last) (sym put) (index_kept (end_of Last) rows row c.self.inside.by_last table.database.rising table.last (c.if-not-keeps_places.ensures.last refl));
+      counted = c.in_ok-change.ensures.bytes;
+      first = subst (λ l. IsIndex (end_of First) l c.self.inside.by_first) (sym put) (index_kept (end_of First) rows row c.self.inside.by_first table.database.rising table.first (c.in_ok-change.ensures.first c.in_ok-change.change refl));
+      last = subst (λ l. IsIndex (end_of Last) l c.self.inside.by_last) (sym put) (index_kept (end_of Last) rows row c.self.inside.by_last table.database.rising table.last (c.in_ok-change.ensures.last c.in_ok-change.change refl));
     }
 
 pub returns-clause-whole : goal.returns-clause-whole
@@ -33,7 +33,7 @@ returns-clause-database c = λ x e.
     let rows = c.self.inside.rows in
     let row = row_view c.new-row.result in
     let is : row ≡ c.args.new.now = c.new-row.ensures ∙ ap (λ s. (c.args.new.now.0, s)) c.in-Ok.ensures.same in
-    rw (← c.self.view_is) (c.in-Ok-put_row.ensures.rows ∙ sym (one_put rows row) ∙ ap (λ (r : RowView). database_after_puts rows (r ∷ [])) is)
+    rw (← c.self.view_is) (c.in_ok-change.ensures.rows c.in_ok-change.change refl ∙ sym (one_put rows row) ∙ ap (λ (r : RowView). database_after_puts rows (r ∷ [])) is)
 
 pub returns-clause-outcome : goal.returns-clause-outcome
 returns-clause-outcome c = λ x e.
@@ -44,7 +44,7 @@ returns-clause-outcome c = λ x e.
     rw (← c.self.view_is)
     (sym told
     ∙ c.count.ensures
-    ∙ ap (λ change. outcome_after change c.nothing-outcome.result) c.in-Ok-put_row.ensures.change
+    ∙ ap (λ change. outcome_after change c.nothing-outcome.result) (c.in_ok-change.ensures.change c.in_ok-change.change refl)
     ∙ ap (outcome_after (change_of rows row)) c.nothing-outcome.ensures
     ∙ sym (one_counted rows row)
     ∙ ap (λ (r : RowView). outcome_of_puts (changes_of rows (r ∷ []))) is)
