@@ -86,74 +86,42 @@ fn with_subcommand<'a>(
 fn once_command<'a>(alloc: Global) -> Result<Command<'a>, AllocError>
     ensures { IfOk result (λ command. (out-Command command).name.now ≡ codes "once") }
 {
-    let cores = Arg::new(alloc, CORES)
-        .long(CORES)
-        .value_name("LIST")
-        .help("The core ASes, as ISD-AS texts joined by commas")
-        .action(ArgAction::Set);
-    let now = Arg::new(alloc, NOW)
-        .long(NOW)
-        .value_name("T")
-        .help("The moment, in half seconds since 1970 [default: 0]")
-        .value_parser(value_parser!(u64))
-        .action(ArgAction::Set);
-    let key = Arg::new(alloc, KEY)
-        .long(KEY)
-        .value_name("HEX")
-        .help("Check signatures by this key of a test profile; without it all are trusted")
-        .action(ArgAction::Set);
-    let hex = Arg::new(alloc, HEX)
-        .long(HEX)
-        .help("Read hexadecimal text, and print each reply as a line of it")
-        .action(ArgAction::SetTrue);
-    let once = Command::new(alloc, ONCE)
+    let cores = "The core ASes, as ISD-AS texts joined by commas";
+    let now = "The moment, in half seconds since 1970 [default: 0]";
+    let key = "Check signatures by this key of a test profile; without it all are trusted";
+    let hex = "Read hexadecimal text, and print each reply as a line of it";
+    Command::new(alloc, ONCE)
         .about("Answers one session from standard input to standard output")
-        .arg(cores)?
-        .arg(now)?
-        .arg(key)?
-        .arg(hex)?;
-    Ok(once)
+        .arg(option(alloc, CORES, "LIST", cores))?
+        .arg(option(alloc, NOW, "T", now).value_parser(value_parser!(u64)))?
+        .arg(option(alloc, KEY, "HEX", key))?
+        .arg(flag(alloc, HEX, hex))
 }
 
 /// The command that makes a store.
 fn format_command<'a>(alloc: Global) -> Result<Command<'a>, AllocError>
     ensures { IfOk result (λ command. (out-Command command).name.now ≡ codes "format") }
 {
-    let checkpoint = Arg::new(alloc, CHECKPOINT)
-        .long(CHECKPOINT)
-        .value_name("C")
-        .help("The sectors of a checkpoint area, 2 to 1048576")
-        .value_parser(value_parser!(u32).range(2..=MOST_SECTORS))
-        .required(true)
-        .action(ArgAction::Set);
-    let journal = Arg::new(alloc, JOURNAL)
-        .long(JOURNAL)
-        .value_name("J")
-        .help("The sectors of a journal, 516 to 1048576")
-        .value_parser(value_parser!(u32).range(516..=MOST_SECTORS))
-        .required(true)
-        .action(ArgAction::Set);
+    let checkpoint = "The sectors of a checkpoint area, 2 to 1048576";
+    let journal = "The sectors of a journal, 516 to 1048576";
     Command::new(alloc, FORMAT)
         .about(
             "Makes a file of 1 + 2 * (C + 1 + J) sectors with an empty store; one that is there is lost",
         )
         .arg(device_argument(alloc))?
-        .arg(checkpoint)?
-        .arg(journal)
+        .arg(sectors(option(alloc, CHECKPOINT, "C", checkpoint), 2))?
+        .arg(sectors(option(alloc, JOURNAL, "J", journal), 516))
 }
 
 /// The command that prints what a store has.
 fn show_command<'a>(alloc: Global) -> Result<Command<'a>, AllocError>
     ensures { IfOk result (λ command. (out-Command command).name.now ≡ codes "show") }
 {
-    let layout = Arg::new(alloc, LAYOUT)
-        .long(LAYOUT)
-        .help("Draw what stands where instead, and change nothing")
-        .action(ArgAction::SetTrue);
+    let layout = "Draw what stands where instead, and change nothing";
     Command::new(alloc, SHOW)
         .about("Opens a store, and prints its rows and its place")
         .arg(device_argument(alloc))?
-        .arg(layout)
+        .arg(flag(alloc, LAYOUT, layout))
 }
 
 /// The command that has a store in the version that is written.
@@ -172,4 +140,33 @@ fn device_argument<'a>(alloc: Global) -> Arg<'a> {
         .help("The file of the device")
         .required(true)
         .action(ArgAction::Set)
+}
+
+/// An option that takes one value.
+fn option<'a>(
+    alloc: Global,
+    name: &'static str,
+    value_name: &'static str,
+    help: &'static str,
+) -> Arg<'a> {
+    Arg::new(alloc, name)
+        .long(name)
+        .value_name(value_name)
+        .help(help)
+        .action(ArgAction::Set)
+}
+
+/// An option that takes no value.
+fn flag<'a>(alloc: Global, name: &'static str, help: &'static str) -> Arg<'a> {
+    Arg::new(alloc, name)
+        .long(name)
+        .help(help)
+        .action(ArgAction::SetTrue)
+}
+
+/// An option that has to be there, whose value is a number of sectors.
+fn sectors<'a>(option: Arg<'a>, least: i64) -> Arg<'a> {
+    option
+        .value_parser(value_parser!(u32).range(least..=MOST_SECTORS))
+        .required(true)
 }

@@ -15,10 +15,11 @@ use crate::shape::{AS_ENTRY, SIGNED_MESSAGE};
 use crate::slots::slots_of;
 use isd_as::IsdAs;
 use std::alloc::AllocError;
+use std::fmt;
 use std::sync::Arc;
 
 /// The entry of one AS, whose signature covers `signed`.
-#[derive(Debug, Drop)]
+#[derive(Drop)]
 pub struct Entry {
     /// The AS.
     pub ia: IsdAs,
@@ -69,6 +70,15 @@ impl Entry {
         ensures { option_map (λ s. s.now) result ≡ (entry_view self.now).unsigned }
     {
         self.pieces.unsigned()
+    }
+}
+
+impl fmt::Debug for Entry {
+    fn fmt<W: fmt::Write>(&self, f: &mut fmt::Formatter<W>) -> fmt::Result {
+        f.debug_struct("Entry")
+            .field("ia", &self.ia)
+            .field("next", &self.next)
+            .finish_non_exhaustive()
     }
 }
 

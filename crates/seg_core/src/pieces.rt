@@ -10,7 +10,7 @@ use std::marker::Model;
 use std::sync::Arc;
 
 /// Where a piece stands in an encoding, which has at most 16,384 bytes.
-#[derive(Clone, Copy, Debug)]
+#[derive(Clone, Copy)]
 pub(crate) struct Span {
     pub start: u16,
     pub end: u16,
@@ -27,7 +27,7 @@ impl Span {
 }
 
 /// Where the pieces of an entry stand: what its AS has signed, its signature, and what is not signed, which may be missing.
-#[derive(Clone, Copy, Debug)]
+#[derive(Clone, Copy)]
 pub(crate) struct Spans {
     pub signed: Span,
     pub signature: Span,
@@ -35,7 +35,7 @@ pub(crate) struct Spans {
 }
 
 /// What an AS has signed, its signature, and what is not signed, in an encoding that others share.
-#[derive(Debug, Drop)]
+#[derive(Drop)]
 pub struct Pieces {
     encoding: Arc<Vec<u8>>,
     spans: Spans,

@@ -26,11 +26,12 @@ use crate::path::{has_no_loop, is_chain};
 use crate::pieces::Span;
 use crate::putting::{put_bytes, put_entry};
 use std::alloc::{AllocError, Global};
+use std::fmt;
 use std::marker::Model;
 use std::sync::Arc;
 
 /// What a segment has, which its copies share. Its information and the pieces of its entries stand in its encoding.
-#[derive(Debug, Drop)]
+#[derive(Drop)]
 struct Parts {
     timestamp: u32,
     segment_id: u16,
@@ -41,7 +42,7 @@ struct Parts {
 }
 
 /// A path segment: 1 to 64 entries that are one path without a loop, and pieces of the message that it came in.
-#[derive(Debug, Drop)]
+#[derive(Drop)]
 pub struct Segment {
     shared: Arc<Parts>,
 }
@@ -112,6 +113,16 @@ impl Segment {
     {
         let shared = Arc::try_clone(&self.shared)?;
         Ok(Segment { shared })
+    }
+}
+
+impl fmt::Debug for Segment {
+    fn fmt<W: fmt::Write>(&self, f: &mut fmt::Formatter<W>) -> fmt::Result {
+        f.debug_struct("Segment")
+            .field("timestamp", &self.timestamp())
+            .field("segment_id", &self.segment_id())
+            .field("entries", &self.shared.entries)
+            .finish()
     }
 }
 
