@@ -2,7 +2,7 @@
 
 /// A message. The body of a registration or a lookup is owned by a `Framer`'s caller, or a slice of the bytes that were
 /// read.
-#[derive(Clone, Copy, Debug, Drop, PartialEq, Eq)]
+#[derive(Debug, Drop, PartialEq)]
 pub enum Message<B = Vec<u8>> {
     /// Kind 1: a `SegmentsRegistrationRequest`.
     Register(B),

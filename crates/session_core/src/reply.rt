@@ -41,7 +41,7 @@ pub enum Form {
 }
 
 /// The reply to one message.
-#[derive(Debug, Drop)]
+#[derive(Drop)]
 pub enum Reply {
     /// A registration was accepted.
     Registered(Ack),

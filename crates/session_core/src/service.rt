@@ -16,14 +16,14 @@ use std::alloc::Global;
 pub const MOST_SEGMENTS: usize = 64;
 
 /// The acknowledgement of a command: its place in the order of commands, from 0 on, and what it did.
-#[derive(Clone, Copy, Debug, PartialEq, Eq)]
+#[derive(Clone, Copy)]
 pub struct Ack {
     pub place: u64,
     pub outcome: Outcome,
 }
 
 /// The code of a refusal in a reply.
-#[derive(Clone, Copy, Debug, PartialEq, Eq)]
+#[derive(Clone, Copy)]
 pub struct Code(pub u8);
 
 /// Answers messages, each of which may change what it answers from.
