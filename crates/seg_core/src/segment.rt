@@ -149,7 +149,8 @@ fn read_entries(
     out: &mut Vec<u8>,
 ) -> Result<Vec<MarkedEntry>, SegError>
     requires { length out.old.items + sum_by (λ t. length (bytes_field_encoding 2 t)) (bytes_fields messages.field_number (fields messages.rest.now)) ≤ MOST_BYTES }
-    ensures decoding { Gives (λ v. marked_views out.new.items v.items) result (each as_entry_decoding (bytes_fields messages.entry.field_number (fields messages.entry.rest.now))) }
+    ensures decoding { Gives (λ v. marked_views out.new.items v.items) result
+        (each as_entry_decoding (bytes_fields messages.entry.field_number (fields messages.entry.rest.now))) }
     ensures put { IfOk result (λ v. out.new.items ≡ out.old.items ++ entries_encoding (marked_views out.new.items v.items)) }
     ensures within { IfOk result (λ v. All (λ e. AreWithin out.new.items e.spans) v.items) }
 {
