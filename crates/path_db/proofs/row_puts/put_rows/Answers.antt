@@ -48,3 +48,6 @@ loop-row-preserved c =
           ∙ ap (outcome_after (change_of (database_after_puts old new) row)) c.loop-row.invariant.told
           ∙ sym (ap (λ l. outcome_of_puts (changes_of old l)) more ∙ ap outcome_of_puts (changes_more old new row) ∙ outcome_more (changes_of old new) (change_of (database_after_puts old new) row));
     }
+
+pub returns-clause-within : goal.returns-clause-within
+returns-clause-within c = search rules

@@ -24,3 +24,9 @@ returns-in_default-check g c =
         c.in_default-check.not-Ready,
       ),
     )
+
+pub returns-then-fits : goal.returns-then-fits
+returns-then-fits g c = search rules
+
+pub returns-in-Ready : goal.returns-in-Ready
+returns-in-Ready g c = search rules

@@ -1,4 +1,4 @@
-use Rattle.std.proofs.Common.{◌≡◌, ◌+◌, ◌-◌, ◌*◌, take, drop, ◌∙◌, refl, arith}
+use Rattle.std.proofs.Common.{◌≡◌, ◌+◌, ◌-◌, ◌*◌, take, drop, ◌∙◌, refl, arith, rules}
 use Rattle.store_open.specs.Geometry.{geometry_view}
 use Rattle.group_laws.specs.declared.phases.Check.TheVariants.{Ready as ready, Planned as planned}
 use Rattle.group_core.proofs.Soundness.{checking}
@@ -28,3 +28,6 @@ returns-in-Ok-clause-any_moment g c = leaves_write (c.self.view_is ∙ c.in_ok-v
 pub returns-in-Err-clause-any_moment : goal.returns-in-Err-clause-any_moment
 returns-in-Err-clause-any_moment g c = leaves_write (c.self.view_is ∙ c.in_ok-value.ensures.turn.3) c.self.invariant (invariant_of-self-in-Err g c) (checking planned (planned_at c.self.view_is c.in_ok-value.ensures.turn) (λ (is : planned ≡ ready). cc)) (checking planned (planned_at c.self.view_is c.in_ok-value.ensures.turn) (λ (is : planned ≡ ready). cc)) refl c.write.ensures.write (g.met.D.Device.whole c.self.inside.device)
     (chunk_inside (geometry_view c.self.inside.geometry) c.self.inside.half (c.area_at.result + c.self.inside.written) c.self.inside.written c.min-count.result (512 * (c.self.inside.written + c.min-count.result) - 512 * c.self.inside.written) (512 * c.self.inside.written) _ (omega (arith, c.area_at.ensures)) (omega arith) (omega (arith, c.min-count.ensures, c.len-size.ensures, c.self.invariant.shape.plan)))
+
+pub returns-in-Ok-clause-step : goal.returns-in-Ok-clause-step
+returns-in-Ok-clause-step g c = search rules

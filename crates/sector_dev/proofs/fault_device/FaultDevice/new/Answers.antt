@@ -2,5 +2,5 @@
 use Rattle.std.proofs.Common.{rules}
 use Rattle.sector_dev.proofs.fault_device.FaultDevice.new.Goals as goal
 
-pub returns-clause-disk : goal.returns-clause-disk
-returns-clause-disk c = search rules
+pub returns-clause-before : goal.returns-clause-before
+returns-clause-before c = search rules

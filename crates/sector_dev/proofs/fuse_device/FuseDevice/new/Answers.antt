@@ -2,5 +2,5 @@
 use Rattle.std.proofs.Common.{rules}
 use Rattle.sector_dev.proofs.fuse_device.FuseDevice.new.Goals as goal
 
-pub returns-clause-disk : goal.returns-clause-disk
-returns-clause-disk c = search rules
+pub returns-clause-calls : goal.returns-clause-calls
+returns-clause-calls c = search rules

@@ -2,5 +2,5 @@
 use Rattle.std.proofs.Common.{rules}
 use Rattle.sector_dev.proofs.fuse_device.FuseDeviceDevice.write.Goals as goal
 
-pub returns-clause-burns : goal.returns-clause-burns
-returns-clause-burns c = search rules
+pub returns-then-is_first-clause-torn : goal.returns-then-is_first-clause-torn
+returns-then-is_first-clause-torn c = search rules

@@ -2,5 +2,5 @@
 use Rattle.std.proofs.Common.{rules}
 use Rattle.sector_dev.proofs.held_device.HeldDeviceDevice.sync.Goals as goal
 
-pub returns-clause-sync : goal.returns-clause-sync
-returns-clause-sync g c = search rules
+pub returns-clause-gate : goal.returns-clause-gate
+returns-clause-gate g c = search rules

@@ -1,6 +1,7 @@
 -- One goal, which the search finds itself.
-use Rattle.std.proofs.Common.{rules}
+use Rattle.std.proofs.Common.{arith}
+use Rattle.std.proofs.lemmas.Grind.{common_steps}
 use Rattle.sector_dev.proofs.mem_device.MemDeviceDevice.write.Goals as goal
 
-pub overflow_mul-start : goal.overflow_mul-start
-overflow_mul-start c = search rules
+pub returns : goal.returns
+returns c = grind (arith, common_steps)

@@ -1,6 +1,7 @@
 -- One goal, which the search finds itself.
-use Rattle.std.proofs.Common.{rules}
+use Rattle.std.proofs.Common.{arith}
+use Rattle.std.proofs.lemmas.Grind.{common_steps}
 use Rattle.sector_dev.proofs.mem_file.MemFilePositionedFile.read_at.Goals as goal
 
-pub returns-clause-moved : goal.returns-clause-moved
-returns-clause-moved c = search rules
+pub returns-clause-out : goal.returns-clause-out
+returns-clause-out c = grind (arith, common_steps)

@@ -1,0 +1,6 @@
+-- One goal, which the search finds itself.
+use Rattle.std.proofs.Common.{rules}
+use Rattle.gate_journal.proofs.sizes.are_within_limits.Goals as goal
+
+pub returns-then-rows-le16-clause-exact : goal.returns-then-rows-le16-clause-exact
+returns-then-rows-le16-clause-exact c = search rules

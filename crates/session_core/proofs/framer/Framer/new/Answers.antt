@@ -1,0 +1,9 @@
+-- Goals that the search finds itself.
+use Rattle.std.proofs.Common.{rules}
+use Rattle.session_core.proofs.framer.Framer.new.Goals as goal
+
+pub invariant_of-result : goal.invariant_of-result
+invariant_of-result c = search rules
+
+pub returns : goal.returns
+returns c = search rules
