@@ -8,7 +8,7 @@ use Rattle.pw_wire.specs.declared.field.Field.{Field}
 use Rattle.pw_wire.specs.Decoding.{IsBytes}
 use Rattle.pw_wire.specs.Field.{FieldValue, FieldView, IsField, IsFieldFault, field_at}
 use Rattle.pw_wire.specs.Fields.{fields, fault}
-use Rattle.pw_wire.specs.View.{value_view, field_view, Finds, Steps}
+use Rattle.pw_wire.specs.View.{value_view, field_view, Finds, IsStep, Steps}
 use Rattle.pw_wire.proofs.Varints.{ok_is, err_is}
 use Rattle.pw_wire.proofs.FieldLemmas.{field_again, field_took, fault_again, fault_is}
 use Rattle.pw_wire.proofs.Messages.{fields-nil, fault-nil, nothing_read, fields-read, fault-read, fields-failed, fault-failed, not_nothing}
@@ -38,6 +38,12 @@ no_field bytes number value len none is =
     let nil : field_at bytes ≡ Err Truncated = ap field_at none ∙ nothing_read in
     cc
 
+-- where a field is read, there are bytes
+pub some_read : (bytes : List ℕ) (next : Field × ℕ) → field_at bytes ≡ Ok (field_view next.0, next.1) → bytes ≢ []
+some_read bytes next read none =
+    let nil : field_at bytes ≡ Err Truncated = ap field_at none ∙ nothing_read in
+    cc
+
 pub finds : (bytes : List ℕ) (r : Result (Option (Field × ℕ)) WireError) → IsBytes bytes → Answers bytes r → (number : ℕ) (value : FieldValue) (len : ℕ) → (Finds r number value len) ↔ (IsField bytes number value len)
 finds bytes (Ok None) fits none number value len = (λ found. absurd found, λ is. no_field bytes number value len none is)
 finds bytes (Ok (Some next)) fits read number value len = (
@@ -57,9 +63,13 @@ fails bytes (Err d) fits failed e = (
   λ wrong. ap (λ (x : WireError). Err x) (err_is (FieldView × ℕ) d e (sym failed.1 ∙ fault_again bytes e wrong)),
 )
 
+-- what a field that was read tells of the whole message
+pub step : (bytes : List ℕ) (f : FieldView) (len : ℕ) → IsBytes bytes → field_at bytes ≡ Ok (f, len) → IsStep bytes f len
+step bytes f len fits read =
+    let took = field_took bytes (f, len) read in
+    record { positive = took.positive; within = took.within; fields_are = fields-read bytes f len read; fault_is = fault-read bytes f len read }
+
 pub steps : (bytes : List ℕ) (r : Result (Option (Field × ℕ)) WireError) → IsBytes bytes → Answers bytes r → Steps bytes r
 steps bytes (Ok None) fits none = record { nothing = none; no_fields = ap fields none ∙ fields-nil; no_fault = ap fault none ∙ fault-nil }
-steps bytes (Ok (Some next)) fits read =
-    let took = field_took bytes (field_view next.0, next.1) read in
-    record { positive = took.positive; within = took.within; fields_are = fields-read bytes (field_view next.0) next.1 read; fault_is = fault-read bytes (field_view next.0) next.1 read }
+steps bytes (Ok (Some next)) fits read = step bytes (field_view next.0) next.1 fits read
 steps bytes (Err e) fits failed = (fields-failed bytes e failed.0 failed.1, fault-failed bytes e failed.0 failed.1)

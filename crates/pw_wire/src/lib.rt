@@ -16,5 +16,5 @@ mod writing;
 pub use error::WireError;
 pub use field::{Field, Value};
 pub use laws::{all_fields, encoded_fields, encoded_varint, field_or_fault};
-pub use reading::next_field;
+pub use reading::{first_bytes, first_number, next_field};
 pub use writing::{put_bytes_field, put_varint, put_varint_field};

@@ -15,7 +15,20 @@ pub(crate) fn read_varint(bytes: &[u8]) -> Result<(u64, usize), WireError>
     match bytes {
         [] => Err(WireError::Truncated),
         [b, ..] if *b < 128 => Ok((u64::from(*b), 1)),
-        _ => long_varint(bytes),
+        [b, c, ..] if *c < 128 => Ok((u64::from(*b) - 128 + 128 * u64::from(*c), 2)),
+        _ => read_longer_varint(bytes),
+    }
+}
+
+/// A varint of more than two bytes. The result goes through this function, so that a shorter varint reserves no memory for it.
+#[inline(always)]
+fn read_longer_varint(bytes: &[u8]) -> Result<(u64, usize), WireError>
+    ensures exact { result ≡ varint_at bytes.now }
+    ensures within { IfOk result (λ found. found.1 ≤ length bytes.now) }
+{
+    match long_varint(bytes) {
+        Ok((n, used)) => Ok((n, used)),
+        Err(e) => Err(e),
     }
 }
 

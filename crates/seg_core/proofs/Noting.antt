@@ -20,6 +20,10 @@ bytes_fields-push k (g ∷ fs) f =
     ap (λ ts. cond (eqb g.number k) (bytes_in g.value) [] ++ ts) (bytes_fields-push k fs f)
     ∙ sym (append_assoc (cond (eqb g.number k) (bytes_in g.value) []) (bytes_fields k fs) (cond (eqb f.number k) (bytes_in f.value) []))
 
+-- bytes that stand first
+pub bytes_fields-first : (k : ℕ) (fs others : List FieldView) (bytes : List ℕ) → fs ≡ (record { number = k; value = Bytes bytes }) ∷ others → bytes_fields k fs ≡ bytes ∷ bytes_fields k others
+bytes_fields-first k fs others bytes is = rw (is, eq-eqb k k refl) refl
+
 last_of-push : {A : Type 0} → (xs : List A) (x : A) → last_of (xs ++ x ∷ []) ≡ Some x
 last_of-push [] x = refl
 last_of-push (y ∷ ys) x = ap (λ o. option_or o (Some y)) (last_of-push ys x)

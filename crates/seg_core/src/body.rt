@@ -47,7 +47,7 @@ fn check_peers(slots: &Slots<'_>) -> Result<(), SegError>
 fn read_body(message: &[u8]) -> Result<Body, SegError>
     ensures { Reads (λ body. body) result (body_decoding message.now) }
 {
-    let slots = slots_of(&BODY, message)?;
+    let slots = slots_of::<9>(&BODY, message)?;
     let hop_entry = slots.required_message(3)?;
     let ia = slots.number_field(1);
     check(!IsdAs::from_u64(ia).has_zero_part(), SegError::Range)?;
@@ -66,6 +66,6 @@ fn read_body(message: &[u8]) -> Result<Body, SegError>
 pub(crate) fn read_header_and_body(message: &[u8]) -> Result<Body, SegError>
     ensures { Reads (λ body. body) result (header_and_body_decoding message.now) }
 {
-    let slots = slots_of(&HEADER_AND_BODY, message)?;
+    let slots = slots_of::<10>(&HEADER_AND_BODY, message)?;
     read_body(slots.bytes_field_or_empty(2))
 }

@@ -5,7 +5,7 @@ ghost use Rattle.std.specs.Iterator.{YieldsFirstRef, at_most};
 ghost use Rattle.pw_wire.specs.Fields.{fields};
 ghost use Rattle.seg_core.specs.Message.{bytes_fields};
 
-use pw_wire::{Value, next_field};
+use pw_wire::{Value, first_bytes, next_field};
 
 /// What is left of a message, of which the byte strings under one field number are taken.
 #[derive(Clone, Copy)]
@@ -21,7 +21,14 @@ impl<'a> Iterator for BytesFields<'a> {
 
     ghost remaining = { λ s. at_most (length s.rest.now) };
 
+    #[inline(always)]
     fn next(&mut self) -> Option<&'a [u8]> {
+        if (1..16).contains(&self.field_number)
+            && let Some((bytes, used)) = first_bytes(self.field_number as u8, self.rest)
+        {
+            self.rest = self.rest.split_at(used).1;
+            return Some(bytes);
+        }
         while let Ok(Some((field, used))) = next_field(self.rest) {
             self.rest = self.rest.split_at(used).1;
             if field.number == self.field_number

@@ -102,9 +102,9 @@ pub(crate) struct MarkedEntry {
 pub(crate) fn read_as_entry(message: &[u8]) -> Result<BorrowedEntry<'_>, SegError>
     ensures { Reads borrowed_view result (as_entry_decoding message.now) }
 {
-    let slots = slots_of(&AS_ENTRY, message)?;
+    let slots = slots_of::<7>(&AS_ENTRY, message)?;
     let signed_message = slots.required_message(1)?;
-    let parts = slots_of(&SIGNED_MESSAGE, signed_message)?;
+    let parts = slots_of::<8>(&SIGNED_MESSAGE, signed_message)?;
     let signed = parts.bytes_field_or_empty(1);
     let body = read_header_and_body(signed)?;
     Ok(BorrowedEntry {

@@ -23,7 +23,7 @@ pub(crate) struct Hop {
 fn read_hop_field(message: &[u8]) -> Result<Hop, SegError>
     ensures { Reads (λ hop. hop) result (hop_field_decoding message.now) }
 {
-    let slots = slots_of(&HOP_FIELD, message)?;
+    let slots = slots_of::<11>(&HOP_FIELD, message)?;
     let ingress = u16_of(slots.number_field(1))?;
     let egress = u16_of(slots.number_field(2))?;
     let exp_time = u8_of(slots.number_field(3))?;
@@ -42,7 +42,7 @@ fn read_hop_field(message: &[u8]) -> Result<Hop, SegError>
 pub(crate) fn read_hop_entry(message: &[u8]) -> Result<Hop, SegError>
     ensures { Reads (λ hop. hop) result (hop_entry_decoding message.now) }
 {
-    let slots = slots_of(&HOP_ENTRY, message)?;
+    let slots = slots_of::<12>(&HOP_ENTRY, message)?;
     let hop_field = slots.required_message(1)?;
     let _ingress_mtu = u32_of(slots.number_field(2))?;
     read_hop_field(hop_field)
@@ -52,7 +52,7 @@ pub(crate) fn read_hop_entry(message: &[u8]) -> Result<Hop, SegError>
 pub(crate) fn read_peer_entry(message: &[u8]) -> Result<Hop, SegError>
     ensures { Reads (λ hop. hop) result (peer_entry_decoding message.now) }
 {
-    let slots = slots_of(&PEER_ENTRY, message)?;
+    let slots = slots_of::<13>(&PEER_ENTRY, message)?;
     let hop_field = slots.required_message(4)?;
     let _peer_mtu = u32_of(slots.number_field(3))?;
     read_hop_field(hop_field)

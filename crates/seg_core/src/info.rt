@@ -19,7 +19,7 @@ pub(crate) struct Info {
 pub(crate) fn read_info(message: &[u8]) -> Result<Info, SegError>
     ensures { Reads (λ info. info) result (info_decoding message.now) }
 {
-    let slots = slots_of(&SEGMENT_INFORMATION, message)?;
+    let slots = slots_of::<6>(&SEGMENT_INFORMATION, message)?;
     let timestamp = u32_of(slots.number_field(1))?;
     let segment_id = u16_of(slots.number_field(2))?;
     Ok(Info {

@@ -52,7 +52,7 @@ pub(crate) fn read_outline(message: &[u8]) -> Result<Outline<'_>, SegError>
     ensures memory { IfErr result (λ e. e ≢ NoMemory) }
 {
     check(message.len() <= MOST_BYTES, SegError::TooLarge)?;
-    let slots = slots_of(&PATH_SEGMENT, message)?;
+    let slots = slots_of::<5>(&PATH_SEGMENT, message)?;
     let entries = slots.bytes_fields(2);
     check(is_entry_count(entries), SegError::Entries)?;
     let info_bytes = slots.bytes_field_or_empty(1);

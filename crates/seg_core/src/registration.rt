@@ -58,9 +58,9 @@ fn read_map_entry(
         → Gives {Y = SegType × List (SegType × SegmentView)} (λ kind. (kind, found.new.items)) result
         (result_map (λ entry. (entry.0, found.old.items ++ rows_of entry.0 entry.1)) (map_entry_decoding entries message.now)) }
 {
-    let slots = slots_of(&MAP_ENTRY, message)?;
+    let slots = slots_of::<2>(&MAP_ENTRY, message)?;
     let kind = earlier.new_type(slots.number_field(1))?;
-    let value = slots_of(&SEGMENTS, slots.bytes_field_or_empty(2))?;
+    let value = slots_of::<3>(&SEGMENTS, slots.bytes_field_or_empty(2))?;
     read_segments(alloc, kind, value.bytes_fields(1), found)?;
     Ok(kind)
 }
@@ -86,7 +86,7 @@ fn read_outline(message: &[u8]) -> Result<BytesFields<'_>, SegError>
     ensures memory { IfErr result (λ e. e ≢ NoMemory) }
 {
     check(message.len() <= MOST_BYTES, SegError::TooLarge)?;
-    let slots = slots_of(&SEGMENT_MAP, message)?;
+    let slots = slots_of::<4>(&SEGMENT_MAP, message)?;
     Ok(slots.bytes_fields(1))
 }
 

@@ -14,7 +14,7 @@ use isd_as::IsdAs;
 pub fn read_request(message: &[u8]) -> Result<(IsdAs, IsdAs), SegError>
     ensures { Reads (λ ends. (number_of ends.0, number_of ends.1)) result (request_decoding message.now) }
 {
-    let slots = slots_of(&REQUEST, message)?;
+    let slots = slots_of::<1>(&REQUEST, message)?;
     let source = IsdAs::from_u64(slots.number_field(1));
     let destination = IsdAs::from_u64(slots.number_field(2));
     Ok((source, destination))

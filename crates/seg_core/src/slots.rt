@@ -1,18 +1,20 @@
 //! A message's fields, by their numbers.
 
-ghost use Rattle.std.specs.Prelude.{◌≡◌, ℕ, ◌<◌, ◌≤◌, [], ◌∷◌, ◌++◌, List, length, None, IfOk, is_some};
-ghost use Rattle.std.specs.Option.{option_map};
+ghost use Rattle.std.specs.Prelude.{◌≡◌, ℕ, ◌<◌, ◌≤◌, [], ◌∷◌, ◌++◌, List, length, None, Ok, IfOk, is_some};
+ghost use Rattle.std.specs.Option.{option_map, ForSome};
 ghost use Rattle.pw_wire.specs.Field.{FieldView};
 ghost use Rattle.pw_wire.specs.Fields.{fields};
 ghost use Rattle.pw_wire.specs.View.{field_view, value_view};
 ghost use Rattle.seg_core.specs.Steps.{Reads};
 ghost use Rattle.seg_core.specs.Message.{bytes_field, bytes_field_or_empty, is_single, kind_at, message_fields, misfit_at, number_field, required_message, suits};
-ghost use Rattle.seg_core.specs.Slots.{AreNoted};
+ghost use Rattle.seg_core.specs.declared.shape.FieldKind.{FieldKind};
+ghost use Rattle.seg_core.specs.declared.shape.FieldKind.TheVariants.{Number, Messages};
+ghost use Rattle.seg_core.specs.Slots.{AreNoted, IsMidway, TakesBytes};
 
 use crate::bytes_fields::BytesFields;
 use crate::error::SegError;
 use crate::shape::{FieldKind, WIDTH};
-use pw_wire::{Field, Value, next_field};
+use pw_wire::{Field, Value, first_bytes, first_number, next_field};
 
 /// The last number and the last bytes under each field number that a message may know.
 #[derive(Clone, Copy)]
@@ -32,6 +34,7 @@ impl<'a> Noted<'a> {
     }
 
     /// Takes in the next field.
+    #[inline(always)]
     fn note(&mut self, field: &Field<'a>)
         ensures { (before : List FieldView) → AreNoted before self.old.numbers self.old.bytes
             → AreNoted (before ++ field_view field.now ∷ []) self.new.numbers self.new.bytes }
@@ -48,6 +51,7 @@ impl<'a> Noted<'a> {
     }
 
     /// Whether bytes stand under a field number.
+    #[inline(always)]
     fn has_bytes(&self, field_number: u32) -> bool
         requires { field_number < 7 }
         ensures { (before : List FieldView) → AreNoted before self.now.numbers self.now.bytes
@@ -58,6 +62,7 @@ impl<'a> Noted<'a> {
 }
 
 /// The kind of the fields of a number.
+#[inline(always)]
 fn kind_at(shape: &[FieldKind], field_number: u32) -> FieldKind
     ensures { result ≡ kind_at shape.now field_number }
 {
@@ -88,6 +93,7 @@ fn is_single(kind: FieldKind) -> bool
 }
 
 /// What is wrong with a field behind those that are noted.
+#[inline(always)]
 fn misfit_of(shape: &[FieldKind], noted: &Noted<'_>, field: &Field<'_>) -> Option<SegError>
     requires { length shape.now ≤ 7 }
     ensures { (before : List FieldView) → AreNoted before noted.now.numbers noted.now.bytes
@@ -111,10 +117,10 @@ pub(crate) struct Slots<'a> {
     ghost all_noted: { AreNoted (fields message.now) noted.numbers noted.bytes },
 }
 
-/// Reads the fields of a message: first its wire, to its last byte, then kinds and repetitions, in the order of the
-/// fields.
+/// Reads the fields of a message in any order.
+#[inline(never)]
 #[tactic(auto, unfolding(crate::specs::Message::message_fields))]
-pub(crate) fn slots_of<'a>(shape: &[FieldKind], message: &'a [u8]) -> Result<Slots<'a>, SegError>
+fn slots_in_any_order<'a>(shape: &[FieldKind], message: &'a [u8]) -> Result<Slots<'a>, SegError>
     requires { length shape.now ≤ 7 }
     ensures exact { Reads (λ slots. fields slots.message.now) result (message_fields shape.now message.entry.now) }
     ensures kept { IfOk result (λ slots. slots.message ≡ message.entry) }
@@ -130,6 +136,140 @@ pub(crate) fn slots_of<'a>(shape: &[FieldKind], message: &'a [u8]) -> Result<Slo
     match misfit {
         Some(refusal) => Err(refusal),
         None => Ok(Slots { message, noted }),
+    }
+}
+
+/// Notes a number that the bytes begin with under this field number, and gives the bytes after it; all of them where there is none.
+#[inline(always)]
+fn take_number<'a>(field_number: u8, noted: &mut Noted<'a>, rest: &'a [u8]) -> &'a [u8]
+    requires positive { 1 ≤ field_number }
+    requires known { field_number < 7 }
+    ensures { (shape : List FieldKind) (message : List ℕ) → kind_at shape field_number ≡ Number
+        → IsMidway shape message rest.entry.now None noted.old.numbers noted.old.bytes
+        → IsMidway shape message result.now None noted.new.numbers noted.new.bytes }
+{
+    match first_number(field_number, rest) {
+        None => rest,
+        Some((n, used)) => {
+            noted.numbers[usize::from(field_number)] = n;
+            rest.split_at(used).1
+        }
+    }
+}
+
+/// Notes bytes that the message goes on with under this field number, which fit, and gives what follows.
+#[inline(always)]
+fn take_bytes<'a>(field_number: u8, noted: &mut Noted<'a>, rest: &'a [u8]) -> &'a [u8]
+    requires positive { 1 ≤ field_number }
+    requires known { field_number < 7 }
+    ensures midway { (shape : List FieldKind) (message : List ℕ) → TakesBytes shape field_number noted.old.numbers noted.old.bytes
+        → IsMidway shape message rest.entry.now None noted.old.numbers noted.old.bytes
+        → IsMidway shape message result.now None noted.new.numbers noted.new.bytes }
+    ensures shorter { length result.now ≤ length rest.entry.now }
+{
+    match first_bytes(field_number, rest) {
+        None => rest,
+        Some((bytes, used)) => {
+            noted.bytes[usize::from(field_number)] = Some(bytes);
+            rest.split_at(used).1
+        }
+    }
+}
+
+/// Notes the messages that come next under this field number, of which there may be any number, and gives what follows.
+#[inline(always)]
+fn take_messages<'a>(field_number: u8, noted: &mut Noted<'a>, rest: &'a [u8]) -> &'a [u8]
+    requires positive { 1 ≤ field_number }
+    requires known { field_number < 7 }
+    ensures { (shape : List FieldKind) (message : List ℕ) → kind_at shape field_number ≡ Messages
+        → IsMidway shape message rest.entry.now None noted.old.numbers noted.old.bytes
+        → IsMidway shape message result.now None noted.new.numbers noted.new.bytes }
+{
+    let mut left = rest;
+    loop {
+        let most = left.len();
+        left = take_bytes(field_number, noted, left);
+        if left.len() == most {
+            return left;
+        }
+    }
+}
+
+/// Notes what comes next under a field number, as far as it fits, and gives what follows.
+#[inline(always)]
+fn take_under<'a>(
+    shape: &[FieldKind],
+    field_number: u8,
+    noted: &mut Noted<'a>,
+    rest: &'a [u8],
+) -> &'a [u8]
+    requires positive { 1 ≤ field_number }
+    requires known { field_number < 7 }
+    ensures { (message : List ℕ) → IsMidway shape.now message rest.entry.now None noted.old.numbers noted.old.bytes
+        → IsMidway shape.now message result.now None noted.new.numbers noted.new.bytes }
+{
+    match kind_at(shape, u32::from(field_number)) {
+        FieldKind::Unknown => rest,
+        FieldKind::Number => take_number(field_number, noted, rest),
+        FieldKind::Bytes => take_bytes(field_number, noted, rest),
+        FieldKind::Message => {
+            if noted.has_bytes(u32::from(field_number)) {
+                return rest;
+            }
+            take_bytes(field_number, noted, rest)
+        }
+        FieldKind::Messages => take_messages(field_number, noted, rest),
+    }
+}
+
+/// The fields of a message whose tags take one byte, which fit, and which come in the order of their numbers, as an encoder writes
+/// them. `None` says nothing of the message.
+#[inline]
+fn slots_in_order<'a, const SHAPE: u8>(shape: &[FieldKind], message: &'a [u8]) -> Option<Slots<'a>>
+    requires { length shape.now ≤ 7 }
+    ensures exact { ForSome result (λ slots. message_fields shape.now message.entry.now ≡ Ok (fields slots.message.now)) }
+    ensures kept { ForSome result (λ slots. slots.message ≡ message.entry) }
+{
+    let mut noted = Noted::new();
+    let rest = take_under(shape, 1, &mut noted, message);
+    let rest = take_under(shape, 2, &mut noted, rest);
+    let rest = take_under(shape, 3, &mut noted, rest);
+    let rest = take_under(shape, 4, &mut noted, rest);
+    let rest = take_under(shape, 5, &mut noted, rest);
+    let rest = take_under(shape, 6, &mut noted, rest);
+    if rest.is_empty() {
+        return Some(Slots { message, noted });
+    }
+    None
+}
+
+/// The result of the scan goes through this function, so that a message in order reserves no memory for it.
+#[inline(always)]
+fn slots_by_scan<'a>(shape: &[FieldKind], message: &'a [u8]) -> Result<Slots<'a>, SegError>
+    requires { length shape.now ≤ 7 }
+    ensures exact { Reads (λ slots. fields slots.message.now) result (message_fields shape.now message.entry.now) }
+    ensures kept { IfOk result (λ slots. slots.message ≡ message.entry) }
+{
+    match slots_in_any_order(shape, message) {
+        Ok(slots) => Ok(slots),
+        Err(refusal) => Err(refusal),
+    }
+}
+
+/// Reads the fields of a message: first its wire, to its last byte, then kinds and repetitions, in the order of the
+/// fields. `SHAPE` differs from shape to shape, so that the compiler makes code for each one's fields in the order of their numbers.
+#[inline(always)]
+pub(crate) fn slots_of<'a, const SHAPE: u8>(
+    shape: &[FieldKind],
+    message: &'a [u8],
+) -> Result<Slots<'a>, SegError>
+    requires { length shape.now ≤ 7 }
+    ensures exact { Reads (λ slots. fields slots.message.now) result (message_fields shape.now message.entry.now) }
+    ensures kept { IfOk result (λ slots. slots.message ≡ message.entry) }
+{
+    match slots_in_order::<SHAPE>(shape, message) {
+        Some(slots) => Ok(slots),
+        None => slots_by_scan(shape, message),
     }
 }
 
