@@ -1,14 +1,18 @@
 //! A file of the system.
-ghost use Rattle.std.specs.Prelude.{◌≡◌, ◌≤◌, length, IfOk};
+ghost use Rattle.std.specs.Prelude.{◌≡◌, ◌≢◌, ◌≤◌, length, IfOk, IfErr};
+ghost use Rattle.std.specs.IoError.{error_kind};
+ghost use Rattle.sector_dev.specs.PositionedFile.{TransfersOut, TransfersIn};
 
 use crate::PositionedFile;
 use crate::positioned_file::failures_after;
 use std::fs::File;
 use std::io;
+use std::io::{ErrorKind, Seek, SeekFrom};
 use std::os::unix::fs::FileExt;
 
-/// A file of the system with a count of its failures, as far as that is below 2^64 - 1, which stays. No clause says what
-/// such a file gives or keeps, so it is not called honest.
+/// A file of the system, or a block device, with a count of its failures, as far as that is below 2^64 - 1, which stays.
+/// No clause says what such a file gives or keeps, so it is not called honest. A transfer that a signal interrupts before
+/// any byte moved is made again, and counts as one: no transfer answers `Interrupted`.
 #[derive(Drop)]
 pub struct SystemFile {
     file: File,
@@ -41,18 +45,25 @@ impl PositionedFile for SystemFile {
 
     ghost bytes = { λ file honest i. Prim.omega arith };
 
+    // The offset of its end, as the metadata of a block device has no length.
     fn size(&mut self) -> io::Result<u64> {
-        Ok(self.file.metadata()?.len())
+        self.file.seek(SeekFrom::End(0))
     }
 
-    fn read_at(&mut self, offset: u64, into: &mut [u8]) -> io::Result<usize> {
-        let moved = self.file.read_at(into, offset);
+    fn read_at(&mut self, offset: u64, into: &mut [u8]) -> io::Result<usize>
+        ensures out { TransfersOut offset into.new result (system_state self.old) (system_state self.new) }
+        ensures settled { IfErr result (λ e. error_kind e ≢ ErrorKind.Interrupted) }
+    {
+        let moved = read_on(&self.file, into, offset);
         self.failures = failures_after(into.len(), &moved, self.failures);
         moved
     }
 
-    fn write_at(&mut self, offset: u64, bytes: &[u8]) -> io::Result<usize> {
-        let moved = self.file.write_at(bytes, offset);
+    fn write_at(&mut self, offset: u64, bytes: &[u8]) -> io::Result<usize>
+        ensures into { TransfersIn offset bytes.now result (system_state self.old) (system_state self.new) }
+        ensures settled { IfErr result (λ e. error_kind e ≢ ErrorKind.Interrupted) }
+    {
+        let moved = write_on(&self.file, bytes, offset);
         self.failures = failures_after(bytes.len(), &moved, self.failures);
         moved
     }
@@ -64,4 +75,40 @@ impl PositionedFile for SystemFile {
         }
         synced
     }
+}
+
+// Reads once, and again as long as a signal interrupts the read.
+fn read_on(file: &File, into: &mut [u8], offset: u64) -> io::Result<usize>
+    ensures most { IfOk result (λ n. n ≤ length into.new) }
+    ensures size { length into.new ≡ length into.old }
+    ensures settled { IfErr result (λ e. error_kind e ≢ ErrorKind.Interrupted) }
+{
+    for _ in 0..u64::MAX {
+        match file.read_at(into, offset) {
+            Err(error) if error.kind() == ErrorKind::Interrupted => {}
+            moved => return moved,
+        }
+    }
+    Err(never_settled())
+}
+
+// Writes once, and again as long as a signal interrupts the write.
+fn write_on(file: &File, bytes: &[u8], offset: u64) -> io::Result<usize>
+    ensures most { IfOk result (λ n. n ≤ length bytes.now) }
+    ensures settled { IfErr result (λ e. error_kind e ≢ ErrorKind.Interrupted) }
+{
+    for _ in 0..u64::MAX {
+        match file.write_at(bytes, offset) {
+            Err(error) if error.kind() == ErrorKind::Interrupted => {}
+            moved => return moved,
+        }
+    }
+    Err(never_settled())
+}
+
+// Signals interrupted 2^64 - 1 tries.
+fn never_settled() -> io::Error
+    ensures { error_kind result ≡ ErrorKind.TimedOut }
+{
+    io::Error::from(ErrorKind::TimedOut)
 }
