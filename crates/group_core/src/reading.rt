@@ -4,12 +4,14 @@ ghost use Rattle.std.specs.Prelude.{◌≡◌, ◌≤◌, ◌↔◌, IsTrue, IfO
 ghost use Rattle.path_db.specs.Answer.{segments_of};
 ghost use Rattle.seg_lookup.specs.Answer.{answer_to};
 ghost use Rattle.seg_lookup.specs.Query.{query_view};
+ghost use Rattle.group_laws.specs.declared.phases.Check.TheVariants.{Sealed as sealed};
 ghost use Rattle.group_core.specs.Reading.{IsFree};
 ghost use Rattle.group_core.specs.StateView.{StepLeaves};
 
 use crate::plain_show::PlainShow;
 use crate::showcase::Showcase;
 use crate::state::State;
+use group_laws::Check;
 use sector_dev::Device;
 use seg_core::Segment;
 use seg_lookup::{Query, answer};
@@ -21,6 +23,16 @@ impl<D: Device, S: Showcase> State<D, S> {
         ensures { IsTrue result ↔ IsFree self.now }
     {
         !self.group.out && !self.plan.out
+    }
+
+    /// Whether a sealed journal awaits its checkpoint.
+    pub fn is_sealed(&self) -> bool
+        ensures { IsTrue result ↔ (self.now.check ≡ sealed) }
+    {
+        match self.check {
+            Check::Sealed => true,
+            _ => false,
+        }
     }
 
     /// A law. Between two calls a stop leaves what is committed, with a front of the pending commands as long as the flusher's phase
