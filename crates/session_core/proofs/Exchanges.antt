@@ -1,5 +1,5 @@
 -- Messages answered one behind the other: for `answer_all`, `serve_piece` and `serve`.
-use Rattle.std.proofs.Common.{◌≡◌, ℕ, ◌+◌, ◌-◌, ◌^◌, ◌<◌, min, List, [], ◌∷◌, ◌++◌, length, Option, Err, refl, sym, ap, subst, ◌∙◌, arith, append_assoc}
+use Rattle.std.proofs.Common.{◌≡◌, ℕ, ◌+◌, ◌-◌, ◌^◌, ◌<◌, min, List, [], ◌∷◌, ◌++◌, length, Option, Err, refl, sym, ap, subst, ◌∙◌, arith}
 use Rattle.std.proofs.lemmas.List.{append-nil, length-append, map-append}
 use Rattle.std.proofs.lemmas.List.Concat.{flat_map-append}
 use Rattle.std.proofs.lemmas.Fn.{FoldsTo-push}
@@ -106,10 +106,15 @@ module _ {S : Type 0} (form : Form) (answers : S → MessageView → ReplyView �
       answered = more_answered;
       sized = more_sized;
       appended = Appends-trans o p q (all_told form h.exchanges) f.front h.appended f.appended;
-      told = (
-        f.begins.0,
-        more_frames ∙ ap (λ (t : List ℕ). all_told form h.exchanges ++ t) f.begins.1 ∙ sym (append_assoc (all_told form h.exchanges) f.front f.begins.0),
-      );
+      told = record {
+        before = h.exchanges;
+        last = first_of b c mid rest reply x ∷ [];
+        parts = refl;
+        one = omega arith;
+        front = f.front;
+        begins = (f.begins.0, append-nil (told_as form reply) ∙ f.begins.1);
+        written_is = refl;
+      };
       stops = tt;
     }
     stops_at_write left q error.NoMemory f = record {

@@ -15,23 +15,42 @@ use Rattle.session_core.specs.Service.{Exchange, messages_of, replies_of, all_to
 use Rattle.session_core.specs.declared.reply.Form.{Form}
 use Rattle.session_core.specs.declared.reply.Form.TheVariants.{Frames}
 use Rattle.session_core.specs.Source.{AreReads}
-use Rattle.session_core.specs.Session.{Begins, Tells, IsPrompt, EndsFor, IsServed}
+use Rattle.session_core.specs.Session.{Tells, TellsFrontOfLast, IsPrompt, EndsFor, IsServed}
 use Rattle.session_core.specs.Answered.{AreFrontsAnswered}
 use Rattle.session_core.proofs.Streams.{AreWholeFrames-none, AreWholeFrames-append, AreWholeFrames-more}
 use Rattle.session_core.proofs.Exchanges.{HasAnswered, answered_none, sized-append, folds-append, messages-append, replies-append, told-append}
 
 -- ---- one piece
 
--- however it ended, a front of the replies was written
-pub begins_of : (form : Form) (r : Result ℕ FrameError) (written : List ℕ) (es : List Exchange) → Tells form r written es → Begins written (all_told form es)
-begins_of form (Ok n) written es t = ([], sym t ∙ sym (append-nil written))
-begins_of form (Err error.Length) written es t = ([], sym t ∙ sym (append-nil written))
-begins_of form (Err error.Kind) written es t = ([], sym t ∙ sym (append-nil written))
-begins_of form (Err error.Read) written es t = ([], sym t ∙ sym (append-nil written))
-begins_of form (Err error.Turns) written es t = ([], sym t ∙ sym (append-nil written))
-begins_of form (Err error.Write) written es t = t
-begins_of form (Err error.NoMemory) written es t =
-    (all_told form t.last, ap (all_told form) t.parts ∙ told-append form t.before t.last ∙ ap (λ (w : List ℕ). w ++ all_told form t.last) (sym t.written_is))
+-- all replies were written
+all_of : (form : Form) (written : List ℕ) (es : List Exchange) → written ≡ all_told form es → TellsFrontOfLast form written es
+all_of form written es told = record {
+  before = es;
+  last = [];
+  parts = sym (append-nil es);
+  one = omega arith;
+  front = [];
+  begins = ([], refl);
+  written_is = told ∙ sym (append-nil (all_told form es));
+}
+
+-- however it ended, all were but the last one, and a front of that
+front_of : (form : Form) (r : Result ℕ FrameError) (written : List ℕ) (es : List Exchange) → Tells form r written es → TellsFrontOfLast form written es
+front_of form (Ok n) written es told = all_of form written es told
+front_of form (Err error.Length) written es told = all_of form written es told
+front_of form (Err error.Kind) written es told = all_of form written es told
+front_of form (Err error.Read) written es told = all_of form written es told
+front_of form (Err error.Turns) written es told = all_of form written es told
+front_of form (Err error.Write) written es told = told
+front_of form (Err error.NoMemory) written es told = record {
+  before = told.before;
+  last = told.last;
+  parts = told.parts;
+  one = told.one;
+  front = [];
+  begins = (all_told form told.last, refl);
+  written_is = told.written_is ∙ sym (append-nil (all_told form told.before));
+}
 
 module _ {S : Type 0} (form : Form) (answers : S → MessageView → ReplyView → S → Type 0) where
   -- no memory for the piece
@@ -59,7 +78,7 @@ module _ {S : Type 0} (form : Form) (answers : S → MessageView → ReplyView �
     answered = x.answered;
     sized = x.sized;
     appended = Appends-kept o p q x.written x.appended k;
-    told = begins_of form r x.written x.exchanges x.told;
+    told = front_of form r x.written x.exchanges x.told;
     stops = tt;
   }
 
@@ -256,8 +275,18 @@ module _ {S R : Type 0} (answers : S → MessageView → ReplyView → S → Typ
     both_told (Err error.Kind) written es fs told = ap (λ (w : List ℕ). reply_frames es ++ w) told ∙ sym (told-append Frames es fs)
     both_told (Err error.Read) written es fs told = ap (λ (w : List ℕ). reply_frames es ++ w) told ∙ sym (told-append Frames es fs)
     both_told (Err error.Turns) written es fs told = ap (λ (w : List ℕ). reply_frames es ++ w) told ∙ sym (told-append Frames es fs)
-    both_told (Err error.Write) written es fs told =
-        (told.0, told-append Frames es fs ∙ ap (λ (w : List ℕ). reply_frames es ++ w) told.1 ∙ sym (append_assoc (reply_frames es) written told.0))
+    both_told (Err error.Write) written es fs told = record {
+      before = es ++ told.before;
+      last = told.last;
+      parts = ap (λ (gs : List Exchange). es ++ gs) told.parts ∙ sym (append_assoc es told.before told.last);
+      one = told.one;
+      front = told.front;
+      begins = told.begins;
+      written_is =
+          ap (λ (w : List ℕ). reply_frames es ++ w) told.written_is
+          ∙ sym (append_assoc (reply_frames es) (reply_frames told.before) told.front)
+          ∙ ap (λ (w : List ℕ). w ++ told.front) (sym (told-append Frames es told.before));
+    }
     both_told (Err error.NoMemory) written es fs told = record {
       before = es ++ told.before;
       last = told.last;

@@ -25,15 +25,25 @@ pub record TellsAllBefore (form : Form) (written : List ℕ) (exchanges : List E
   pub one : length last ≤ 1
   pub written_is : written ≡ all_told form before
 
--- What was written of the replies to the messages that were answered: all of them, but after a failed write, when a
--- front of their bytes was, and for want of memory, when the last one may be missing.
+-- The replies to all messages but the last one, and a front of the last one's, which may be all of it.
+pub record TellsFrontOfLast (form : Form) (written : List ℕ) (exchanges : List Exchange) : Type 0 where
+  pub before : List Exchange
+  pub last : List Exchange
+  pub parts : exchanges ≡ before ++ last
+  pub one : length last ≤ 1
+  pub front : List ℕ
+  pub begins : Begins front (all_told form last)
+  pub written_is : written ≡ all_told form before ++ front
+
+-- What was written of the replies to the messages that were answered: all of them, but after a failed write, when the last
+-- one may be missing or cut, and for want of memory, when it may be missing.
 abbrev pub Tells : Form → Result ℕ FrameError → List ℕ → List Exchange → Type 0
 Tells form (Ok count) written exchanges = written ≡ all_told form exchanges
 Tells form (Err error.NoMemory) written exchanges = TellsAllBefore form written exchanges
 Tells form (Err error.Length) written exchanges = written ≡ all_told form exchanges
 Tells form (Err error.Kind) written exchanges = written ≡ all_told form exchanges
 Tells form (Err error.Read) written exchanges = written ≡ all_told form exchanges
-Tells form (Err error.Write) written exchanges = Begins written (all_told form exchanges)
+Tells form (Err error.Write) written exchanges = TellsFrontOfLast form written exchanges
 Tells form (Err error.Turns) written exchanges = written ≡ all_told form exchanges
 
 -- All that was read but for its last piece was answered as far as its frames stand whole, no fault stands in it, and

@@ -17,8 +17,8 @@ use std::io::Write;
 /// count that stays at 2^64 - 1.
 ///
 /// Memory holds one piece of the input, less than a frame before it, and one reply. What is written is flushed before
-/// each further read. The contract leaves open why a read or a write failed and when memory runs out, since no call of a
-/// reader, a writer or the allocator shows that.
+/// each further read, and behind a write that failed no further message is answered. The contract leaves open why a read
+/// or a write failed and when memory runs out, since no call of a reader, a writer or the allocator shows that.
 pub fn serve<R: Source, W: Write, S: Service>(
     alloc: Global,
     reader: &mut R,
