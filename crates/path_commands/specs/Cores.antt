@@ -39,10 +39,23 @@ pub record FirstRefusal (texts : List (List ℕ)) (e : IaError) : Type 0 where
   pub before : AreCores front cores
   pub refused : IsRefused text e
 
--- why a list is refused, unless memory ran out
+-- Each of the texts is an ISD-AS.
+pub record IsCoreList (texts : List (List ℕ)) : Type 0 where
+  pub cores : List IsdAs
+  pub are : AreCores texts cores
+
+-- why a list is refused: a text in it is no ISD-AS, which is found without memory, or memory ran out for the core ASes
 abbrev pub RefusesList : List ℕ → Fault → Type 0
 RefusesList list (fault.Text e) = FirstRefusal (texts_of list) e
-RefusesList list fault.Memory = Unit {0}
+RefusesList list fault.Memory = IsCoreList (texts_of list)
 RefusesList list fault.Hex = ⊥
 RefusesList list (fault.Frame e) = ⊥
 RefusesList list fault.Output = ⊥
+
+-- why a list is refused that is judged without memory
+abbrev pub RefusesTexts : List ℕ → Fault → Type 0
+RefusesTexts list (fault.Text e) = FirstRefusal (texts_of list) e
+RefusesTexts list fault.Memory = ⊥
+RefusesTexts list fault.Hex = ⊥
+RefusesTexts list (fault.Frame e) = ⊥
+RefusesTexts list fault.Output = ⊥

@@ -1,25 +1,36 @@
 //! The core ASes as a text.
 
-ghost use Rattle.std.specs.Prelude.{◌≡◌, map, IfOk, IfErr};
+ghost use Rattle.std.specs.Prelude.{IfOk, IfErr, OnOk};
 ghost use Rattle.isd_as.specs.Text.{IsIsdAsText};
-ghost use Rattle.path_commands.specs.Cores.{texts_of, AreCores, RefusesText, RefusesList};
+ghost use Rattle.path_commands.specs.Cores.{texts_of, AreCores, IsCoreList, RefusesText, RefusesTexts, RefusesList};
 
 use crate::error::Fault;
 use isd_as::{IaError, IsdAs, parse};
 use std::alloc::Global;
 
-/// The core ASes of a list of texts joined by commas.
+/// The core ASes of a list of texts joined by commas. A text that is no ISD-AS is found without memory.
 pub fn cores_of(alloc: Global, list: &str) -> Result<Vec<IsdAs>, Fault>
     ensures ok { IfOk result (λ cores. AreCores (texts_of list.now) cores.items) }
     ensures err { IfErr result (RefusesList list.now) }
 {
-    let texts = between_commas(alloc, list)?;
+    check_texts(list)?;
     let mut cores = Vec::new(alloc);
-    for text in &texts {
+    for text in list.split(',') {
         let core = core_of(text)?;
         cores.push(core).map_err(|_| Fault::Memory)?;
     }
     Ok(cores)
+}
+
+/// Judges the texts of a list, in their order, without memory.
+fn check_texts(list: &str) -> Result<(), Fault>
+    ensures ok { OnOk result (IsCoreList (texts_of list.now)) }
+    ensures err { IfErr result (RefusesTexts list.now) }
+{
+    for text in list.split(',') {
+        core_of(text)?;
+    }
+    Ok(())
 }
 
 fn core_of(text: &str) -> Result<IsdAs, Fault>
@@ -30,15 +41,5 @@ fn core_of(text: &str) -> Result<IsdAs, Fault>
         Ok(core) => Ok(core),
         Err(IaError::BadText) => Err(Fault::Text(IaError::BadText)),
         Err(IaError::TooLarge) => Err(Fault::Text(IaError::TooLarge)),
-    }
-}
-
-fn between_commas(alloc: Global, list: &str) -> Result<Vec<&str>, Fault>
-    ensures ok { IfOk result (λ texts. map (λ text. text.now) texts.items ≡ texts_of list.now) }
-    ensures err { IfErr result (λ e. e ≡ Fault.Memory) }
-{
-    match list.split(',').collect(alloc) {
-        Ok(texts) => Ok(texts),
-        Err(_) => Err(Fault::Memory),
     }
 }
