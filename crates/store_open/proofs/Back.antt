@@ -1,7 +1,7 @@
 -- A device that isn't opened comes back.
-use Rattle.std.proofs.Common.{◌≡◌, ℕ, List, Result, Ok, Err, IfOk, refl, sym, ◌∙◌, ap, subst}
+use Rattle.std.proofs.Common.{◌≡◌, inr, ℕ, List, Result, Ok, Err, IfOk, refl, sym, ◌∙◌, ap, subst}
 use Rattle.std.specs.Result.{IfErr}
-use Rattle.sector_dev.specs.Disk.{Disk, IsHonest, reads_of}
+use Rattle.sector_dev.specs.Disk.{Disk, IsHonest, reads_of, after_sync}
 use Rattle.sector_dev.specs.Calls.{one_more, SyncCall}
 use Rattle.sector_dev.proofs.Parts.{reads_synced}
 use Rattle.sector_dev.proofs.Stretches.{honest_after}
@@ -11,8 +11,9 @@ use Rattle.store_open.specs.declared.error.OpenError.{OpenError}
 use Rattle.store_open.specs.declared.error.OpenError.TheVariants.{NotAStore, Device, Pair, Journal, NoMemory}
 use Rattle.store_open.specs.declared.folded.Folded.{Folded}
 use Rattle.store_open.specs.declared.opening.Found.{Found}
+use Rattle.store_open.specs.Closing.{synced_by}
 use Rattle.store_open.specs.Folded.{store_on}
-use Rattle.store_open.specs.Open.{RefusesOpening, WantsMemoryToOpen, IsOpened, ComesBack}
+use Rattle.store_open.specs.Open.{RefusesOpening, WantsMemoryToOpen, HasNothingToClose, OnlySyncs, IsNoFault, IsOpened, ComesBack}
 use Rattle.store_open.specs.PathStores.{store_format}
 use Rattle.store_open.specs.Refusals.{faults_after, LooksFor, OnOkOrNoMemory}
 
@@ -43,11 +44,28 @@ back_failed old new faults = record { refused = λ honest. tt; memory = λ hones
 pub back_so : (result : Result Folded OpenError) (e : OpenError) (old new : Disk) → result ≡ Err e → ComesBack e old new → IfErr result (λ x. ComesBack x old new)
 back_so result e old new is back = subst (λ (r : Result Folded OpenError). IfErr r (λ x. ComesBack x old new)) (sym is) back
 
+-- nothing was written before a refusal, whatever it is; or it is the device's
+pub untouched_so : (result : Result Folded OpenError) (old new : Disk) → (IsHonest old → new.history ≡ old.history) → IfErr result (λ e. IsHonest old → IsNoFault e → new.history ≡ old.history)
+untouched_so (Ok folded) old new same = tt
+untouched_so (Err e) old new same = λ honest other. same honest
+
+pub faulty_so : (result : Result Folded OpenError) (old new : Disk) → result ≡ Err Device → IfErr result (λ e. IsHonest old → IsNoFault e → new.history ≡ old.history)
+faulty_so result old new is =
+    subst (λ (r : Result Folded OpenError). IfErr r (λ e. IsHonest old → IsNoFault e → new.history ≡ old.history)) (sym is) (λ honest other. absurd (other refl))
+
+-- the sync failed
+pub sync_failed : (result : Result Folded OpenError) (start mid : Disk) → result ≡ Err Device → IfErr result (λ e. IsHonest start → IsNoFault e → mid.history ≡ after_sync start.history)
+sync_failed result start mid is =
+    subst (λ (r : Result Folded OpenError). IfErr r (λ e. IsHonest start → IsNoFault e → mid.history ≡ after_sync start.history)) (sym is) (λ honest other. absurd (other refl))
+
 -- ---- behind a sync that succeeded
 
 module _ (start mid new : Disk) {S F : Type 0} (answer : Result S F) (call : SyncCall answer start mid) (faults : mid.faults ≡ start.faults) where
   honest_then : IsHonest start → IsHonest mid
   honest_then honest = honest_after start mid call.keeps honest
+
+  still_nothing : IsHonest start → HasNothingToClose (reads_of start) → HasNothingToClose (reads_of mid)
+  still_nothing honest nothing = subst HasNothingToClose (sym (reads_synced answer start mid call honest)) nothing
 
   since_sync : (e : OpenError) → ComesBack e mid new → ComesBack e start new
   since_sync e back = record {
@@ -68,3 +86,13 @@ module _ (start mid new : Disk) {S F : Type 0} (answer : Result S F) (call : Syn
       → IfOk result (λ folded. IsHonest start → IsOpened (reads_of start) (store_on new folded))
   opened_since (Ok folded) so = λ honest. subst (λ (list : List ℕ). IsOpened list (store_on new folded)) (reads_synced answer start mid call honest) (so (honest_then honest))
   opened_since (Err e) so = tt
+
+  pub only_syncs : (result : Result Folded OpenError) → (IsHonest start → mid.history ≡ after_sync start.history) → (IsHonest mid → HasNothingToClose (reads_of mid) → new.history ≡ synced_by result mid.history)
+      → IsHonest start → HasNothingToClose (reads_of start) → OnlySyncs result start.history new.history
+  only_syncs (Ok folded) synced unwritten honest nothing = unwritten (honest_then honest) (still_nothing honest nothing) ∙ ap after_sync (synced honest)
+  only_syncs (Err e) synced unwritten honest nothing = inr (unwritten (honest_then honest) (still_nothing honest nothing) ∙ synced honest)
+
+  pub untouched_since : (result : Result Folded OpenError) → (IsHonest start → mid.history ≡ after_sync start.history) → IfErr result (λ e. IsHonest mid → IsNoFault e → new.history ≡ mid.history)
+      → IfErr result (λ e. IsHonest start → IsNoFault e → new.history ≡ after_sync start.history)
+  untouched_since (Ok folded) synced same = tt
+  untouched_since (Err e) synced same = λ honest other. same (honest_then honest) other ∙ synced honest

@@ -1,5 +1,5 @@
 -- What an honest device tells of a store is within its bounds.
-use Rattle.std.proofs.Common.{◌≡◌, ℕ, ◌+◌, ◌*◌, ◌≤◌, List, Option, Some, None, length, sym, ap, subst, arith}
+use Rattle.std.proofs.Common.{◌≡◌, ℕ, ◌+◌, ◌*◌, ◌≤◌, Bool, true, false, List, Option, Some, None, length, sym, ◌∙◌, ap, subst, arith}
 use Rattle.path_db.specs.Database.{RowView}
 use Rattle.path_db.specs.declared.command.Command.{Command}
 use Rattle.image_laws.specs.declared.half.Half.{Half}
@@ -7,13 +7,12 @@ use Rattle.image_laws.specs.Journal.{Reading, IsJournal}
 use Rattle.image_laws.specs.Checkpoint.{Head}
 use Rattle.image_laws.specs.Layout.{Geometry, IsGeometry, image_sectors, other, journal_of}
 use Rattle.image_laws.specs.Opening.{Opening, limits_in, IsTail, last_journal, IsOpening}
-use Rattle.image_laws.specs.StoreGrowth.{last_reading}
 use Rattle.image_laws.proofs.Exports.{stays_within_bounds}
 use Rattle.gate_journal.specs.Commands.{command_format}
 use Rattle.ckpt_pair.specs.Heads.{latest}
 use Rattle.store_open.specs.Open.{IsOpened}
 use Rattle.store_open.specs.PathStores.{store_format}
-use Rattle.store_open.specs.Store.{StoreView, Tells}
+use Rattle.store_open.specs.Store.{StoreView}
 use Rattle.store_open.specs.StoreShape.{IsWithin}
 use Rattle.store_open.proofs.Journals.{journal_sectors, journal_size}
 
@@ -42,3 +41,10 @@ opened_within reads view allowed room opened =
       seal = omega (arith, last_within reads opening opened.same there large opening.tail opened.same.tail, tells.gate, ap (λ (g : Geometry). g.journal) tells.geometry);
       known = omega (arith, opened.same.half.known, ap (λ (h : Head). h.version) tells.head);
     }
+
+-- so it isn't told apart from one that is within them
+pub never_outside : (reads : List ℕ) (view : StoreView) (inside : Bool) → IsGeometry view.geometry → 512 * image_sectors view.geometry ≤ length reads → IsOpened reads view
+    → (IsWithin view.geometry.journal view.gate view.head.version → inside ≡ true) → inside ≡ false → ⊥
+never_outside reads view inside allowed room opened is_inside outside =
+    let clash : true ≡ false = sym (is_inside (opened_within reads view allowed room opened)) ∙ outside in
+    absurd (cc)

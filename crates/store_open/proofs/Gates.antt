@@ -155,6 +155,15 @@ module _ (geometry : Geometry) (half : Half) (start : Disk) (allowed : IsGeometr
           journal = λ opened. false_open (sector_at (gate_at geometry half + 1) (reads_of start)) (first honest) (subst IsOpenGate (first_gate geometry half (reads_of start) (omega (arith, allowed))) opened);
         })
 
+  -- a gate that reads open isn't one of two that are closed
+  pub gate_isnt_closed : (IsHonest start → is_open_gate (gate_of geometry half (reads_of start)) ≡ true) → IsHonest start → HasClosedGates geometry half (reads_of start) → ⊥
+  gate_isnt_closed opened honest closed = closed.gate (true_open (gate_of geometry half (reads_of start)) (opened honest))
+
+  pub first_isnt_closed : (IsHonest start → is_open_gate (sector_at (gate_at geometry half + 1) (reads_of start)) ≡ true) → IsHonest start → HasClosedGates geometry half (reads_of start) → ⊥
+  first_isnt_closed opened honest closed =
+      closed.journal
+      (subst IsOpenGate (sym (first_gate geometry half (reads_of start) (omega (arith, allowed)))) (true_open (sector_at (gate_at geometry half + 1) (reads_of start)) (opened honest)))
+
 -- what was told of a gate that was looked at, where reads still give the same
 pub told : (sector at : ℕ) (reads now : List ℕ) (found answer : Bool) → sector ≡ at → now ≡ reads → found ≡ is_open_gate (sector_at sector now) → found ≡ answer → is_open_gate (sector_at at reads) ≡ answer
 told sector at reads now found answer place same so is = (λ i. is_open_gate (sector_at (sym place i) (sym same i))) ∙ sym so ∙ is

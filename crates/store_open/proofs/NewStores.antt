@@ -1,5 +1,6 @@
 -- A new store is a formatted one, whatever its databases and commands are.
 use Rattle.std.proofs.Common.{◌≡◌, ℕ, ◌+◌, List, [], ◌++◌, length, take, get_or, sym, ◌∙◌, ap, arith}
+use Rattle.std.proofs.lemmas.List.{take-take}
 use Rattle.std.specs.Int.{w32, to_be_bytes}
 use Rattle.byte_lists.specs.Content.{AreBytes}
 use Rattle.byte_lists.specs.Sectors.{IsOpenGate}
@@ -42,7 +43,7 @@ module _ {Db C : Type 0} (format : StoreFormat Db C) where
     can = can;
     spelled =
         ap (λ (bytes : List ℕ). take (32 + length bytes) (area_of geometry First image)) no_row_bytes
-        ∙ is.begins
+        ∙ sym (take-take 32 512 (area_of geometry First image) (omega arith)) ∙ ap (take 32) is.begins
         ∙ sym (λ i. head_encoding first_head ++ (to_be_bytes w32 (length (no_row_bytes i)) ++ (to_be_bytes w32 (no_rows i) ++ no_row_bytes i)));
   }
 

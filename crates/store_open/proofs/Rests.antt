@@ -21,11 +21,11 @@ use Rattle.image_laws.proofs.Exports.{opening_read, opening_from}
 use Rattle.gate_journal.specs.Commands.{command_format}
 use Rattle.image_laws.specs.Checkpoint.{Head}
 use Rattle.ckpt_pair.specs.Heads.{latest}
-use Rattle.store_open.specs.Closing.{IsClosing, IsClosingUnused, HasClosedGates}
+use Rattle.store_open.specs.Closing.{IsClosing, IsClosingUnused, HasClosedGates, HasNoGateToClose, synced_by}
 use Rattle.store_open.specs.declared.folded.Folded.{Folded}
 use Rattle.store_open.specs.Folded.{store_on, TellsOnAny}
 use Rattle.store_open.specs.Geometry.{geometry_view}
-use Rattle.store_open.specs.Open.{OpensAlike, IsOpened}
+use Rattle.store_open.specs.Open.{OpensAlike, IsOpened, HasNothingToClose}
 use Rattle.store_open.specs.PathStores.{store_format}
 use Rattle.store_open.specs.Store.{StoreView, IsAtRest, IsSound}
 use Rattle.store_open.specs.NewStore.{SameBehind}
@@ -69,6 +69,24 @@ module _ (geometry : Geometry) (chosen : Half) (sealed : Bool) (start : Disk) wh
   pub closed_and_synced : {S F : Type 0} (answer : Result S F) (half : Half) (one two : Disk) → half ≡ other chosen → sealed ≡ false → Stretch start one (IsClosing geometry half (reads_of start)) → SyncCall answer one two
       → Stretch start two Unused
   closed_and_synced answer half one two same is so call = stretch_sync Unused start one two answer (being_closed half one same is so) call
+
+-- what a sync leaves of the history, by what it answered
+pub history_by_sync : {S F : Type 0} (answer : Result S F) (old new : Disk) → SyncCall answer old new → IsHonest old → new.history ≡ synced_by answer old.history
+history_by_sync (Ok u) old new call honest = call.done honest
+history_by_sync (Err e) old new call honest = call.unchanged honest
+
+-- where nothing is to be closed, nothing is written before the sync
+module _ (geometry : Geometry) (chosen : Half) (sealed : Bool) (start one : Disk) (half : Half) (same : half ≡ other chosen) (unsealed : sealed ≡ false)
+    (unwritten : IsHonest start → HasClosedGates geometry half (reads_of start) → one.history ≡ start.history) where
+  pub nothing_closed : IsHonest start → HasNoGateToClose sealed geometry (other chosen) (reads_of start) → one.history ≡ start.history
+  nothing_closed honest none =
+      unwritten honest
+      (subst (λ (h : Half). HasClosedGates geometry h (reads_of start)) (sym same)
+      (subst (λ (b : Bool). HasNoGateToClose b geometry (other chosen) (reads_of start)) unsealed none))
+
+  pub nothing_closed_then : {S F : Type 0} (answer : Result S F) (two : Disk) → Keeps start one → SyncCall answer one two → IsHonest start → HasNoGateToClose sealed geometry (other chosen) (reads_of start)
+      → two.history ≡ synced_by answer start.history
+  nothing_closed_then answer two keeps call honest none = history_by_sync answer one two call (honest_after start one keeps honest) ∙ ap (synced_by answer) (nothing_closed honest none)
 
 -- a sync that succeeds leaves nothing dirty
 pub settled_by_sync : {S F : Type 0} (answer : Result S F) (start one two : Disk) → Keeps start one → SyncCall answer one two → OnOk answer (IsHonest start → two.history.now.dirty ≡ [])
@@ -168,6 +186,13 @@ module _ (start mid new : Disk) (o : Opening (List RowView) Command) (folded : F
       alike (reads_of start) content o (geometry_view folded.geometry) folded.half folded.sealed (found honest) (tells start).geometry (tells start).chosen (tells start).sealed
       (subst (λ (list : List ℕ). IsClosingUnused folded.sealed (geometry_view folded.geometry) (other folded.half) list content) (reads_same honest) so))
       closing)
+
+  pub none_to_close : IsHonest start → HasNothingToClose (reads_of start) → HasNoGateToClose folded.sealed (geometry_view folded.geometry) (other folded.half) (reads_of mid)
+  none_to_close honest nothing =
+      subst (HasNoGateToClose folded.sealed (geometry_view folded.geometry) (other folded.half)) (sym (reads_same honest))
+      (subst (λ (g : Geometry). HasNoGateToClose folded.sealed g (other folded.half) (reads_of start)) (tells new).geometry
+      (subst (λ (h : Half). HasNoGateToClose folded.sealed o.geometry (other h) (reads_of start)) (tells new).chosen
+      (subst (λ (b : Bool). HasNoGateToClose b o.geometry (other o.chosen) (reads_of start)) (tells new).sealed (nothing o (found honest)))))
 
   pub opened_so : (IsHonest mid → new.history.now.dirty ≡ []) → (IsHonest mid → folded.sealed ≡ false → HasClosedGates (geometry_view folded.geometry) (other folded.half) (reads_of new))
       → IsHonest start → IsOpened (reads_of start) (store_on new folded)

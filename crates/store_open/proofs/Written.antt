@@ -47,19 +47,17 @@ new_store geometry content limits has = record {
     limits = limits;
     room = has.room;
   };
-  begins = front (area_at geometry First) 32 geometry.checkpoint (omega arith) (omega (arith, limits)) ∙ ap (take 32) has.begins;
+  title = has.title;
+  begins = first (area_at geometry First) geometry.checkpoint (omega (arith, limits)) ∙ has.begins;
   gate = has.gate;
-  journal = first (journal_at geometry First) ∙ has.journal;
+  journal = first (journal_at geometry First) geometry.journal (omega (arith, limits)) ∙ has.journal;
   second_gate = has.second_gate;
-  second_journal = first (journal_at geometry Second) ∙ has.second_journal;
+  second_journal = first (journal_at geometry Second) geometry.journal (omega (arith, limits)) ∙ has.second_journal;
 }
   where
-    -- the front of a part of several sectors is that of its first sector
-    front : (at n sectors : ℕ) → n ≤ 512 → n ≤ 512 * sectors → take n (part (512 * at) (512 * sectors) content) ≡ take n (sector_at at content)
-    front at n sectors short few = take-take n (512 * sectors) (drop (512 * at) content) few ∙ sym (take-take n 512 (drop (512 * at) content) short)
-
-    first : (at : ℕ) → sector_at 0 (part (512 * at) (512 * geometry.journal) content) ≡ sector_at at content
-    first at = take-take 512 (512 * geometry.journal) (drop (512 * at) content) (omega (arith, limits))
+    -- the first sector of a part of several
+    first : (at sectors : ℕ) → 1 ≤ sectors → sector_at 0 (part (512 * at) (512 * sectors) content) ≡ sector_at at content
+    first at sectors some = take-take 512 (512 * sectors) (drop (512 * at) content) (omega (arith, some))
 
 -- six sectors are written, each behind those before it
 module _ (geometry : Geometry) (limits : IsGeometry geometry) (r0 r1 r2 r3 r4 r5 r6 : List ℕ) (room : 512 * image_sectors geometry ≤ length r0)

@@ -1,7 +1,8 @@
 -- What closing the gates of a half leaves.
-use Rattle.std.specs.Prelude.{◌≡◌, ◌⊎◌, ℕ, ◌+◌, ◌*◌, ◌≤◌, Bool, true, false, List, length}
+use Rattle.std.specs.Prelude.{◌≡◌, ◌⊎◌, ℕ, ◌+◌, ◌*◌, ◌≤◌, Bool, true, false, List, length, Result, Ok, Err}
 use Rattle.byte_lists.specs.Content.{part}
 use Rattle.byte_lists.specs.Sectors.{sector_at, IsOpenGate}
+use Rattle.sector_dev.specs.Disk.{History, after_sync}
 use Rattle.image_laws.specs.declared.half.Half.{Half}
 use Rattle.image_laws.specs.Layout.{Geometry, gate_at, gate_of, journal_of}
 use Rattle.image_laws.specs.StoreFormat.{StoreFormat}
@@ -25,6 +26,16 @@ IsClosingUnused true geometry half old new = new ≡ old
 pub record HasClosedGates (geometry : Geometry) (half : Half) (content : List ℕ) : Type 0 where
   pub gate : ¬ IsOpenGate (gate_of geometry half content)
   pub journal : ¬ IsOpenGate (sector_at 0 (journal_of geometry half content))
+
+-- Nothing of a half that isn't chosen is to be closed: both its gates are closed, or it is used, behind a seal.
+abbrev pub HasNoGateToClose : Bool → Geometry → Half → List ℕ → Type 0
+HasNoGateToClose false geometry half content = HasClosedGates geometry half content
+HasNoGateToClose true geometry half content = Unit {0}
+
+-- the history after a sync that gave this result: one that fails changes nothing
+abbrev pub synced_by : {T E : Type 0} → Result T E → History → History
+synced_by (Ok _) history = after_sync history
+synced_by (Err _) history = history
 
 -- An image that opens without a tail opens so too while the gates of the half that isn't chosen are being closed.
 abbrev pub IsKeptByClosing : Type 0 → Type 0 → Type 0

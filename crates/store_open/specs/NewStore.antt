@@ -1,14 +1,14 @@
 -- What a store is that was just made, to the byte, and what making one answers.
-use Rattle.std.specs.Prelude.{◌≡◌, ◌++◌, ℕ, ◌*◌, ◌≤◌, ◌<◌, List, [], take, replicate, ◌∷◌, Result, Ok, Err}
+use Rattle.std.specs.Prelude.{◌≡◌, ◌++◌, ℕ, ◌*◌, ◌≤◌, ◌<◌, List, [], replicate, ◌∷◌, Result, Ok, Err}
 use Rattle.std.specs.Int.{w32, to_be_bytes}
 use Rattle.byte_lists.specs.Content.{part}
-use Rattle.byte_lists.specs.Sectors.{sector_at}
+use Rattle.byte_lists.specs.Sectors.{sector_at, padded}
 use Rattle.sector_dev.specs.Disk.{Disk, IsHonest, reads_of}
 use Rattle.sector_dev.specs.Image.{EveryImage}
 use Rattle.sector_dev.specs.Calls.{one_more}
 use Rattle.image_laws.specs.declared.half.Half.TheVariants.{First, Second}
 use Rattle.image_laws.specs.Layout.{Geometry, IsGeometry, image_sectors, area_of, gate_of, journal_of}
-use Rattle.image_laws.specs.FirstSector.{IsStore}
+use Rattle.image_laws.specs.FirstSector.{IsStore, first_sector}
 use Rattle.image_laws.specs.Checkpoint.{Head, head_encoding}
 use Rattle.image_laws.specs.StoreFormat.{StoreFormat}
 use Rattle.image_laws.specs.TakeOver.{IsFormatted}
@@ -33,9 +33,11 @@ abbrev pub closed_sector : List ℕ
 closed_sector = replicate 512 0
 
 -- A new store: the first half is open, with no rows, and its journal's first gate is closed; both of the second half are closed.
+-- Each of these sectors is as it was written, with zeros behind what counts in it.
 pub record IsNewStore (geometry : Geometry) (image : List ℕ) : Type 0 where
   pub store : IsStore geometry image
-  pub begins : take 32 (area_of geometry First image) ≡ first_checkpoint_bytes
+  pub title : sector_at 0 image ≡ first_sector geometry
+  pub begins : sector_at 0 (area_of geometry First image) ≡ padded first_checkpoint_bytes
   pub gate : gate_of geometry First image ≡ open_sector
   pub journal : sector_at 0 (journal_of geometry First image) ≡ closed_sector
   pub second_gate : gate_of geometry Second image ≡ closed_sector

@@ -1,15 +1,15 @@
 -- What opening a device answers: by what is read of it, and what it leaves.
-use Rattle.std.specs.Prelude.{◌≡◌, ◌⊎◌, ℕ, ◌*◌, List, Result, Ok, Err, IsOk, Option, Some}
+use Rattle.std.specs.Prelude.{◌≡◌, ◌≢◌, ◌⊎◌, ℕ, ◌*◌, List, Result, Ok, Err, IsOk, Option, Some}
 use Rattle.std.specs.Option.{option_map}
 use Rattle.path_db.specs.Database.{RowView}
 use Rattle.path_db.specs.declared.command.Command.{Command}
-use Rattle.sector_dev.specs.Disk.{Disk, IsHonest, reads_of}
+use Rattle.sector_dev.specs.Disk.{History, Disk, IsHonest, reads_of, after_sync}
 use Rattle.image_laws.specs.declared.half.Half.{Half}
 use Rattle.image_laws.specs.GroupReading.{JournalRefusal}
 use Rattle.image_laws.specs.GroupReading as refusals
 use Rattle.image_laws.specs.Checkpoint.{Checkpoint}
 use Rattle.image_laws.specs.Journal.{Reading}
-use Rattle.image_laws.specs.Layout.{Geometry, area_of}
+use Rattle.image_laws.specs.Layout.{Geometry, other, area_of}
 use Rattle.image_laws.specs.FirstSector.{geometry_in}
 use Rattle.image_laws.specs.Opening.{Opening, IsOpening}
 use Rattle.image_laws.specs.OpeningReading.{OpenRefusal, BadPair, BadJournal, opening_of}
@@ -24,6 +24,7 @@ use Rattle.ckpt_pair.specs.Refusals.{error_of}
 use Rattle.store_open.specs.declared.opening.Found.{Found}
 use Rattle.store_open.specs.declared.error.OpenError.{OpenError}
 use Rattle.store_open.specs.declared.error.OpenError.TheVariants.{NotAStore, Device, Pair, Journal, NoMemory}
+use Rattle.store_open.specs.Closing.{HasNoGateToClose}
 use Rattle.store_open.specs.Geometry.{geometry_view}
 use Rattle.store_open.specs.Heads.{choice_by_heads}
 use Rattle.store_open.specs.NewStore.{SameBehind}
@@ -108,6 +109,21 @@ pub record OpenWithTheSame (before behind : List ℕ) : Type 0 where
 -- the image is what it was, or opens with what it opened with: one that doesn't open isn't changed
 abbrev pub OpensAlike : List ℕ → List ℕ → Type 0
 OpensAlike before behind = (behind ≡ before) ⊎ OpenWithTheSame before behind
+
+-- Nothing is to be closed: whatever the image opens with, the half that isn't chosen has both its gates closed, or is used.
+abbrev pub HasNothingToClose : List ℕ → Type 0
+HasNothingToClose image =
+    (opening : Opening (List RowView) Command) → IsOpening store_format latest image opening
+    → HasNoGateToClose opening.journal.sealed opening.geometry (other opening.chosen) image
+
+-- An opening writes nothing: a device that is opened is synced twice, and one that isn't at most once.
+abbrev pub OnlySyncs : {A E : Type 0} → Result A E → History → History → Type 0
+OnlySyncs (Ok _) old new = new ≡ after_sync (after_sync old)
+OnlySyncs (Err _) old new = (new ≡ old) ⊎ (new ≡ after_sync old)
+
+-- an error that isn't that of a call of the device
+abbrev pub IsNoFault : OpenError → Type 0
+IsNoFault e = e ≢ Device
 
 -- A store was opened: it is at rest, and tells what reads gave then.
 pub record IsOpened (reads : List ℕ) (view : StoreView) : Type 0 where

@@ -9,7 +9,7 @@ ghost use Rattle.image_laws.specs.Layout.{IsGeometry, image_sectors, other};
 ghost use Rattle.store_open.specs.Geometry.{geometry_view};
 ghost use Rattle.store_open.specs.Looking.{LooksAt};
 ghost use Rattle.store_open.specs.NewStore.{HasRoomFor};
-ghost use Rattle.store_open.specs.Closing.{IsClosing, IsClosingUnused, HasClosedGates};
+ghost use Rattle.store_open.specs.Closing.{IsClosing, IsClosingUnused, HasClosedGates, HasNoGateToClose, synced_by};
 
 use crate::Geometry;
 use crate::reading::read_sector;
@@ -32,6 +32,10 @@ pub(crate) fn close_half<D: Device>(
     ensures any_moment { Stretch (D.disk device.old) (D.disk device.new) (IsClosing (geometry_view geometry) half (reads_of (D.disk device.old))) }
 
     ensures closed { OnOk result (IsHonest (D.disk device.old) → HasClosedGates (geometry_view geometry) half (reads_of (D.disk device.new))) }
+
+    // Where both gates read closed, nothing is written.
+    ensures unwritten { IsHonest (D.disk device.old) → HasClosedGates (geometry_view geometry) half (reads_of (D.disk device.old))
+        → (D.disk device.new).history ≡ (D.disk device.old).history }
 
     // It fails only where the device does.
     ensures faults { (D.disk device.new).faults ≡ count_after result (D.disk device.old).faults }
@@ -60,6 +64,8 @@ pub(crate) fn close_unused<D: Device>(
     ensures settled { OnOk result (IsHonest (D.disk device.old) → (D.disk device.new).history.now.dirty ≡ []) }
     ensures closed { OnOk result (IsHonest (D.disk device.old) → sealed ≡ false
         → HasClosedGates (geometry_view geometry) (other chosen) (reads_of (D.disk device.new))) }
+    ensures unwritten { IsHonest (D.disk device.old) → HasNoGateToClose sealed (geometry_view geometry) (other chosen) (reads_of (D.disk device.old))
+        → (D.disk device.new).history ≡ synced_by result (D.disk device.old).history }
     ensures faults { (D.disk device.new).faults ≡ count_after result (D.disk device.old).faults }
 {
     if sealed {

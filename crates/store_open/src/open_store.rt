@@ -2,13 +2,14 @@
 
 ghost use Rattle.std.specs.Prelude.{◌≡◌, [], false, IfOk, IfErr};
 ghost use Rattle.path_db.specs.Database.{IsDatabase};
-ghost use Rattle.sector_dev.specs.Disk.{IsHonest, reads_of};
+ghost use Rattle.sector_dev.specs.Disk.{IsHonest, reads_of, after_sync};
 ghost use Rattle.sector_dev.specs.Image.{IsFromImage};
 ghost use Rattle.sector_dev.specs.Stretch.{Stretch};
+ghost use Rattle.store_open.specs.Closing.{synced_by};
 ghost use Rattle.store_open.specs.Folded.{store_on};
 ghost use Rattle.store_open.specs.Geometry.{geometry_view};
 ghost use Rattle.store_open.specs.NewStore.{HasRoomFor};
-ghost use Rattle.store_open.specs.Open.{OpensAlike, IsOpened, ComesBack, disk_after};
+ghost use Rattle.store_open.specs.Open.{OpensAlike, IsOpened, ComesBack, HasNothingToClose, OnlySyncs, IsNoFault, disk_after};
 
 use crate::closing::close_unused;
 use crate::error::OpenError;
@@ -27,6 +28,11 @@ pub fn open<D: Device>(alloc: Global, device: D) -> Result<Store<D>, (D, OpenErr
     ensures faults { IfOk result (λ store. store.disk.faults ≡ (D.disk device).faults) }
     ensures whole { IfOk result (λ store. store.broken ≡ false) }
     ensures refused { IfErr result (λ back. ComesBack back.1 (D.disk device) (D.disk back.0)) }
+
+    // Nothing is written where nothing is to be closed, and nothing before a refusal that isn't the device's.
+    ensures unwritten { IsHonest (D.disk device) → HasNothingToClose (reads_of (D.disk device))
+        → OnlySyncs result (D.disk device).history (disk_after D.disk result).history }
+    ensures untouched { IfErr result (λ back. IsHonest (D.disk device) → IsNoFault back.1 → (D.disk back.0).history ≡ after_sync (D.disk device).history) }
 
     // At every moment what a stop leaves is an image of the start, or opens with what one of the start opens with.
     ensures any_moment { Stretch (D.disk device) (disk_after D.disk result) (IsFromImage (D.disk device).history.now OpensAlike) }
@@ -62,6 +68,9 @@ fn settle<D: Device>(alloc: Global, device: &mut D) -> Result<Folded, OpenError>
     ensures room { IfOk result (λ folded. HasRoomFor (geometry_view folded.geometry) (D.disk device.new)) }
     ensures whole { IfOk result (λ folded. IsDatabase folded.db) }
     ensures refused { IfErr result (λ e. ComesBack e (D.disk device.old) (D.disk device.new)) }
+    ensures unwritten { IsHonest (D.disk device.old) → HasNothingToClose (reads_of (D.disk device.old))
+        → OnlySyncs result (D.disk device.old).history (D.disk device.new).history }
+    ensures untouched { IfErr result (λ e. IsHonest (D.disk device.old) → IsNoFault e → (D.disk device.new).history ≡ after_sync (D.disk device.old).history) }
     ensures any_moment { Stretch (D.disk device.old) (D.disk device.new) (IsFromImage (D.disk device.old).history.now OpensAlike) }
 {
     device.sync()?;
@@ -77,6 +86,9 @@ fn bring_to_rest<D: Device>(alloc: Global, device: &mut D) -> Result<Folded, Ope
     ensures room { IfOk result (λ folded. HasRoomFor (geometry_view folded.geometry) (D.disk device.new)) }
     ensures whole { IfOk result (λ folded. IsDatabase folded.db) }
     ensures refused { IfErr result (λ e. ComesBack e (D.disk device.old) (D.disk device.new)) }
+    ensures unwritten { IsHonest (D.disk device.old) → HasNothingToClose (reads_of (D.disk device.old))
+        → (D.disk device.new).history ≡ synced_by result (D.disk device.old).history }
+    ensures untouched { IfErr result (λ e. IsHonest (D.disk device.old) → IsNoFault e → (D.disk device.new).history ≡ (D.disk device.old).history) }
     ensures any_moment { Stretch (D.disk device.old) (D.disk device.new) (OpensAlike (reads_of (D.disk device.old))) }
 {
     let found = read_opening(alloc, device)?;

@@ -3,7 +3,7 @@ use Rattle.std.proofs.Common.{ℕ, ◌+◌, ◌∙◌, arith, refl, ap}
 use Rattle.sector_dev.specs.Disk.{History}
 use Rattle.sector_dev.proofs.Stretches.{keeps_then, honest_after}
 use Rattle.store_open.specs.Geometry.{geometry_view}
-use Rattle.store_open.proofs.Gates.{gates_inside, gates_read, both_written, both_closed, first_written, first_closed, none_closed, told}
+use Rattle.store_open.proofs.Gates.{gates_inside, gates_read, both_written, both_closed, first_written, first_closed, none_closed, gate_isnt_closed, first_isnt_closed, told}
 use Rattle.store_open.proofs.closing.close_half.Goals as goal
 
 pub overflow_add-gate : goal.overflow_add-gate
@@ -37,6 +37,12 @@ returns-in_err-is_open_at-2-clause-any_moment g c =
     (keeps_then _ _ _ c.is_open_at.ensures.looks.keeps c.is_open_at-2.ensures.looks.keeps)
     (λ honest. c.is_open_at-2.ensures.looks.history (honest_after _ _ c.is_open_at.ensures.looks.keeps honest) ∙ c.is_open_at.ensures.looks.history honest)
 
+pub returns-then-branch-clause-unwritten : goal.returns-then-branch-clause-unwritten
+returns-then-branch-clause-unwritten g c = λ honest closed.
+    absurd
+    (gate_isnt_closed (geometry_view c.args.geometry) c.args.half _ c.requires.allowed c.requires.room (g.met.D.Device.whole c.args.device.now) c.requires.clean
+    (λ honest. told _ _ _ _ _ _ c.gate_at-gate.ensures refl (c.in_ok-is_open_at.ensures.open honest) c.if-branch.true) honest closed)
+
 pub write-requires-then-branch-2-clause-inside : goal.write-requires-then-branch-2-clause-inside
 write-requires-then-branch-2-clause-inside g c =
     omega (arith, c.is_open_at.ensures.looks.keeps.sectors, c.is_open_at-2.ensures.looks.keeps.sectors, c.requires.room, gates_inside (geometry_view c.args.geometry) c.args.half (omega (arith, c.requires.allowed)), c.gate_at-gate.ensures)
@@ -53,6 +59,21 @@ returns-then-branch-2-clause-closed g c =
     (keeps_then _ _ _ c.is_open_at.ensures.looks.keeps c.is_open_at-2.ensures.looks.keeps)
     (λ honest. c.is_open_at-2.ensures.looks.history (honest_after _ _ c.is_open_at.ensures.looks.keeps honest) ∙ c.is_open_at.ensures.looks.history honest) _ _ _ _ (ap (λ (n : ℕ). n + 1) c.gate_at-gate.ensures) refl c.write-then-branch-2.ensures.write
     (λ honest. told _ _ _ _ _ _ c.gate_at-gate.ensures refl (c.in_ok-is_open_at.ensures.open honest) c.if-branch.false)
+
+pub returns-in_err-is_open_at-2-clause-unwritten : goal.returns-in_err-is_open_at-2-clause-unwritten
+returns-in_err-is_open_at-2-clause-unwritten g c = λ honest closed.
+    c.is_open_at-2.ensures.looks.history (honest_after _ _ c.is_open_at.ensures.looks.keeps honest) ∙ c.is_open_at.ensures.looks.history honest
+
+pub returns-then-branch-2-clause-unwritten : goal.returns-then-branch-2-clause-unwritten
+returns-then-branch-2-clause-unwritten g c = λ honest closed.
+    absurd
+    (first_isnt_closed (geometry_view c.args.geometry) c.args.half _ c.requires.allowed c.requires.room (g.met.D.Device.whole c.args.device.now) c.requires.clean
+    (λ honest. told _ _ _ _ _ _ (ap (λ (n : ℕ). n + 1) c.gate_at-gate.ensures) (ap (λ (h : History). h.now.reads) (c.is_open_at.ensures.looks.history honest))
+    (c.in_ok-is_open_at-2.ensures.open (honest_after _ _ c.is_open_at.ensures.looks.keeps honest)) c.if-branch-2.true) honest closed)
+
+pub returns-clause-unwritten : goal.returns-clause-unwritten
+returns-clause-unwritten g c = λ honest closed.
+    c.is_open_at-2.ensures.looks.history (honest_after _ _ c.is_open_at.ensures.looks.keeps honest) ∙ c.is_open_at.ensures.looks.history honest
 
 pub returns-clause-any_moment : goal.returns-clause-any_moment
 returns-clause-any_moment g c =

@@ -1,17 +1,19 @@
 -- What is read, folded and closed, and each way out.
-use Rattle.std.proofs.Common.{◌∙◌, ap, subst, Err}
+use Rattle.std.proofs.Common.{◌∙◌, sym, ap, subst, Result, Err}
 use Rattle.std.proofs.lemmas.Result.{err_from_is_err_and}
-use Rattle.sector_dev.specs.Disk.{History, reads_of}
+use Rattle.sector_dev.specs.Disk.{History, reads_of, after_sync}
 use Rattle.sector_dev.specs.Calls.{one_more}
-use Rattle.sector_dev.proofs.Stretches.{honest_before}
+use Rattle.sector_dev.proofs.Stretches.{honest_before, honest_after}
 use Rattle.image_laws.specs.Layout as laws
+use Rattle.store_open.specs.Closing.{synced_by}
 use Rattle.store_open.specs.Geometry.{geometry_view}
 use Rattle.store_open.specs.NewStore.{HasRoomFor}
 use Rattle.store_open.specs.Open.{opening_view, OpensAlike}
+use Rattle.store_open.specs.declared.folded.Folded.{Folded}
 use Rattle.store_open.specs.declared.error.OpenError.{OpenError}
 use Rattle.store_open.specs.declared.error.OpenError.TheVariants.{Device, NoMemory}
-use Rattle.store_open.proofs.Back.{back_looked, back_without_memory, back_failed, back_so}
-use Rattle.store_open.proofs.Rests.{stretch_looked, alike_itself, rested, opened_so}
+use Rattle.store_open.proofs.Back.{back_looked, back_without_memory, back_failed, back_so, untouched_so, faulty_so}
+use Rattle.store_open.proofs.Rests.{stretch_looked, alike_itself, rested, opened_so, none_to_close}
 use Rattle.store_open.proofs.Steps.{room_kept}
 use Rattle.store_open.proofs.open_store.bring_to_rest.Goals as goal
 
@@ -74,3 +76,41 @@ pub returns-clause-any_moment : goal.returns-clause-any_moment
 returns-clause-any_moment g c =
     rested (g.D.Device.disk c.args.device.now) (g.D.Device.disk c.read_opening.new.device) (g.D.Device.disk c.close_unused.new.device) (opening_view c.in_ok-found.found) c.in_ok-folded.folded c.in_ok-found.ensures.looks.keeps c.in_ok-found.ensures.looks.history c.requires
     (g.met.D.Device.whole c.args.device.now) c.in_ok-found.ensures.opening c.in_ok-folded.ensures.tells c.close_unused.ensures.any_moment
+
+pub returns-in_err-found-clause-unwritten : goal.returns-in_err-found-clause-unwritten
+returns-in_err-found-clause-unwritten g c = λ honest nothing.
+    let made = err_from_is_err_and c.from_residual.result c.from_residual.ensures.1 in
+    c.in_err-found.ensures.looks.history honest ∙ sym (ap (λ (r : Result Folded OpenError). synced_by r (g.D.Device.disk c.args.device.now).history) made.1)
+
+pub returns-in_err-folded-clause-unwritten : goal.returns-in_err-folded-clause-unwritten
+returns-in_err-folded-clause-unwritten g c = λ honest nothing.
+    let made = err_from_is_err_and c.from_residual-in_err-folded.result c.from_residual-in_err-folded.ensures.1 in
+    c.in_ok-found.ensures.looks.history honest ∙ sym (ap (λ (r : Result Folded OpenError). synced_by r (g.D.Device.disk c.args.device.now).history) made.1)
+
+pub returns-in_err-close_unused-clause-unwritten : goal.returns-in_err-close_unused-clause-unwritten
+returns-in_err-close_unused-clause-unwritten g c = λ honest nothing.
+    let made = err_from_is_err_and c.from_residual-in_err-close_unused.result c.from_residual-in_err-close_unused.ensures.1 in
+    c.in_err-close_unused.ensures.unwritten (honest_after (g.D.Device.disk c.args.device.now) (g.D.Device.disk c.read_opening.new.device) c.in_ok-found.ensures.looks.keeps honest)
+    (none_to_close (g.D.Device.disk c.args.device.now) (g.D.Device.disk c.read_opening.new.device) (g.D.Device.disk c.close_unused.new.device) (opening_view c.in_ok-found.found) c.in_ok-folded.folded c.in_ok-found.ensures.looks.keeps c.in_ok-found.ensures.looks.history c.requires
+    (g.met.D.Device.whole c.args.device.now) c.in_ok-found.ensures.opening c.in_ok-folded.ensures.tells c.close_unused.ensures.any_moment honest nothing)
+    ∙ c.in_ok-found.ensures.looks.history honest ∙ sym (ap (λ (r : Result Folded OpenError). synced_by r (g.D.Device.disk c.args.device.now).history) made.1)
+
+pub returns-clause-unwritten : goal.returns-clause-unwritten
+returns-clause-unwritten g c = λ honest nothing.
+    c.in_ok-close_unused.ensures.unwritten (honest_after (g.D.Device.disk c.args.device.now) (g.D.Device.disk c.read_opening.new.device) c.in_ok-found.ensures.looks.keeps honest)
+    (none_to_close (g.D.Device.disk c.args.device.now) (g.D.Device.disk c.read_opening.new.device) (g.D.Device.disk c.close_unused.new.device) (opening_view c.in_ok-found.found) c.in_ok-folded.folded c.in_ok-found.ensures.looks.keeps c.in_ok-found.ensures.looks.history c.requires
+    (g.met.D.Device.whole c.args.device.now) c.in_ok-found.ensures.opening c.in_ok-folded.ensures.tells c.close_unused.ensures.any_moment honest nothing)
+    ∙ ap after_sync (c.in_ok-found.ensures.looks.history honest)
+
+pub returns-in_err-found-clause-untouched : goal.returns-in_err-found-clause-untouched
+returns-in_err-found-clause-untouched g c =
+    untouched_so c.from_residual.result (g.D.Device.disk c.args.device.now) (g.D.Device.disk c.read_opening.new.device) (λ honest. c.in_err-found.ensures.looks.history honest)
+
+pub returns-in_err-folded-clause-untouched : goal.returns-in_err-folded-clause-untouched
+returns-in_err-folded-clause-untouched g c =
+    untouched_so c.from_residual-in_err-folded.result (g.D.Device.disk c.args.device.now) (g.D.Device.disk c.read_opening.new.device) (λ honest. c.in_ok-found.ensures.looks.history honest)
+
+pub returns-in_err-close_unused-clause-untouched : goal.returns-in_err-close_unused-clause-untouched
+returns-in_err-close_unused-clause-untouched g c =
+    let made = err_from_is_err_and c.from_residual-in_err-close_unused.result c.from_residual-in_err-close_unused.ensures.1 in
+    faulty_so c.from_residual-in_err-close_unused.result (g.D.Device.disk c.args.device.now) (g.D.Device.disk c.close_unused.new.device) (made.1 ∙ ap (λ (x : OpenError). Err x) made.2)

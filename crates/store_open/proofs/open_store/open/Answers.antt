@@ -1,14 +1,11 @@
 -- A store that was opened is whole, and an honest device tells what is within its bounds.
-use Rattle.std.proofs.Common.{◌≡◌, ◌*◌, ◌≤◌, true, false, length, sym, ◌∙◌, arith}
+use Rattle.std.proofs.Common.{◌≡◌, true, false, arith}
 use Rattle.sector_dev.specs.Disk.{reads_of}
 use Rattle.sector_dev.proofs.Stretches.{honest_before}
-use Rattle.image_laws.specs.Layout.{image_sectors}
 use Rattle.gate_journal.specs.declared.error.JournalError.TheVariants.{PastEnd}
-use Rattle.store_open.specs.declared.error.OpenError.{OpenError}
 use Rattle.store_open.specs.declared.error.OpenError.TheVariants.{Journal, NoMemory}
 use Rattle.store_open.specs.Folded.{store_on}
-use Rattle.store_open.specs.Geometry.{geometry_view}
-use Rattle.store_open.proofs.Bounds.{opened_within}
+use Rattle.store_open.proofs.Bounds.{never_outside}
 use Rattle.store_open.proofs.Rests.{sound_at_rest}
 use Rattle.store_open.proofs.open_store.open.Goals as goal
 
@@ -25,13 +22,19 @@ invariant_of-result g c = record {
 
 pub returns-then-not-is_within-clause-refused : goal.returns-then-not-is_within-clause-refused
 returns-then-not-is_within-clause-refused g c = record {
-  refused = λ honest.
-      let whole = g.met.D.Device.whole c.args.device honest in
-      let room : 512 * image_sectors (geometry_view c.in-Ok.folded.geometry) ≤ length (reads_of (g.D.Device.disk c.args.device)) =
-      omega (arith, whole.size, c.in-Ok.ensures.room.room, c.settle.ensures.any_moment.keeps.sectors) in
-      let within = opened_within (reads_of (g.D.Device.disk c.args.device)) (store_on (g.D.Device.disk c.settle.new.device) c.in-Ok.folded) c.in-Ok.ensures.room.allowed room (c.in-Ok.ensures.opened honest) in
-      let both : true ≡ false = sym (c.is_within.ensures.1 within) ∙ c.if-not-is_within.true in
-      absurd (cc);
+  refused = λ honest. absurd (never_outside (reads_of (g.D.Device.disk c.args.device)) (store_on (g.D.Device.disk c.settle.new.device) c.in-Ok.folded) c.is_within.result c.in-Ok.ensures.room.allowed
+      (let whole = g.met.D.Device.whole c.args.device honest in omega (arith, whole.size, c.in-Ok.ensures.room.room, c.settle.ensures.any_moment.keeps.sectors))
+      (c.in-Ok.ensures.opened honest) c.is_within.ensures.1 c.if-not-is_within.true);
   memory = λ honest is. let other : Journal PastEnd ≡ NoMemory = is in absurd (cc);
   faults = c.in-Ok.ensures.faults;
 }
+
+pub returns-then-not-is_within-clause-unwritten : goal.returns-then-not-is_within-clause-unwritten
+returns-then-not-is_within-clause-unwritten g c = λ honest nothing. absurd (never_outside (reads_of (g.D.Device.disk c.args.device)) (store_on (g.D.Device.disk c.settle.new.device) c.in-Ok.folded) c.is_within.result c.in-Ok.ensures.room.allowed
+    (let whole = g.met.D.Device.whole c.args.device honest in omega (arith, whole.size, c.in-Ok.ensures.room.room, c.settle.ensures.any_moment.keeps.sectors))
+    (c.in-Ok.ensures.opened honest) c.is_within.ensures.1 c.if-not-is_within.true)
+
+pub returns-then-not-is_within-clause-untouched : goal.returns-then-not-is_within-clause-untouched
+returns-then-not-is_within-clause-untouched g c = λ honest other. absurd (never_outside (reads_of (g.D.Device.disk c.args.device)) (store_on (g.D.Device.disk c.settle.new.device) c.in-Ok.folded) c.is_within.result c.in-Ok.ensures.room.allowed
+    (let whole = g.met.D.Device.whole c.args.device honest in omega (arith, whole.size, c.in-Ok.ensures.room.room, c.settle.ensures.any_moment.keeps.sectors))
+    (c.in-Ok.ensures.opened honest) c.is_within.ensures.1 c.if-not-is_within.true)

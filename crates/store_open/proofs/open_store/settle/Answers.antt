@@ -1,11 +1,13 @@
 -- The first sync, and what follows it.
-use Rattle.std.proofs.Common.{◌∙◌, ap, Err}
+use Rattle.std.proofs.Common.{◌∙◌, inl, sym, ap, subst, Result, Err}
 use Rattle.std.proofs.lemmas.Result.{err_from_is_err_and}
 use Rattle.sector_dev.specs.Disk.{History}
 use Rattle.sector_dev.proofs.Stretches.{honest_before}
+use Rattle.store_open.specs.declared.folded.Folded.{Folded}
 use Rattle.store_open.specs.declared.error.OpenError.{OpenError}
 use Rattle.store_open.specs.declared.error.OpenError.TheVariants.{Device}
-use Rattle.store_open.proofs.Back.{back_failed, back_so, back_since, faults_since, opened_since}
+use Rattle.store_open.specs.Open.{OnlySyncs}
+use Rattle.store_open.proofs.Back.{back_failed, back_so, back_since, faults_since, opened_since, sync_failed, only_syncs, untouched_since}
 use Rattle.store_open.proofs.Rests.{only_synced, synced_then}
 use Rattle.store_open.proofs.open_store.settle.Goals as goal
 
@@ -39,3 +41,24 @@ returns-clause-refused g c =
 pub returns-clause-any_moment : goal.returns-clause-any_moment
 returns-clause-any_moment g c =
     synced_then (g.D.Device.disk c.args.device.now) (g.D.Device.disk c.sync.new.self) (g.D.Device.disk c.bring_to_rest.new.device) (g.met.D.Device.whole c.args.device.now) c.sync.result c.sync.ensures.sync c.bring_to_rest.ensures.any_moment
+
+pub returns-in_err-sync-clause-unwritten : goal.returns-in_err-sync-clause-unwritten
+returns-in_err-sync-clause-unwritten g c = λ honest nothing.
+    let made = err_from_is_err_and c.from_residual.result c.from_residual.ensures.1 in
+    subst (λ (r : Result Folded OpenError). OnlySyncs r (g.D.Device.disk c.args.device.now).history (g.D.Device.disk c.sync.new.self).history) (sym made.1)
+    (inl (c.in_err-sync.ensures.sync.unchanged honest))
+
+pub returns-in_err-sync-clause-untouched : goal.returns-in_err-sync-clause-untouched
+returns-in_err-sync-clause-untouched g c =
+    let made = err_from_is_err_and c.from_residual.result c.from_residual.ensures.1 in
+    sync_failed c.from_residual.result (g.D.Device.disk c.args.device.now) (g.D.Device.disk c.sync.new.self) (made.1 ∙ ap (λ (x : OpenError). Err x) made.2)
+
+pub returns-clause-unwritten : goal.returns-clause-unwritten
+returns-clause-unwritten g c =
+    only_syncs (g.D.Device.disk c.args.device.now) (g.D.Device.disk c.sync.new.self) (g.D.Device.disk c.bring_to_rest.new.device) c.sync.result c.sync.ensures.sync c.in_ok-sync.ensures.sync.faults c.bring_to_rest.result
+    (λ honest. c.in_ok-sync.ensures.sync.done honest) c.bring_to_rest.ensures.unwritten
+
+pub returns-clause-untouched : goal.returns-clause-untouched
+returns-clause-untouched g c =
+    untouched_since (g.D.Device.disk c.args.device.now) (g.D.Device.disk c.sync.new.self) (g.D.Device.disk c.bring_to_rest.new.device) c.sync.result c.sync.ensures.sync c.in_ok-sync.ensures.sync.faults c.bring_to_rest.result
+    (λ honest. c.in_ok-sync.ensures.sync.done honest) c.bring_to_rest.ensures.untouched
