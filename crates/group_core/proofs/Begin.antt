@@ -136,6 +136,7 @@ module _ (old : StateView) (hidden : Hidden) (has : IsState old hidden) (disk : 
       few = has.shape.few;
       commands = has.shape.commands;
       tip = has.shape.tip;
+      outcomes = has.shape.outcomes;
       fits = λ is. has.shape.fits (going is);
       known = has.shape.known;
       taken = has.shape.taken;
@@ -174,6 +175,7 @@ module _ (old : StateView) (hidden : Hidden) (has : IsState old hidden) (disk : 
         few = has.shape.few;
         commands = has.shape.commands;
         tip = has.shape.tip;
+        outcomes = has.shape.outcomes;
         fits = has.shape.fits;
         known = has.shape.known;
         taken = has.shape.taken;

@@ -94,6 +94,7 @@ module _ (old : StateView) (hidden : Hidden) (has : IsState old hidden) where
       few = has.shape.few;
       commands = has.shape.commands;
       tip = has.shape.tip;
+      outcomes = has.shape.outcomes;
       fits = λ is. has.shape.fits (going is);
       known = has.shape.known;
       taken = has.shape.taken;
@@ -194,6 +195,7 @@ module _ (old : StateView) (hidden : Hidden) (has : IsState old hidden) where
             few = has.shape.few;
             commands = pending_larger old.version latest has.shape.known old.pending has.shape.commands;
             tip = has.shape.tip;
+            outcomes = has.shape.outcomes;
             fits = has.shape.fits;
             known = omega arith;
             taken = has.shape.taken;

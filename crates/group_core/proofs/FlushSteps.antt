@@ -71,6 +71,7 @@ module _ (old : StateView) (hidden : Hidden) (has : IsState old hidden) where
       few = has.shape.few;
       commands = has.shape.commands;
       tip = has.shape.tip;
+      outcomes = has.shape.outcomes;
       fits = λ going. has.shape.fits (later.going going);
       known = has.shape.known;
       taken = has.shape.taken;

@@ -10,5 +10,7 @@ pub mod Publish
 pub mod Redeem
 pub mod Begin
 pub mod Keeping
+pub mod Beside
+pub mod KeptOutcomes
 pub mod Submit
 pub mod Start

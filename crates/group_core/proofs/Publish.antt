@@ -32,22 +32,13 @@ use Rattle.group_core.specs.Steps.{spent}
 use Rattle.group_core.specs.Publishing.{with_group}
 use Rattle.group_core.specs.Invariant.{Hidden, FitsLoad, MayBePending, FitArea, CountsAt, Shape, Sound, IsState}
 use Rattle.group_core.proofs.Soundness.{sound_at_work}
+use Rattle.group_core.proofs.KeptOutcomes.{take_more, committed_kept}
 
 -- a list in two parts
 take_drop : {A : Type 0} (n : ℕ) (list : List A) → take n list ++ drop n list ≡ list
 take_drop zero list = refl
 take_drop (suc n) [] = refl
 take_drop (suc n) (x ∷ list) = ap (λ (l : List _). x ∷ l) (take_drop n list)
-
-take_none : {A : Type 0} (n : ℕ) → take {A = A} n [] ≡ []
-take_none zero = refl
-take_none (suc n) = refl
-
-take_more : {A : Type 0} (n m : ℕ) (list : List A) → take n list ++ take m (drop n list) ≡ take (n + m) list
-take_more zero m list = let same : m ≡ 0 + m = omega arith in ap (λ (k : ℕ). take k list) same
-take_more (suc n) m [] = take_none m ∙ sym (take_none (suc n + m))
-take_more (suc n) m (x ∷ list) =
-    let same : suc (n + m) ≡ suc n + m = omega arith in ap (λ (l : List _). x ∷ l) (take_more n m list) ∙ ap (λ (k : ℕ). take k (x ∷ list)) same
 
 all_drop : {A : Type 0} (P : A → Type 0) (n : ℕ) (list : List A) → AllByRecursion P list → AllByRecursion P (drop n list)
 all_drop P zero list all = all
@@ -117,6 +108,7 @@ module _ (old : StateView) (hidden : Hidden) (has : IsState old hidden) (turn : 
       few = omega (arith, has.shape.few, length-drop old.taken old.pending);
       commands = all_drop (MayBePending old.version) old.taken old.pending has.shape.commands;
       tip = has.shape.tip ∙ ap (db_after store_format old.value.db) (sym (take_drop old.taken old.pending)) ∙ folds_in_parts (List RowView) Command store_format old.value.db front rest;
+      outcomes = committed_kept old.value old.pending old.kept old.taken has.shape.taken has.shape.outcomes;
       fits = λ going n inside.
           subst (FitArea old) (ap (db_after store_format old.value.db) (sym (take_more old.taken n old.pending)) ∙ folds_in_parts (List RowView) Command store_format old.value.db front (take n rest))
           (has.shape.fits going (old.taken + n) (omega (arith, inside, length-drop old.taken old.pending, has.shape.taken)));
@@ -221,6 +213,7 @@ module _ (old : StateView) (hidden : Hidden) (has : IsState old hidden) (turn : 
         few = has.shape.few;
         commands = has.shape.commands;
         tip = has.shape.tip;
+        outcomes = has.shape.outcomes;
         fits = has.shape.fits;
         known = has.shape.known;
         taken = has.shape.taken;

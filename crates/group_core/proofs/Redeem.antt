@@ -1,18 +1,23 @@
 -- Redeeming and stopping on a state.
-use Rattle.std.proofs.Common.{◌≡◌, ℕ, true, false, List, take, refl, sym, subst}
+use Rattle.std.proofs.Common.{◌≡◌, ℕ, true, false, cond, List, take, None, refl, sym, subst}
+use Rattle.std.specs.Ordering.{nat_cmp}
+use Rattle.std.specs.BTreeMap.{is_at}
 use Rattle.path_db.specs.Database.{RowView}
 use Rattle.path_db.specs.declared.command.Command.{Command}
-use Rattle.path_db.specs.declared.outcome.Outcome.{Outcome}
 use Rattle.image_laws.specs.Opening.{StoreValue}
 use Rattle.group_core.specs.StateView.{StateView}
 use Rattle.group_core.specs.Invariant.{Hidden, Shape, IsState}
+use Rattle.group_core.specs.Keeping.{Outcomes, KeepsOutcomes}
+use Rattle.group_core.specs.Redeeming.{outcome_at}
 use Rattle.group_core.specs.Showing.{IsFront}
+use Rattle.group_core.proofs.KeptOutcomes.{one_less_kept}
 use Rattle.group_core.proofs.Soundness.{either_stays}
 use Rattle.group_core.proofs.FlushSteps.{flushed_shape}
 
 module _ (old : StateView) (hidden : Hidden) (has : IsState old hidden) where
-  kept_shape : (kept : List (ℕ × Outcome)) (owed : List Command) → IsFront owed (take old.taken old.pending) → Shape (record old { kept = kept }) (record hidden { owed = owed })
-  kept_shape kept owed front = record {
+  kept_shape : (kept : Outcomes) → KeepsOutcomes old.value old.pending kept → (owed : List Command) → IsFront owed (take old.taken old.pending)
+      → Shape (record old { kept = kept }) (record hidden { owed = owed })
+  kept_shape kept outcomes owed front = record {
     limits = has.shape.limits;
     sectors = has.shape.sectors;
     room = has.shape.room;
@@ -21,6 +26,7 @@ module _ (old : StateView) (hidden : Hidden) (has : IsState old hidden) where
     few = has.shape.few;
     commands = has.shape.commands;
     tip = has.shape.tip;
+    outcomes = outcomes;
     fits = has.shape.fits;
     known = has.shape.known;
     taken = has.shape.taken;
@@ -32,30 +38,38 @@ module _ (old : StateView) (hidden : Hidden) (has : IsState old hidden) where
     epoch = has.shape.epoch;
   }
 
-  kept_owed : (kept : List (ℕ × Outcome)) (owed : List Command) → IsFront owed (take old.taken old.pending) → IsState (record old { kept = kept }) (record hidden { owed = owed })
-  kept_owed kept owed front = record {
-    shape = kept_shape kept owed front;
+  kept_owed : (kept : Outcomes) → KeepsOutcomes old.value old.pending kept → (owed : List Command) → IsFront owed (take old.taken old.pending)
+      → IsState (record old { kept = kept }) (record hidden { owed = owed })
+  kept_owed kept outcomes owed front = record {
+    shape = kept_shape kept outcomes owed front;
     sound = λ honest. either_stays old (record old { kept = kept })
         (λ sound. record { behind = sound.behind; held = sound.held; counts = sound.counts; fits = sound.fits })
         (λ broken. record { stopped = broken.stopped; rests = broken.rests; ready = broken.ready; images = broken.images }) (has.sound honest);
   }
 
-  -- other outcomes are kept
-  pub kept_state : (kept : List (ℕ × Outcome)) → IsState (record old { kept = kept }) hidden
-  kept_state kept = kept_owed kept hidden.owed has.shape.owed
+  -- what is kept after a place is taken out
+  abbrev LeavesOthers : ℕ → Outcomes → Type 0
+  LeavesOthers place kept = (other : ℕ) → outcome_at other kept ≡ cond (is_at (nat_cmp place) other) None (outcome_at other old.kept)
+
+  less_kept : (place : ℕ) (kept : Outcomes) → LeavesOthers place kept → KeepsOutcomes old.value old.pending kept
+  less_kept place kept left = one_less_kept old.value old.pending old.kept kept place has.shape.outcomes left
+
+  -- an outcome less is kept
+  pub kept_state : (place : ℕ) (kept : Outcomes) → LeavesOthers place kept → IsState (record old { kept = kept }) hidden
+  kept_state place kept left = kept_owed kept (less_kept place kept left) hidden.owed has.shape.owed
 
   -- the showcase shows the same, and has the first of the next group in hand
   pub shown_state : (value : StoreValue (List RowView)) (owed : List Command) → value ≡ old.value → IsFront owed (take old.taken old.pending)
       → IsState (record old { value = value }) (record hidden { owed = owed })
   shown_state value owed same front =
-      subst (λ (v : StoreValue (List RowView)). IsState (record old { value = v }) (record hidden { owed = owed })) (sym same) (kept_owed old.kept owed front)
+      subst (λ (v : StoreValue (List RowView)). IsState (record old { value = v }) (record hidden { owed = owed })) (sym same) (kept_owed old.kept has.shape.outcomes owed front)
 
-  -- it was asked
-  pub told_state : (value : StoreValue (List RowView)) (kept : List (ℕ × Outcome)) (owed : List Command) → value ≡ old.value → owed ≡ hidden.owed
+  -- and it was asked
+  pub told_state : (value : StoreValue (List RowView)) (place : ℕ) (kept : Outcomes) (owed : List Command) → value ≡ old.value → LeavesOthers place kept → owed ≡ hidden.owed
       → IsState (record old { value = value; kept = kept }) (record hidden { owed = owed })
-  told_state value kept owed same owed_is =
+  told_state value place kept owed same left owed_is =
       subst (λ (v : StoreValue (List RowView)). IsState (record old { value = v; kept = kept }) (record hidden { owed = owed })) (sym same)
-      (kept_owed kept owed (subst (λ (l : List Command). IsFront l (take old.taken old.pending)) (sym owed_is) has.shape.owed))
+      (kept_owed kept (less_kept place kept left) owed (subst (λ (l : List Command). IsFront l (take old.taken old.pending)) (sym owed_is) has.shape.owed))
 
   -- the state stops
   pub halted_state : IsState (record old { stopped = true }) hidden

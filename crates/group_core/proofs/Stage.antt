@@ -118,6 +118,7 @@ module _ (old : StateView) (hidden : Hidden) (has : IsState old hidden) (may : M
       few = has.shape.few;
       commands = has.shape.commands;
       tip = has.shape.tip;
+      outcomes = has.shape.outcomes;
       fits = has.shape.fits;
       known = has.shape.known;
       taken = inside;

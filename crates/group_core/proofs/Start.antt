@@ -29,6 +29,7 @@ use Rattle.group_core.specs.StateView.{StateView, setting_of, standing_of, MayOp
 use Rattle.group_core.specs.Invariant.{Hidden, FitArea, HasNextEpoch, CountsAt, Shape, Sound, IsBroken, IsState}
 use Rattle.group_core.specs.Starting.{value_in, GoesOn, check_in, started}
 use Rattle.group_core.proofs.States.{may_open}
+use Rattle.group_core.proofs.KeptOutcomes.{none_kept}
 
 -- what doesn't hold is false
 pub not_false : {P : Type 0} (b : Bool) → b ≡ true ↔ P → not b ≡ false ↔ P
@@ -65,6 +66,7 @@ module _ (store : StoreView) (whole : IsStoreWhole store) (device : IsHonest sto
     few = omega arith;
     commands = tt;
     tip = refl;
+    outcomes = none_kept (value_in store);
     fits = λ goes n inside. subst (λ (l : List Command). FitArea view (db_after store_format store.rows l)) (sym (take_none n)) (rows_fit goes);
     known = whole.within.known;
     taken = omega arith;

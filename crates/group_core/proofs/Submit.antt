@@ -23,6 +23,7 @@ use Rattle.group_core.specs.Keeping.{Outcomes}
 use Rattle.group_core.specs.Showing.{IsFront}
 use Rattle.group_core.specs.Submitting.{next_place, accepted_rows, MayBeSubmitted, HasRoom, IsTicketOf, Submits}
 use Rattle.group_core.specs.declared.ticket.Ticket.{Ticket}
+use Rattle.group_core.proofs.KeptOutcomes.{one_more_kept}
 use Rattle.group_core.proofs.Soundness.{either_stays}
 
 -- what accepting a command touches
@@ -57,6 +58,16 @@ module _ (old : StateView) (hidden : Hidden) (has : IsState old hidden) where
       let fits = subst (λ (l : List Command). FitArea old (db_after store_format old.value.db l)) all (has.shape.fits going (length old.pending) (omega arith)) in
       omega (arith, fits, counted (db_after store_format old.value.db old.pending), ap rows_len has.shape.tip)
 
+  -- the outcome of a command more is kept, which is that on the rows after all commands that are accepted
+  abbrev with_outcome : Command → Outcomes
+  with_outcome command = insert_entry nat_cmp old.kept (next_place old) (outcome_of (accepted_rows old) command)
+
+  kept_so : (command : Command) (place : ℕ) (kept : Outcomes) → place ≡ next_place old → kept ≡ insert_entry nat_cmp old.kept place (outcome_of hidden.tip command)
+      → kept ≡ with_outcome command
+  kept_so command place kept place_is kept_is =
+      kept_is ∙ ap (λ (n : ℕ). insert_entry nat_cmp old.kept n (outcome_of hidden.tip command)) place_is
+      ∙ ap (λ (rows : List RowView). insert_entry nat_cmp old.kept (next_place old) (outcome_of rows command)) has.shape.tip
+
   module _ (command : Command) (counted : WrittenRowsAreCounted) (may : MayBeSubmitted command old) (may_be : MayBePending old.version command) (room : HasRoom command old) where
     abbrev more : List Command
     more = old.pending ++ command ∷ []
@@ -79,8 +90,8 @@ module _ (old : StateView) (hidden : Hidden) (has : IsState old hidden) where
     load_is : load_by old.taken more ≡ load_of (standing_of old)
     load_is = load_front old.taken old.pending (command ∷ []) has.shape.taken
 
-    accepted_shape : (kept : Outcomes) → Shape (record old { pending = more; kept = kept }) (record hidden { tip = database_after hidden.tip command })
-    accepted_shape kept = record {
+    accepted_shape : Shape (record old { pending = more; kept = with_outcome command }) (record hidden { tip = database_after hidden.tip command })
+    accepted_shape = record {
       limits = has.shape.limits;
       sectors = has.shape.sectors;
       room = has.shape.room;
@@ -89,6 +100,7 @@ module _ (old : StateView) (hidden : Hidden) (has : IsState old hidden) where
       few = omega (arith, may.few, one_more);
       commands = all_pushed (MayBePending old.version) old.pending command has.shape.commands may_be;
       tip = ap (λ (rows : List RowView). database_after rows command) has.shape.tip ∙ sym rows_are;
+      outcomes = one_more_kept old.value old.pending old.kept has.shape.outcomes command;
       fits = λ going n inside. front_fits n (eq-or-lt_of_le inside);
       known = has.shape.known;
       taken = omega (arith, has.shape.taken, one_more);
@@ -100,10 +112,10 @@ module _ (old : StateView) (hidden : Hidden) (has : IsState old hidden) where
       epoch = has.shape.epoch;
     }
 
-    accepted_exactly : (kept : Outcomes) → IsState (record old { pending = more; kept = kept }) (record hidden { tip = database_after hidden.tip command })
-    accepted_exactly kept = record {
-      shape = accepted_shape kept;
-      sound = λ honest. either_stays old (record old { pending = more; kept = kept })
+    accepted_exactly : IsState (record old { pending = more; kept = with_outcome command }) (record hidden { tip = database_after hidden.tip command })
+    accepted_exactly = record {
+      shape = accepted_shape;
+      sound = λ honest. either_stays old (record old { pending = more; kept = with_outcome command })
           (λ sound. record {
             behind = sound.behind;
             held = held_when_accepted (List RowView) Command (setting_of old) (standing_of old) sound.behind old.disk.history.now command sound.held;
@@ -113,12 +125,14 @@ module _ (old : StateView) (hidden : Hidden) (has : IsState old hidden) where
           (λ broken. let both : false ≡ true = sym may.going ∙ broken.stopped in absurd (cc)) (has.sound honest);
     }
 
-    -- a command more is pending
-    pub accepted_state : (pending : List Command) (kept : Outcomes) (tip : List RowView) → pending ≡ more → tip ≡ database_after hidden.tip command
+    -- a command more is pending, and its outcome is kept
+    pub accepted_state : (place : ℕ) (pending : List Command) (kept : Outcomes) (tip : List RowView) → place ≡ next_place old → pending ≡ more
+        → kept ≡ insert_entry nat_cmp old.kept place (outcome_of hidden.tip command) → tip ≡ database_after hidden.tip command
         → IsState (record old { pending = pending; kept = kept }) (record hidden { tip = tip })
-    accepted_state pending kept tip pending_is tip_is =
+    accepted_state place pending kept tip place_is pending_is kept_is tip_is =
+        let so = kept_so command place kept place_is kept_is in
         subst (λ (left : Touched). IsState (touched left) (record hidden { tip = left.tip }))
-        (λ i. record { pending = sym pending_is i; kept = kept; tip = sym tip_is i }) (accepted_exactly kept)
+        (λ i. record { pending = sym pending_is i; kept = sym so i; tip = sym tip_is i }) accepted_exactly
 
   pub may : (view : StateView) → old ≡ view → (command : Command) → MayBeSubmitted command view → MayBeSubmitted command old
   may view is command so = subst (MayBeSubmitted command) (sym is) so
@@ -137,8 +151,4 @@ module _ (old : StateView) (hidden : Hidden) (has : IsState old hidden) where
       → Submits command (Ok ticket) view (record old { pending = pending; kept = kept })
   accepted_so view is command may_now ticket pending kept ticket_is room pending_is kept_is =
       subst (λ (v : StateView). Submits command (Ok ticket) v (record old { pending = pending; kept = kept })) is
-      (may_now, room, ticket_is, λ i. record old { pending = pending_is i; kept = kept_so i })
-    where
-      kept_so : kept ≡ insert_entry nat_cmp old.kept (next_place old) (outcome_of (accepted_rows old) command)
-      kept_so = kept_is ∙ ap (λ (n : ℕ). insert_entry nat_cmp old.kept n (outcome_of hidden.tip command)) ticket_is.place
-          ∙ ap (λ (rows : List RowView). insert_entry nat_cmp old.kept (next_place old) (outcome_of rows command)) has.shape.tip
+      (may_now, room, ticket_is, λ i. record old { pending = pending_is i; kept = kept_so command ticket.place kept ticket_is.place kept_is i })

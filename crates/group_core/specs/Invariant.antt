@@ -22,6 +22,7 @@ use Rattle.group_laws.specs.declared.phases.Check.TheVariants.{Ready, Sealed, Pl
 use Rattle.group_laws.specs.Tail.{Load, Commands, Seal, load_bytes}
 use Rattle.group_laws.specs.Standing.{load_of, Behind, IsHeldBy}
 use Rattle.group_core.specs.StateView.{StateView, setting_of, standing_of, MayOpen}
+use Rattle.group_core.specs.Keeping.{KeepsOutcomes}
 use Rattle.group_core.specs.Showing.{IsFront}
 
 -- what no clause sees: the bytes that are to be written of what is in flight, the rows after all commands that are accepted, the
@@ -78,8 +79,8 @@ HasNextEpoch Live epoch = Unit {0}
 HasNextEpoch Closing epoch = Unit {0}
 HasNextEpoch CloseFailed epoch = Unit {0}
 
--- What holds whatever the device does: all is inside it, what is in flight may be and its bytes are made, and while the state goes
--- on every front fits the area.
+-- What holds whatever the device does: all is inside it, the outcomes that are kept are those of their commands, what is in flight
+-- may be and its bytes are made, and while the state goes on every front fits the area.
 pub record Shape (view : StateView) (hidden : Hidden) : Type 0 where
   pub limits : IsGeometry view.geometry
   pub sectors : image_sectors view.geometry ≤ view.disk.sectors
@@ -89,6 +90,7 @@ pub record Shape (view : StateView) (hidden : Hidden) : Type 0 where
   pub few : length view.pending ≤ 256
   pub commands : AllByRecursion (MayBePending view.version) view.pending
   pub tip : hidden.tip ≡ db_after store_format view.value.db view.pending
+  pub outcomes : KeepsOutcomes view.value view.pending view.kept
   pub fits : view.stopped ≡ false → EveryFrontFits view
   pub known : view.version ≤ latest
   pub taken : view.taken ≤ length view.pending

@@ -5,6 +5,7 @@ ghost use Rattle.path_db.specs.Answer.{segments_of};
 ghost use Rattle.seg_lookup.specs.Answer.{answer_to};
 ghost use Rattle.seg_lookup.specs.Query.{query_view};
 ghost use Rattle.group_laws.specs.declared.phases.Check.TheVariants.{Sealed as sealed};
+ghost use Rattle.group_core.specs.Keeping.{KeepsOutcomes};
 ghost use Rattle.group_core.specs.Reading.{IsFree};
 ghost use Rattle.group_core.specs.StateView.{StepLeaves};
 
@@ -40,6 +41,14 @@ impl<D: Device, S: Showcase> State<D, S> {
     pub fn stops_leave_fronts(&self)
         ensures leaves { StepLeaves self.now self.now }
         ensures taken { self.now.taken ≤ length self.now.pending }
+    {
+        let _stopped = self.stopped;
+    }
+
+    /// A law. An outcome that is kept for a pending command's place is that of the command on the rows after all commands before
+    /// it; and no outcome is kept for a place that no command has yet.
+    pub fn outcomes_are_of_their_commands(&self)
+        ensures { KeepsOutcomes self.now.value self.now.pending self.now.kept }
     {
         let _stopped = self.stopped;
     }

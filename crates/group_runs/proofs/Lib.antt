@@ -1,6 +1,5 @@
 pub mod Prefix
 pub mod Held
-pub mod Beside
 pub mod Tickets
 pub mod Runs
 pub mod MachineSteps

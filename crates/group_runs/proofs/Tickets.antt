@@ -19,8 +19,7 @@ use Rattle.group_core.specs.Redeeming.{outcome_at, redeemed, Redeems}
 use Rattle.group_core.specs.Submitting.{next_place, accepted_rows, with_command, IsTicketOf, Submits}
 use Rattle.group_runs.specs.RunSteps.{ticket_at, redeemed_at, RedeemEvent, SubmitEvent}
 use Rattle.group_runs.specs.Holding.{held_at, place_of, run_view, IsOwnTicket, HoldsTickets, AllRedeemed}
-use Rattle.group_core.proofs.Exports.{there_then}
-use Rattle.group_runs.proofs.Beside.{beside_put, beside_taken}
+use Rattle.group_core.proofs.Exports.{there_then, beside_put, beside_taken}
 
 same_or_not : (i k : ℕ) → (i ≡ k) ⊎ (i ≢ k)
 same_or_not i k = by (eqb_tells i k)

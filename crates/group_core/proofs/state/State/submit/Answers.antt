@@ -24,7 +24,7 @@ invariant_of-self-2 g c =
     accepted_state _ _ c.self.invariant c.args.command c.written_rows_are_counted.ensures may_now
     (subst (λ (view : StateView). MayBePending view.version c.args.command) (sym c.self.view_is) judged.pending)
     (has_room _ _ c.self.invariant c.args.command may_now c.written_rows_are_counted.ensures _ _ after.tip after.within (omega (arith, c.from.ensures)))
-    _ _ _ after.pending after.tip
+    _ _ _ _ (c.next_place-place.ensures ∙ ap next_place (sym c.self.view_is)) after.pending after.kept after.tip
 
 pub returns-clause-step : goal.returns-clause-step
 returns-clause-step g c =
