@@ -18,6 +18,7 @@ use Rattle.group_core.specs.StateView.{StateView, StepLeaves}
 use Rattle.group_core.specs.Publishing.{with_group, with_seal}
 use Rattle.group_core.specs.Submitting.{next_place}
 use Rattle.group_core.specs.Redeeming.{halted}
+use Rattle.group_runs.specs.SameDevice.{DeviceGoesOn}
 use Rattle.group_runs.specs.RunSteps.{RunView, PublishEvent, SubmitEvent, RedeemEvent, IsStep, IsRun}
 use Rattle.group_runs.specs.Holding.{HoldsGroup, HoldsPlan, SealWaits, HoldsTickets, IsHolding}
 use Rattle.group_runs.specs.Winding.{ending_events, winding_events, HasWound}
@@ -228,12 +229,20 @@ others_holding {held = held} {planned = planned} stay holding holds = record {
   seal = stay.seal holding.seal;
 }
 
+-- a call that leaves what it may was made on the device that was there
+device_goes_on : {old new : StateView} → StepLeaves old new → DeviceGoesOn old.disk new.disk
+device_goes_on leaves = record {
+  keeps = leaves.moments.keeps;
+  goes_on = λ honest. let its = leaves.moments.leaves honest in record { later = its.later; are = its.goes_on };
+}
+
 -- a run of one event more
-pub run_then : (events : List Event) (replies : List Reply) (e : Event) (r : Reply) (old mid new : RunView) → IsRun events replies old mid → IsStep e r mid new → IsRun (events ++ e ∷ []) (replies ++ r ∷ []) old new
-run_then [] [] e r old mid new is step = (new, subst (λ (o : RunView). IsStep e r o new) is step, refl)
-run_then [] (r' ∷ replies) e r old mid new is step = absurd is
-run_then (e' ∷ events) [] e r old mid new is step = absurd is
-run_then (e' ∷ events) (r' ∷ replies) e r old mid new is step = (is.0, is.1, run_then events replies e r is.0 mid new is.2 step)
+pub run_then : (events : List Event) (replies : List Reply) (e : Event) (r : Reply) (old mid new : RunView) → IsRun events replies old mid → IsStep e r mid new
+    → DeviceGoesOn mid.state.disk new.state.disk → IsRun (events ++ e ∷ []) (replies ++ r ∷ []) old new
+run_then [] [] e r old mid new is step on = (new, subst (λ (o : RunView). IsStep e r o new) is step, subst (λ (o : RunView). DeviceGoesOn o.state.disk new.state.disk) is on, refl)
+run_then [] (r' ∷ replies) e r old mid new is step on = absurd is
+run_then (e' ∷ events) [] e r old mid new is step on = absurd is
+run_then (e' ∷ events) (r' ∷ replies) e r old mid new is step on = (is.0, is.1, is.2, run_then events replies e r is.0 mid new is.3 step on)
 
 accepted_then : (events : List Event) (replies : List Reply) (e : Event) (r : Reply) (old mid : RunView) → IsRun events replies old mid
     → accepted_in (events ++ e ∷ []) (replies ++ r ∷ []) ≡ accepted_in events replies ++ accepted_by e r
@@ -241,7 +250,7 @@ accepted_then [] [] e r old mid is = append-nil (accepted_by e r)
 accepted_then [] (r' ∷ replies) e r old mid is = absurd is
 accepted_then (e' ∷ events) [] e r old mid is = absurd is
 accepted_then (e' ∷ events) (r' ∷ replies) e r old mid is =
-    ap (λ (l : List Command). accepted_by e' r' ++ l) (accepted_then events replies e r is.0 mid is.2) ∙ sym (append_assoc (accepted_by e' r') (accepted_in events replies) (accepted_by e r))
+    ap (λ (l : List Command). accepted_by e' r' ++ l) (accepted_then events replies e r is.0 mid is.3) ∙ sym (append_assoc (accepted_by e' r') (accepted_in events replies) (accepted_by e r))
 
 -- a run so far, and what it leaves
 pub record RunSoFar (events : List Event) (replies : List Reply) (start now : RunView) : Type 0 where
@@ -251,7 +260,7 @@ pub record RunSoFar (events : List Event) (replies : List Reply) (start now : Ru
 pub so_far_then : (events : List Event) (replies : List Reply) (e : Event) (r : Reply) (start mid new : RunView) → RunSoFar events replies start mid → mid.state.taken ≤ length mid.state.pending
     → IsStep e r mid new → StepLeaves mid.state new.state → RunSoFar (events ++ e ∷ []) (replies ++ r ∷ []) start new
 so_far_then events replies e r start mid new so_far inside step leaves = record {
-  runs = run_then events replies e r start mid new so_far.runs step;
+  runs = run_then events replies e r start mid new so_far.runs step (device_goes_on leaves);
   leaves = subst (λ (l : List Command). RunLeaves start.state l new.state) order
       (leaves_then start.state mid.state new.state (lock_order start.state events replies) (accepted_by e r) so_far.leaves (step_moves e r mid new inside step) leaves);
 }

@@ -1,4 +1,5 @@
 pub mod Machine
+pub mod SameDevice
 pub mod RunSteps
 pub mod Holding
 pub mod RunLeaves

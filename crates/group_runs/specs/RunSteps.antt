@@ -26,6 +26,7 @@ use Rattle.group_core.specs.Publishing.{IsPublished}
 use Rattle.group_core.specs.Beginning.{Begins}
 use Rattle.group_core.specs.Redeeming.{outcome_at, kept_without, halted}
 use Rattle.group_core.specs.Submitting.{MayBeSubmitted, HasRoom, IsRefusedFor, next_place, with_command}
+use Rattle.group_runs.specs.SameDevice.{DeviceGoesOn}
 
 -- a state, and the places of the commands that the run accepted, in their order: none once its ticket is redeemed
 pub record RunView : Type 0 where
@@ -159,9 +160,10 @@ IsStep event.SyncClose reply old new =
 IsStep (event.Lookup query now) reply old new = OnState (LookupEvent query now reply) old new
 IsStep event.Halt reply old new = OnState (HaltEvent reply) old new
 
--- the events make these steps one after the other, with these replies
+-- the events make these steps one after the other, with these replies, and all on one device
 abbrev pub IsRun : List Event → List Reply → RunView → RunView → Type 0
 IsRun [] [] old new = new ≡ old
 IsRun [] (r ∷ replies) old new = ⊥
 IsRun (e ∷ events) [] old new = ⊥
-IsRun (e ∷ events) (r ∷ replies) old new = (mid : RunView) × IsStep e r old mid × IsRun events replies mid new
+IsRun (e ∷ events) (r ∷ replies) old new =
+    (mid : RunView) × IsStep e r old mid × DeviceGoesOn old.state.disk mid.state.disk × IsRun events replies mid new
