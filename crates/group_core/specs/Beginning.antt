@@ -64,7 +64,7 @@ AllowsBegin (Err Fault) view = ⊥
 AllowsBegin (Err NoMemory) view = ⊥
 AllowsBegin (Err Damaged) view = ⊥
 
--- a device was looked at: what is on it stays as it is
+-- a device was looked at, by reads alone: what is on it stays as it is, and no moment comes to its history
 pub record IsLookedAt (old new : Disk) : Type 0 where
   pub keeps : Keeps old new
   pub history : IsHonest old → new.history ≡ old.history

@@ -3,6 +3,7 @@ pub mod Values
 pub mod StateView
 pub mod Invariant
 pub mod Steps
+pub mod StepCalls
 pub mod Staging
 pub mod Publishing
 pub mod Redeeming

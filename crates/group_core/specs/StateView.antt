@@ -19,29 +19,38 @@ use Rattle.group_laws.specs.Standing.{Standing, OpensToFront}
 use Rattle.group_laws.specs.HeldSteps.{OpensAroundCall}
 use Rattle.group_core.specs.declared.bookkeeping.Turn.{Turn}
 
--- The device; the sizes; the home number; the rows that are committed, and the place reached; the commands accepted behind them;
--- the outcomes that aren't redeemed, by their places, which rise; how many commands are in flight, where none of them is a seal; how far the flusher is, and
--- its value; how far the checkpointer is, and its value; the half that has the tail, and the tail's gate in sectors from its
--- journal's start; the epoch and the version that count; the new checkpoint's bytes, and how many sectors of it are written; and
--- whether the state has stopped.
+-- a state as contracts see it
 pub record StateView : Type 0 where
+  -- the device that has the store
   pub disk : Disk
+  -- the sizes of each half's checkpoint area and journal, in sectors
   pub geometry : Geometry
+  -- the state's own number, which its tickets and its commit values have too
   pub home : ℕ
+  -- the rows that are committed, and how many commands are: the place of the first pending one
   pub value : StoreValue (List RowView)
+  -- the commands that are accepted and not committed yet, in the order of their places
   pub pending : List Command
+  -- the outcome of each accepted command whose ticket isn't redeemed yet, by the command's place; places rise
   pub kept : List (ℕ × Outcome)
+  -- how many of the first pending commands are in flight: none while the flusher rests, and where a seal is in flight
   pub taken : ℕ
+  -- how far the flusher is, and its last commit value
   pub flush : Flush
   pub group : Turn
+  -- how far the checkpointer is, and its last commit value
   pub check : Check
   pub plan : Turn
+  -- the half whose journal has the tail, and the tail's gate, in sectors from the start of that journal
   pub half : Half
   pub gate : ℕ
+  -- the epoch and the format version of the half that counts
   pub epoch : ℕ
   pub version : ℕ
+  -- the bytes of the last checkpoint that was begun, and how many sectors of it are written
   pub checkpoint : List ℕ
   pub written : ℕ
+  -- whether the state has stopped, which is for good
   pub stopped : Bool
 
 -- what doesn't change, and what counts for the device

@@ -5,6 +5,7 @@ ghost use Rattle.group_laws.specs.declared.phases.Check.TheVariants.{Laid as lai
 ghost use Rattle.group_laws.specs.declared.phases.Check.TheVariants.{Live as live, Closing as closing, CloseFailed as close_failed};
 ghost use Rattle.group_core.specs.StateView.{StepLeaves};
 ghost use Rattle.group_core.specs.Steps.{WritesChunk, SyncsChunks, WritesGate, SyncsHalf, SyncsClose, TakesPlanTurn, TakesChunkTurn};
+ghost use Rattle.group_core.specs.StepCalls.{StepCall, Sync, chunk_write, half_write, close_write};
 
 use crate::error::StepError;
 use crate::gates::{closed_gates, open_gate};
@@ -25,6 +26,7 @@ impl<D: Device, S: Showcase> State<D, S> {
     pub fn write_chunk(&mut self, value: Plan) -> Result<Plan, StepError<AtPlan>>
         requires { value.phase.done ≡ false }
         ensures step { WritesChunk value result self.old self.new }
+        ensures call { StepCall (chunk_write self.old) result self.old.disk self.new.disk }
         ensures any_moment { StepLeaves self.old self.new }
     {
         let value = self.chunk_turn(value)?;
@@ -48,6 +50,7 @@ impl<D: Device, S: Showcase> State<D, S> {
     pub fn sync_chunks(&mut self, value: Plan) -> Result<Laid, StepError<AtPlan>>
         requires { value.phase.done ≡ true }
         ensures step { SyncsChunks value result self.old self.new }
+        ensures call { StepCall Sync result self.old.disk self.new.disk }
         ensures any_moment { StepLeaves self.old self.new }
     {
         let value = self.chunk_turn(value)?;
@@ -63,6 +66,7 @@ impl<D: Device, S: Showcase> State<D, S> {
     /// Writes the new half's gate open.
     pub fn open_half(&mut self, value: Laid) -> Result<Switched, StepError<AtLaid>>
         ensures step { WritesGate laid switched switch_failed value result self.old self.new }
+        ensures call { StepCall (half_write self.old) result self.old.disk self.new.disk }
         ensures any_moment { StepLeaves self.old self.new }
     {
         let value = self.plan_turn(Check::Laid, value)?;
@@ -82,6 +86,7 @@ impl<D: Device, S: Showcase> State<D, S> {
     /// Syncs that gate: from then on the new half counts, with its epoch and its version.
     pub fn sync_half(&mut self, value: Switched) -> Result<Live, StepError<AtSwitched>>
         ensures step { SyncsHalf value result self.old self.new }
+        ensures call { StepCall Sync result self.old.disk self.new.disk }
         ensures any_moment { StepLeaves self.old self.new }
     {
         let value = self.plan_turn(Check::Switched, value)?;
@@ -99,6 +104,7 @@ impl<D: Device, S: Showcase> State<D, S> {
     /// Writes the old half's gate and the first gate of its journal closed, in one write.
     pub fn close_half(&mut self, value: Live) -> Result<Closing, StepError<AtLive>>
         ensures step { WritesGate live closing close_failed value result self.old self.new }
+        ensures call { StepCall (close_write self.old) result self.old.disk self.new.disk }
         ensures any_moment { StepLeaves self.old self.new }
     {
         let value = self.plan_turn(Check::Live, value)?;
@@ -118,6 +124,7 @@ impl<D: Device, S: Showcase> State<D, S> {
     /// Syncs these gates: from then on the old half is ready.
     pub fn sync_close(&mut self, value: Closing) -> Result<(), StepError<AtClosing>>
         ensures step { SyncsClose value result self.old self.new }
+        ensures call { StepCall Sync result self.old.disk self.new.disk }
         ensures any_moment { StepLeaves self.old self.new }
     {
         let value = self.plan_turn(Check::Closing, value)?;

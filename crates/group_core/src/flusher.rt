@@ -4,6 +4,7 @@ ghost use Rattle.group_laws.specs.declared.phases.Flush.TheVariants.{Staged as s
 ghost use Rattle.group_laws.specs.declared.phases.Flush.TheVariants.{Opened as opened, Doubtful as doubtful, Durable as durable};
 ghost use Rattle.group_core.specs.StateView.{StepLeaves};
 ghost use Rattle.group_core.specs.Steps.{FlushStep, TakesGroupTurn};
+ghost use Rattle.group_core.specs.StepCalls.{StepCall, Sync, load_write, gate_write};
 
 use crate::error::StepError;
 use crate::gates::open_gate;
@@ -19,6 +20,7 @@ impl<D: Device, S: Showcase> State<D, S> {
     /// Writes what is staged behind the tail's gate, and behind a group the closed gate that follows, in one write.
     pub fn write_group(&mut self, value: Staged) -> Result<Written, StepError<AtStaged>>
         ensures step { FlushStep staged written staged value result self.old self.new }
+        ensures call { StepCall (load_write self.old) result self.old.disk self.new.disk }
         ensures any_moment { StepLeaves self.old self.new }
     {
         let value = self.group_turn(Flush::Staged, value)?;
@@ -35,6 +37,7 @@ impl<D: Device, S: Showcase> State<D, S> {
     /// Syncs what was written.
     pub fn sync_group(&mut self, value: Written) -> Result<Stable, StepError<AtWritten>>
         ensures step { FlushStep written stable written value result self.old self.new }
+        ensures call { StepCall Sync result self.old.disk self.new.disk }
         ensures any_moment { StepLeaves self.old self.new }
     {
         let value = self.group_turn(Flush::Written, value)?;
@@ -50,6 +53,7 @@ impl<D: Device, S: Showcase> State<D, S> {
     /// Writes the tail's gate open.
     pub fn open_gate(&mut self, value: Stable) -> Result<Opened, StepError<AtStable>>
         ensures step { FlushStep stable opened doubtful value result self.old self.new }
+        ensures call { StepCall (gate_write self.old) result self.old.disk self.new.disk }
         ensures any_moment { StepLeaves self.old self.new }
     {
         let value = self.group_turn(Flush::Stable, value)?;
@@ -69,6 +73,7 @@ impl<D: Device, S: Showcase> State<D, S> {
     /// Syncs the gate: from then on every stop keeps what was in flight.
     pub fn sync_gate(&mut self, value: Opened) -> Result<Durable, StepError<AtOpened>>
         ensures step { FlushStep opened durable opened value result self.old self.new }
+        ensures call { StepCall Sync result self.old.disk self.new.disk }
         ensures any_moment { StepLeaves self.old self.new }
     {
         let value = self.group_turn(Flush::Opened, value)?;

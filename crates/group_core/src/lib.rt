@@ -16,6 +16,7 @@ mod ending;
 mod error;
 mod flusher;
 mod gates;
+mod halting;
 mod phases;
 mod places;
 mod plain_show;

@@ -1,8 +1,7 @@
-//! Redeeming tickets, and stopping.
+//! Redeeming tickets.
 
-ghost use Rattle.std.specs.Prelude.{◌≡◌, true};
 ghost use Rattle.group_core.specs.StateView.{StepLeaves};
-ghost use Rattle.group_core.specs.Redeeming.{Redeems, halted};
+ghost use Rattle.group_core.specs.Redeeming.{Redeems};
 
 use crate::showcase::Showcase;
 use crate::state::State;
@@ -39,13 +38,5 @@ impl<D: Device, S: Showcase> State<D, S> {
             outcome,
             note,
         })
-    }
-
-    /// Stops the state, for good.
-    pub fn halt(&mut self)
-        ensures halted { self.new ≡ halted self.old }
-        ensures any_moment { StepLeaves self.old self.new }
-    {
-        self.stopped = true;
     }
 }

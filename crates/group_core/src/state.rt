@@ -13,27 +13,49 @@ use store_open::Geometry;
 
 /// A store at work: its device, what it shows, and what is accepted and not committed yet.
 pub struct State<D: Device, S: Showcase> {
+    /// Where the state takes memory from.
     pub(crate) alloc: Global,
+    /// The device that has the store. Nothing else writes it.
     pub(crate) device: D,
+    /// The sizes of each half's checkpoint area and journal, in sectors.
     pub(crate) geometry: Geometry,
+    /// The state's own number, which its tickets and its commit values have too; no other state of the process has it.
     pub(crate) home: u64,
+    /// What shows the committed rows.
     pub(crate) show: S,
+    /// How many commands are committed, since the store was made: the place of the first pending one.
     pub(crate) place: u64,
+    /// The rows after all accepted commands.
     pub(crate) tip: PathDb,
+    /// The commands that are accepted and not committed yet, in the order of their places; at most 256.
     pub(crate) pending: Vec<Command>,
+    /// The outcome of each accepted command whose ticket is not redeemed yet, by the command's place.
     pub(crate) kept: BTreeMap<u64, Outcome>,
+    /// How many of the first pending commands are in flight: 0 while the flusher rests, and where a seal is in flight.
     pub(crate) taken: usize,
+    /// The bytes of the one write of what is in flight, in whole sectors: a group with the closed gate after it, or a seal.
     pub(crate) staged: Vec<u8>,
+    /// How far the flusher is.
     pub(crate) flush: Flush,
+    /// The flusher's last commit value.
     pub(crate) group: Turn,
+    /// How far the checkpointer is.
     pub(crate) check: Check,
+    /// The checkpointer's last commit value.
     pub(crate) plan: Turn,
+    /// The half whose journal has the tail: the next group or seal goes there.
     pub(crate) half: Half,
+    /// The tail's gate, in sectors from the start of that journal: what is in flight goes after it.
     pub(crate) gate: u64,
+    /// The epoch of the half that counts: its checkpoint's number.
     pub(crate) epoch: u64,
+    /// The format version of the half that counts, which sets the limits of groups and commands.
     pub(crate) version: u32,
+    /// The bytes of the last checkpoint that was begun, in whole sectors.
     pub(crate) checkpoint: Vec<u8>,
+    /// How many sectors of it are written.
     pub(crate) written: u64,
+    /// Whether the state has stopped, which is for good.
     pub(crate) stopped: bool,
 }
 

@@ -1,6 +1,6 @@
 //! Tickets and receipts.
 
-ghost use Rattle.std.specs.Prelude.{◌≡◌};
+ghost use Rattle.std.specs.Prelude.{◌≡◌, None};
 
 use path_db::{Command, Outcome};
 use std::snapshot::Snapshot;
@@ -34,17 +34,38 @@ impl Ticket {
     }
 }
 
-/// What a ticket is redeemed for once its command is committed.
+/// What a ticket is redeemed for once its command is committed. `State::redeem` alone makes one.
 #[derive(Drop)]
 pub struct Receipt<N> {
-    /// The place of the command.
-    pub place: u64,
+    pub(crate) place: u64,
     /// The command, to clauses alone: that of the ticket.
-    pub command: Snapshot<Command>,
-    /// What it did.
-    pub outcome: Outcome,
-    /// What the showcase told then; there is one.
-    pub note: Option<N>,
+    pub(crate) command: Snapshot<Command>,
+    pub(crate) outcome: Outcome,
+    pub(crate) note: Option<N>,
+}
+
+impl<N> Receipt<N> {
+    /// The place of the command.
+    pub fn place(&self) -> u64
+        ensures { result ≡ self.now.place }
+    {
+        self.place
+    }
+
+    /// What the command did.
+    pub fn outcome(&self) -> Outcome
+        ensures { result ≡ self.now.outcome }
+    {
+        self.outcome
+    }
+
+    /// Takes out what the showcase told when the ticket was redeemed: there is a note until it is taken.
+    pub fn take_note(&mut self) -> Option<N>
+        ensures note { result ≡ self.old.note }
+        ensures taken { self.new ≡ record self.old { note = None } }
+    {
+        self.note.take()
+    }
 }
 
 /// What a ticket was redeemed for.

@@ -1,6 +1,30 @@
 //! How far the two actors are.
 
 /// How far the flusher is with the group or seal that it has staged.
+///
+/// Each arrow is a call that succeeds. A call that fails leaves the phase as it is, except a write of the tail's gate:
+///
+/// ```text
+/// Resting --stage--> Staged --write_group--> Written --sync_group--> Stable --open_gate--> Opened --sync_gate--> Durable
+///    ^                                                                 |                                            |
+///    |                                                                 '--open_gate fails--> Doubtful               |
+///    '--publish-----------------------------------------------------------------------------------------------------'
+/// ```
+///
+/// In each phase the groups that are committed are in the tail's journal, clean. What else holds of an honest device there:
+///
+/// ```text
+///            the tail's gate   what is in flight, after that gate   a stop keeps of what is in flight
+/// Resting    closed*           nothing is in flight                 -
+/// Staged     closed*           anything may be there                nothing
+/// Written    closed*           it is there                          nothing
+/// Stable     closed*           it is there*                         nothing
+/// Opened     open              it is there*                         nothing or all
+/// Doubtful   open or closed    it is there*                         nothing or all
+/// Durable    open*             it is there*                         all
+/// ```
+///
+/// `*`: and clean, which says that no write was made there since the last sync that succeeded: so it is in every image.
 #[derive(Clone, Copy, Debug, PartialEq, Eq)]
 pub enum Flush {
     /// Nothing is in flight.
@@ -20,6 +44,37 @@ pub enum Flush {
 }
 
 /// How far the checkpointer is.
+///
+/// Each arrow is a call that succeeds; `write_chunk` leaves the phase `Planned`. A call that fails leaves the phase as it is,
+/// except a write of a half's gate:
+///
+/// ```text
+/// Ready --publish of a seal--> Sealed --begin--> Planned --sync_chunks--> Laid --open_half--> Switched --sync_half--> Live
+///   ^                                                                      |                                           |
+///   |                                                                      '--open_half fails--> SwitchFailed          |
+///   |                                                                                                                  |
+///   '--sync_close-- Closing <--close_half------------------------------------------------------------------------------|
+///                                                     CloseFailed <--close_half fails----------------------------------'
+/// ```
+///
+/// What holds of an honest device then, of the half that has the tail and of the other one:
+///
+/// ```text
+///               the tail's half                    the other half                                a stop leaves
+///               gate             area              gate     area          journal                in use
+/// Ready         open*            checkpoint*       closed*  anything      first gate closed*     the tail's half
+/// Sealed        closed*          anything          open*    checkpoint*   groups and a seal*     the other half
+/// Planned       closed*          first sectors     open*    checkpoint*   groups and a seal*     the other half
+/// Laid          closed*          new checkpoint*   open*    checkpoint*   groups and a seal*     the other half
+/// Switched      open             new checkpoint*   open*    checkpoint*   groups and a seal*     either, with the same rows
+/// SwitchFailed  open or closed   new checkpoint*   open*    checkpoint*   groups and a seal*     either, with the same rows
+/// Live          open*            new checkpoint*   any      older head*   anything               the tail's half
+/// Closing       open*            new checkpoint*   closed   older head*   first gate closed      the tail's half
+/// CloseFailed   open*            new checkpoint*   any      older head*   anything               the tail's half
+/// ```
+///
+/// `*`: and clean, as above. The new checkpoint is the other half's, with the commands of its journal applied, in the next epoch;
+/// an older head is one of a smaller epoch than the new checkpoint's, which is why that half is in use no more.
 #[derive(Clone, Copy, Debug, PartialEq, Eq)]
 pub enum Check {
     /// The half without the tail is closed, and its journal too.

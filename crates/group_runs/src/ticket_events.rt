@@ -63,9 +63,7 @@ pub(crate) fn redeem<D: Device, S: Showcase>(
     };
     match state.redeem(ticket) {
         Redeemed::Committed(receipt) => {
-            let place = receipt.place;
-            let outcome = receipt.outcome;
-            Reply::Committed(place, outcome)
+            Reply::Committed(receipt.place(), receipt.outcome())
         }
         Redeemed::Waiting(back) => {
             let place = back.place();

@@ -1,4 +1,4 @@
-use Rattle.std.proofs.Common.{◌≡◌, inr, refl, ◌∙◌, ap, arith}
+use Rattle.std.proofs.Common.{◌≡◌, inr, refl, ◌∙◌, ap, arith, rules}
 use Rattle.image_laws.specs.Layout.{gate_at}
 use Rattle.store_open.specs.Geometry.{geometry_view}
 use Rattle.group_laws.specs.declared.phases.Check.TheVariants.{Ready as ready, CloseFailed as close_failed, Closing as closing, Live as live}
@@ -26,3 +26,6 @@ pub write-requires-clause-inside : goal.write-requires-clause-inside
 write-requires-clause-inside g c =
     let at = c.gate_at-at.ensures ∙ ap (gate_at (geometry_view c.self.inside.geometry)) c.other.ensures in
     omega (arith, at, c.closed_gates.ensures.size, gates_inside (geometry_view c.self.inside.geometry) c.self.inside.half (c.self.invariant.shape.limits), c.self.invariant.shape.sectors)
+
+pub returns-in-Ok-clause-call : goal.returns-in-Ok-clause-call
+returns-in-Ok-clause-call g c = search rules

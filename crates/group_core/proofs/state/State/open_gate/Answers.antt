@@ -1,4 +1,4 @@
-use Rattle.std.proofs.Common.{◌≡◌, inl, ◌+◌, length, refl, ◌∙◌, ap, arith}
+use Rattle.std.proofs.Common.{◌≡◌, inl, ◌+◌, length, refl, ◌∙◌, ap, arith, rules}
 use Rattle.store_open.specs.Geometry.{geometry_view}
 use Rattle.group_laws.specs.declared.phases.Flush.TheVariants.{Resting as resting, Stable as stable, Opened as opened, Doubtful as doubtful}
 use Rattle.group_core.proofs.Soundness.{flushing}
@@ -24,3 +24,6 @@ pub returns-in-Err-clause-any_moment : goal.returns-in-Err-clause-any_moment
 returns-in-Err-clause-any_moment g c =
     leaves_write (c.self.view_is ∙ c.in_ok-value.ensures.turn.3) c.self.invariant (invariant_of-self-in-Err g c) (flushing stable (flush_at c.self.view_is c.in_ok-value.ensures.turn) (λ (is : stable ≡ resting). cc)) (inl (λ (is : doubtful ≡ resting). cc)) refl c.write.ensures.write (g.met.D.Device.whole c.self.inside.device)
     (omega (arith, c.journal_at.ensures, ap length c.open_gate.ensures, c.self.invariant.shape.room, journal_inside (geometry_view c.self.inside.geometry) c.self.inside.half))
+
+pub returns-in-Ok-clause-call : goal.returns-in-Ok-clause-call
+returns-in-Ok-clause-call g c = search rules

@@ -1,4 +1,4 @@
-use Rattle.std.proofs.Common.{◌≡◌, inr, length, ◌∙◌, refl, ap, arith}
+use Rattle.std.proofs.Common.{◌≡◌, inr, length, ◌∙◌, refl, ap, arith, rules}
 use Rattle.store_open.specs.Geometry.{geometry_view}
 use Rattle.group_laws.specs.declared.phases.Check.TheVariants.{Ready as ready, Laid as laid, SwitchFailed as switch_failed, Switched as switched}
 use Rattle.group_core.proofs.Soundness.{checking}
@@ -20,3 +20,6 @@ returns-in-Ok-clause-any_moment g c = leaves_write (c.self.view_is ∙ c.in_ok-v
 pub returns-in-Err-clause-any_moment : goal.returns-in-Err-clause-any_moment
 returns-in-Err-clause-any_moment g c = leaves_write (c.self.view_is ∙ c.in_ok-value.ensures.turn.3) c.self.invariant (invariant_of-self-in-Err g c) (checking laid (check_at c.self.view_is c.in_ok-value.ensures.turn) (λ (is : laid ≡ ready). cc)) (inr (λ (is : switch_failed ≡ ready). cc)) refl c.write.ensures.write (g.met.D.Device.whole c.self.inside.device)
     (omega (arith, c.gate_at-at.ensures, ap length c.open_gate.ensures, area_inside (geometry_view c.self.inside.geometry) c.self.inside.half))
+
+pub returns-in-Ok-clause-call : goal.returns-in-Ok-clause-call
+returns-in-Ok-clause-call g c = search rules

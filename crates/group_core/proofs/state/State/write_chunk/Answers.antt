@@ -31,3 +31,9 @@ returns-in-Err-clause-any_moment g c = leaves_write (c.self.view_is ∙ c.in_ok-
 
 pub returns-in-Ok-clause-step : goal.returns-in-Ok-clause-step
 returns-in-Ok-clause-step g c = search rules
+
+pub returns-in-Ok-clause-call : goal.returns-in-Ok-clause-call
+returns-in-Ok-clause-call g c = search rules
+
+pub returns-in-Err-clause-call : goal.returns-in-Err-clause-call
+returns-in-Err-clause-call g c = search rules

@@ -1,0 +1,50 @@
+-- Which call of the device a step makes. Of reads nothing is said, since they leave the device as it is.
+use Rattle.std.specs.Prelude.{◌≡◌, ℕ, ◌+◌, ◌*◌, List, ◌++◌, Result, Ok, Err}
+use Rattle.byte_lists.specs.Content.{part}
+use Rattle.sector_dev.specs.Disk.{Disk}
+use Rattle.sector_dev.specs.Calls.{WriteCall, SyncCall}
+use Rattle.image_laws.specs.Layout.{other, area_at, gate_at, journal_at}
+use Rattle.gate_journal.specs.Commands.{command_format}
+use Rattle.group_laws.specs.Tail.{load_bytes, open_gate, closed_gate}
+use Rattle.group_laws.specs.Standing.{load_of}
+use Rattle.group_core.specs.declared.error.StepError.{StepError}
+use Rattle.group_core.specs.declared.error.StepError.TheVariants.{Fault, Stopped, Stranger, NoMemory, Damaged}
+use Rattle.group_core.specs.StateView.{StateView, standing_of}
+use Rattle.group_core.specs.Steps.{next_sectors}
+
+-- a call that writes these bytes from a sector on, or one that syncs
+pub data DeviceCall : Type 0 where
+  Write : (sector : ℕ) (bytes : List ℕ) → DeviceCall
+  Sync : DeviceCall
+
+-- this one call, with this result, made the new disk of the old one
+abbrev pub IsMade : {T E : Type 0} → DeviceCall → Result T E → Disk → Disk → Type 0
+IsMade (Write sector bytes) result old new = WriteCall sector bytes result old new
+IsMade Sync result old new = SyncCall result old new
+
+-- The call of a step, and no other: where the device decided, it answered as the step did; a step that is refused before makes none.
+abbrev pub StepCall : {P N : Type 0} → DeviceCall → Result N (StepError P) → Disk → Disk → Type 0
+StepCall {P} {N} call (Ok next) old new = IsMade {T = N} {E = StepError P} call (Ok next) old new
+StepCall {P} {N} call (Err Fault) old new = IsMade {T = N} {E = StepError P} call (Err Fault) old new
+StepCall call (Err (Stranger back)) old new = new ≡ old
+StepCall call (Err Stopped) old new = new ≡ old
+StepCall call (Err (NoMemory back)) old new = ⊥
+StepCall call (Err Damaged) old new = ⊥
+
+-- What the steps write, and where: what is in flight, behind the tail's gate; that gate, open; the next sectors of the new
+-- checkpoint, in the area of its half; that half's gate, open; and the other half's gate with the first gate of its journal, which
+-- follows it, both closed.
+abbrev pub load_write : StateView → DeviceCall
+load_write view = Write (journal_at view.geometry view.half + (view.gate + 1)) (load_bytes command_format view.value.place (load_of (standing_of view)))
+
+abbrev pub gate_write : StateView → DeviceCall
+gate_write view = Write (journal_at view.geometry view.half + view.gate) open_gate
+
+abbrev pub chunk_write : StateView → DeviceCall
+chunk_write view = Write (area_at view.geometry view.half + view.written) (part (512 * view.written) (512 * next_sectors view) view.checkpoint)
+
+abbrev pub half_write : StateView → DeviceCall
+half_write view = Write (gate_at view.geometry view.half) open_gate
+
+abbrev pub close_write : StateView → DeviceCall
+close_write view = Write (gate_at view.geometry (other view.half)) (closed_gate ++ closed_gate)
