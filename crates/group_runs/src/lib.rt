@@ -4,7 +4,6 @@
 //! committed when it began, with a front of the commands in the order of the lock.
 #![tactic(auto)]
 
-mod copying;
 mod events;
 mod group_events;
 mod holding;

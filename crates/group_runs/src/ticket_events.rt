@@ -5,7 +5,6 @@ ghost use Rattle.group_core.specs.StateView.{StepLeaves};
 ghost use Rattle.group_runs.specs.Holding.{AllRedeemed, HoldsTickets, held_at, run_view};
 ghost use Rattle.group_runs.specs.RunSteps.{SubmitEvent, RedeemEvent};
 
-use crate::copying::copy_of;
 use crate::events::Reply;
 use group_core::{Redeemed, Showcase, State, SubmitError, Ticket};
 use path_db::Command;
@@ -32,7 +31,7 @@ pub(crate) fn submit<D: Device, S: Showcase>(
         state.stops_leave_fronts();
         return Reply::Refused(SubmitError::NoMemory);
     }
-    let Ok(copy) = copy_of(alloc, command) else {
+    let Ok(copy) = command.try_clone(alloc) else {
         state.stops_leave_fronts();
         return Reply::Refused(SubmitError::NoMemory);
     };
@@ -62,9 +61,7 @@ pub(crate) fn redeem<D: Device, S: Showcase>(
         return Reply::NoValue;
     };
     match state.redeem(ticket) {
-        Redeemed::Committed(receipt) => {
-            Reply::Committed(receipt.place(), receipt.outcome())
-        }
+        Redeemed::Committed(receipt) => { Reply::Committed(receipt.place(), receipt.outcome()) }
         Redeemed::Waiting(back) => {
             let place = back.place();
             put_back(tickets, k, back);
