@@ -1,0 +1,134 @@
+//! A hub with its two actors, and any number of threads beside them.
+
+ghost use Rattle.std.specs.Prelude.{◌≡◌, ◌⊎◌, IfErr, OnOk};
+ghost use Rattle.sector_dev.specs.Disk.{IsHonest};
+ghost use Rattle.sector_dev.specs.Image.{EveryImage};
+ghost use Rattle.group_core.specs.Starting.{value_in};
+ghost use Rattle.path_hub.specs.declared.error.HubError.TheVariants.{NoMemory, NoReader};
+ghost use Rattle.path_hub.specs.Left.{OpensAfter};
+
+use crate::checkpointer::checkpointer_loop;
+use crate::error::HubError;
+use crate::flusher::flusher_loop;
+use crate::hub::Hub;
+use crate::name::HubName;
+use sector_dev::Device;
+use std::alloc::Global;
+use std::marker::Brand;
+use std::sync::Wait;
+use std::thread;
+use std::thread::Threads;
+use std::time::Clock;
+use store_open::Store;
+
+/// What threads do with a hub: guests come one by one, and each is attended to in a thread of its own. It can't name a hub itself, so
+/// all that a guest is handed is of this one.
+pub trait Crew<D: Device, R: Wait + Clock> {
+    /// What one thread attends to.
+    type Guest: Send + Drop;
+
+    /// The next guest, or `None` once no more are to come. The call may wait for one.
+    fn next<N: HubName>(&self, hub: &Hub<D, N, R>) -> Option<Self::Guest>;
+
+    /// Attends to a guest, in a thread of its own.
+    fn attend<N: HubName>(&self, hub: &Hub<D, N, R>, guest: Self::Guest);
+
+    /// No thread was given for a guest, who is dropped.
+    fn miss(&self);
+}
+
+/// Makes a hub over a store, starts the flusher, the checkpointer and a thread for each guest, and answers how many guests were
+/// attended to (a count that stays at 2^64 - 1) once the last of these threads has ended. Then the state is stopped, the actors end, and
+/// the device comes out; it comes back, too, where the hub or an actor's thread isn't given, which is `NoMemory` or `NoReader`. The caller
+/// gives each state of a process a home number of its own.
+pub fn with_crew<
+    D: Device + Send,
+    C: Crew<D, R> + Sync,
+    R: Wait + Clock + Threads + Copy + Drop + Send + Sync,
+>(rt: R, alloc: Global, store: Store<D>, home: u64, crew: &C) -> (D, Result<u64, HubError>)
+    ensures why { IfErr result.1 (λ e. (e ≡ NoMemory) ⊎ (e ≡ NoReader)) }
+
+    // A device that is honest opens to the store's rows and place after some commands.
+    ensures left { OnOk result.1 (IsHonest (D.disk result.0) → EveryImage (D.disk result.0).history.now (OpensAfter (value_in store))) }
+{
+    named_crew::<Brand, D, C, R>(rt, alloc, store, home, crew)
+}
+
+/// The same, under a name.
+fn named_crew<
+    N: HubName + Send + Sync,
+    D: Device + Send,
+    C: Crew<D, R> + Sync,
+    R: Wait + Clock + Threads + Copy + Drop + Send + Sync,
+>(rt: R, alloc: Global, store: Store<D>, home: u64, crew: &C) -> (D, Result<u64, HubError>)
+    requires { value_in store ≡ N.opening }
+    ensures why { IfErr result.1 (λ e. (e ≡ NoMemory) ⊎ (e ≡ NoReader)) }
+    ensures left { OnOk result.1 (IsHonest (D.disk result.0) → EveryImage (D.disk result.0).history.now (OpensAfter N.opening)) }
+{
+    let hub = match Hub::<D, N, R>::open(rt, alloc, store, home) {
+        Ok(hub) => hub,
+        Err((store, refused)) => return (store.into_device(), Err(refused)),
+    };
+    let attended = act(&rt, &hub, crew);
+    (hub.close(), attended)
+}
+
+/// Runs both actors while guests are attended to, and stops them then.
+fn act<
+    N: HubName + Send + Sync,
+    D: Device + Send,
+    C: Crew<D, R> + Sync,
+    R: Wait + Clock + Threads + Drop + Send + Sync,
+>(rt: &R, hub: &Hub<D, N, R>, crew: &C) -> Result<u64, HubError>
+    ensures { IfErr result (λ e. e ≡ NoMemory) }
+{
+    thread::scope(
+        thread::scope_env(),
+        rt,
+        |actors| -> Result<u64, HubError>
+            ensures { IfErr result (λ e. e ≡ NoMemory) }
+        {
+            if actors.spawn(move || flusher_loop(rt, hub)).is_err() {
+                return Err(HubError::NoMemory);
+            }
+            if actors.spawn(move || checkpointer_loop(rt, hub)).is_err() {
+                hub.stop();
+                return Err(HubError::NoMemory);
+            }
+            let attended = attend_all(rt, hub, crew);
+            hub.stop();
+            Ok(attended)
+        },
+    )
+}
+
+/// Starts a thread for each guest, and answers how many were started once all have ended.
+fn attend_all<
+    N: HubName + Send + Sync,
+    D: Device + Send,
+    C: Crew<D, R> + Sync,
+    R: Wait + Clock + Threads + Drop + Send + Sync,
+>(rt: &R, hub: &Hub<D, N, R>, crew: &C) -> u64 {
+    thread::scope(thread::scope_env(), rt, |guests| {
+        let mut attended = 0u64;
+        for _ in 0..u64::MAX {
+            let Some(guest) = crew.next::<N>(hub) else {
+                break;
+            };
+            if guests.spawn(move || attend(hub, crew, guest)).is_ok() {
+                attended = attended.saturating_add(1);
+            } else {
+                crew.miss();
+            }
+        }
+        attended
+    })
+}
+
+fn attend<N: HubName, D: Device, C: Crew<D, R>, R: Wait + Clock>(
+    hub: &Hub<D, N, R>,
+    crew: &C,
+    guest: C::Guest,
+) {
+    crew.attend::<N>(hub, guest)
+}

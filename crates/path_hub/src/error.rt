@@ -1,0 +1,33 @@
+//! Why a hub refused.
+
+use group_core::SubmitError;
+use std::alloc::AllocError;
+use thiserror::Error;
+
+/// Why a call of a hub was refused.
+#[derive(Clone, Copy, Debug, PartialEq, Eq, Error)]
+pub enum HubError {
+    /// Memory ran out, or a thread of an actor was not given.
+    #[error("out of memory")]
+    NoMemory,
+    /// All 64 readers are taken, or the library gave none.
+    #[error("no reader is left")]
+    NoReader,
+    /// The state stopped before the command of this place was committed: whether the store keeps the command is not known.
+    #[error("the state stopped before place {0}")]
+    Stopped(u64),
+    /// The command was not accepted.
+    #[error("{0}")]
+    Submit(SubmitError),
+}
+
+impl From<AllocError> for HubError {
+    ghost use Rattle.std.specs.Prelude.{◌≡◌};
+    ghost use Rattle.path_hub.specs.declared.error.HubError.TheVariants.{NoMemory};
+
+    ghost from_gives = { λ _ e. e ≡ NoMemory };
+
+    fn from(_refused: AllocError) -> HubError {
+        HubError::NoMemory
+    }
+}

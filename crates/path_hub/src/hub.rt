@@ -1,0 +1,82 @@
+//! The hub: one lock over the state, and the readers that nobody has.
+
+ghost use Rattle.std.specs.Prelude.{◌≡◌, IfOk, IfErr};
+ghost use Rattle.path_hub.specs.declared.error.HubError.TheVariants.{NoReader};
+ghost use Rattle.path_hub.specs.Receipts.{IsCommitted};
+
+use crate::changes::Changes;
+use crate::error::HubError;
+use crate::name::HubName;
+use crate::reader::HubReader;
+use crate::show::{HubNote, HubShow};
+use crate::steps::{Awaited, Steps};
+use group_core::{Receipt, Redeemed, State};
+use path_db::Command;
+use sector_dev::Device;
+use std::sync::{Mutex, Wait};
+use std::time::Clock;
+
+/// How many readers a hub has.
+pub(crate) const READERS: usize = 64;
+
+/// A store's state behind one lock, and the readers of what it shows, under one name.
+///
+/// The lock's value is a `State`, so what that type says of a state holds whenever the lock is free: a stop at that moment leaves an
+/// image that opens to the committed rows with a front of the pending commands.
+pub struct Hub<D: Device, N: HubName, R: Wait + Clock> {
+    pub(crate) rt: R,
+    pub(crate) state: Mutex<State<D, HubShow<N, R>>>,
+    pub(crate) changes: Changes,
+    pub(crate) readers: Mutex<Vec<HubReader<N>>>,
+}
+
+impl<D: Device, N: HubName, R: Wait + Clock> Hub<D, N, R> {
+    /// The handle that the hub waits by.
+    pub fn handle(&self) -> &R {
+        &self.rt
+    }
+
+    /// Takes a reader out. There are 64; a reader that is dropped and not given back is lost to the hub.
+    pub fn reader(&self) -> Result<HubReader<N>, HubError>
+        ensures { IfErr result (λ e. e ≡ NoReader) }
+    {
+        match self.readers.lock(&self.rt).pop() {
+            Some(reader) => Ok(reader),
+            None => Err(HubError::NoReader),
+        }
+    }
+
+    /// Gives a reader back.
+    pub fn give_back(&self, reader: HubReader<N>) {
+        let _ = self.readers.lock(&self.rt).push(reader);
+    }
+
+    /// Submits a command, and waits until it is committed: the receipt shows the command, and its note a place above the command's own.
+    /// A command that isn't accepted is refused at once. Where the state stops before the command is committed, its place is answered:
+    /// whether the store keeps the command is not known.
+    #[tactic(auto, using(crate::proofs::Through::is_committed))]
+    pub fn register(&self, command: Command) -> Result<Receipt<HubNote<N>>, HubError>
+        ensures { IfOk result (IsCommitted command) }
+    {
+        let mut ticket = match self.submit(command) {
+            Ok(ticket) => ticket,
+            Err((_, refusal)) => return Err(HubError::Submit(refusal)),
+        };
+        for _ in self.rt.forever() {
+            let seen = self.changes(Awaited::Outcome);
+            match self.redeem(ticket) {
+                Redeemed::Committed(receipt) => return Ok(receipt),
+                Redeemed::Unknown(place) => return Err(HubError::Stopped(place)),
+                Redeemed::Waiting(back) => ticket = back,
+                Redeemed::Stranger(back) => ticket = back,
+            }
+            self.rest(Awaited::Outcome, seen);
+        }
+        unreachable!()
+    }
+
+    /// Stops the state for good: the actors' loops end, and so do the calls that wait for a commit.
+    pub fn stop(&self) {
+        self.halt();
+    }
+}

@@ -1,0 +1,36 @@
+//! The hub: a store's state behind one lock, the two actors that work on it, and readers that wait for nobody.
+//!
+//! A hub has one flusher, which commits accepted commands in groups, one checkpointer, which folds a sealed journal into the other
+//! half, any number of threads that register commands, and 64 readers, which look up what is published without a lock.
+//!
+//! To the layer above: `Hub::register` gives a receipt of the command that was handed in, once it is committed;
+//! `HubReader::lookup` answers from what is published, which is never older than what this reader was shown or has learnt.
+#![tactic(auto)]
+
+mod changes;
+mod checkpointer;
+mod crew;
+mod error;
+mod flusher;
+mod guarded;
+mod hub;
+mod making;
+mod name;
+mod published;
+mod reader;
+mod rule;
+mod show;
+mod steps;
+
+pub use checkpointer::checkpointer_loop;
+pub use crew::{Crew, with_crew};
+pub use error::HubError;
+pub use flusher::flusher_loop;
+pub use hub::Hub;
+pub use making::{HubJob, with_hub};
+pub use name::HubName;
+pub use published::Published;
+pub use reader::HubReader;
+pub use rule::{ReaderRule, SeenGroups, SeesAll};
+pub use show::{HubNote, HubShow};
+pub use steps::{Awaited, Steps};

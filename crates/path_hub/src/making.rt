@@ -1,0 +1,166 @@
+//! Making a hub, and its end.
+
+ghost use Rattle.std.specs.Prelude.{◌≡◌, ◌⊎◌, [], IfOk, IfErr, drop};
+ghost use Rattle.left_right.specs.Sides.{view};
+ghost use Rattle.sector_dev.specs.Disk.{IsHonest};
+ghost use Rattle.sector_dev.specs.Image.{EveryImage};
+ghost use Rattle.group_core.specs.Starting.{value_in};
+ghost use Rattle.path_hub.specs.declared.error.HubError.TheVariants.{NoMemory, NoReader};
+ghost use Rattle.path_hub.specs.Shown.{IsShown};
+ghost use Rattle.path_hub.specs.Left.{OpensAfter};
+
+use crate::changes::Changes;
+use crate::error::HubError;
+use crate::hub::{Hub, READERS};
+use crate::name::HubName;
+use crate::published::Published;
+use crate::reader::HubReader;
+use crate::show::{HubShow, HubWriter};
+use group_core::State;
+use left_right::writer::Writer;
+use path_db::PathDb;
+use sector_dev::Device;
+use std::alloc::{AllocError, Global};
+use std::marker::Brand;
+use std::sync::{Mutex, Wait};
+use std::time::Clock;
+use store_open::Store;
+
+/// What is done with a hub, in one thread. It can't name a hub itself, so all that it is handed is of this one.
+pub trait HubJob<D: Device, R: Wait + Clock> {
+    /// What comes of it.
+    type Out;
+
+    /// It may come of the job.
+    ghost does: { Self → Self.Out → Type 0 } = { λ _ _. Unit {0} };
+
+    fn run<N: HubName>(self, hub: &Hub<D, N, R>) -> Self::Out
+        ensures { does self result };
+}
+
+/// Makes a hub over a store, and does the job with it. At the end the state is taken apart, and the device dropped. The caller gives
+/// each state of a process a home number of its own. Where the hub can't be made, the store comes back as it was, and the job too.
+pub fn with_hub<D: Device + Drop, J: HubJob<D, R>, R: Wait + Clock + Copy>(
+    rt: R,
+    alloc: Global,
+    store: Store<D>,
+    home: u64,
+    job: J,
+) -> Result<J::Out, (Store<D>, J, HubError)>
+    ensures done { IfOk result (J.does job) }
+    ensures back { IfErr result (λ back. (back.0 ≡ store) × (back.1 ≡ job)) }
+    ensures why { IfErr result (λ back. (back.2 ≡ NoMemory) ⊎ (back.2 ≡ NoReader)) }
+{
+    do_with::<Brand, D, J, R>(rt, alloc, store, home, job)
+}
+
+/// The same, under a name.
+fn do_with<N: HubName, D: Device + Drop, J: HubJob<D, R>, R: Wait + Clock + Copy>(
+    rt: R,
+    alloc: Global,
+    store: Store<D>,
+    home: u64,
+    job: J,
+) -> Result<J::Out, (Store<D>, J, HubError)>
+    requires { value_in store ≡ N.opening }
+    ensures done { IfOk result (J.does job) }
+    ensures back { IfErr result (λ back. (back.0 ≡ store) × (back.1 ≡ job)) }
+    ensures why { IfErr result (λ back. (back.2 ≡ NoMemory) ⊎ (back.2 ≡ NoReader)) }
+{
+    let hub = match Hub::<D, N, R>::open(rt, alloc, store, home) {
+        Ok(hub) => hub,
+        Err((store, refused)) => return Err((store, job, refused)),
+    };
+    let out = job.run::<N>(&hub);
+    drop(hub.close());
+    Ok(out)
+}
+
+impl<D: Device, N: HubName, R: Wait + Clock> Hub<D, N, R> {
+    /// A hub of this name over a store, or the store again.
+    pub(crate) fn open(
+        rt: R,
+        alloc: Global,
+        store: Store<D>,
+        home: u64,
+    ) -> Result<Hub<D, N, R>, (Store<D>, HubError)>
+    where
+        R: Copy,
+        requires { value_in store ≡ N.opening }
+        ensures back { IfErr result (λ back. back.0 ≡ store) }
+        ensures why { IfErr result (λ back. (back.1 ≡ NoMemory) ⊎ (back.1 ≡ NoReader)) }
+    {
+        let Ok(writer) = new_writer::<N>(alloc, store.db(), store.place()) else {
+            return Err((store, HubError::NoMemory));
+        };
+        let readers = match new_readers(alloc, &writer) {
+            Ok(readers) => readers,
+            Err(refused) => {
+                writer.take(&rt);
+                return Err((store, refused));
+            }
+        };
+        let show = HubShow::over(rt, alloc, writer);
+        Ok(Hub {
+            rt,
+            state: Mutex::new(State::new(alloc, store, show, home)),
+            changes: Changes::new(),
+            readers: Mutex::new(readers),
+        })
+    }
+
+    /// Ends the hub, which no one else has, and hands out its device: an honest one opens to what the hub opened with after some
+    /// commands. It waits for readers that are within a lookup.
+    pub(crate) fn close(self) -> D
+    where
+        R: Drop,
+        ensures { IsHonest (D.disk result) → EveryImage (D.disk result).history.now (OpensAfter N.opening) }
+    {
+        let Hub {
+            rt: _rt,
+            state,
+            changes: _changes,
+            readers: _readers,
+        } = self;
+        let state = state.into_inner();
+        state.stops_leave_fronts();
+        let (device, show) = state.into_parts();
+        show.close();
+        device
+    }
+}
+
+/// What publishes a store's rows at a place. No group is published yet.
+fn new_writer<N: HubName>(
+    alloc: Global,
+    db: &PathDb,
+    place: u64,
+) -> Result<HubWriter<N>, AllocError>
+    requires { record { db = db.now; place = place } ≡ N.opening }
+    ensures value { IfOk result (λ w. w.desk.shown.value ≡ N.opening) }
+    ensures shown { IfOk result (λ w. IsShown N.opening w.desk.shown.value (view w.desk.place).groups) }
+    ensures idle { IfOk result (λ w. drop w.behind w.log.items ≡ []) }
+{
+    let first = Published::new(db.try_clone()?, place);
+    let second = Published::new(db.try_clone()?, place);
+    Writer::new(alloc, first, second, READERS)
+}
+
+/// All readers of a writer.
+fn new_readers<N: HubName>(
+    alloc: Global,
+    writer: &HubWriter<N>,
+) -> Result<Vec<HubReader<N>>, HubError>
+    ensures { IfErr result (λ e. (e ≡ NoMemory) ⊎ (e ≡ NoReader)) }
+{
+    let mut readers = Vec::with_capacity(alloc, READERS)?;
+    for _ in 0..READERS {
+        let Ok(seat) = writer.factory().reader() else {
+            return Err(HubError::NoReader);
+        };
+        if readers.push(HubReader::over(seat)).is_err() {
+            return Err(HubError::NoMemory);
+        }
+    }
+    Ok(readers)
+}

@@ -1,0 +1,20 @@
+//! Which hub it is.
+
+use std::marker::Brand;
+
+/// Names one hub by what its store held when the hub was made: its rows, and its place. The call that makes a hub picks the name, so
+/// no two hubs have one name, and a note or a reader of one hub is refused by the types of another.
+pub trait HubName {
+    ghost use Rattle.std.specs.Prelude.{List};
+    ghost use Rattle.path_db.specs.Database.{RowView};
+    ghost use Rattle.image_laws.specs.Opening.{StoreValue};
+
+    /// The rows and the place that the hub opened with.
+    ghost opening: { StoreValue (List RowView) };
+}
+
+impl HubName for Brand {
+    ghost use Rattle.std.specs.Prelude.{[]};
+
+    ghost opening = { record { db = []; place = 0 } };
+}

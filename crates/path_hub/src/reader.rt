@@ -1,0 +1,141 @@
+//! Readers that wait for nobody.
+
+ghost use Rattle.std.specs.Prelude.{◌≡◌, ◌⊎◌, ◌≤◌, None, length, IfOk, IfErr, IfSome, OnOk, OnErr};
+ghost use Rattle.std.specs.List.{AllByRecursion};
+ghost use mathlib.Core.List.{IsPrefix};
+ghost use Rattle.seg_core.specs.Encoding.{IsSegment};
+ghost use Rattle.path_db.specs.Answer.{segments_of};
+ghost use Rattle.seg_lookup.specs.Answer.{answer_to};
+ghost use Rattle.seg_lookup.specs.Query.{query_view};
+ghost use Rattle.left_right.specs.Sides.{view};
+ghost use Rattle.path_hub.specs.declared.error.HubError.TheVariants.{NoMemory, NoReader};
+ghost use Rattle.path_hub.specs.Shown.{shown_after};
+ghost use Rattle.path_hub.specs.Learnt.{learnt};
+
+use crate::error::HubError;
+use crate::name::HubName;
+use crate::published::Published;
+use crate::rule::{ReaderRule, SeenGroups, SeesAll};
+use crate::show::HubNote;
+use core::mem::replace_with;
+use group_core::Receipt;
+use left_right::reader::Reader;
+use seg_core::Segment;
+use seg_lookup::{ANSWER_LIMIT, Query, answer};
+use std::alloc::AllocError;
+use std::marker::Model;
+
+/// A reader's seat at what a hub publishes.
+pub(crate) type HubSeat<N> = Reader<Published, SeenGroups, ReaderRule<N>>;
+
+/// A reader of the hub of this name. Contracts see the groups after which its last lookup was answered, and the greatest place that a
+/// lookup or a receipt has shown it.
+#[derive(Drop)]
+pub struct HubReader<N: HubName> {
+    seat: HubSeat<N>,
+    seen: u64,
+}
+
+impl<N: HubName> Model for HubReader<N> {
+    ghost use Rattle.left_right.specs.Sides.{view as seat_view};
+    ghost use Rattle.path_hub.specs.Sight.{Sight};
+
+    ghost Value = { Sight };
+
+    ghost view = { λ r. record { groups = (seat_view r.seat.place).groups; seen = r.seen } };
+}
+
+impl<N: HubName> HubReader<N> {
+    /// A reader at this seat, which has been shown nothing.
+    pub(crate) fn over(seat: HubSeat<N>) -> HubReader<N>
+        ensures groups { result.groups ≡ (view seat.place).groups }
+        ensures seen { result.seen ≡ 0 }
+    {
+        HubReader { seat, seen: 0 }
+    }
+
+    /// The segments that a query asks for, at a moment in half seconds since 1970, of what is published at one moment within the call:
+    /// no older than what this reader was shown before or has learnt. It takes no lock and waits for nobody. The segments are shared
+    /// with the published rows, not copied.
+    pub fn lookup(&mut self, query: &Query, now: u64) -> Result<Vec<Segment>, HubError>
+        ensures answer { IfOk result (λ found. found.items ≡ segments_of (answer_to (shown_after N.opening self.new.groups).db (query_view query.now) now)) }
+        ensures few { IfOk result (λ found. length found.items ≤ ANSWER_LIMIT) }
+        ensures whole { IfOk result (λ found. AllByRecursion IsSegment found.items) }
+
+        // What is published has all groups that this reader was shown before, and its place is at least what the reader has seen.
+        ensures later { IsPrefix self.old.groups self.new.groups }
+        ensures fresh { OnOk result (self.old.seen ≤ (shown_after N.opening self.new.groups).place) }
+        ensures seen { OnOk result (self.new.seen ≡ (shown_after N.opening self.new.groups).place) }
+
+        // Memory runs out only for an answer that isn't empty, after the reader has looked; without a look it has seen what it had.
+        ensures why { IfErr result (λ e. (e ≡ NoMemory) ⊎ (e ≡ NoReader)) }
+        ensures memory { IfErr result (λ e. e ≡ NoMemory → 1 ≤ length (answer_to (shown_after N.opening self.new.groups).db (query_view query.now) now)) }
+        ensures looked { IfErr result (λ e. e ≡ NoMemory → self.new.seen ≡ (shown_after N.opening self.new.groups).place) }
+        ensures kept { IfErr result (λ e. e ≡ NoReader → self.new.seen ≡ self.old.seen) }
+        ensures grows { self.old.seen ≤ self.new.seen }
+    {
+        let Some(sight) = look_in(&mut self.seat, query, now) else {
+            return Err(HubError::NoReader);
+        };
+        if sight.place < self.seen {
+            return Err(HubError::NoReader);
+        }
+        self.seen = sight.place;
+        Ok(sight.found?)
+    }
+
+    /// Takes the note out of a receipt: from then on this reader is shown nothing older than the receipt's command. Where no note is
+    /// left nothing changes.
+    pub fn learn(&mut self, receipt: &mut Receipt<HubNote<N>>)
+        ensures groups { self.new.groups ≡ self.old.groups }
+        ensures seen { self.new.seen ≡ learnt self.old.seen receipt.old.note }
+        ensures receipt { receipt.new ≡ record receipt.old { note = None } }
+    {
+        if let Some(note) = receipt.take_note() {
+            self.seen = self.seen.max(note.shown());
+        }
+    }
+}
+
+/// What one look at what is published gives.
+#[derive(Drop)]
+struct Found {
+    found: Result<Vec<Segment>, AllocError>,
+    place: u64,
+}
+
+/// Looks at what is published, once.
+fn look_in<N: HubName>(seat: &mut HubSeat<N>, query: &Query, now: u64) -> Option<Found>
+    ensures later { IsPrefix (view seat.old.place).groups (view seat.new.place).groups }
+    ensures place { IfSome result (λ f. f.place ≡ (shown_after N.opening (view seat.new.place).groups).place) }
+    ensures found { IfSome result (λ f. IfOk f.found (λ found. found.items ≡ segments_of (answer_to (shown_after N.opening (view seat.new.place).groups).db (query_view query.now) now))) }
+    ensures few { IfSome result (λ f. IfOk f.found (λ found. length found.items ≤ ANSWER_LIMIT)) }
+    ensures whole { IfSome result (λ f. IfOk f.found (λ found. AllByRecursion IsSegment found.items)) }
+    ensures memory { IfSome result (λ f. OnErr f.found (1 ≤ length (answer_to (shown_after N.opening (view seat.new.place).groups).db (query_view query.now) now))) }
+{
+    replace_with(
+        seat,
+        (query, now),
+        |seat, asked| look(seat, asked.0, asked.1),
+    )
+}
+
+/// Looks at what is published from a seat, and gives the seat back.
+fn look<N: HubName>(seat: HubSeat<N>, query: &Query, now: u64) -> (HubSeat<N>, Option<Found>)
+    ensures later { IsPrefix (view seat.place).groups (view result.0.place).groups }
+    ensures place { IfSome result.1 (λ f. f.place ≡ (shown_after N.opening (view result.0.place).groups).place) }
+    ensures found { IfSome result.1 (λ f. IfOk f.found (λ found. found.items ≡ segments_of (answer_to (shown_after N.opening (view result.0.place).groups).db (query_view query.now) now))) }
+    ensures few { IfSome result.1 (λ f. IfOk f.found (λ found. length found.items ≤ ANSWER_LIMIT)) }
+    ensures whole { IfSome result.1 (λ f. IfOk f.found (λ found. AllByRecursion IsSegment found.items)) }
+    ensures memory { IfSome result.1 (λ f. OnErr f.found (1 ≤ length (answer_to (shown_after N.opening (view result.0.place).groups).db (query_view query.now) now))) }
+{
+    match seat.enter_as::<SeesAll<N>>() {
+        Ok(reading) => {
+            let published = reading.get();
+            let found = answer(published.db(), query, now);
+            let place = published.place();
+            (reading.leave(), Some(Found { found, place }))
+        }
+        Err(seat) => (seat, None),
+    }
+}

@@ -1,0 +1,230 @@
+//! The hub's showcase, and its notes.
+
+ghost use Rattle.std.specs.Prelude.{◌≡◌, ◌+◌, ◌<◌, ◌≤◌, [], length, take, drop, IfSome, MatchResult, OnOk, OnErr};
+ghost use Rattle.image_laws.specs.Group.{last_place};
+ghost use Rattle.image_laws.specs.StoreGrowth.{value_after};
+ghost use Rattle.store_open.specs.PathStores.{store_format};
+ghost use Rattle.group_core.specs.Showing.{IsFront};
+ghost use Rattle.left_right.specs.Sides.{view};
+ghost use Rattle.path_hub.specs.Shown.{IsShown, with_group};
+ghost use Rattle.path_hub.specs.Showcase.{Publishes};
+
+use crate::name::HubName;
+use crate::published::Published;
+use crate::rule::{GroupName, PublishesGroup, ReaderRule, SeenGroups};
+use core::mem::replace_with;
+use group_core::Showcase;
+use left_right::writer::Writer;
+use path_db::Command;
+use std::alloc::{AllocError, Global};
+use std::marker::{Brand, Model, PhantomData};
+use std::sync::Wait;
+
+/// What publishes to a hub's readers.
+pub(crate) type HubWriter<N> = Writer<Published, Command, SeenGroups, ReaderRule<N>>;
+
+/// Says that the hub of this name has shown a place: how many commands had made the rows. Contracts see a note as that number. Only
+/// the hub's showcase makes one.
+#[derive(Drop)]
+pub struct HubNote<N: HubName> {
+    shown: u64,
+    of: PhantomData<N>,
+}
+
+impl<N: HubName> Model for HubNote<N> {
+    ghost use Rattle.std.specs.Prelude.{ℕ};
+
+    ghost Value = { ℕ };
+
+    ghost view = { λ note. note.shown };
+}
+
+impl<N: HubName> HubNote<N> {
+    /// A note of this place.
+    fn of(shown: u64) -> HubNote<N>
+        ensures { result ≡ shown }
+    {
+        HubNote {
+            shown,
+            of: PhantomData,
+        }
+    }
+
+    /// The place.
+    pub fn shown(&self) -> u64
+        ensures { result ≡ self.now }
+    {
+        self.shown
+    }
+}
+
+/// Publishes committed groups to readers that wait for nobody. It is not `Drop`: the hub ends it.
+///
+/// Contracts see the groups that it has published, the rows and the place that they lead to, and which commands of the next group it
+/// has already, since memory ran out for that group.
+pub struct HubShow<N: HubName, R: Wait> {
+    rt: R,
+    alloc: Global,
+    writer: HubWriter<N>,
+    /// How many commands of the next group the writer has already.
+    owed: usize,
+}
+
+impl<N: HubName, R: Wait> Model for HubShow<N, R> {
+    ghost use Rattle.std.specs.Prelude.{◌≡◌, length, drop};
+    ghost use Rattle.left_right.specs.Sides.{view as seat_view};
+    ghost use Rattle.path_hub.specs.Shown.{IsShown};
+    ghost use Rattle.path_hub.specs.Showing.{Showing};
+
+    ghost Value = { Showing };
+
+    ghost view = { λ h. record {
+      groups = (seat_view h.writer.desk.place).groups;
+      value = h.writer.desk.shown.value;
+      owed = drop h.writer.behind h.writer.log.items;
+    } };
+
+    ghost invariant = { λ h.
+        IsShown N.opening h.writer.desk.shown.value (seat_view h.writer.desk.place).groups
+        × (h.owed ≡ length (drop h.writer.behind h.writer.log.items)) };
+}
+
+impl<N: HubName, R: Wait> Showcase for HubShow<N, R> {
+    ghost use Rattle.std.specs.Prelude.{◌≡◌};
+
+    type Note = HubNote<N>;
+
+    ghost value = { λ s. s.value };
+
+    ghost owed = { λ s. s.owed };
+
+    ghost tells = { λ value note. note ≡ value.place };
+
+    fn show(&mut self, group: &[Command]) -> Result<(), AllocError>
+        requires room { self.old.value.place + length group.now ≤ last_place }
+        requires next { IsFront self.old.owed group.now }
+        ensures shown { OnOk result (self.new.value ≡ value_after store_format self.old.value group.now) }
+        ensures paid { OnOk result (self.new.owed ≡ []) }
+        ensures same { OnErr result (self.new.value ≡ self.old.value) }
+        ensures owed { OnErr result (IsFront self.new.owed group.now) }
+
+        // The published list has the group as one more, or is as it was.
+        ensures groups { MatchResult result (λ _. self.new.groups ≡ with_group self.old.groups group.now) (λ _. self.new.groups ≡ self.old.groups) }
+    {
+        if group.is_empty() {
+            return Ok(());
+        }
+        self.owed = hand_over(self.alloc, &mut self.writer, self.owed, group);
+        if self.owed < group.len() {
+            return Err(AllocError);
+        }
+        publish_in(&self.rt, &mut self.writer)?;
+        self.owed = 0;
+        Ok(())
+    }
+
+    fn tell(&mut self) -> HubNote<N>
+        ensures same { self.new.value ≡ self.old.value }
+        ensures owed { self.new.owed ≡ self.old.owed }
+        ensures note { result ≡ self.old.value.place }
+        ensures groups { self.new.groups ≡ self.old.groups }
+    {
+        HubNote::of(self.writer.published().place())
+    }
+}
+
+impl<N: HubName, R: Wait> HubShow<N, R> {
+    /// Shows by this writer, which has published no group yet.
+    pub(crate) fn over(rt: R, alloc: Global, writer: HubWriter<N>) -> HubShow<N, R>
+        requires shown { IsShown N.opening writer.desk.shown.value (view writer.desk.place).groups }
+        requires idle { drop writer.behind writer.log.items ≡ [] }
+        ensures value { result.value ≡ writer.desk.shown.value }
+        ensures owed { result.owed ≡ [] }
+    {
+        HubShow {
+            rt,
+            alloc,
+            writer,
+            owed: 0,
+        }
+    }
+
+    /// Ends the showcase. It waits for readers that are within a lookup.
+    pub(crate) fn close(self)
+    where
+        R: Drop,
+    {
+        let HubShow {
+            rt,
+            alloc: _alloc,
+            writer,
+            owed: _owed,
+        } = self;
+        writer.take(&rt);
+    }
+}
+
+/// Hands the writer copies of the commands of a group from an index on. Answers how many of the group the writer has then: fewer than
+/// all where memory runs out.
+fn hand_over<N: HubName>(
+    alloc: Global,
+    writer: &mut HubWriter<N>,
+    from: usize,
+    group: &[Command],
+) -> usize
+    requires pending { drop writer.old.behind writer.old.log.items ≡ take from group.now }
+    requires inside { from ≤ length group.now }
+    ensures desk { writer.new.desk ≡ writer.old.desk }
+    ensures pending { drop writer.new.behind writer.new.log.items ≡ take result group.now }
+    ensures inside { result ≤ length group.now }
+{
+    for index in from..group.len() {
+        let Ok(command) = group[index].try_clone(alloc) else {
+            return index;
+        };
+        if writer.append(command).is_err() {
+            return index;
+        }
+    }
+    group.len()
+}
+
+/// Publishes what the writer has as one group.
+fn publish_in<N: HubName, R: Wait>(rt: &R, writer: &mut HubWriter<N>) -> Result<(), AllocError>
+    requires shown { IsShown N.opening writer.old.desk.shown.value (view writer.old.desk.place).groups }
+    requires some { 0 < length (drop writer.old.behind writer.old.log.items) }
+    ensures { Publishes N.opening result
+        (drop writer.old.behind writer.old.log.items) writer.old.desk.shown.value (view writer.old.desk.place).groups
+        (drop writer.new.behind writer.new.log.items) writer.new.desk.shown.value (view writer.new.desk.place).groups }
+{
+    replace_with(writer, rt, |writer, rt| publish(rt, writer))
+}
+
+/// Publishes what a writer has as one group, and gives the writer back.
+fn publish<N: HubName, R: Wait>(
+    rt: &R,
+    writer: HubWriter<N>,
+) -> (HubWriter<N>, Result<(), AllocError>)
+    requires shown { IsShown N.opening writer.desk.shown.value (view writer.desk.place).groups }
+    requires some { 0 < length (drop writer.behind writer.log.items) }
+    ensures { Publishes N.opening result.1
+        (drop writer.behind writer.log.items) writer.desk.shown.value (view writer.desk.place).groups
+        (drop result.0.behind result.0.log.items) result.0.desk.shown.value (view result.0.desk.place).groups }
+{
+    publish_group::<N, Brand, R>(rt, writer)
+}
+
+/// The same, under a name for the group.
+fn publish_group<N: HubName, G: GroupName, R: Wait>(
+    rt: &R,
+    writer: HubWriter<N>,
+) -> (HubWriter<N>, Result<(), AllocError>)
+    requires shown { IsShown N.opening writer.desk.shown.value (view writer.desk.place).groups }
+    requires some { 0 < length (drop writer.behind writer.log.items) }
+    requires group { drop writer.behind writer.log.items ≡ G.group }
+    ensures { Publishes N.opening result.1
+        (drop writer.behind writer.log.items) writer.desk.shown.value (view writer.desk.place).groups
+        (drop result.0.behind result.0.log.items) result.0.desk.shown.value (view result.0.desk.place).groups }
+{
+    writer.publish_as::<PublishesGroup<G>, R>(rt)
+}
