@@ -5,7 +5,8 @@ pub returns-in-Committed-clause-held : goal.returns-in-Committed-clause-held
 returns-in-Committed-clause-held g c = committed_holds _ _ _ _ _ _ c.in-Some.ensures.taken c.in-Some.ensures.left g.S.Showcase.tells _ c.in-Committed.ensures.redeemed c.requires.held
 
 pub returns-in-Committed-clause-step : goal.returns-in-Committed-clause-step
-returns-in-Committed-clause-step g c = committed_so _ _ _ _ _ _ c.in-Some.ensures.taken c.in-Some.ensures.left g.S.Showcase.tells _ c.in-Committed.ensures.redeemed
+returns-in-Committed-clause-step g c =
+    rw (c.place.ensures, c.outcome.ensures) (committed_so _ _ _ _ _ _ c.in-Some.ensures.taken c.in-Some.ensures.left g.S.Showcase.tells _ c.in-Committed.ensures.redeemed)
 
 pub returns-in-Unknown-clause-held : goal.returns-in-Unknown-clause-held
 returns-in-Unknown-clause-held g c = unknown_holds _ _ _ _ _ _ c.in-Some.ensures.taken c.in-Some.ensures.left g.S.Showcase.tells _ c.in-Unknown.ensures.redeemed c.requires.held
