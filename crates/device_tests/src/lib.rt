@@ -1,9 +1,12 @@
-//! Tests of `sector_dev`, a module for each subject. They see what no clause says: that calls succeed, the contents after a
-//! stop at every call against a table made by hand, real files, and what comes first.
+//! Tests of `sector_dev` and `device_files`, a module for each subject. They see what no clause says: that calls succeed, the
+//! contents after a stop at every call against a table made by hand, real files and devices of the system, which of them are
+//! opened beside each other, and what comes first.
 #![tactic(auto)]
 
 #[cfg(test)]
 mod calls;
+#[cfg(test)]
+mod devices;
 #[cfg(test)]
 mod faults;
 #[cfg(test)]
@@ -12,6 +15,8 @@ mod files;
 mod fuses;
 #[cfg(test)]
 mod gates;
+#[cfg(test)]
+mod openings;
 #[cfg(test)]
 mod same;
 #[cfg(test)]

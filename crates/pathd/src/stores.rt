@@ -1,16 +1,17 @@
 //! The commands over the file of a device.
 
 use clap::ArgMatches;
+use device_files::{create, open, open_to_read};
 use path_words::{CHECKPOINT, DEVICE, JOURNAL, LAYOUT};
 use sector_dev::{FileDevice, SECTOR, SystemFile};
-use std::fs::{File, OpenOptions};
+use std::fs::File;
 use std::io;
 use std::io::{BufWriter, Write};
 use std::rt::Files;
 use store_commands::{Fault, format, show, show_layout, upgrade};
 use store_open::Geometry;
 
-/// Makes a file, of which nothing stays where it is there, and a store on it.
+/// Makes a file, of which nothing stays where it is there, and a store on it. On a block device the store is made as it is.
 pub(crate) fn format_file<R: AllocGlobal + Files<File = File>, O: Write>(
     rt: &R,
     options: &ArgMatches<'_>,
@@ -20,25 +21,29 @@ pub(crate) fn format_file<R: AllocGlobal + Files<File = File>, O: Write>(
         checkpoint: options.get_one::<u32>(CHECKPOINT).unwrap_or(0),
         journal: options.get_one::<u32>(JOURNAL).unwrap_or(0),
     };
-    match make_file(rt, path_of(options), geometry.sectors()) {
-        Ok(mut device) => format(rt.alloc(), &mut device, geometry, output),
-        Err(_) => Err(Fault::File),
-    }
+    let len = geometry.sectors().saturating_mul(SECTOR as u64);
+    let mut device = device_over(create(rt, path_of(options), len))?;
+    format(rt.alloc(), &mut device, geometry, output)
 }
 
-/// Prints the rows of a file's store and its place, or what stands where in the file.
+/// Prints the rows of a file's store and its place, or what stands where in the file, which is then opened for reading alone.
 pub(crate) fn show_file<R: AllocGlobal + Files<File = File>, O: Write + Drop>(
     rt: &R,
     options: &ArgMatches<'_>,
     output: O,
 ) -> Result<(), Fault> {
-    let Ok(mut device) = open_file(rt, path_of(options)) else {
-        return Err(Fault::File);
+    let is_layout = options.get_flag(LAYOUT);
+    let path = path_of(options);
+    let opened = if is_layout {
+        open_to_read(rt, path)
+    } else {
+        open(rt, path)
     };
+    let mut device = device_over(opened)?;
     let Ok(mut output) = BufWriter::new(rt.alloc(), output) else {
         return Err(Fault::Memory);
     };
-    let shown = if options.get_flag(LAYOUT) {
+    let shown = if is_layout {
         show_layout(rt.alloc(), &mut device, &mut output)
     } else {
         match show(rt.alloc(), device, &mut output) {
@@ -57,9 +62,7 @@ pub(crate) fn upgrade_file<R: AllocGlobal + Files<File = File>, O: Write>(
     options: &ArgMatches<'_>,
     output: &mut O,
 ) -> Result<(), Fault> {
-    let Ok(device) = open_file(rt, path_of(options)) else {
-        return Err(Fault::File);
-    };
+    let device = device_over(open(rt, path_of(options)))?;
     match upgrade(rt.alloc(), device, output) {
         Ok(_device) => Ok(()),
         Err((_device, fault)) => Err(fault),
@@ -70,24 +73,10 @@ fn path_of<'a>(options: &ArgMatches<'a>) -> &'a str {
     options.get_str(DEVICE).unwrap_or("")
 }
 
-/// A file of so many sectors, all zero.
-fn make_file<R: Files<File = File>>(
-    rt: &R,
-    path: &str,
-    sectors: u64,
-) -> io::Result<FileDevice<SystemFile>> {
-    let file = OpenOptions::new()
-        .read(true)
-        .write(true)
-        .create(true)
-        .truncate(true)
-        .open(rt, path)?;
-    file.set_len(sectors.saturating_mul(SECTOR as u64))?;
-    FileDevice::new(SystemFile::new(file))
-}
-
-/// A file that is there.
-fn open_file<R: Files<File = File>>(rt: &R, path: &str) -> io::Result<FileDevice<SystemFile>> {
-    let file = OpenOptions::new().read(true).write(true).open(rt, path)?;
-    FileDevice::new(SystemFile::new(file))
+/// A device over a file that was opened.
+fn device_over(opened: io::Result<SystemFile>) -> Result<FileDevice<SystemFile>, Fault> {
+    let Ok(file) = opened else {
+        return Err(Fault::File);
+    };
+    FileDevice::new(file).map_err(|_| Fault::File)
 }

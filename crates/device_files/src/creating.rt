@@ -1,0 +1,54 @@
+//! Making the file of a device.
+
+ghost use Rattle.std.specs.Prelude.{◌≡◌, IfOk};
+ghost use Rattle.sector_dev.specs.SystemFile.{system_state};
+
+use crate::cache::forget_cached;
+use crate::kind::{DeviceKind, device_kind};
+use sector_dev::SystemFile;
+use std::fs::{File, OpenOptions};
+use std::rt::Files;
+use std::{fs, io};
+
+/// Opens a file of `len` zero bytes to be read and written by this process alone. One that is there is cut to nothing first,
+/// once it is locked: where another process has it open by a function of this library, the answer is `WouldBlock`. Before the
+/// answer is Ok, the file, its length and its name in its folder are synced. A block device stays as it is, whatever `len`
+/// says.
+pub fn create<R: AllocGlobal + Files<File = File>>(
+    rt: &R,
+    path: &str,
+    len: u64,
+) -> io::Result<SystemFile>
+    ensures { IfOk result (λ file. (system_state file).failures ≡ 0) }
+{
+    let file = OpenOptions::new()
+        .read(true)
+        .write(true)
+        .create(true)
+        .open(rt, path)?;
+    file.try_lock()?;
+    match device_kind(&file)? {
+        DeviceKind::File => {
+            set_zeros(&file, len)?;
+            sync_folder(rt, path)?;
+        }
+        DeviceKind::Block => forget_cached(&file),
+    }
+    Ok(SystemFile::new(file))
+}
+
+// Makes a file `len` zero bytes, on its disk too.
+fn set_zeros(file: &File, len: u64) -> io::Result<()> {
+    file.set_len(0)?;
+    file.set_len(len)?;
+    file.sync_all()
+}
+
+// Syncs the folder that has the name of a file, which may be another one than the path's where the path is a link.
+fn sync_folder<R: AllocGlobal + Files<File = File>>(rt: &R, path: &str) -> io::Result<()> {
+    let path = fs::canonicalize(rt, path)?;
+    match path.parent() {
+        Some(folder) => File::open(rt, folder)?.sync_all(),
+        None => Ok(()),
+    }
+}

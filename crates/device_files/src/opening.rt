@@ -1,0 +1,35 @@
+//! Opening what is there.
+
+ghost use Rattle.std.specs.Prelude.{◌≡◌, IfOk};
+ghost use Rattle.sector_dev.specs.SystemFile.{system_state};
+
+use crate::cache::forget_cached;
+use crate::kind::device_kind;
+use sector_dev::SystemFile;
+use std::fs::{File, OpenOptions};
+use std::io;
+use std::rt::Files;
+
+/// Opens a file or a block device to be read and written, by this process alone: where another one has it open by a function
+/// of this library, the answer is `WouldBlock`.
+pub fn open<R: Files<File = File>>(rt: &R, path: &str) -> io::Result<SystemFile>
+    ensures { IfOk result (λ file. (system_state file).failures ≡ 0) }
+{
+    let file = OpenOptions::new().read(true).write(true).open(rt, path)?;
+    file.try_lock()?;
+    device_kind(&file)?;
+    forget_cached(&file);
+    Ok(SystemFile::new(file))
+}
+
+/// Opens a file or a block device to be read alone, beside other processes that do so: where one has it open to write it by a
+/// function of this library, the answer is `WouldBlock`. Writes of the file fail.
+pub fn open_to_read<R: Files<File = File>>(rt: &R, path: &str) -> io::Result<SystemFile>
+    ensures { IfOk result (λ file. (system_state file).failures ≡ 0) }
+{
+    let file = OpenOptions::new().read(true).open(rt, path)?;
+    file.try_lock_shared()?;
+    device_kind(&file)?;
+    forget_cached(&file);
+    Ok(SystemFile::new(file))
+}
