@@ -7,7 +7,9 @@
 # words, one a line; NAME.in, hexadecimal text, which is standard input as it stands where --hex is among the words,
 # and else encodes it; NAME.out, standard output; NAME.err, the line of standard error that begins with `error:`, which
 # is not compared where the status is 2; and NAME.status, the exit status. A case may have NAME.note, which says what it
-# is about; where that begins with `full`, the case needs a store of limited size, and is left out.
+# is about; where that begins with `full`, the case needs a store of limited size, and is left out. A case over a file has
+# @DEV among its words in place of the file's path, and no NAME.in: NAME.img.gz is the file before, packed, where there is
+# one, and NAME.after its SHA-256 afterwards, in hexadecimal digits.
 set -u
 
 usage='usage: tools/vectors.sh [-p PROGRAM] FOLDER..'
@@ -33,7 +35,12 @@ differs() {
 run_case() { # the case's path with no ending
     local case=$1 input=$1.in words wanted status
     mapfile -t words < "$case.args"
-    if ! grep -qx -- --hex "$case.args"; then
+    words=("${words[@]/#@DEV/$scratch/device}")
+    rm -f "$scratch/device"
+    [ ! -e "$case.img.gz" ] || zcat "$case.img.gz" > "$scratch/device"
+    if [ ! -e "$input" ]; then
+        input=/dev/null
+    elif ! grep -qx -- --hex "$case.args"; then
         input=$scratch/in
         perl -0777 -ne 's/\s+//g; print pack("H*", $_)' "$case.in" > "$input"
     fi
@@ -45,6 +52,9 @@ run_case() { # the case's path with no ending
     cmp -s "$scratch/out" "$case.out" || differs "$case" "standard output"
     if [ "$wanted" != 2 ]; then
         cmp -s <(grep '^error:' "$scratch/err") <(cat "$case.err" 2> /dev/null) || differs "$case" "standard error"
+    fi
+    if [ -e "$case.after" ]; then
+        cmp -s <(sha256sum < "$scratch/device" | head -c 64) <(head -c 64 "$case.after") || differs "$case" "the file"
     fi
 }
 
