@@ -62,7 +62,7 @@ TakesChunkTurn value result old new = TakesTurn (IsPlanTurn value old) value (re
 
 -- A step of the flusher with its value, from a phase to the next, or to another where the device fails. It is refused just where
 -- it isn't this value's turn, which changes nothing; and then just where the state had stopped, which spends the value. Else the
--- device's call decides: where it fails the value is spent and the state stops.
+-- device's call decides, and `StepCall` says which call that is: where it fails the value is spent and the state stops.
 abbrev pub FlushStep : {P Q : Type 0} → Flush → Flush → Flush → Commit P → Result (Commit Q) (StepError P) → StateView → StateView → Type 0
 FlushStep from to failed value (Ok next) old new =
     IsFlushTurn from value old × (old.stopped ≡ false) × IsSame value next
