@@ -4,3 +4,4 @@ pub mod Tickets
 pub mod Runs
 pub mod MachineSteps
 pub mod BooksKept
+pub mod Reopened

@@ -1,11 +1,20 @@
--- What an image opens to, as a machine.
-use Rattle.std.specs.Prelude.{ℕ, ◌≤◌, List, length}
+-- What an image opens to, as a machine; and what opening a device that holds it answers.
+use Rattle.std.specs.Prelude.{◌≡◌, ℕ, ◌≤◌, List, length, Result, Ok, Err}
 use Rattle.path_db.specs.Database.{RowView}
 use Rattle.path_db.specs.declared.command.Command.{Command}
+use Rattle.sector_dev.specs.Disk.{Disk, IsHonest}
 use Rattle.image_laws.specs.Opening.{StoreValue, OpensTo}
 use Rattle.ckpt_pair.specs.Heads.{latest}
+use Rattle.store_open.specs.Open.{ComesBack}
 use Rattle.store_open.specs.PathStores.{store_format}
+use Rattle.store_open.specs.Store.{StoreView}
+use Rattle.store_open.specs.declared.error.OpenError.{OpenError}
+use Rattle.store_open.specs.declared.error.OpenError.TheVariants.{NotAStore, Device, Pair, Journal, NoMemory}
+use Rattle.group_core.specs.Ending.{IsSettled}
+use Rattle.group_core.specs.Starting.{value_in}
 use Rattle.group_core.specs.StateView.{StateView, MayOpen}
+use Rattle.group_runs.specs.declared.reopening.NotReopened.{NotReopened}
+use Rattle.group_runs.specs.declared.reopening.NotReopened.TheVariants.{InUse, Refused}
 use Rattle.group_runs.specs.Machine.{Machine, machine_of, reopened}
 use Rattle.group_runs.specs.RunLeaves.{OpensToPrefix}
 
@@ -32,3 +41,42 @@ PrefixesAreReopened =
 
 abbrev pub FrontsAreReopened : Type 0
 FrontsAreReopened = (view : StateView) (image : List ℕ) → MayOpen view image → OpensToMachine (machine_of view) image
+
+-- a store stands for what the image opens to
+abbrev pub HasValueOf : List ℕ → StoreView → Type 0
+HasValueOf image store = (value : StoreValue (List RowView)) → OpensTo store_format latest image value → value_in store ≡ value
+
+-- it stands for this machine, reopened with a front of its pending commands
+pub record IsReopened (machine : Machine) (store : StoreView) : Type 0 where
+  pub kept : ℕ
+  pub inside : kept ≤ length machine.pending
+  pub value : value_in store ≡ value_of (reopened machine kept)
+
+-- and does so for every machine to which the image opens
+abbrev pub ReopensMachines : List ℕ → StoreView → Type 0
+ReopensMachines image store = (machine : Machine) → OpensToMachine machine image → IsReopened machine store
+
+-- the device failed, or memory ran out: nothing is said of what it holds
+abbrev pub SaysNothingOfTheImage : OpenError → Type 0
+SaysNothingOfTheImage NotAStore = ⊥
+SaysNothingOfTheImage Device = Unit {0}
+SaysNothingOfTheImage (Pair e) = ⊥
+SaysNothingOfTheImage (Journal e) = ⊥
+SaysNothingOfTheImage NoMemory = Unit {0}
+
+-- an image that opens isn't refused for what it is
+abbrev pub RefusesNoStore : OpenError → List ℕ → Type 0
+RefusesNoStore e image = (value : StoreValue (List RowView)) → OpensTo store_format latest image value → SaysNothingOfTheImage e
+
+-- Why a state isn't opened again: it is in use, and comes back; or its device comes back as one that isn't opened does, which is for
+-- no reason of what an honest one holds.
+abbrev pub IsNotReopened : {D S N : Type 0} → (D → Disk) → NotReopened D S N → StateView → Type 0
+IsNotReopened disk_of (InUse back) state = (¬ IsSettled state) × (back ≡ state)
+IsNotReopened disk_of (Refused device e) state =
+    IsSettled state × ComesBack e state.disk (disk_of device) × (IsHonest state.disk → SaysNothingOfTheImage e)
+
+-- the device afterwards: in the store, in the state, or come back
+abbrev pub disk_left : {D S N : Type 0} → (D → Disk) → Result StoreView (NotReopened D S N) → Disk
+disk_left disk_of (Ok store) = store.disk
+disk_left disk_of (Err (InUse back)) = back.disk
+disk_left disk_of (Err (Refused device e)) = disk_of device

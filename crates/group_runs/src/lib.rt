@@ -1,13 +1,15 @@
 //! Runs of a store at work: any list of events, done one after the other, each a call of the state or a lookup.
 //!
-//! To the layer above: a run does what its replies tell, event by event, and says what a stop at any moment of it leaves: what was
-//! committed when it began, with a front of the commands in the order of the lock.
+//! To the layer above: a run does what its replies tell, event by event, on one device, and says what a stop at any moment of it
+//! leaves: what was committed when it began, with a front of the commands in the order of the lock. A device that is opened again
+//! stands for what a stop left.
 #![tactic(auto)]
 
 mod events;
 mod group_events;
 mod holding;
 mod plan_events;
+mod reopening;
 mod run_laws;
 mod run_state;
 mod running;
@@ -15,6 +17,7 @@ mod ticket_events;
 mod winding;
 
 pub use events::{Event, PublishRefusal, Reply, StepRefusal};
+pub use reopening::{NotReopened, reopen, reopen_state};
 pub use run_laws::{events_keep_the_books, events_make_machine_steps, stops_reopen_machines};
 pub use run_state::Run;
 pub use running::run;

@@ -23,6 +23,8 @@ mod refused;
 #[cfg(test)]
 mod refused_runs;
 #[cfg(test)]
+mod reopening;
+#[cfg(test)]
 mod rounds;
 #[cfg(test)]
 mod runs;

@@ -285,6 +285,14 @@ impl<D: Device> Work<D> {
 
     /// Hands the device out, where no ticket is left and no value is out.
     pub(crate) fn device(self, rt: &impl Abort) -> D {
+        match self.at_rest(rt).into_device() {
+            Ok(device) => device,
+            Err(_state) => panic!(rt; "an outcome is kept"),
+        }
+    }
+
+    /// The state, where no ticket is left and no value is out.
+    pub(crate) fn at_rest(self, rt: &impl Abort) -> State<D, PlainShow> {
         let Work {
             state,
             tickets,
@@ -296,10 +304,7 @@ impl<D: Device> Work<D> {
         };
         assert!(rt; tickets.is_empty());
         tickets.destroy_empty();
-        match state.into_device() {
-            Ok(device) => device,
-            Err(_state) => panic!(rt; "an outcome is kept"),
-        }
+        state
     }
 
     /// Stops the state, redeems all tickets and spends all values: the device, and what is shown.
