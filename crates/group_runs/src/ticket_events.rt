@@ -61,7 +61,7 @@ pub(crate) fn redeem<D: Device, S: Showcase>(
         return Reply::NoValue;
     };
     match state.redeem(ticket) {
-        Redeemed::Committed(receipt) => { Reply::Committed(receipt.place(), receipt.outcome()) }
+        Redeemed::Committed(receipt) => Reply::Committed(receipt.place(), receipt.outcome()),
         Redeemed::Waiting(back) => {
             let place = back.place();
             put_back(tickets, k, back);
