@@ -5,11 +5,9 @@ ghost use Rattle.std.specs.List.{AllByRecursion};
 ghost use mathlib.Core.List.{IsPrefix};
 ghost use Rattle.seg_core.specs.Encoding.{IsSegment};
 ghost use Rattle.path_db.specs.Answer.{segments_of};
-ghost use Rattle.seg_lookup.specs.Answer.{answer_to};
-ghost use Rattle.seg_lookup.specs.Query.{query_view};
 ghost use Rattle.left_right.specs.Sides.{view};
 ghost use Rattle.path_hub.specs.declared.error.HubError.TheVariants.{NoMemory, NoReader};
-ghost use Rattle.path_hub.specs.Shown.{shown_after};
+ghost use Rattle.path_hub.specs.Sight.{answer_after, place_after};
 ghost use Rattle.path_hub.specs.Learnt.{learnt};
 
 use crate::error::HubError;
@@ -58,19 +56,19 @@ impl<N: HubName> HubReader<N> {
     /// no older than what this reader was shown before or has learnt. It takes no lock and waits for nobody. The segments are shared
     /// with the published rows, not copied.
     pub fn lookup(&mut self, query: &Query, now: u64) -> Result<Vec<Segment>, HubError>
-        ensures answer { IfOk result (λ found. found.items ≡ segments_of (answer_to (shown_after N.opening self.new.groups).db (query_view query.now) now)) }
+        ensures answer { IfOk result (λ found. found.items ≡ segments_of (answer_after N.opening self.new.groups query.now now)) }
         ensures few { IfOk result (λ found. length found.items ≤ ANSWER_LIMIT) }
         ensures whole { IfOk result (λ found. AllByRecursion IsSegment found.items) }
 
         // What is published has all groups that this reader was shown before, and its place is at least what the reader has seen.
         ensures later { IsPrefix self.old.groups self.new.groups }
-        ensures fresh { OnOk result (self.old.seen ≤ (shown_after N.opening self.new.groups).place) }
-        ensures seen { OnOk result (self.new.seen ≡ (shown_after N.opening self.new.groups).place) }
+        ensures fresh { OnOk result (self.old.seen ≤ place_after N.opening self.new.groups) }
+        ensures seen { OnOk result (self.new.seen ≡ place_after N.opening self.new.groups) }
 
         // Memory runs out only for an answer that isn't empty, after the reader has looked; without a look it has seen what it had.
         ensures why { IfErr result (λ e. (e ≡ NoMemory) ⊎ (e ≡ NoReader)) }
-        ensures memory { IfErr result (λ e. e ≡ NoMemory → 1 ≤ length (answer_to (shown_after N.opening self.new.groups).db (query_view query.now) now)) }
-        ensures looked { IfErr result (λ e. e ≡ NoMemory → self.new.seen ≡ (shown_after N.opening self.new.groups).place) }
+        ensures memory { IfErr result (λ e. e ≡ NoMemory → 1 ≤ length (answer_after N.opening self.new.groups query.now now)) }
+        ensures looked { IfErr result (λ e. e ≡ NoMemory → self.new.seen ≡ place_after N.opening self.new.groups) }
         ensures kept { IfErr result (λ e. e ≡ NoReader → self.new.seen ≡ self.old.seen) }
         ensures grows { self.old.seen ≤ self.new.seen }
     {
@@ -107,11 +105,11 @@ struct Found {
 /// Looks at what is published, once.
 fn look_in<N: HubName>(seat: &mut HubSeat<N>, query: &Query, now: u64) -> Option<Found>
     ensures later { IsPrefix (view seat.old.place).groups (view seat.new.place).groups }
-    ensures place { IfSome result (λ f. f.place ≡ (shown_after N.opening (view seat.new.place).groups).place) }
-    ensures found { IfSome result (λ f. IfOk f.found (λ found. found.items ≡ segments_of (answer_to (shown_after N.opening (view seat.new.place).groups).db (query_view query.now) now))) }
+    ensures place { IfSome result (λ f. f.place ≡ place_after N.opening (view seat.new.place).groups) }
+    ensures found { IfSome result (λ f. IfOk f.found (λ found. found.items ≡ segments_of (answer_after N.opening (view seat.new.place).groups query.now now))) }
     ensures few { IfSome result (λ f. IfOk f.found (λ found. length found.items ≤ ANSWER_LIMIT)) }
     ensures whole { IfSome result (λ f. IfOk f.found (λ found. AllByRecursion IsSegment found.items)) }
-    ensures memory { IfSome result (λ f. OnErr f.found (1 ≤ length (answer_to (shown_after N.opening (view seat.new.place).groups).db (query_view query.now) now))) }
+    ensures memory { IfSome result (λ f. OnErr f.found (1 ≤ length (answer_after N.opening (view seat.new.place).groups query.now now))) }
 {
     replace_with(
         seat,
@@ -123,11 +121,11 @@ fn look_in<N: HubName>(seat: &mut HubSeat<N>, query: &Query, now: u64) -> Option
 /// Looks at what is published from a seat, and gives the seat back.
 fn look<N: HubName>(seat: HubSeat<N>, query: &Query, now: u64) -> (HubSeat<N>, Option<Found>)
     ensures later { IsPrefix (view seat.place).groups (view result.0.place).groups }
-    ensures place { IfSome result.1 (λ f. f.place ≡ (shown_after N.opening (view result.0.place).groups).place) }
-    ensures found { IfSome result.1 (λ f. IfOk f.found (λ found. found.items ≡ segments_of (answer_to (shown_after N.opening (view result.0.place).groups).db (query_view query.now) now))) }
+    ensures place { IfSome result.1 (λ f. f.place ≡ place_after N.opening (view result.0.place).groups) }
+    ensures found { IfSome result.1 (λ f. IfOk f.found (λ found. found.items ≡ segments_of (answer_after N.opening (view result.0.place).groups query.now now))) }
     ensures few { IfSome result.1 (λ f. IfOk f.found (λ found. length found.items ≤ ANSWER_LIMIT)) }
     ensures whole { IfSome result.1 (λ f. IfOk f.found (λ found. AllByRecursion IsSegment found.items)) }
-    ensures memory { IfSome result.1 (λ f. OnErr f.found (1 ≤ length (answer_to (shown_after N.opening (view result.0.place).groups).db (query_view query.now) now))) }
+    ensures memory { IfSome result.1 (λ f. OnErr f.found (1 ≤ length (answer_after N.opening (view result.0.place).groups query.now now))) }
 {
     match seat.enter_as::<SeesAll<N>>() {
         Ok(reading) => {
