@@ -1,0 +1,161 @@
+//! What is answered once the state has stopped.
+
+use crate::acts::{Unwatched, fill};
+use crate::crews::{Errand, Guests, crewed, nap};
+use crate::fakes::Fake;
+use crate::stores::{LEAST, change, formatted, opened, opens_to, query, register};
+use group_core::SubmitError;
+use path_db::Command;
+use path_hub::{Awaited, Hub, HubError, HubName, HubReader, Steps};
+use sector_dev::{Device, FaultDevice, MemDevice};
+use std::alloc::Global;
+use std::process::Abort;
+use std::sync::{Mutex, Wait};
+use std::test::Fail;
+use std::time::Clock;
+use store_open::{Store, open};
+
+/// A store whose journals are full, at place 514, and that has no epoch left for a checkpoint: a further command is accepted, and never
+/// committed.
+fn full_store<R: Wait + Abort + Copy + Drop>(rt: R, alloc: Global) -> Store<MemDevice> {
+    let mut device = formatted(&rt, alloc, LEAST);
+    // The epoch of the first half's checkpoint.
+    change(&mut device, 1, 8, &[0xff; 8]);
+    let fake = Fake::new(rt, alloc, device);
+    fill(&rt, &fake, &mut Unwatched);
+    opened(&rt, alloc, fake.into_device())
+}
+
+/// How long a command is waited for, in naps.
+const MOST_NAPS: u64 = 6000;
+
+/// The first guest registers a command twice; the second one stops the state once the command is accepted.
+#[derive(Drop)]
+struct Waits {
+    answers: Mutex<[Option<HubError>; 2]>,
+}
+
+/// Stops the state once there was a change for the flusher.
+fn stop_soon<D: Device, N: HubName, R: Wait + Clock>(hub: &Hub<D, N, R>) {
+    for _ in 0..MOST_NAPS {
+        if hub.changes(Awaited::Work) > 0 {
+            break;
+        }
+        nap(hub.handle());
+    }
+    nap(hub.handle());
+    hub.stop();
+}
+
+impl Errand for Waits {
+    fn run<D: Device, N: HubName, R: Wait + Clock + Abort>(&self, hub: &Hub<D, N, R>, guest: u64) {
+        if guest > 0 {
+            stop_soon(hub);
+            return;
+        }
+        let first = hub.register(Command::Purge(0)).err();
+        let second = hub.register(Command::Purge(0)).err();
+        *self.answers.lock(hub.handle()) = [first, second];
+    }
+}
+
+#[test]
+fn register_in_a_state_that_stops(rt: HostRuntime) -> Result<(), Fail> {
+    let alloc = rt.alloc();
+    let waits = Waits {
+        answers: Mutex::new([None, None]),
+    };
+    let guests = Guests::new(2, waits);
+    let device = crewed(&rt, alloc, full_store(&rt, alloc), &guests);
+    let wanted = [
+        Some(HubError::Stopped(514)),
+        Some(HubError::Submit(SubmitError::Stopped)),
+    ];
+    assert_eq!(rt; *guests.errand.answers.lock(&rt), wanted);
+    let _device = opens_to(&rt, alloc, device, (0, 0, 514));
+    Ok(())
+}
+
+/// How many calls of the device are tried.
+const MANY: u64 = 1000;
+
+/// How many calls of the device it takes to open a new store.
+fn calls_to_open(rt: &impl Abort, alloc: Global) -> u64 {
+    let mut device = formatted(rt, alloc, LEAST);
+    for number in 0..MANY {
+        match open(alloc, FaultDevice::new(device, number)) {
+            Ok(store) => {
+                let _device = store.into_device();
+                return number;
+            }
+            Err((failing, _e)) => device = failing.into_mem(),
+        }
+    }
+    panic!(rt; "opening makes no end")
+}
+
+/// A new store on a device that fails in the sync of the second group's gate: each group takes a write and a sync, and these of its gate.
+fn failing_store(rt: &impl Abort, alloc: Global) -> Store<FaultDevice> {
+    let number = calls_to_open(rt, alloc).saturating_add(7);
+    let device = formatted(rt, alloc, LEAST);
+    opened(rt, alloc, FaultDevice::new(device, number))
+}
+
+/// What a guest sees of a device that fails in the second group: how many segments are shown before that, and after that to two
+/// readers; and what the second and the third command are answered.
+type Seen = ([usize; 3], [Option<HubError>; 2]);
+
+/// Registers three segments, of which the second one meets the fault.
+#[derive(Drop)]
+struct Meets {
+    alloc: Global,
+    seen: Mutex<Option<Seen>>,
+}
+
+/// How many segments a reader shows.
+fn shown<N: HubName>(reader: &mut HubReader<N>) -> Option<usize> {
+    Some(reader.lookup(&query(), 0).ok()?.len())
+}
+
+impl Meets {
+    fn seen<D: Device, N: HubName, R: Wait + Clock>(&self, hub: &Hub<D, N, R>) -> Option<Seen> {
+        let mut reader = hub.reader().ok()?;
+        let mut other = hub.reader().ok()?;
+        let mut receipt = hub.register(register(self.alloc, 0x10, 1)?).ok()?;
+        reader.learn(&mut receipt);
+        let before = shown(&mut reader)?;
+        let second = hub.register(register(self.alloc, 0x10, 2)?).err();
+        let after = shown(&mut reader)?;
+        let elsewhere = shown(&mut other)?;
+        let third = hub.register(register(self.alloc, 0x10, 3)?).err();
+        hub.give_back(reader);
+        hub.give_back(other);
+        Some(([before, after, elsewhere], [second, third]))
+    }
+}
+
+impl Errand for Meets {
+    fn run<D: Device, N: HubName, R: Wait + Clock + Abort>(&self, hub: &Hub<D, N, R>, _guest: u64) {
+        let seen = self.seen(hub);
+        *self.seen.lock(hub.handle()) = seen;
+    }
+}
+
+#[test]
+fn failed_gate_sync_stops(rt: HostRuntime) -> Result<(), Fail> {
+    let alloc = rt.alloc();
+    let meets = Meets {
+        alloc,
+        seen: Mutex::new(None),
+    };
+    let guests = Guests::new(1, meets);
+    let device = crewed(&rt, alloc, failing_store(&rt, alloc), &guests);
+    let answers = [
+        Some(HubError::Stopped(1)),
+        Some(HubError::Submit(SubmitError::Stopped)),
+    ];
+    assert_eq!(rt; *guests.errand.seen.lock(&rt), Some(([1, 1, 1], answers)));
+    // The gate was written, though its sync failed: that command was kept.
+    let _device = opens_to(&rt, alloc, device.into_mem(), (2, 2 * 93, 2));
+    Ok(())
+}
