@@ -2,7 +2,7 @@
 
 use crate::crews::{Errand, Guests, crewed};
 use crate::doors::{Door, Holds, Latch};
-use crate::stores::{new_store, opens_to, query, receipt_of, register};
+use crate::stores::{LEAST, formatted, opened, opens_to, query, receipt_of, register};
 use path_hub::{Hub, HubName, Steps};
 use sector_dev::{Device, HeldDevice};
 use std::alloc::Global;
@@ -62,15 +62,12 @@ impl Errand for Looks<'_> {
 fn held_sync_lookup(rt: HostRuntime) -> Result<(), Fail> {
     let alloc = rt.alloc();
     let door = Door::new(Latch::Open);
-    let store = new_store(&rt, alloc, |device| {
-        HeldDevice::new(
-            device,
-            Holds {
-                rt: &rt,
-                door: &door,
-            },
-        )
-    });
+    let holds = Holds {
+        rt: &rt,
+        door: &door,
+    };
+    let device = HeldDevice::new(formatted(&rt, alloc, LEAST), holds);
+    let store = opened(&rt, alloc, device);
     let looks = Looks {
         alloc,
         door: &door,

@@ -51,7 +51,7 @@ fn shown_after<D: Device, N: HubName, R: Wait + Clock>(
 
 #[test]
 fn learnt_receipt_is_shown(rt: HostRuntime) -> Result<(), Fail> {
-    let store = new_store(&rt, rt.alloc(), |device| device);
+    let store = new_store(&rt, rt.alloc());
     let learns = Learns {
         alloc: rt.alloc(),
         shown: AtomicU64::new(0),

@@ -163,40 +163,37 @@ fn found_at(rows: usize, place: u64, number: u64, is_committed: bool) -> Found {
     }
 }
 
-/// Has the checkpointer's loop stopped before each of the first calls, over a device with a sealed journal.
+/// Has the checkpointer's loop stopped before each of the first calls, over a device with a sealed journal: before and after a purge is
+/// committed, or by turns.
 fn fold_all<R: Wait + Abort + Copy + Drop>(
     rt: R,
     alloc: Global,
     device: MemDevice,
     (rows, place): (usize, u64),
     stops: u64,
+    by_turns: bool,
 ) {
     let mut device = device;
     let image = bytes_of(&rt, alloc, &mut device);
     for number in 1..=stops {
         for is_committed in [false, true] {
+            if by_turns && is_committed == (number % 2 == 0) {
+                continue;
+            }
             let found;
             device = restored(&rt, device, &image);
             (device, found) = folded_at(rt, alloc, device, number, is_committed);
-            assert_eq!(&rt;
-                found,
-                found_at(rows, place, number, is_committed),
-                "{number} {is_committed}"
-            );
+            let wanted = found_at(rows, place, number, is_committed);
+            assert_eq!(&rt; found, wanted, "{number} {is_committed}");
         }
     }
 }
 
 #[test]
 fn checkpointer_ends(rt: HostRuntime) -> Result<(), Fail> {
-    fold_all(&rt, rt.alloc(), sealed_row(&rt, rt.alloc()), (1, 1), STOPS);
+    let alloc = rt.alloc();
+    fold_all(&rt, alloc, sealed_row(&rt, alloc), (1, 1), STOPS, false);
     // A full journal takes long to read.
-    fold_all(
-        &rt,
-        rt.alloc(),
-        full_device(&rt, rt.alloc()),
-        (0, GROUPS),
-        8,
-    );
+    fold_all(&rt, alloc, full_device(&rt, alloc), (0, GROUPS), 8, true);
     Ok(())
 }

@@ -35,7 +35,7 @@ impl Errand for Purges {
 
 #[test]
 fn six_hundred_purges(rt: HostRuntime) -> Result<(), Fail> {
-    let store = new_store(&rt, rt.alloc(), |device| device);
+    let store = new_store(&rt, rt.alloc());
     let purges = Purges {
         placed: AtomicU64::new(0),
     };

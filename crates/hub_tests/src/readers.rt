@@ -35,7 +35,7 @@ impl<D: Device, R: Wait + Clock> HubJob<D, R> for TakesAll {
 #[test]
 fn sixty_four_readers(rt: HostRuntime) -> Result<(), Fail> {
     let alloc = rt.alloc();
-    let store = new_store(&rt, alloc, |device| device);
+    let store = new_store(&rt, alloc);
     let seen = ended(&rt, with_hub(&rt, alloc, store, 1, TakesAll { alloc }));
     assert_eq!(rt; seen, Some((64, true)));
     Ok(())

@@ -156,7 +156,7 @@ impl<D: Device, R: Wait + Clock + Abort> HubJob<D, R> for Makes {
 #[test]
 fn changes_are_counted(rt: HostRuntime) -> Result<(), Fail> {
     let alloc = rt.alloc();
-    let store = new_store(&rt, alloc, |device| device);
+    let store = new_store(&rt, alloc);
     ended(&rt, with_hub(&rt, alloc, store, 1, Makes { alloc }));
     Ok(())
 }
@@ -232,7 +232,7 @@ impl<D: Device, R: Wait + Clock + Abort> HubJob<D, R> for Rests {
 #[test]
 fn rest_sees_earlier_changes(rt: HostRuntime) -> Result<(), Fail> {
     let alloc = rt.alloc();
-    let store = new_store(&rt, alloc, |device| device);
+    let store = new_store(&rt, alloc);
     ended(&rt, with_hub(&rt, alloc, store, 1, Rests));
     Ok(())
 }

@@ -2,7 +2,7 @@
 
 use crate::acts::{Answer, GROUPS, Watch, fill, fold, refuse_stage, spend, submit};
 use crate::fakes::state_of;
-use crate::stores::{ended, new_store, opens_to};
+use crate::stores::{LEAST, ended, formatted, opened, opens_to};
 use group_core::StageError;
 use group_runs::{Event, Reply, Run, run};
 use path_db::{Command, Outcome};
@@ -14,6 +14,7 @@ use std::sync::Wait;
 use std::sync::atomic::{AtomicU64, Ordering};
 use std::test::Fail;
 use std::time::Clock;
+use store_open::Store;
 
 /// What a purge does that takes no row away.
 const NOTHING: Outcome = Outcome {
@@ -232,27 +233,30 @@ fn assert_seen(rt: &impl Abort, number: usize, seen: Seen, wanted: Seen) {
     assert_eq!(rt; seen, wanted, "{number}");
 }
 
-/// A run of a store on a device whose syncs are counted.
+/// A device whose syncs are counted.
+type Counted<'a> = HeldDevice<MemDevice, Counts<'a>>;
+
+/// A new store on such a device. Its syncs are counted from now on.
+fn counted_store<'a>(rt: &impl Abort, alloc: Global, syncs: &'a AtomicU64) -> Store<Counted<'a>> {
+    let device = HeldDevice::new(formatted(rt, alloc, LEAST), Counts { syncs });
+    let store = opened(rt, alloc, device);
+    syncs.store(0, Ordering::SeqCst);
+    store
+}
+
+/// A run of such a store.
 fn begun<'a>(rt: &impl Abort, alloc: Global, syncs: &'a AtomicU64) -> Run<Counted<'a>> {
-    let store = new_store(
-        rt,
-        alloc,
-        |device| HeldDevice::new(device, Counts { syncs }),
-    );
+    let store = counted_store(rt, alloc, syncs);
     match Run::new(alloc, state_of(rt, alloc, store, 1)) {
         Ok(held) => held,
         Err(_state) => panic!(rt; "a value is out"),
     }
 }
 
-/// A device whose syncs are counted.
-type Counted<'a> = HeldDevice<MemDevice, Counts<'a>>;
-
 /// Does the script's events in a run.
 fn run_all(rt: &impl Abort, alloc: Global, script: &Script) {
     let syncs = AtomicU64::new(0);
     let mut held = begun(rt, alloc, &syncs);
-    syncs.store(0, Ordering::SeqCst);
     for (number, (event, wanted)) in script.events.chunks(1).zip(&script.seen).enumerate() {
         let answer;
         (held, answer) = answered(rt, alloc, held, event);
@@ -266,22 +270,21 @@ fn run_all(rt: &impl Abort, alloc: Global, script: &Script) {
     }
 }
 
-#[test]
-fn steps_script(rt: HostRuntime) -> Result<(), Fail> {
-    let alloc = rt.alloc();
-    let script = whole_script(&rt, alloc);
+/// Makes the script's calls at a hub: what is seen of them.
+fn played<R: Wait + Clock + Abort + Copy>(rt: R, alloc: Global) -> Vec<Seen> {
     let syncs = AtomicU64::new(0);
-    let store = new_store(
-        &rt,
-        alloc,
-        |device| HeldDevice::new(device, Counts { syncs: &syncs }),
-    );
-    syncs.store(0, Ordering::SeqCst);
+    let store = counted_store(&rt, alloc, &syncs);
     let plays = Plays {
         alloc,
         syncs: &syncs,
     };
-    let seen = ended(&rt, with_hub(&rt, alloc, store, 1, plays));
+    ended(&rt, with_hub(rt, alloc, store, 1, plays))
+}
+
+#[test]
+fn steps_script(rt: HostRuntime) -> Result<(), Fail> {
+    let script = whole_script(&rt, rt.alloc());
+    let seen = played(&rt, rt.alloc());
     assert_eq!(rt;
         (seen.len(), script.events.len(), script.seen.len()),
         (LINES, LINES, LINES)
@@ -289,6 +292,6 @@ fn steps_script(rt: HostRuntime) -> Result<(), Fail> {
     for (number, (seen, wanted)) in seen.iter().zip(&script.seen).enumerate() {
         assert_seen(&rt, number, *seen, *wanted);
     }
-    run_all(&rt, alloc, &script);
+    run_all(&rt, rt.alloc(), &script);
     Ok(())
 }

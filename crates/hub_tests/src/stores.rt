@@ -21,9 +21,6 @@ pub(crate) const LEAST: Geometry = Geometry {
 /// A seal at place 1.
 const SEAL: [u8; 16] = [2, 0, 0, 0, 0, 0, 0, 0, 0, 0, 0, 0, 0, 0, 0, 1];
 
-/// How many sectors a store of these sizes takes.
-const SECTORS: u64 = 1039;
-
 /// How long a commit is waited for, in rests of at most 10 milliseconds.
 const MOST_RESTS: u64 = 3000;
 
@@ -87,12 +84,15 @@ pub(crate) fn change(device: &mut MemDevice, at: u64, from: usize, bytes: &[u8])
     let _ = device.sync();
 }
 
-/// The bytes of a device that has the least sizes.
+/// The bytes of a device of at most 4,096 sectors.
 pub(crate) fn bytes_of(rt: &impl Abort, alloc: Global, device: &mut MemDevice) -> Vec<u8> {
-    let Ok(mut bytes) = vec![in alloc; 0; SECTOR * SECTORS as usize] else {
+    let sectors = device.sectors();
+    assert!(rt; sectors <= 4096);
+    let Ok(mut bytes) = vec![in alloc; 0; SECTOR * sectors as usize] else {
         panic!(rt; "out of memory");
     };
-    assert!(rt; bytes.len() == SECTOR * SECTORS as usize && device.sectors() == SECTORS);
+    assert!(rt; bytes.len() % SECTOR == 0);
+    assert!(rt; (bytes.len() / SECTOR) as u64 <= device.sectors());
     assert!(rt; device.read(0, &mut bytes).is_ok());
     bytes
 }
@@ -100,7 +100,8 @@ pub(crate) fn bytes_of(rt: &impl Abort, alloc: Global, device: &mut MemDevice) -
 /// The device with these bytes.
 pub(crate) fn restored(rt: &impl Abort, device: MemDevice, bytes: &[u8]) -> MemDevice {
     let mut device = device;
-    assert!(rt; bytes.len() == SECTOR * SECTORS as usize && device.sectors() == SECTORS);
+    assert!(rt; bytes.len() % SECTOR == 0);
+    assert!(rt; (bytes.len() / SECTOR) as u64 <= device.sectors());
     assert!(rt; device.write(0, bytes).is_ok());
     assert!(rt; device.sync().is_ok());
     device
@@ -135,15 +136,9 @@ pub(crate) fn opened<D: Device>(rt: &impl Abort, alloc: Global, device: D) -> St
     }
 }
 
-/// A new store of the least sizes, on the device that is made of one in memory.
-pub(crate) fn new_store<D: Device>(
-    rt: &impl Abort,
-    alloc: Global,
-    within: impl FnOnce(MemDevice) -> D,
-) -> Store<D>
-    requires { (x : MemDevice) → within.pre x }
-{
-    opened(rt, alloc, within(formatted(rt, alloc, LEAST)))
+/// A new store of the least sizes.
+pub(crate) fn new_store(rt: &impl Abort, alloc: Global) -> Store<MemDevice> {
+    opened(rt, alloc, formatted(rt, alloc, LEAST))
 }
 
 /// What a store has: how many rows, their bytes, and the place.

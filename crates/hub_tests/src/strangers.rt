@@ -48,7 +48,7 @@ impl<D: Device, R: Wait + Clock + Abort + Copy> HubJob<D, R> for Visits {
     fn run<N: HubName>(self, hub: &Hub<D, N, R>) {
         let rt = hub.handle();
         let ticket = submit(rt, hub, &mut Unwatched);
-        let store = new_store(rt, self.alloc, |device| device);
+        let store = new_store(rt, self.alloc);
         let ticket = match with_hub(*rt, self.alloc, store, 2, Redeems { ticket }) {
             Ok(ticket) => ticket,
             Err((_store, _job, e)) => panic!(rt; "{e:?}"),
@@ -62,7 +62,7 @@ impl<D: Device, R: Wait + Clock + Abort + Copy> HubJob<D, R> for Visits {
 #[test]
 fn strangers(rt: HostRuntime) -> Result<(), Fail> {
     let alloc = rt.alloc();
-    let store = new_store(&rt, alloc, |device| device);
+    let store = new_store(&rt, alloc);
     ended(&rt, with_hub(&rt, alloc, store, 1, Visits { alloc }));
     Ok(())
 }
@@ -134,7 +134,7 @@ impl<D: Device, R: Wait + Clock + Abort> HubJob<D, R> for Fills {
 #[test]
 fn full_tails_are_busy(rt: HostRuntime) -> Result<(), Fail> {
     let alloc = rt.alloc();
-    let store = new_store(&rt, alloc, |device| device);
+    let store = new_store(&rt, alloc);
     ended(&rt, with_hub(&rt, alloc, store, 1, Fills { alloc }));
     Ok(())
 }
