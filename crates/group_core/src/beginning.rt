@@ -54,8 +54,8 @@ pub enum BeginError {
 }
 
 impl<D: Device, S: Showcase> State<D, S> {
-    /// Reads the sealed half and folds it, and makes the bytes of its checkpoint, which the plan is to write. It makes reads alone
-    /// of the device: an honest one has the same history after them, with no write and no sync more.
+    /// Reads the sealed half and folds it, and makes the bytes of its checkpoint, which the plan is to write. It makes reads of
+    /// the device alone: an honest one has the same history after them, with no write and no sync more.
     pub fn begin(&mut self) -> Result<Plan, BeginError>
         ensures step { Begins result self.old self.new }
         ensures any_moment { StepLeaves self.old self.new }

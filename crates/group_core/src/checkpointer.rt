@@ -22,7 +22,8 @@ use sector_dev::Device;
 const CHUNK: u64 = 256;
 
 impl<D: Device, S: Showcase> State<D, S> {
-    /// Writes the next sectors of the new checkpoint, at most 256.
+    /// Writes the next sectors of the new checkpoint, at most 256, to the area of the half that has the tail. That half's gate is
+    /// closed, so nothing of the area counts yet.
     pub fn write_chunk(&mut self, value: Plan) -> Result<Plan, StepError<AtPlan>>
         requires { value.phase.done ≡ false }
         ensures step { WritesChunk value result self.old self.new }
@@ -46,7 +47,7 @@ impl<D: Device, S: Showcase> State<D, S> {
         }
     }
 
-    /// Syncs the new checkpoint, once all of it is written.
+    /// Syncs the new checkpoint, once all of it is written. All of it must be on the disk before its half's gate can be.
     pub fn sync_chunks(&mut self, value: Plan) -> Result<Laid, StepError<AtPlan>>
         requires { value.phase.done ≡ true }
         ensures step { SyncsChunks value result self.old self.new }
@@ -63,7 +64,8 @@ impl<D: Device, S: Showcase> State<D, S> {
         }
     }
 
-    /// Writes the new half's gate open.
+    /// Writes the new half's gate open. From then on a stop leaves either half in use, and both lead to the same rows at the same
+    /// place, so it need not be known which one. Where the write fails that stays in doubt, and the state has stopped.
     pub fn open_half(&mut self, value: Laid) -> Result<Switched, StepError<AtLaid>>
         ensures step { WritesGate laid switched switch_failed value result self.old self.new }
         ensures call { StepCall (half_write self.old) result self.old.disk self.new.disk }
@@ -83,7 +85,8 @@ impl<D: Device, S: Showcase> State<D, S> {
         }
     }
 
-    /// Syncs that gate: from then on the new half counts, with its epoch and its version.
+    /// Syncs that gate: from then on the new half counts, with its epoch and its version. The old half may be given up only once
+    /// no stop can lose the new one's gate.
     pub fn sync_half(&mut self, value: Switched) -> Result<Live, StepError<AtSwitched>>
         ensures step { SyncsHalf value result self.old self.new }
         ensures call { StepCall Sync result self.old.disk self.new.disk }
@@ -101,7 +104,8 @@ impl<D: Device, S: Showcase> State<D, S> {
         }
     }
 
-    /// Writes the old half's gate and the first gate of its journal closed, in one write.
+    /// Writes the old half's gate and the first gate of its journal closed, in one write: the next tail begins at that first
+    /// gate, and the next checkpoint goes to that half's area, which must not count while it is written.
     pub fn close_half(&mut self, value: Live) -> Result<Closing, StepError<AtLive>>
         ensures step { WritesGate live closing close_failed value result self.old self.new }
         ensures call { StepCall (close_write self.old) result self.old.disk self.new.disk }
@@ -121,7 +125,8 @@ impl<D: Device, S: Showcase> State<D, S> {
         }
     }
 
-    /// Syncs these gates: from then on the old half is ready.
+    /// Syncs these gates: from then on the old half is ready. A seal may send the tail there only once no stop can bring one of
+    /// the gates back open.
     pub fn sync_close(&mut self, value: Closing) -> Result<(), StepError<AtClosing>>
         ensures step { SyncsClose value result self.old self.new }
         ensures call { StepCall Sync result self.old.disk self.new.disk }

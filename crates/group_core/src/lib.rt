@@ -1,5 +1,5 @@
 //! The state of a store at work: a flusher that commits accepted commands in groups, and a checkpointer that folds a sealed
-//! journal into the other half. One call makes at most one write or one sync of the device.
+//! journal into the other half. One call makes at most one write or one sync of the device, and its clause says which.
 //!
 //! Here are the start of a state, submitting commands, staging, beginning a checkpoint, the steps of both actors on the device,
 //! publishing, redeeming, stopping, lookups, and the end of a state.

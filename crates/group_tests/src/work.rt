@@ -145,7 +145,10 @@ impl<D: Device> Work<D> {
         assert!(rt; index < self.tickets.len());
         let ticket = self.tickets.remove(index);
         match self.state.redeem(ticket) {
-            Redeemed::Committed(receipt) => Paid::Committed(receipt.place(), receipt.outcome()),
+            Redeemed::Committed(mut receipt) => {
+                assert!(rt; receipt.take_note().is_some());
+                Paid::Committed(receipt.place(), receipt.outcome())
+            }
             Redeemed::Unknown(place) => Paid::Unknown(place),
             Redeemed::Stranger(_ticket) => panic!(rt; "a stranger"),
             Redeemed::Waiting(ticket) => {
