@@ -1,14 +1,18 @@
 //! The words of the program's command line, as `clap` reads them.
 //!
 //! To the layer above, `command` is the program's command with those within it that have the names of `ONCE`, `FORMAT`, `SHOW`
-//! and `UPGRADE`; what their options say is `clap`'s to tell.
+//! and `UPGRADE`, and `read` reads words by it; what their options say is `clap`'s to tell, but that numbers are decimal digits
+//! alone.
 #![tactic(auto)]
+
+mod reading;
 
 ghost use Rattle.std.specs.Prelude.{◌≡◌, [], ◌∷◌, ◌++◌, codes, IfOk};
 ghost use Rattle.clap.specs.Words.{subcommand_names};
 ghost use Rattle.clap.specs.declared.builder.command.Command.TheViews.{out-Command};
 
 use clap::{Arg, ArgAction, Command, value_parser};
+pub use reading::read;
 use std::alloc::{AllocError, Global};
 
 /// The name of the command that answers one session.

@@ -10,7 +10,7 @@ use crate::stores::{format_file, show_file, upgrade_file};
 use clap::error::ErrorKind;
 use clap::{ArgMatches, Error};
 use path_commands::{Fault, cores_of, key_of, once, once_in_hex};
-use path_words::{CORES, FORMAT, HEX, KEY, NOW, ONCE, SHOW, UPGRADE, command};
+use path_words::{CORES, FORMAT, HEX, KEY, NOW, ONCE, SHOW, UPGRADE, read};
 use seg_check::{TrustAll, Verifier};
 use seg_lookup::Roster;
 use std::env;
@@ -51,8 +51,7 @@ fn run<R: Env + Print + Eprint + AllocGlobal + Files<File = File>, I: Read, O: W
         return Err(Ended::Session(Fault::Memory));
     };
     let words: Vec<String> = words.collect(rt.alloc()).map_err(|_| Fault::Memory)?;
-    let command = command(rt.alloc()).map_err(|_| Fault::Memory)?;
-    let matches = match command.try_get_matches_from(words.as_slice()) {
+    let matches = match read(rt.alloc(), words.as_slice()) {
         Ok(matches) => matches,
         Err(error) => return Ok(refuse(rt, &error)?),
     };
