@@ -2,3 +2,4 @@ mod Fronts
 mod Upgraded
 mod Stops
 mod Drawn
+mod PartlyShown
