@@ -3,9 +3,10 @@
 # draws for C = 2 and J = 516: which sectors are written, and where the syncs are between them. It needs Debian's strace, and
 # is no part of the gate.
 #
-#     tools/syscalls.sh [PROGRAM]
+#     tools/syscalls.sh [PROGRAM [GROUPS]]
 #
-# PROGRAM is crates/pathd/out/pathd if left out, which `rt run` builds. Offsets and lengths are counted in sectors of 512
+# PROGRAM is crates/pathd/out/pathd if left out, which `rt run` builds. GROUPS is the program that bench/groups.sh copies to its
+# third argument; with it the calls of two groups of 32 registrations are compared, too. Offsets and lengths are counted in sectors of 512
 # bytes. Reads in a row are one line. What differs is printed as diff does, the calls that were made with '+'.
 set -u
 top=$(cd "$(dirname "${BASH_SOURCE[0]}")/.." && pwd)
@@ -144,6 +145,46 @@ read
 fdatasync
 print
 LINES
+
+# Two groups in a store of C = 64: each is its payload with the next gate, closed, and then its own gate, open; each write is synced
+# before the next one.
+commits() { # the program of bench/groups.sh
+  local folder=$work/groups sectors
+  mkdir "$folder" || exit 2
+  python3 "$top/bench/walks_rows.py" "$folder/segments" 32 0 32
+  echo "64 516 2" >"$folder/plan"
+  truncate -s $((512 * (1 + 2 * (64 + 1 + 516)))) "$folder/store"
+  sectors=$(((16 + $(stat -c %s "$folder/segments") + 7 * 32 + 511) / 512 + 1))
+  (cd "$folder" && strace -y -s 8 -o "$work/trace" -e trace=pread64,pwrite64,fsync,fdatasync "$1" >/dev/null) \
+    || differences=$((differences + 1))
+  traces=$((traces + 1))
+  store=$folder/store calls_made >"$work/made"
+  diff -u --label drawn --label "two groups" - "$work/made" <<LINES || differences=$((differences + 1))
+write 1 at 0
+write 1 at 1
+write 1 at 65
+write 1 at 66
+write 1 at 646
+write 1 at 647
+fdatasync
+fdatasync
+read
+fdatasync
+write $sectors at 67
+fdatasync
+write 1 at 66
+fdatasync
+write $sectors at $((67 + sectors))
+fdatasync
+write 1 at $((66 + sectors))
+fdatasync
+fdatasync
+read
+fdatasync
+LINES
+}
+
+[ $# -lt 2 ] || commits "$(realpath "$2")"
 
 echo "$traces commands, $differences differ"
 [ "$differences" = 0 ]
