@@ -1,6 +1,3 @@
-pub mod Codes
-pub mod Refusal
-pub mod Replies
 pub mod Memory
 pub mod Taking
 pub mod Kept

@@ -1,13 +1,12 @@
 -- A service in memory: what it holds, and what it answers to a message.
-use Rattle.std.specs.Prelude.{◌≡◌, ℕ, ◌+◌, ◌-◌, ◌^◌, ◌<◌, ◌⊎◌, length, List, [], ◌∷◌, ◌==◌, if◌then◌else◌, Option, Some, None, Result, Ok, Err, IsOk}
-use Rattle.std.specs.Option.{option_or}
+use Rattle.std.specs.Prelude.{◌≡◌, ℕ, ◌+◌, ◌-◌, ◌^◌, ◌<◌, ◌⊎◌, length, List, [], ◌==◌, if◌then◌else◌, Option, Some, None, Result, Ok, Err, IsOk}
 use Rattle.seg_core.specs.declared.error.SegError.{SegError}
 use Rattle.seg_core.specs.declared.seg_type.SegType.{SegType}
 use Rattle.seg_core.specs.Request.{request_decoding}
 use Rattle.seg_core.specs.Registration.{registration_outline, registration_decoding, type_of}
 use Rattle.seg_check.specs.declared.error.CheckError.{CheckError}
 use Rattle.seg_check.specs.Signatures.{Verdicts}
-use Rattle.seg_check.specs.Checking.{check_refusal}
+use Rattle.group_core.specs.declared.submit_error.SubmitError.TheVariants.{Exhausted}
 use Rattle.path_db.specs.declared.command.Command.{Command}
 use Rattle.path_db.specs.declared.command.Command.TheVariants as command
 use Rattle.path_db.specs.Database.{RowView}
@@ -22,7 +21,8 @@ use Rattle.session_core.specs.declared.message.Message.TheVariants.{Register, Lo
 use Rattle.session_core.specs.declared.service.Ack.{Ack}
 use Rattle.session_core.specs.Frames.{MessageView}
 use Rattle.session_core.specs.Reply.{ReplyView, Registered, Found, Purged, Removed, Refused}
-use Rattle.path_commands.specs.Codes.{memory_code, exhausted_code, seg_code, check_code, lookup_code}
+use Rattle.reply_codes.specs.Codes.{memory_code, seg_code, check_code, lookup_code, submit_code}
+use Rattle.reply_codes.specs.Checking.{first_refusal}
 
 -- The core ASes, the verdicts on signatures and the moment, which stay, and the database and the place of the next
 -- command, which commands change.
@@ -58,12 +58,7 @@ ack_of served c = record { place = served.place; outcome = outcome_of served.row
 -- A command takes the next place. The last number of 64 bits is no place.
 abbrev pub command_step : (Ack → ReplyView) → Served → Command → Step
 command_step taken served c =
-    if served.place == 2 ^ 64 - 1 then refused_step served exhausted_code else (taken (ack_of served c), after_command served c)
-
--- the first of the segments that is not accepted, and why
-abbrev pub first_refusal : Verdicts → ℕ → List RowView → Option CheckError
-first_refusal verifies now [] = None
-first_refusal verifies now (row ∷ rows) = option_or (check_refusal verifies now row.1) (first_refusal verifies now rows)
+    if served.place == 2 ^ 64 - 1 then refused_step served (submit_code Exhausted) else (taken (ack_of served c), after_command served c)
 
 abbrev pub checked_step : Served → List RowView → Option CheckError → Step
 checked_step served new None = command_step Registered served (command.Register new)

@@ -5,7 +5,7 @@ use Rattle.std.specs.Io.KnownBytes.{Consumes}
 use Rattle.session_core.specs.Frames.{MessageView, Rest, AreFrames}
 use Rattle.session_core.specs.Reply.{ReplyView, Refused, reply_frame}
 use Rattle.session_core.specs.Service.{Exchange, messages_of, replies_of, AreAnswered}
-use Rattle.path_commands.specs.Codes.{memory_code}
+use Rattle.reply_codes.specs.Codes.{memory_code}
 use Rattle.path_commands.specs.Memory.{Served, message_step, Answers}
 use Rattle.path_commands.specs.Session.{IsSession}
 

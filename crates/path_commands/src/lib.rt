@@ -5,7 +5,6 @@
 //! a key, and `bytes_of` a stream from hexadecimal text.
 #![tactic(auto)]
 
-mod codes;
 mod cores;
 mod error;
 mod hex_input;

@@ -2,19 +2,19 @@
 
 ghost use Rattle.std.specs.Prelude.{◌≡◌, ◌≤◌, length, IfOk};
 ghost use Rattle.std.specs.List.{AllByRecursion};
-ghost use Rattle.std.specs.Result.{result_err};
 ghost use Rattle.seg_core.specs.Encoding.{IsSegment};
 ghost use Rattle.session_core.specs.declared.message.Message.TheVariants.{Register, Lookup, Purge, Remove};
 ghost use Rattle.session_core.specs.declared.service.TheConstants.{MOST_SEGMENTS};
 ghost use Rattle.session_core.specs.Reply.{Registered, Purged, Removed};
+ghost use Rattle.reply_codes.specs.Replies.{reply_to_command, reply_to_query};
 ghost use Rattle.path_commands.specs.Kept.{served_by};
-ghost use Rattle.path_commands.specs.Memory.{Answers, first_refusal, opening};
-ghost use Rattle.path_commands.specs.Replies.{reply_to_command, reply_to_query};
+ghost use Rattle.path_commands.specs.Memory.{Answers, opening};
 ghost use Rattle.path_commands.specs.Taking.{MayTake};
 
-use crate::codes::Refusal;
+use group_core::SubmitError;
 use path_db::{Command, PathDb, Registration};
-use seg_check::{CheckError, Verifier, check};
+use reply_codes::{Refusal, check_all};
+use seg_check::Verifier;
 use seg_core::{SegType, Segment, read_registration, read_request};
 use seg_lookup::{Roster, answer, classify};
 use session_core::{Ack, Code, Service};
@@ -51,7 +51,7 @@ impl<'a, V: Verifier> Memory<'a, V> {
     {
         let place = self.place;
         if place == u64::MAX {
-            return Err(Refusal::Exhausted);
+            return Err(Refusal::Submit(SubmitError::Exhausted));
         }
         let outcome = self.database.apply(command)?;
         self.place = place + 1;
@@ -97,20 +97,6 @@ impl<'a, V: Verifier> Memory<'a, V> {
         let found = answer(&self.database, &query, self.moment)?;
         Ok((query.kind, found))
     }
-}
-
-/// Checks segments in order.
-fn check_all<V: Verifier>(
-    new: &[(SegType, Segment)],
-    checker: &V,
-    now: u64,
-) -> Result<(), CheckError>
-    ensures { result_err result ≡ first_refusal (V.verifies checker.now) now new.now }
-{
-    for row in new {
-        check(&row.1, checker, now)?;
-    }
-    Ok(())
 }
 
 impl<V: Verifier> Service for Memory<'_, V> {

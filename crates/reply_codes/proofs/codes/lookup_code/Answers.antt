@@ -1,5 +1,5 @@
 use Rattle.std.proofs.Common.{rules}
-use Rattle.path_commands.proofs.codes.lookup_code.Goals as goal
+use Rattle.reply_codes.proofs.codes.lookup_code.Goals as goal
 
 pub returns-in-NoCore : goal.returns-in-NoCore
 returns-in-NoCore c = search rules

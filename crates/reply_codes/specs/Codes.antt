@@ -8,14 +8,20 @@ use Rattle.seg_check.specs.declared.error.CheckError.{CheckError}
 use Rattle.seg_check.specs.declared.error.CheckError.TheVariants.{BadSignature, Expired}
 use Rattle.seg_lookup.specs.declared.error.LookupError.{LookupError}
 use Rattle.seg_lookup.specs.declared.error.LookupError.TheVariants.{NullDestination, IsdOnlyWildcard, NoCore}
+use Rattle.group_core.specs.declared.submit_error.SubmitError.{SubmitError}
+use Rattle.group_core.specs.declared.submit_error.SubmitError.TheVariants as submit
 
 -- want of memory
 abbrev pub memory_code : ℕ
 memory_code = 0x01
 
--- no place is left for a command
-abbrev pub exhausted_code : ℕ
-exhausted_code = 0x55
+-- a lookup without a reader
+abbrev pub reader_code : ℕ
+reader_code = 0x61
+
+-- a store that stopped before a command was committed
+abbrev pub stopped_code : ℕ
+stopped_code = 0x62
 
 abbrev pub wire_code : WireError → ℕ
 wire_code Truncated = 0x11
@@ -25,7 +31,7 @@ wire_code GroupWire = 0x14
 wire_code BadWire = 0x15
 
 abbrev pub seg_code : SegError → ℕ
-seg_code NoMemory = 0x01
+seg_code NoMemory = memory_code
 seg_code (Wire e) = wire_code e
 seg_code KindOfField = 0x22
 seg_code RepeatedMessage = 0x23
@@ -45,3 +51,12 @@ abbrev pub lookup_code : LookupError → ℕ
 lookup_code NullDestination = 0x41
 lookup_code IsdOnlyWildcard = 0x42
 lookup_code NoCore = 0x43
+
+abbrev pub submit_code : SubmitError → ℕ
+submit_code submit.Busy = 0x51
+submit_code submit.Full = 0x52
+submit_code submit.TooLarge = 0x53
+submit_code submit.Stopped = 0x54
+submit_code submit.Exhausted = 0x55
+submit_code submit.NoMemory = memory_code
+submit_code submit.OldStore = 0x57

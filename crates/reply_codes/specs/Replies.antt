@@ -4,8 +4,8 @@ use Rattle.seg_core.specs.declared.seg_type.SegType.{SegType}
 use Rattle.seg_core.specs.SegmentView.{SegmentView}
 use Rattle.session_core.specs.declared.service.Ack.{Ack}
 use Rattle.session_core.specs.Reply.{ReplyView, Found, Refused}
-use Rattle.path_commands.specs.declared.codes.Refusal.{Refusal}
-use Rattle.path_commands.specs.Refusal.{refusal_code}
+use Rattle.reply_codes.specs.declared.refusal.Refusal.{Refusal}
+use Rattle.reply_codes.specs.Refusal.{refusal_code}
 
 -- the reply to a command of some kind
 abbrev pub reply_to_command : (Ack → ReplyView) → Result Ack Refusal → ReplyView

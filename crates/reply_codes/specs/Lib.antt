@@ -1,0 +1,4 @@
+pub mod Codes
+pub mod Refusal
+pub mod Replies
+pub mod Checking

@@ -1,0 +1,97 @@
+//! Why a message is refused.
+
+ghost use Rattle.std.specs.Prelude.{◌≡◌};
+
+use crate::codes::{check_code, lookup_code, seg_code, submit_code};
+use group_core::SubmitError;
+use seg_check::CheckError;
+use seg_core::SegError;
+use seg_lookup::LookupError;
+use session_core::Code;
+use std::alloc::AllocError;
+use thiserror::Error;
+
+/// Why a message is refused.
+#[derive(Clone, Copy, Debug, PartialEq, Eq, Error)]
+pub enum Refusal {
+    /// Memory ran out. It says nothing of the message.
+    #[error("out of memory")]
+    NoMemory,
+    /// The message is not what its kind says.
+    #[error("{0}")]
+    Message(SegError),
+    /// A segment of the registration isn't accepted.
+    #[error("{0}")]
+    Check(CheckError),
+    /// The lookup asks for no segments.
+    #[error("{0}")]
+    Lookup(LookupError),
+    /// The command isn't accepted.
+    #[error("{0}")]
+    Submit(SubmitError),
+    /// The lookup found no reader.
+    #[error("no reader is left")]
+    NoReader,
+    /// The store stopped before the command was committed: whether it keeps the command is not known.
+    #[error("the store stopped before the command was committed")]
+    Stopped,
+}
+
+impl Refusal {
+    ghost use Rattle.reply_codes.specs.Refusal.{refusal_code};
+
+    /// The code of the refusal in a reply.
+    pub fn code(self) -> Code
+        ensures { result.0 ≡ refusal_code self }
+    {
+        Code(match self {
+            Refusal::NoMemory => 0x01,
+            Refusal::Message(error) => seg_code(error),
+            Refusal::Check(error) => check_code(error),
+            Refusal::Lookup(error) => lookup_code(error),
+            Refusal::Submit(error) => submit_code(error),
+            Refusal::NoReader => 0x61,
+            Refusal::Stopped => 0x62,
+        })
+    }
+}
+
+impl From<AllocError> for Refusal {
+    ghost use Rattle.reply_codes.specs.declared.refusal.Refusal.TheVariants.{NoMemory};
+
+    ghost from_gives = { λ _ refusal. refusal ≡ NoMemory };
+
+    fn from(_refused: AllocError) -> Refusal {
+        Refusal::NoMemory
+    }
+}
+
+impl From<SegError> for Refusal {
+    ghost use Rattle.reply_codes.specs.declared.refusal.Refusal.TheVariants.{Message};
+
+    ghost from_gives = { λ error refusal. refusal ≡ Message error };
+
+    fn from(error: SegError) -> Refusal {
+        Refusal::Message(error)
+    }
+}
+
+impl From<CheckError> for Refusal {
+    ghost use Rattle.reply_codes.specs.declared.refusal.Refusal.TheVariants.{Check};
+
+    ghost from_gives = { λ error refusal. refusal ≡ Check error };
+
+    fn from(error: CheckError) -> Refusal {
+        Refusal::Check(error)
+    }
+}
+
+impl From<LookupError> for Refusal {
+    ghost use Rattle.reply_codes.specs.declared.refusal.Refusal.TheVariants.{Lookup};
+
+    ghost from_gives = { λ error refusal. refusal ≡ Lookup error };
+
+    fn from(error: LookupError) -> Refusal {
+        Refusal::Lookup(error)
+    }
+}
