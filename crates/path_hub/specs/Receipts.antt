@@ -16,6 +16,8 @@ use Rattle.group_core.specs.declared.ticket.Redeemed.{Redeemed}
 use Rattle.group_core.specs.declared.ticket.Redeemed.TheVariants as redeemed
 use Rattle.group_core.specs.declared.values.Commit.{Commit}
 use Rattle.group_core.specs.Values.{IsSame}
+use Rattle.path_hub.specs.declared.error.HubError.{HubError}
+use Rattle.path_hub.specs.declared.error.HubError.TheVariants as hub
 
 -- a ticket that shows the command, or the command again
 abbrev pub IsTaken : Command → Result Ticket (Command × SubmitError) → Type 0
@@ -69,3 +71,10 @@ IsHandedIn value (Err (refused.Stranger back)) = back ≡ value
 pub record IsCommitted (handed : Command) (receipt : Receipt ℕ) : Type 0 where
   pub command : receipt.command.value ≡ handed
   pub note : MatchOption receipt.note ⊥ (λ shown. receipt.place < shown)
+
+-- why a command that was handed in has no receipt: it was not accepted, or the state stopped before it was committed
+abbrev pub RefusesCommand : HubError → Type 0
+RefusesCommand hub.NoMemory = ⊥
+RefusesCommand hub.NoReader = ⊥
+RefusesCommand (hub.Stopped place) = Unit {0}
+RefusesCommand (hub.Submit e) = Unit {0}

@@ -2,7 +2,7 @@
 
 ghost use Rattle.std.specs.Prelude.{◌≡◌, IfOk, IfErr};
 ghost use Rattle.path_hub.specs.declared.error.HubError.TheVariants.{NoReader};
-ghost use Rattle.path_hub.specs.Receipts.{IsCommitted};
+ghost use Rattle.path_hub.specs.Receipts.{IsCommitted, RefusesCommand};
 
 use crate::changes::Changes;
 use crate::error::HubError;
@@ -56,7 +56,8 @@ impl<D: Device, N: HubName, R: Wait + Clock> Hub<D, N, R> {
     /// whether the store keeps the command is not known.
     #[tactic(auto, using(crate::proofs::Through::is_committed))]
     pub fn register(&self, command: Command) -> Result<Receipt<HubNote<N>>, HubError>
-        ensures { IfOk result (IsCommitted command) }
+        ensures committed { IfOk result (IsCommitted command) }
+        ensures why { IfErr result RefusesCommand }
     {
         let mut ticket = match self.submit(command) {
             Ok(ticket) => ticket,

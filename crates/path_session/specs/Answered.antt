@@ -1,0 +1,139 @@
+-- What a service over a hub answers to a message, and what it is then.
+use Rattle.std.specs.Prelude.{◌≡◌, ℕ, ◌<◌, ◌≤◌, ◌⊎◌, List, length, Option, Some, None, Result, Ok, Err, IsOk}
+use mathlib.Core.List.{IsPrefix}
+use Rattle.seg_core.specs.declared.error.SegError.{SegError}
+use Rattle.seg_core.specs.declared.seg_type.SegType.{SegType}
+use Rattle.seg_core.specs.Request.{request_decoding}
+use Rattle.seg_core.specs.Registration.{registration_outline, registration_decoding, type_of}
+use Rattle.seg_check.specs.declared.error.CheckError.{CheckError}
+use Rattle.path_db.specs.declared.command.Command.{Command}
+use Rattle.path_db.specs.declared.command.Command.TheVariants as command
+use Rattle.path_db.specs.Database.{RowView}
+use Rattle.path_db.specs.Answer.{segments_of}
+use Rattle.seg_lookup.specs.declared.error.LookupError.{LookupError}
+use Rattle.seg_lookup.specs.Query.{QueryView}
+use Rattle.seg_lookup.specs.Classification.{query_of}
+use Rattle.seg_lookup.specs.Answer.{answer_to}
+use Rattle.image_laws.specs.Opening.{StoreValue}
+use Rattle.group_core.specs.declared.submit_error.SubmitError.{SubmitError}
+use Rattle.group_core.specs.declared.ticket.Receipt.{Receipt}
+use Rattle.path_hub.specs.Shown.{shown_after}
+use Rattle.path_hub.specs.Sight.{place_after}
+use Rattle.session_core.specs.declared.message.Message.TheVariants.{Register, Lookup, Purge, Remove}
+use Rattle.session_core.specs.declared.service.Ack.{Ack}
+use Rattle.session_core.specs.Frames.{MessageView}
+use Rattle.session_core.specs.Reply.{ReplyView, Registered, Found, Purged, Removed, Refused}
+use Rattle.reply_codes.specs.Codes.{memory_code, reader_code, stopped_code, seg_code, check_code, lookup_code, submit_code}
+use Rattle.reply_codes.specs.Checking.{first_refusal}
+use Rattle.path_session.specs.Serving.{Serving, at_moment}
+
+-- a refusal, which changes nothing
+abbrev pub IsRefused : ℕ → Serving → ReplyView → Serving → Type 0
+IsRefused code old reply new = (reply ≡ Refused code) × (new ≡ old)
+
+-- ---- commands
+
+-- The command was committed: its receipt is kept, without its note, and the acknowledgement has the receipt's place and outcome; and
+-- more than that place was seen.
+pub record IsCommitted (old : Serving) (c : Command) (ack : Ack) (new : Serving) : Type 0 where
+  pub receipt : Receipt ℕ
+  pub kept : new ≡ record old { seen = new.seen; last = Some receipt }
+  pub shows : receipt.command.value ≡ c
+  pub place : ack.place ≡ receipt.place
+  pub outcome : ack.outcome ≡ receipt.outcome
+  pub learnt : receipt.note ≡ None
+  pub above : receipt.place < new.seen
+  pub grows : old.seen ≤ new.seen
+
+-- The reply is an acknowledgement of the command.
+pub record IsAcknowledged (taken : Ack → ReplyView) (old : Serving) (c : Command) (reply : ReplyView) (new : Serving) : Type 0 where
+  pub ack : Ack
+  pub replied : reply ≡ taken ack
+  pub committed : IsCommitted old c ack new
+
+-- The hub did not accept the command.
+pub record IsNotAccepted (old : Serving) (reply : ReplyView) (new : Serving) : Type 0 where
+  pub why : SubmitError
+  pub refused : IsRefused (submit_code why) old reply new
+
+-- The command was committed; or it was not accepted, or the store stopped before it was committed, and nothing changed.
+abbrev pub AnswersCommand : (Ack → ReplyView) → Serving → Command → ReplyView → Serving → Type 0
+AnswersCommand taken old c reply new =
+    IsAcknowledged taken old c reply new ⊎ (IsNotAccepted old reply new ⊎ IsRefused stopped_code old reply new)
+
+abbrev pub AnswersChecked : Serving → List RowView → Option CheckError → ReplyView → Serving → Type 0
+AnswersChecked old rows None reply new = AnswersCommand Registered old (command.Register rows) reply new
+AnswersChecked old rows (Some e) reply new = IsRefused (check_code e) old reply new
+
+-- The clock is asked for a registration that was read, whose segments are checked at the moment that it gave.
+abbrev pub AnswersRegistration : Serving → Result (List RowView) SegError → ReplyView → Serving → Type 0
+AnswersRegistration old (Ok rows) reply new =
+    AnswersChecked (at_moment old new.moment) rows (first_refusal old.verifies new.moment rows) reply new
+AnswersRegistration old (Err e) reply new = IsRefused (seg_code e) old reply new
+
+abbrev pub AnswersRemoval : Serving → List ℕ → Result SegType SegError → ReplyView → Serving → Type 0
+AnswersRemoval old id (Ok kind) reply new = AnswersCommand Removed old (command.Remove kind id) reply new
+AnswersRemoval old id (Err e) reply new = IsRefused (seg_code e) old reply new
+
+-- ---- lookups
+
+module _ (opening : StoreValue (List RowView)) where
+  -- the rows that a query shows at a moment, of what a hub that opened with this value shows after these groups
+  abbrev pub found_after : List (List Command) → QueryView → ℕ → List RowView
+  found_after groups query moment = answer_to (shown_after opening groups).db query moment
+
+  -- The reader was shown what is published: all groups that it was shown before, and maybe more. The place of that is no less than
+  -- what it had seen, and is what it has then seen.
+  pub record HasLooked (old new : Serving) : Type 0 where
+    pub kept : new ≡ record old { groups = new.groups; seen = place_after opening new.groups }
+    pub later : IsPrefix old.groups new.groups
+    pub fresh : old.seen ≤ place_after opening new.groups
+
+  -- The reply has the segments that the query shows, of what the reader was shown.
+  pub record IsFound (old : Serving) (query : QueryView) (reply : ReplyView) (new : Serving) : Type 0 where
+    pub looked : HasLooked old new
+    pub replied : reply ≡ Found query.kind (segments_of (found_after new.groups query new.moment))
+
+  -- Memory ran out for them.
+  pub record LacksMemory (old : Serving) (query : QueryView) (reply : ReplyView) (new : Serving) : Type 0 where
+    pub looked : HasLooked old new
+    pub some : 1 ≤ length (found_after new.groups query new.moment)
+    pub refused : reply ≡ Refused memory_code
+
+  -- The reader was shown nothing.
+  pub record LacksReader (old : Serving) (reply : ReplyView) (new : Serving) : Type 0 where
+    pub kept : new ≡ record old { groups = new.groups }
+    pub later : IsPrefix old.groups new.groups
+    pub refused : reply ≡ Refused reader_code
+
+  abbrev pub LooksUp : Serving → QueryView → ReplyView → Serving → Type 0
+  LooksUp old query reply new = IsFound old query reply new ⊎ (LacksMemory old query reply new ⊎ LacksReader old reply new)
+
+  -- The clock is asked for a lookup that was classified, which is answered at the moment that it gave.
+  abbrev pub AnswersQuery : Serving → Result QueryView LookupError → ReplyView → Serving → Type 0
+  AnswersQuery old (Ok query) reply new = LooksUp (at_moment old new.moment) query reply new
+  AnswersQuery old (Err e) reply new = IsRefused (lookup_code e) old reply new
+
+  abbrev pub AnswersLookup : Serving → Result (ℕ × ℕ) SegError → ReplyView → Serving → Type 0
+  AnswersLookup old (Ok ends) reply new = AnswersQuery old (query_of old.roster ends.0 ends.1) reply new
+  AnswersLookup old (Err e) reply new = IsRefused (seg_code e) old reply new
+
+  -- ---- messages
+
+  -- One message, read, checked or classified, and handed to the hub: the first refusal is the reply.
+  unfoldable pub IsAnswered : Serving → MessageView → ReplyView → Serving → Type 0
+  IsAnswered old (Register body) reply new = AnswersRegistration old (registration_decoding body) reply new
+  IsAnswered old (Lookup body) reply new = AnswersLookup old (request_decoding body) reply new
+  IsAnswered old (Purge moment) reply new = AnswersCommand Purged old (command.Purge moment) reply new
+  IsAnswered old (Remove kind id) reply new = AnswersRemoval old id (type_of kind) reply new
+
+  -- Memory may run out where a registration is read, once its outline was read.
+  abbrev pub IsOutOfMemory : Serving → MessageView → ReplyView → Serving → Type 0
+  IsOutOfMemory old (Register body) reply new = IsRefused memory_code old reply new × IsOk (registration_outline body)
+  IsOutOfMemory old (Lookup body) reply new = ⊥
+  IsOutOfMemory old (Purge moment) reply new = ⊥
+  IsOutOfMemory old (Remove kind id) reply new = ⊥
+
+  -- What a service over a hub that opened with this value may answer to a message, and what it is then.
+  abbrev pub HubAnswers : Serving → MessageView → ReplyView → Serving → Type 0
+  HubAnswers old message reply new = IsOutOfMemory old message reply new ⊎ IsAnswered old message reply new

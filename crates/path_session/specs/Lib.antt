@@ -1,0 +1,6 @@
+pub mod Moments
+pub mod Refused
+pub mod Serving
+pub mod Answered
+pub mod Taking
+pub mod Kept
