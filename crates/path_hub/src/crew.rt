@@ -35,6 +35,10 @@ pub trait Crew<D: Device, R: Wait + Clock> {
 
     /// No thread was given for a guest, who is dropped.
     fn miss(&self);
+
+    /// The flusher has ended, as the state has stopped: because a device failed, or because `stop` was called, as it is once all guests
+    /// have been attended to. The flusher's thread calls this.
+    fn stopped(&self) {}
 }
 
 /// Makes a hub over a store, starts the flusher, the checkpointer and a thread for each guest, and answers how many guests were
@@ -88,7 +92,7 @@ fn act<
         |actors| -> Result<u64, HubError>
             ensures { IfErr result (λ e. e ≡ NoMemory) }
         {
-            if actors.spawn(move || flusher_loop(rt, hub)).is_err() {
+            if actors.spawn(move || flush(rt, hub, crew)).is_err() {
                 return Err(HubError::NoMemory);
             }
             if actors.spawn(move || checkpointer_loop(rt, hub)).is_err() {
@@ -100,6 +104,16 @@ fn act<
             Ok(attended)
         },
     )
+}
+
+/// Runs the flusher until the state stops, and says so to the crew.
+fn flush<N: HubName, D: Device, C: Crew<D, R>, R: Wait + Clock>(
+    rt: &R,
+    hub: &Hub<D, N, R>,
+    crew: &C,
+) {
+    flusher_loop(rt, hub);
+    crew.stopped();
 }
 
 /// Starts a thread for each guest, and answers how many were started once all have ended.

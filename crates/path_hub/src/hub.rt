@@ -17,7 +17,7 @@ use std::sync::{Mutex, Wait};
 use std::time::Clock;
 
 /// How many readers a hub has.
-pub(crate) const READERS: usize = 64;
+pub const READERS: usize = 64;
 
 /// A store's state behind one lock, and the readers of what it shows, under one name.
 ///

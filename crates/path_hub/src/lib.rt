@@ -26,7 +26,7 @@ pub use checkpointer::checkpointer_loop;
 pub use crew::{Crew, with_crew};
 pub use error::HubError;
 pub use flusher::flusher_loop;
-pub use hub::Hub;
+pub use hub::{Hub, READERS};
 pub use making::{HubJob, with_hub};
 pub use name::HubName;
 pub use published::Published;
