@@ -13,3 +13,5 @@ pub record HasPlainNumbers (rows : List Row) : Type 0 where
   pub now : IsPlainNumber rows (codes "now")
   pub checkpoint : IsPlainNumber rows (codes "checkpoint")
   pub journal : IsPlainNumber rows (codes "journal")
+  pub sessions : IsPlainNumber rows (codes "sessions")
+  pub idle : IsPlainNumber rows (codes "idle")

@@ -1,7 +1,7 @@
 //! The words of the program's command line, as `clap` reads them.
 //!
-//! To the layer above, `command` is the program's command with those within it that have the names of `ONCE`, `FORMAT`, `SHOW`
-//! and `UPGRADE`, and `read` reads words by it; what their options say is `clap`'s to tell, but that numbers are decimal digits
+//! To the layer above, `command` is the program's command with those within it that have the names of `ONCE`, `FORMAT`, `SHOW`,
+//! `UPGRADE` and `RUN`, and `read` reads words by it; what their options say is `clap`'s to tell, but that numbers are decimal digits
 //! alone.
 #![tactic(auto)]
 
@@ -39,6 +39,21 @@ pub const SHOW: &str = "show";
 /// The name of the command that has a store in the version that is written.
 pub const UPGRADE: &str = "upgrade";
 
+/// The name of the command that serves sessions over TCP.
+pub const RUN: &str = "run";
+
+/// The name of its option with the socket address.
+pub const LISTEN: &str = "listen";
+
+/// The name of its option with the number of sessions.
+pub const SESSIONS: &str = "sessions";
+
+/// The name of its option with the seconds that a peer may be silent.
+pub const IDLE: &str = "idle";
+
+/// The name of its flag for no lines on standard error.
+pub const QUIET: &str = "quiet";
+
 /// The name of the argument with the path of a device's file.
 pub const DEVICE: &str = "device";
 
@@ -51,18 +66,25 @@ pub const JOURNAL: &str = "journal";
 /// The name of the flag for what stands where on a device.
 pub const LAYOUT: &str = "layout";
 
+/// What the help says of the core ASes.
+const CORES_HELP: &str = "The core ASes, as ISD-AS texts joined by commas";
+
+/// What the help says of the key.
+const KEY_HELP: &str = "Check signatures by this key of a test profile; without it all are trusted";
+
 /// The most sectors of a checkpoint area, and of a journal.
 const MOST_SECTORS: i64 = 1_048_576;
 
 /// The program's commands and their options.
 pub fn command<'a>(alloc: Global) -> Result<Command<'a>, AllocError>
-    ensures { IfOk result (λ command. subcommand_names command ≡ codes "once" ∷ codes "format" ∷ codes "show" ∷ codes "upgrade" ∷ []) }
+    ensures { IfOk result (λ command. subcommand_names command ≡ codes "once" ∷ codes "format" ∷ codes "show" ∷ codes "upgrade" ∷ codes "run" ∷ []) }
 {
     let command = bare_command(alloc)?;
     let command = with_subcommand(command, once_command(alloc)?)?;
     let command = with_subcommand(command, format_command(alloc)?)?;
     let command = with_subcommand(command, show_command(alloc)?)?;
-    with_subcommand(command, upgrade_command(alloc)?)
+    let command = with_subcommand(command, upgrade_command(alloc)?)?;
+    with_subcommand(command, run_command(alloc)?)
 }
 
 /// The program's command, with none within it.
@@ -90,15 +112,13 @@ fn with_subcommand<'a>(
 fn once_command<'a>(alloc: Global) -> Result<Command<'a>, AllocError>
     ensures { IfOk result (λ command. (out-Command command).name.now ≡ codes "once") }
 {
-    let cores = "The core ASes, as ISD-AS texts joined by commas";
     let now = "The moment, in half seconds since 1970 [default: 0]";
-    let key = "Check signatures by this key of a test profile; without it all are trusted";
     let hex = "Read hexadecimal text, and print each reply as a line of it";
     Command::new(alloc, ONCE)
         .about("Answers one session from standard input to standard output")
-        .arg(option(alloc, CORES, "LIST", cores))?
+        .arg(option(alloc, CORES, "LIST", CORES_HELP))?
         .arg(option(alloc, NOW, "T", now).value_parser(value_parser!(u64)))?
-        .arg(option(alloc, KEY, "HEX", key))?
+        .arg(option(alloc, KEY, "HEX", KEY_HELP))?
         .arg(flag(alloc, HEX, hex))
 }
 
@@ -135,6 +155,35 @@ fn upgrade_command<'a>(alloc: Global) -> Result<Command<'a>, AllocError>
     Command::new(alloc, UPGRADE)
         .about("Opens a store, and writes it in version 2 where it is of version 1")
         .arg(device_argument(alloc))
+}
+
+/// The command that serves sessions over TCP.
+fn run_command<'a>(alloc: Global) -> Result<Command<'a>, AllocError>
+    ensures { IfOk result (λ command. (out-Command command).name.now ≡ codes "run") }
+{
+    let listen = "The socket address to listen at, as 127.0.0.1:30252; port 0 is any free one";
+    let command = Command::new(alloc, RUN)
+        .about("Opens a store, and serves sessions over TCP")
+        .arg(device_argument(alloc))?
+        .arg(option(alloc, LISTEN, "ADDR", listen).required(true))?
+        .arg(option(alloc, CORES, "LIST", CORES_HELP))?
+        .arg(option(alloc, KEY, "HEX", KEY_HELP))?;
+    with_limits(alloc, command)
+}
+
+/// Gives the command that serves sessions the options for how many and how long.
+fn with_limits<'a>(alloc: Global, command: Command<'a>) -> Result<Command<'a>, AllocError>
+    requires { (out-Command command).name.now ≡ codes "run" }
+    ensures { IfOk result (λ new. (out-Command new).name.now ≡ codes "run") }
+{
+    let sessions = "End after this number of sessions; 0 is no end [default: 0]";
+    let idle =
+        "End a session whose peer is silent for this number of seconds; 0 is no end [default: 300]";
+    let quiet = "Print nothing on standard error but why the program ends";
+    command
+        .arg(option(alloc, SESSIONS, "N", sessions).value_parser(value_parser!(u64)))?
+        .arg(option(alloc, IDLE, "SECONDS", idle).value_parser(value_parser!(u32)))?
+        .arg(flag(alloc, QUIET, quiet))
 }
 
 /// The path of a device's file.

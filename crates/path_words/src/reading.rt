@@ -6,7 +6,7 @@ ghost use Rattle.clap.specs.Lexer.{is_digit};
 ghost use Rattle.clap.specs.Words.{found_of, rows_of, subcommand_rows_of};
 ghost use Rattle.path_words.specs.Numbers.{IsPlainNumber, HasPlainNumbers};
 
-use crate::{CHECKPOINT, JOURNAL, NOW, command};
+use crate::{CHECKPOINT, IDLE, JOURNAL, NOW, SESSIONS, command};
 use clap::error::ErrorKind;
 use clap::{ArgMatches, Command, Error};
 use std::alloc::Global;
@@ -18,11 +18,24 @@ pub fn read<'a>(alloc: Global, words: &'a [String]) -> Result<ArgMatches<'a>, Er
     let mut command = command(alloc)?;
     let matches = command.try_get_matches_from_mut(words)?;
     if let Some((_name, options)) = matches.subcommand() {
-        check_number(alloc, &mut command, options, NOW)?;
-        check_number(alloc, &mut command, options, CHECKPOINT)?;
-        check_number(alloc, &mut command, options, JOURNAL)?;
+        check_numbers(alloc, &mut command, options)?;
     }
     Ok(matches)
+}
+
+/// Refuses the values of options that are numbers, where one isn't decimal digits alone.
+fn check_numbers(
+    alloc: Global,
+    command: &mut Command<'_>,
+    options: &ArgMatches<'_>,
+) -> Result<(), Error>
+    ensures { OnOk result (HasPlainNumbers (rows_of (found_of options.now))) }
+{
+    check_number(alloc, command, options, NOW)?;
+    check_number(alloc, command, options, CHECKPOINT)?;
+    check_number(alloc, command, options, JOURNAL)?;
+    check_number(alloc, command, options, SESSIONS)?;
+    check_number(alloc, command, options, IDLE)
 }
 
 /// Refuses the value of an option that isn't decimal digits alone.
