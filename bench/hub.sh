@@ -21,7 +21,7 @@ trap 'rm -rf "$work"' EXIT
 program=${3:+$(realpath "$3")}
 if [ -z "$program" ]; then
   mkdir -p "$work/crates/hub_figures/src"
-  for crate in isd_as byte_lists end_index pw_wire seg_core seg_check path_db seg_lookup image_laws gate_journal ckpt_pair sector_dev \
+  for crate in isd_as byte_lists end_index pw_wire seg_core seg_check path_rows path_db seg_lookup image_laws gate_journal ckpt_pair sector_dev \
     store_open group_laws group_core path_hub; do
     cp -r "$root/crates/$crate" "$work/crates/" # with what was proved of it, if it was
     grep "^$crate:" "$root/crates.txt"

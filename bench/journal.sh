@@ -9,10 +9,10 @@ root=$(cd "$(dirname "$0")/.." && pwd)
 work=$(mktemp -d)
 trap 'rm -rf "$work"' EXIT
 mkdir -p "$work/crates/journals/src"
-for crate in isd_as byte_lists end_index pw_wire seg_core seg_check path_db image_laws gate_journal; do
+for crate in isd_as byte_lists end_index pw_wire seg_core seg_check path_rows path_db image_laws gate_journal; do
   cp -r "$root/crates/$crate" "$work/crates/" # with what was proved of it, if it was
 done
-grep -E '^(isd_as|byte_lists|end_index|pw_wire|seg_core|seg_check|path_db|image_laws|gate_journal):' "$root/crates.txt" > "$work/crates.txt"
+grep -E '^(isd_as|byte_lists|end_index|pw_wire|seg_core|seg_check|path_rows|path_db|image_laws|gate_journal):' "$root/crates.txt" > "$work/crates.txt"
 echo 'journals: gate_journal path_db seg_core' >> "$work/crates.txt"
 cat > "$work/crates/journals/src/main.rt" <<'SOURCE'
 #![tactic(auto)]

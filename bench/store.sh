@@ -13,7 +13,7 @@ more=${2:-2000}
 work=$(mktemp -d)
 trap 'rm -rf "$work"' EXIT
 mkdir -p "$work/crates/stores/src"
-for crate in isd_as byte_lists end_index pw_wire seg_core seg_check path_db image_laws gate_journal ckpt_pair sector_dev store_open; do
+for crate in isd_as byte_lists end_index pw_wire seg_core seg_check path_rows path_db image_laws gate_journal ckpt_pair sector_dev store_open; do
   cp -r "$root/crates/$crate" "$work/crates/" # with what was proved of it, if it was
   grep "^$crate:" "$root/crates.txt"
 done > "$work/crates.txt"

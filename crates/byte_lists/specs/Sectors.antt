@@ -1,5 +1,5 @@
 -- Sectors of 512 bytes, and the gates that some of them are.
-use Rattle.std.specs.Prelude.{◌≡◌, ℕ, ◌+◌, ◌-◌, ◌*◌, ◌/◌, ◌≤◌, List, ◌++◌, length, replicate, slice_index, Bool, ◌==◌}
+use Rattle.std.specs.Prelude.{◌≡◌, ℕ, ◌+◌, ◌-◌, ◌*◌, ◌/◌, ◌≤◌, List, ◌∷◌, ◌++◌, length, replicate, slice_index, Bool, ◌==◌}
 use Rattle.byte_lists.specs.Content.{part}
 
 -- how many sectors n bytes take
@@ -25,6 +25,13 @@ IsOpenGate sector = slice_index sector 0 ≡ 0xA7
 -- whether a gate is open, as a test
 abbrev pub is_open_gate : List ℕ → Bool
 is_open_gate sector = slice_index sector 0 == 0xA7
+
+-- gates as they are written
+abbrev pub open_gate : List ℕ
+open_gate = 0xA7 ∷ replicate 511 0
+
+abbrev pub closed_gate : List ℕ
+closed_gate = replicate 512 0
 
 -- rounding up to sectors: the least number of sectors that have room for so many bytes
 pub record IsLeastRoom (n : ℕ) : Type 0 where

@@ -5,9 +5,13 @@
 #![tactic(auto)]
 
 mod content_laws;
+mod format;
+mod gates;
 mod numbers;
 mod sectors;
 
 pub use content_laws::{encoded_numbers, gate_test_is_exact, overwritten_parts, padded_sectors};
+pub use format::{OPEN, SECTOR};
+pub use gates::{closed_gate, closed_gates, is_open, open_gate};
 pub use numbers::{read_u32, read_u64};
-pub use sectors::{is_open, pad, sector_count};
+pub use sectors::{pad, sector_count};

@@ -1,13 +1,10 @@
-//! Sectors of 512 bytes, padding and gates.
+//! Sectors of 512 bytes, and padding.
 
-ghost use Rattle.std.specs.Prelude.{◌≡◌, ◌↔◌, ◌+◌, ◌*◌, ◌<◌, ◌^◌, IsTrue, OnOk, OnErr, vec_len};
-ghost use Rattle.byte_lists.specs.Sectors.{sectors_of, padded, IsOpenGate};
+ghost use Rattle.std.specs.Prelude.{◌≡◌, ◌+◌, ◌*◌, ◌<◌, ◌^◌, OnOk, OnErr, vec_len};
+ghost use Rattle.byte_lists.specs.Sectors.{sectors_of, padded};
 
+use crate::format::SECTOR;
 use std::alloc::AllocError;
-
-const SECTOR: usize = 512;
-
-const OPEN: u8 = 0xa7;
 
 /// How many sectors so many bytes take.
 pub fn sector_count(bytes: usize) -> usize
@@ -29,11 +26,4 @@ pub fn pad(bytes: &mut Vec<u8>) -> Result<(), AllocError>
 {
     let sectors = sector_count(bytes.len());
     bytes.resize(SECTOR * sectors, 0)
-}
-
-/// Whether this sector is an open gate: it goes by its first byte alone.
-pub fn is_open(sector: &[u8]) -> bool
-    ensures { IsTrue result ↔ IsOpenGate sector.now }
-{
-    sector.first() == Some(&OPEN)
 }

@@ -5,7 +5,7 @@ use Rattle.byte_lists.specs.Content.{part}
 use Rattle.byte_lists.proofs.Contents.{bytes-part}
 use Rattle.image_laws.specs.Checkpoint as laws
 use Rattle.image_laws.specs.CheckpointReading.{PairRefusal, head_in, rows_size, rows_count, db_in, with_rows}
-use Rattle.path_db.specs.Database.{RowView}
+use Rattle.path_rows.specs.Database.{RowView}
 use Rattle.path_db.specs.RowRecord.{rows_decoding}
 use Rattle.path_db.proofs.RowsBack.{rows_back, rows_spelled}
 use Rattle.ckpt_pair.specs.Heads.{latest}

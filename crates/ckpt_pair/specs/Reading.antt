@@ -3,7 +3,7 @@ use Rattle.std.specs.Prelude.{◌≡◌, ℕ, ◌+◌, ◌≤◌, Bool, true, fa
 use Rattle.byte_lists.specs.Content.{part}
 use Rattle.image_laws.specs.Checkpoint as laws
 use Rattle.image_laws.specs.CheckpointReading.{PairRefusal, BadCheckpoint, head_in, rows_size, rows_count, checkpoint_in}
-use Rattle.path_db.specs.Database.{RowView}
+use Rattle.path_rows.specs.Database.{RowView}
 use Rattle.path_db.specs.RowRecord.{rows_decoding, HasOutline}
 use Rattle.ckpt_pair.specs.declared.reading.Front.{Front}
 use Rattle.ckpt_pair.specs.declared.reading.Checkpoint.{Checkpoint}

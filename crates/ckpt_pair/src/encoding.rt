@@ -2,20 +2,15 @@
 
 ghost use Rattle.std.specs.Prelude.{◌≡◌, ◌<◌, ◌≤◌, ◌^◌, ◌++◌, ◌+◌, length, take, IfOk, OnOk};
 ghost use Rattle.image_laws.specs.Checkpoint.{checkpoint_bytes, checkpoint_encoding, CanBeCheckpoint};
-ghost use Rattle.path_db.specs.Database.{IsDatabase, rows_len};
+ghost use Rattle.path_rows.specs.Database.{IsDatabase, rows_len};
 ghost use Rattle.path_db.specs.RowRecord.{rows_encoding};
 ghost use Rattle.ckpt_pair.specs.Rows.{rows_format};
 ghost use Rattle.ckpt_pair.specs.Checkpoint.{written_checkpoint};
 
-use crate::head::{LATEST, MAGIC};
-use byte_lists::{pad, sector_count};
+use crate::format::{BEFORE_ROWS, CHECKPOINT_MAGIC, LATEST};
+use byte_lists::{SECTOR, pad, sector_count};
 use path_db::{PathDb, write_rows};
 use std::alloc::{AllocError, Global};
-
-const SECTOR: usize = 512;
-
-/// The bytes of a checkpoint before its rows: the head, how many bytes the rows have in four, and how many they are in four.
-pub(crate) const BEFORE_ROWS: usize = 32;
 
 /// A database as the checkpoint of an epoch and a place, in the version that is written, filled with zeros to whole sectors.
 /// Its records have to be less than 4 GiB; then it can be a checkpoint. The buffer is reserved once, for all of it.
@@ -48,7 +43,7 @@ pub fn checkpoint_head(db: &PathDb, epoch: u64, place: u64) -> [u8; 32]
     let size = db.encoded_len() as u32;
     let count = row_count(db);
     let mut head = [0; BEFORE_ROWS];
-    put(&mut head, 0, &MAGIC.to_be_bytes());
+    put(&mut head, 0, &CHECKPOINT_MAGIC.to_be_bytes());
     put(&mut head, 4, &LATEST.to_be_bytes());
     put(&mut head, 8, &epoch.to_be_bytes());
     put(&mut head, 16, &place.to_be_bytes());

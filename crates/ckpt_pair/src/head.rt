@@ -8,13 +8,8 @@ ghost use Rattle.ckpt_pair.specs.Refusals.{Reads};
 ghost use Rattle.ckpt_pair.specs.Heads.{latest, head_view, head_seen};
 
 use crate::error::PairError;
+use crate::format::{CHECKPOINT_MAGIC, LATEST};
 use byte_lists::{is_open, read_u32, read_u64};
-
-/// The greatest version of the format that is known, in which checkpoints are written.
-pub const LATEST: u32 = 2;
-
-/// The four letters PCKP, as one number.
-pub(crate) const MAGIC: u32 = 0x50434b50;
 
 /// The head of a checkpoint: the version of its format, the epoch, which is greater in the newer half, and the place, which is
 /// how many commands are folded into its rows.
@@ -50,7 +45,7 @@ pub(crate) fn open_head(area: &[u8]) -> Result<Head, PairError>
     ensures { Reads head_view result (head_in latest area.now) }
 {
     let version = read_u32(area, 4);
-    if read_u32(area, 0) != MAGIC || version == 0 {
+    if read_u32(area, 0) != CHECKPOINT_MAGIC || version == 0 {
         return Err(PairError::BadCheckpoint);
     }
     if version > LATEST {

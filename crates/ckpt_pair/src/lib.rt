@@ -7,6 +7,7 @@
 mod choice;
 mod encoding;
 mod error;
+mod format;
 mod head;
 mod pieces;
 mod reading;
@@ -15,7 +16,8 @@ mod rows_laws;
 pub use choice::{choose, openings_go_on_there, tail_half};
 pub use encoding::{checkpoint_head, encode_checkpoint};
 pub use error::PairError;
-pub use head::{Head, Heads, LATEST, read_head};
+pub use format::{BEFORE_ROWS, CHECKPOINT_MAGIC, LATEST};
+pub use head::{Head, Heads, read_head};
 pub use path_db::RowsReader;
 pub use pieces::{feed_rows, finish_rows};
 pub use reading::{Checkpoint, Front, read_front, read_half};

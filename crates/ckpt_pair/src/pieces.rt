@@ -1,7 +1,7 @@
 //! The rows of a checkpoint, read by pieces of their bytes: for areas that are larger than what is to be in memory.
 
 ghost use Rattle.std.specs.Prelude.{◌≡◌, ◌≢◌, ◌<◌, ◌++◌, length, IfOk, IfErr, IsOk};
-ghost use Rattle.path_db.specs.Database.{IsDatabase};
+ghost use Rattle.path_rows.specs.Database.{IsDatabase};
 ghost use Rattle.path_db.specs.RowRecord.{rows_decoding};
 ghost use Rattle.ckpt_pair.specs.declared.error.PairError.TheVariants.{NoMemory, BadCheckpoint};
 ghost use Rattle.ckpt_pair.specs.Refusals.{Gives};

@@ -2,7 +2,7 @@
 
 ghost use Rattle.std.specs.Prelude.{◌≡◌, ◌≤◌, ◌+◌, ◌==◌, length, IfOk, IfErr};
 ghost use Rattle.byte_lists.specs.Content.{part};
-ghost use Rattle.path_db.specs.Database.{IsDatabase};
+ghost use Rattle.path_rows.specs.Database.{IsDatabase};
 ghost use Rattle.path_db.specs.RowRecord.{rows_decoding, HasOutline};
 ghost use Rattle.image_laws.specs.CheckpointReading.{checkpoint_in};
 ghost use Rattle.ckpt_pair.specs.declared.error.PairError.TheVariants.{NoMemory};
@@ -11,8 +11,8 @@ ghost use Rattle.ckpt_pair.specs.Heads.{latest};
 ghost use Rattle.ckpt_pair.specs.Rows.{rows_format, as_counted};
 ghost use Rattle.ckpt_pair.specs.Reading.{front_view, front_in, checkpoint_view, or_bad, HasRowsToRead};
 
-use crate::encoding::BEFORE_ROWS;
 use crate::error::PairError;
+use crate::format::BEFORE_ROWS;
 use crate::head::{Head, open_head};
 use byte_lists::read_u32;
 use path_db::{DbError, PathDb, read_rows};

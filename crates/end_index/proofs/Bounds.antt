@@ -1,4 +1,4 @@
--- What lies between the bounds of a type and an ISD-AS: for `places_at`.
+-- What lies between the bounds of a type and an ISD-AS: for `keys_at`.
 use Rattle.std.proofs.Common.{◌≡◌, ◌≢◌, ◌⊎◌, inl, inr, ℕ, zero, suc, ◌+◌, ◌<◌, true, false, not, ◌&&◌, ◌==◌, List, [], ◌∷◌, length, refl, sym, ap, ◌∙◌, arith}
 use Rattle.std.specs.Ordering.{nat_cmp, is_eq, is_le, ordering_then, MatchOrdering}
 use Rattle.std.specs.Cmp.{ranks}
@@ -8,8 +8,8 @@ use Rattle.std.specs.declared.cmp.Ordering.TheVariants.{Less, Equal, Greater}
 use Rattle.std.proofs.lemmas.Bool.{false≢true}
 use Rattle.std.proofs.lemmas.Bool.Decides.{eqb_tells}
 use Rattle.std.proofs.Math.Dec.{eqb}
-use Rattle.end_index.specs.declared.place.Place.{Place}
-use Rattle.end_index.specs.Place.{place_cmp, stands_at}
+use Rattle.end_index.specs.declared.index_key.IndexKey.{IndexKey}
+use Rattle.end_index.specs.IndexKey.{index_key_cmp, stands_at}
 
 abbrev pub zeros : ℕ → List ℕ
 zeros zero = []
@@ -41,7 +41,7 @@ next_rank Equal Equal a b one other = absurd (omega (arith, one, other))
 next_rank Equal Greater a b one other = refl
 next_rank Greater p a b one other = tt
 
--- by how a type, an ISD-AS and the next one stand to those of a place, and how the least id does
+-- by how a type, an ISD-AS and the next one stand to those of an index key, and how the least id does
 table : (o p r later : Ordering) → is_le later ≡ true → IsNext p r → (is_le (ordering_then o (ordering_then p later)) && not (is_le (ordering_then o (ordering_then r later)))) ≡ (is_eq o && is_eq p)
 table Less p r later e next = refl
 table Greater p r later e next = refl
@@ -62,13 +62,13 @@ same_number Equal a b says (inr other) = absurd (other.1 (sym says))
 same_number Greater a b says (inl same) = absurd (omega (arith, says, same.1))
 same_number Greater a b says (inr other) = sym other.0
 
--- what lies between the least places of an ISD-AS and of the next
-pub between : (low high place : Place) (n : ℕ) → low.id ≡ zeros n → high.id ≡ zeros n → high.kind ≡ low.kind → high.isd_as ≡ low.isd_as + 1 → length place.id ≡ n
-    → (is_le (place_cmp low place) && not (is_le (place_cmp high place))) ≡ stands_at low.kind low.isd_as place
-between low high place n low_id high_id kind next long =
+-- what lies between the least index keys of an ISD-AS and of the next
+pub between : (low high index_key : IndexKey) (n : ℕ) → low.id ≡ zeros n → high.id ≡ zeros n → high.kind ≡ low.kind → high.isd_as ≡ low.isd_as + 1 → length index_key.id ≡ n
+    → (is_le (index_key_cmp low index_key) && not (is_le (index_key_cmp high index_key))) ≡ stands_at low.kind low.isd_as index_key
+between low high index_key n low_id high_id kind next long =
     rw (low_id, high_id, kind, next)
-    (table (nat_cmp low.kind place.kind) (nat_cmp low.isd_as place.isd_as) (nat_cmp (low.isd_as + 1) place.isd_as) (slice_cmp nat_cmp (zeros n) place.id)
-    (zeros_first n place.id long)
-    (next_rank (nat_cmp low.isd_as place.isd_as) (nat_cmp (low.isd_as + 1) place.isd_as) low.isd_as place.isd_as (ranks low.isd_as place.isd_as) (ranks (low.isd_as + 1) place.isd_as))
-    ∙ ap (λ a. a && is_eq (nat_cmp low.isd_as place.isd_as)) (same_number (nat_cmp low.kind place.kind) low.kind place.kind (ranks low.kind place.kind) (eqb_tells place.kind low.kind))
-    ∙ ap (λ b. (place.kind == low.kind) && b) (same_number (nat_cmp low.isd_as place.isd_as) low.isd_as place.isd_as (ranks low.isd_as place.isd_as) (eqb_tells place.isd_as low.isd_as)))
+    (table (nat_cmp low.kind index_key.kind) (nat_cmp low.isd_as index_key.isd_as) (nat_cmp (low.isd_as + 1) index_key.isd_as) (slice_cmp nat_cmp (zeros n) index_key.id)
+    (zeros_first n index_key.id long)
+    (next_rank (nat_cmp low.isd_as index_key.isd_as) (nat_cmp (low.isd_as + 1) index_key.isd_as) low.isd_as index_key.isd_as (ranks low.isd_as index_key.isd_as) (ranks (low.isd_as + 1) index_key.isd_as))
+    ∙ ap (λ a. a && is_eq (nat_cmp low.isd_as index_key.isd_as)) (same_number (nat_cmp low.kind index_key.kind) low.kind index_key.kind (ranks low.kind index_key.kind) (eqb_tells index_key.kind low.kind))
+    ∙ ap (λ b. (index_key.kind == low.kind) && b) (same_number (nat_cmp low.isd_as index_key.isd_as) low.isd_as index_key.isd_as (ranks low.isd_as index_key.isd_as) (eqb_tells index_key.isd_as low.isd_as)))

@@ -4,65 +4,65 @@ ghost use Rattle.std.specs.Prelude.{◌≡◌, ◌+◌, ◌^◌, ◌<◌, [], �
 ghost use Rattle.std.specs.Fn.{CalledAt};
 ghost use Rattle.std.specs.List.Retain.{IsFiltered};
 ghost use Rattle.std.specs.List.Sorted.{IsStrictlySortedBy};
-ghost use Rattle.end_index.specs.declared.place.Place.{Place};
-ghost use Rattle.end_index.specs.Place.{place_cmp, has, is_same, stands_at};
+ghost use Rattle.end_index.specs.declared.index_key.IndexKey.{IndexKey};
+ghost use Rattle.end_index.specs.IndexKey.{index_key_cmp, has, is_same, stands_at};
 
-use crate::place::Place;
+use crate::index_key::IndexKey;
 use std::alloc::{AllocError, Global};
 use std::collections::BTreeSet;
 use std::collections::btree_set::Range;
 use std::marker::Model;
 
-/// The places of rows, in their order.
+/// The index keys of rows, in their order.
 #[derive(Drop)]
 pub struct EndIndex {
-    places: BTreeSet<Place>,
+    index_keys: BTreeSet<IndexKey>,
 }
 
 impl Model for EndIndex {
     ghost use Rattle.std.specs.Prelude.{List};
-    ghost use Rattle.end_index.specs.declared.place.Place.{Place};
+    ghost use Rattle.end_index.specs.declared.index_key.IndexKey.{IndexKey};
 
-    ghost Value = { List Place };
+    ghost Value = { List IndexKey };
 
-    ghost view = { λ s. s.places.keys };
+    ghost view = { λ s. s.index_keys.keys };
 }
 
-/// The places that are left, in their order.
-pub type Places<'a> = Range<'a, Place>;
+/// The index keys that are left, in their order.
+pub type IndexKeys<'a> = Range<'a, IndexKey>;
 
 impl EndIndex {
-    /// No places.
+    /// No index keys.
     pub fn new(alloc: Global) -> EndIndex
         ensures { result ≡ [] }
     {
         EndIndex {
-            places: BTreeSet::new(alloc),
+            index_keys: BTreeSet::new(alloc),
         }
     }
 
-    /// Adds a place. Where memory is refused, the index is as it was.
-    pub fn add(&mut self, place: Place) -> Result<(), AllocError>
-        ensures ok { OnOk result ((q : Place) → has self.new q ≡ (is_same q place || has self.old q)) }
+    /// Adds an index key. Where memory is refused, the index is as it was.
+    pub fn add(&mut self, index_key: IndexKey) -> Result<(), AllocError>
+        ensures ok { OnOk result ((q : IndexKey) → has self.new q ≡ (is_same q index_key || has self.old q)) }
         ensures err { OnErr result (self.new ≡ self.old) }
     {
-        self.places.insert(place)?;
+        self.index_keys.insert(index_key)?;
         Ok(())
     }
 
-    /// Takes out a place. That takes no memory.
-    pub fn remove(&mut self, place: &Place)
-        ensures { (q : Place) → has self.new q ≡ (not (is_same q place.now) && has self.old q) }
+    /// Takes out an index key. That takes no memory.
+    pub fn remove(&mut self, index_key: &IndexKey)
+        ensures { (q : IndexKey) → has self.new q ≡ (not (is_same q index_key.now) && has self.old q) }
     {
-        self.places.remove(place);
+        self.index_keys.remove(index_key);
     }
 
-    /// Keeps the places that pass. That takes no memory.
-    pub fn retain<F: FnMut(&Place) -> bool>(&mut self, keep: F)
+    /// Keeps the index keys that pass. That takes no memory.
+    pub fn retain<F: FnMut(&IndexKey) -> bool>(&mut self, keep: F)
         requires { F.IsAlwaysCallable keep }
         ensures { IsFiltered (CalledAt F.FnMut) keep self.old self.new }
     {
-        self.places.retain(keep);
+        self.index_keys.retain(keep);
     }
 
     /// An equal index.
@@ -70,26 +70,26 @@ impl EndIndex {
         ensures { IfOk result (λ copy. copy ≡ self.now) }
     {
         Ok(EndIndex {
-            places: self.places.clone()?,
+            index_keys: self.index_keys.clone()?,
         })
     }
 
-    /// The places of a type and an ISD-AS, by rising id.
-    pub fn places_at(&self, kind: u8, isd_as: u64) -> Places<'_>
+    /// The index keys of a type and an ISD-AS, by rising id.
+    pub fn keys_at(&self, kind: u8, isd_as: u64) -> IndexKeys<'_>
         requires { isd_as + 1 < 2 ^ 64 }
         ensures same { result ≡ filter (stands_at kind isd_as) self.now }
-        ensures rising { IsStrictlySortedBy place_cmp self.now }
+        ensures rising { IsStrictlySortedBy index_key_cmp self.now }
     {
-        let low = Place {
+        let low = IndexKey {
             kind,
             isd_as,
             id: [0; 32],
         };
-        let high = Place {
+        let high = IndexKey {
             kind,
             isd_as: isd_as + 1,
             id: [0; 32],
         };
-        self.places.range(low..high)
+        self.index_keys.range(low..high)
     }
 }

@@ -1,11 +1,11 @@
 //! An ordered index of rows by the ISD-AS at one of their ends.
 //!
-//! To the layer above: a set of places, each a type, an ISD-AS and an id. `places_at` walks those of one type and one ISD-AS
+//! To the layer above: a set of index keys, each a type, an ISD-AS and an id. `keys_at` walks those of one type and one ISD-AS
 //! by rising id, and no others.
 #![tactic(auto)]
 
 mod index;
-mod place;
+mod index_key;
 
-pub use index::{EndIndex, Places};
-pub use place::Place;
+pub use index::{EndIndex, IndexKeys};
+pub use index_key::IndexKey;

@@ -4,7 +4,7 @@ use Rattle.byte_lists.specs.Content.{part}
 use Rattle.std.proofs.lemmas.Bool.{lt-leb}
 use Rattle.std.proofs.lemmas.List.{append-nil}
 use Rattle.std.specs.Result.{result_ok}
-use Rattle.path_db.specs.declared.command.Command.{Command}
+use Rattle.path_rows.specs.declared.command.Command.{Command}
 use Rattle.path_db.specs.declared.error.DbError.{DbError}
 use Rattle.path_db.specs.declared.error.DbError.TheVariants.{NoMemory as RecordWantsMemory, BadRecord as RecordIsBad, Order}
 use Rattle.path_db.specs.CommandRecord.{allows_removals, command_decoding}

@@ -2,7 +2,7 @@
 use Rattle.std.proofs.Common.{◌≡◌, ◌≢◌, ℕ, ◌+◌, ◌*◌, ◌≤◌, true, List, [], ◌∷◌, ◌++◌, length, drop, Ok, Err, Result, refl, sym, ◌∙◌, ap, subst, arith, length-append}
 use Rattle.byte_lists.specs.Content.{AreBytes, part}
 use Rattle.byte_lists.specs.Sectors.{whole_sectors, sector_at, IsOpenGate}
-use Rattle.path_db.specs.declared.command.Command.{Command}
+use Rattle.path_rows.specs.declared.command.Command.{Command}
 use Rattle.image_laws.specs.Limits.{Limits, limits_of}
 use Rattle.image_laws.specs.Group.{payload_sectors, group_sectors}
 use Rattle.image_laws.specs.GroupReading.{JournalRefusal, Payload, payload_at}

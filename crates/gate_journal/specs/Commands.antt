@@ -2,8 +2,8 @@
 use Rattle.std.specs.Prelude.{◌≡◌, Result, Ok, Err, Some}
 use Rattle.std.specs.Result.{result_ok}
 use Rattle.std.proofs.Common.{ap}
-use Rattle.path_db.specs.declared.command.Command.{Command}
-use Rattle.path_db.specs.Command.{HasWholeSegments}
+use Rattle.path_rows.specs.declared.command.Command.{Command}
+use Rattle.path_rows.specs.Command.{HasWholeSegments}
 use Rattle.path_db.specs.CommandRecord.{IsWithinLimits, command_encoding, command_decoding}
 use Rattle.path_db.specs.RecordLaws.{HasWidths, IsAllowedBy}
 use Rattle.path_db.proofs.Exports.{command_spelled, command_read_on}

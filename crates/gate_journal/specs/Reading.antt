@@ -1,7 +1,7 @@
 -- What of a journal is read at a time: the first sector of a payload, and then all of a group's.
 use Rattle.std.specs.Prelude.{◌≡◌, ◌⊎◌, ℕ, ◌+◌, ◌-◌, ◌*◌, ◌≤◌, true, List, ◌++◌, length, Option, Some, None, IsSome, Result, Ok, Err, nat_le, ◌==◌, if◌then◌else◌}
 use Rattle.byte_lists.specs.Content.{part}
-use Rattle.path_db.specs.declared.command.Command.{Command}
+use Rattle.path_rows.specs.declared.command.Command.{Command}
 use Rattle.path_db.specs.CommandRecord.{WantsMemory}
 use Rattle.image_laws.specs.Limits.{Limits}
 use Rattle.image_laws.specs.Group.{payload_sectors}

@@ -2,7 +2,7 @@
 use Rattle.std.specs.Prelude.{◌≡◌, ℕ, ◌+◌, ◌-◌, ◌*◌, ◌<◌, ◌≤◌, List, length, Result, Ok, Err}
 use Rattle.byte_lists.specs.Content.{AreBytes, part}
 use Rattle.byte_lists.specs.Sectors.{whole_sectors, sector_at, IsOpenGate}
-use Rattle.path_db.specs.declared.command.Command.{Command}
+use Rattle.path_rows.specs.declared.command.Command.{Command}
 use Rattle.image_laws.specs.Limits.{Limits, limits_of}
 use Rattle.image_laws.specs.Group.{payload_sectors}
 use Rattle.image_laws.specs.GroupReading.{BadHeader as IsBadHeader, BadRecord as IsBadRecord, Gap as IsGap, PastEnd as IsPastEnd}

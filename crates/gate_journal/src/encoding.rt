@@ -7,20 +7,11 @@ ghost use Rattle.image_laws.specs.Group.{record_encoding, records_of, with_heade
 ghost use Rattle.gate_journal.specs.Commands.{command_format};
 ghost use Rattle.gate_journal.specs.Payload.{IsWithinGroupLimits};
 
-use crate::header::MOST_RECORD_BYTES;
+use crate::format::{GROUP, HEADER, MOST_RECORD_BYTES, SEAL};
 use crate::sizes::{is_within_limits, record_len};
-use byte_lists::pad;
+use byte_lists::{SECTOR, pad};
 use path_db::{Command, write_command};
 use std::alloc::{AllocError, Global};
-
-/// The kind of a group's header.
-pub(crate) const GROUP: u8 = 1;
-/// The kind of a seal's header.
-pub(crate) const SEAL: u8 = 2;
-/// The bytes of a header.
-pub(crate) const HEADER: usize = 16;
-/// The bytes of a sector.
-pub(crate) const SECTOR: usize = 512;
 
 /// Whether these commands may be written as one group, whose first command has this place: there are 1 to 32, each within its
 /// limits, their records have at most 262,144 bytes, and no place is above 2^64 - 1.
@@ -32,7 +23,7 @@ pub fn can_be_group(commands: &[Command], place: u64) -> bool
         && count <= 32
         && place <= u64::MAX - count as u64
         && commands.iter().all(|command| is_within_limits(command))
-        && records_len(commands) <= MOST_RECORD_BYTES as usize
+        && records_len(commands) <= MOST_RECORD_BYTES
 }
 
 /// The payload of a group whose first command has this place: a header, each command's record behind its length, and zeros up

@@ -6,13 +6,10 @@ ghost use Rattle.image_laws.specs.GroupReading.{is_group_header as group_header,
 ghost use Rattle.gate_journal.specs.declared.error.JournalError.TheVariants.{NoMemory};
 ghost use Rattle.gate_journal.specs.Reading.{header_reading, Gives};
 
-use crate::encoding::{GROUP, HEADER, SEAL};
 use crate::error::JournalError;
+use crate::format::{GROUP, HEADER, MOST_RECORD_BYTES, SEAL, most_commands};
 use crate::sizes::{fits, payload_sectors};
 use byte_lists::{read_u32, read_u64};
-
-/// The most bytes that the records of a group have together.
-pub(crate) const MOST_RECORD_BYTES: u32 = 262_144;
 
 /// What the header of a payload is of: a group of so many commands, whose records have so many bytes, or a seal.
 #[derive(Clone, Copy)]
@@ -60,7 +57,13 @@ fn is_group_header(sector: &[u8], version: u32) -> bool
     requires { length sector.now ≡ 512 }
     ensures { result ≡ group_header (limits_of version) sector.now }
 {
-    is_header(sector, GROUP, 1, most_commands(version), MOST_RECORD_BYTES)
+    is_header(
+        sector,
+        GROUP,
+        1,
+        most_commands(version) as u8,
+        MOST_RECORD_BYTES as u32,
+    )
 }
 
 /// Whether a payload begins with the header of a seal.
@@ -85,13 +88,6 @@ fn is_header(sector: &[u8], kind: u8, few: u8, many: u8, longest: u32) -> bool
         && sector[3] == 0
         && read_u32(sector, 4) <= longest
         && read_u64(sector, 8) <= u64::MAX - u64::from(count)
-}
-
-/// The most commands of a group.
-fn most_commands(version: u32) -> u8
-    ensures { result ≡ (limits_of version).most }
-{
-    if version <= 1 { 8 } else { 32 }
 }
 
 /// Whether all bytes are zero.

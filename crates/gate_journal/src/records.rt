@@ -8,8 +8,8 @@ ghost use Rattle.gate_journal.specs.Commands.{command_format};
 ghost use Rattle.gate_journal.specs.declared.error.JournalError.TheVariants.{NoMemory};
 ghost use Rattle.gate_journal.specs.Reading.{Gives, Appends, found_in_records, payload_reading, FirstWantsMemory, PayloadWantsMemory};
 
-use crate::encoding::HEADER;
 use crate::error::JournalError;
+use crate::format::HEADER;
 use crate::header::are_zeros;
 use byte_lists::read_u32;
 use path_db::{Command, read_command};

@@ -1,26 +1,24 @@
 //! How many sectors payloads take, and how many bytes records.
 
 ghost use Rattle.std.specs.Prelude.{◌≡◌, ◌↔◌, ◌+◌, ◌*◌, ◌≤◌, true, length, IsTrue};
-ghost use Rattle.path_db.specs.declared.command.Command.TheVariants.{Register};
-ghost use Rattle.path_db.specs.Database.{AreWhole};
+ghost use Rattle.path_rows.specs.declared.command.Command.TheVariants.{Register};
+ghost use Rattle.path_rows.specs.Database.{AreWhole};
 ghost use Rattle.path_db.specs.CommandRecord.{IsWithinLimits, segments_len};
 ghost use Rattle.path_db.specs.RecordLaws.{CanBeWritten};
 ghost use Rattle.image_laws.specs.Group.{HasRoom, record_encoding, payload_sectors as sectors_of_payload};
 ghost use Rattle.gate_journal.specs.Commands.{command_format};
 
-use path_db::Command;
-use seg_core::{SegType, Segment, encoded_len};
-
-/// The bytes of a sector.
-const SECTOR: u64 = 512;
-/// The bytes of a header.
-const HEADER: u64 = 16;
+use crate::format::HEADER;
+use byte_lists::SECTOR;
+use path_db::{Command, ROW_HEAD};
+use seg_core::{MOST_REGISTERED, MOST_REGISTERED_BYTES, SegType, Segment, encoded_len};
 
 /// How many sectors a payload takes whose records have so many bytes: these and the header's 16, rounded up.
 pub fn payload_sectors(record_bytes: u64) -> u64
     ensures { result ≡ sectors_of_payload record_bytes }
 {
-    record_bytes / SECTOR + (record_bytes % SECTOR + HEADER + SECTOR - 1) / SECTOR
+    let sector = SECTOR as u64;
+    record_bytes / sector + (record_bytes % sector + HEADER as u64 + sector - 1) / sector
 }
 
 /// Whether a journal of so many sectors has room for a payload of so many behind a gate, and for two sectors behind it: the
@@ -55,13 +53,13 @@ fn id_len(id: &[u8; 32]) -> usize
 
 /// How many bytes the records of rows take.
 fn rows_len(rows: &[(SegType, Segment)]) -> usize
-    requires { length rows.now ≤ 16 }
+    requires { length rows.now ≤ MOST_REGISTERED }
     ensures exact { result ≡ segments_len rows.now + 5 * length rows.now }
     ensures whole { AreWhole rows.now }
 {
     let mut len = 0;
     for (_, segment) in rows {
-        len += 5 + encoded_len(segment);
+        len += ROW_HEAD + encoded_len(segment);
     }
     len
 }
@@ -87,5 +85,5 @@ fn are_within_limits(rows: &[(SegType, Segment)]) -> bool
     ensures exact { IsTrue result ↔ IsWithinLimits (Register rows.now) }
     ensures whole { IsTrue result → AreWhole rows.now }
 {
-    rows.len() <= 16 && rows_len(rows) - 5 * rows.len() <= 131_072
+    rows.len() <= MOST_REGISTERED && rows_len(rows) - ROW_HEAD * rows.len() <= MOST_REGISTERED_BYTES
 }

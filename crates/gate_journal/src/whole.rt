@@ -9,9 +9,9 @@ ghost use Rattle.gate_journal.specs.Commands.{command_format};
 ghost use Rattle.gate_journal.specs.Reading.{Gives};
 ghost use Rattle.gate_journal.specs.Scanning.{reading_of, MayWantMemory};
 
-use crate::encoding::SECTOR;
 use crate::error::JournalError;
 use crate::scanner::{Progress, Scan, Scanner};
+use byte_lists::SECTOR;
 use std::alloc::Global;
 
 /// Reads a journal of whole sectors by the version of its store. Its first command is to have this place. The first refusal in

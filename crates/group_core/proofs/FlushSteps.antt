@@ -1,7 +1,7 @@
 -- The flusher's steps on a state.
 use Rattle.std.proofs.Common.{◌≡◌, ◌≢◌, inl, ℕ, ◌+◌, ◌*◌, ◌≤◌, Bool, true, false, List, length, Result, Ok, Err, refl, sym, ◌∙◌, ap, subst, arith}
-use Rattle.path_db.specs.Database.{RowView}
-use Rattle.path_db.specs.declared.command.Command.{Command}
+use Rattle.path_rows.specs.Database.{RowView}
+use Rattle.path_rows.specs.declared.command.Command.{Command}
 use Rattle.sector_dev.specs.Disk.{Disk, IsHonest}
 use Rattle.sector_dev.specs.Calls.{Keeps, WriteCall, SyncCall}
 use Rattle.sector_dev.proofs.Stretches.{honest_before}
@@ -10,7 +10,8 @@ use Rattle.image_laws.specs.Layout.{journal_at, image_sectors}
 use Rattle.gate_journal.specs.Commands.{command_format}
 use Rattle.group_laws.specs.declared.phases.Flush.{Flush}
 use Rattle.group_laws.specs.declared.phases.Flush.TheVariants.{Resting, Staged, Written, Stable, Opened, Doubtful, Durable}
-use Rattle.group_laws.specs.Tail.{load_bytes, open_gate}
+use Rattle.byte_lists.specs.Sectors.{open_gate}
+use Rattle.group_laws.specs.Tail.{load_bytes}
 use Rattle.group_laws.specs.Standing.{load_of, IsHeldBy}
 use Rattle.group_laws.specs.HeldSteps as held
 use Rattle.group_laws.proofs.Exports.{held_while_load_is_written, held_while_gate_is_opened, held_while_load_is_synced, held_while_gate_is_synced}

@@ -5,10 +5,10 @@ use Rattle.std.specs.Ordering.{nat_cmp}
 use Rattle.std.specs.BTreeMap.{insert_entry, is_at}
 use Rattle.std.proofs.lemmas.Bool.Decides.{eqb_tells}
 use Rattle.std.proofs.lemmas.List.{take-append-le, take_all}
-use Rattle.path_db.specs.Database.{RowView}
-use Rattle.path_db.specs.declared.command.Command.{Command}
-use Rattle.path_db.specs.declared.outcome.Outcome.{Outcome}
-use Rattle.path_db.specs.Command.{outcome_of}
+use Rattle.path_rows.specs.Database.{RowView}
+use Rattle.path_rows.specs.declared.command.Command.{Command}
+use Rattle.path_rows.specs.declared.outcome.Outcome.{Outcome}
+use Rattle.path_rows.specs.Command.{outcome_of}
 use Rattle.image_laws.specs.Opening.{StoreValue}
 use Rattle.image_laws.specs.StoreFormat.{db_after}
 use Rattle.image_laws.specs.StoreGrowth.{value_after}

@@ -1,7 +1,7 @@
 -- With nothing pending a device opens to what is committed.
 use Rattle.std.proofs.Common.{◌≡◌, ℕ, ◌+◌, List, [], take, ◌∙◌, ap, sym, subst, arith}
 use Rattle.std.proofs.Math.Seq.{take-nil}
-use Rattle.path_db.specs.Database.{RowView}
+use Rattle.path_rows.specs.Database.{RowView}
 use Rattle.sector_dev.specs.Disk.{Disk, IsHonest, IsWhole, reads_of}
 use Rattle.sector_dev.proofs.Images.{image_of_reads}
 use Rattle.image_laws.specs.Opening.{StoreValue, OpensTo}

@@ -2,7 +2,7 @@
 use Rattle.std.specs.Prelude.{◌≡◌, ◌≢◌, ℕ, ◌+◌, ◌-◌, ◌*◌, ◌^◌, ◌%◌, ◌<◌, ◌≤◌, true, false, List, length, Option, Some, Result, Ok, Err}
 use Rattle.sector_dev.specs.Disk.{Disk, IsHonest, reads_of}
 use Rattle.sector_dev.specs.Calls.{Keeps, one_more}
-use Rattle.path_db.specs.Database.{RowView}
+use Rattle.path_rows.specs.Database.{RowView}
 use Rattle.image_laws.specs.Layout.{Geometry, other}
 use Rattle.image_laws.specs.Checkpoint.{Checkpoint, CanBeCheckpoint, checkpoint_encoding, checkpoint_size}
 use Rattle.ckpt_pair.specs.Checkpoint.{written_checkpoint}

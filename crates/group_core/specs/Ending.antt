@@ -1,6 +1,6 @@
 -- What handing out a state's device answers.
 use Rattle.std.specs.Prelude.{◌≡◌, false, List, [], Result, Ok, Err}
-use Rattle.path_db.specs.Database.{RowView}
+use Rattle.path_rows.specs.Database.{RowView}
 use Rattle.sector_dev.specs.Disk.{Disk, reads_of}
 use Rattle.sector_dev.specs.Image.{EveryImage}
 use Rattle.image_laws.specs.Opening.{StoreValue}

@@ -3,8 +3,8 @@ use Rattle.std.specs.Prelude.{◌≡◌, ℕ, ◌<◌, ◌≤◌, true, false, L
 use Rattle.std.specs.Ordering.{nat_cmp}
 use Rattle.std.specs.BTreeMap.{is_at}
 use Rattle.std.specs.Map.{lookup, remove_entry}
-use Rattle.path_db.specs.Database.{RowView}
-use Rattle.path_db.specs.declared.outcome.Outcome.{Outcome}
+use Rattle.path_rows.specs.Database.{RowView}
+use Rattle.path_rows.specs.declared.outcome.Outcome.{Outcome}
 use Rattle.image_laws.specs.Opening.{StoreValue}
 use Rattle.group_core.specs.declared.ticket.Ticket.{Ticket}
 use Rattle.group_core.specs.declared.ticket.Receipt.{Receipt}

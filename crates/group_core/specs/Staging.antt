@@ -1,6 +1,6 @@
 -- What staging does to a state.
 use Rattle.std.specs.Prelude.{◌≡◌, ◌≢◌, ◌⊎◌, ℕ, ◌+◌, ◌%◌, ◌^◌, ◌≤◌, true, false, List, [], length, take, Result, Ok, Err}
-use Rattle.path_db.specs.declared.command.Command.{Command}
+use Rattle.path_rows.specs.declared.command.Command.{Command}
 use Rattle.image_laws.specs.Limits.{Limits, limits_of}
 use Rattle.image_laws.specs.Group.{most_record_bytes, records_of, group_sectors, HasRoom}
 use Rattle.gate_journal.specs.Commands.{command_format}

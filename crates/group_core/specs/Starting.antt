@@ -1,6 +1,6 @@
 -- What a state made of a store is.
 use Rattle.std.specs.Prelude.{◌≡◌, ◌↔◌, ℕ, ◌+◌, ◌*◌, ◌≤◌, Bool, true, false, List, []}
-use Rattle.path_db.specs.Database.{RowView, rows_len}
+use Rattle.path_rows.specs.Database.{RowView, rows_len}
 use Rattle.image_laws.specs.Opening.{StoreValue}
 use Rattle.store_open.specs.Store.{StoreView, half_of_tail}
 use Rattle.group_laws.specs.declared.phases.Flush.TheVariants.{Resting}

@@ -1,8 +1,8 @@
 -- What contracts see of a state, and what a stop leaves of its device.
 use Rattle.std.specs.Prelude.{ℕ, Bool, List}
-use Rattle.path_db.specs.Database.{RowView}
-use Rattle.path_db.specs.declared.command.Command.{Command}
-use Rattle.path_db.specs.declared.outcome.Outcome.{Outcome}
+use Rattle.path_rows.specs.Database.{RowView}
+use Rattle.path_rows.specs.declared.command.Command.{Command}
+use Rattle.path_rows.specs.declared.outcome.Outcome.{Outcome}
 use Rattle.sector_dev.specs.Disk.{Disk, IsHonest}
 use Rattle.sector_dev.specs.Image.{EveryImage, IsFromImage}
 use Rattle.sector_dev.specs.Stretch.{Stretch}

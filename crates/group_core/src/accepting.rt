@@ -4,9 +4,9 @@
 ghost use Rattle.std.specs.Prelude.{◌≡◌, ◌<◌, ◌≤◌, ◌∷◌, ◌++◌, [], max, IfErr, OnOk, OnErr};
 ghost use Rattle.std.specs.Ordering.{nat_cmp};
 ghost use Rattle.std.specs.BTreeMap.{insert_entry};
-ghost use Rattle.path_db.specs.declared.error.ApplyError.TheVariants.{Full};
-ghost use Rattle.path_db.specs.Database.{rows_len};
-ghost use Rattle.path_db.specs.Command.{database_after, outcome_of};
+ghost use Rattle.path_rows.specs.declared.error.ApplyError.TheVariants.{Full};
+ghost use Rattle.path_rows.specs.Database.{rows_len};
+ghost use Rattle.path_rows.specs.Command.{database_after, outcome_of};
 ghost use Rattle.group_core.specs.Keeping.{TakesBack};
 
 use path_db::{ApplyError, Command, Outcome, PathDb};

@@ -3,18 +3,17 @@
 ghost use Rattle.std.specs.Prelude.{◌≡◌, ◌+◌, ◌-◌, ◌^◌, ◌<◌, ◌≤◌};
 ghost use Rattle.sector_dev.specs.Disk.{IsHonest, reads_of};
 ghost use Rattle.image_laws.specs.Layout.{IsGeometry, image_sectors};
-ghost use Rattle.store_open.specs.Geometry.{geometry_view};
+ghost use Rattle.image_laws.specs.Geometry.{geometry_view};
 ghost use Rattle.store_open.specs.Sealed.{LooksAtHalf, sealed_half};
 ghost use Rattle.group_core.specs.StateView.{StepLeaves};
 ghost use Rattle.group_core.specs.Beginning.{AllowsBegin, Begins, EncodesSealed};
 
 use crate::bookkeeping::Turn;
 use crate::phases::AtPlan;
-use crate::places::other;
 use crate::showcase::Showcase;
 use crate::state::State;
 use crate::values::{Commit, Plan};
-use ckpt_pair::encode_checkpoint;
+use ckpt_pair::{BEFORE_ROWS, encode_checkpoint};
 use group_laws::Check;
 use image_laws::Half;
 use path_db::written_rows_are_counted;
@@ -22,9 +21,6 @@ use sector_dev::{Device, SECTOR};
 use std::alloc::Global;
 use store_open::{Geometry, SealedError, read_sealed};
 use thiserror::Error;
-
-/// The bytes of a checkpoint before its rows.
-const BEFORE_ROWS: u64 = 32;
 
 /// Why no checkpoint is begun. The first that holds is answered, in this order: `Stopped`, `InFlight`, `NotSealed`, `Exhausted`,
 /// and then `Fault`, `NoMemory` or `Damaged`.
@@ -61,7 +57,7 @@ impl<D: Device, S: Showcase> State<D, S> {
         ensures any_moment { StepLeaves self.old self.new }
     {
         self.may_begin()?;
-        let half = other(self.half);
+        let half = self.half.other();
         let epoch = self.epoch + 1;
         match encode_sealed(self.alloc, &mut self.device, self.geometry, half, epoch) {
             Ok(checkpoint) => {
@@ -124,7 +120,9 @@ fn encode_sealed<D: Device>(
 {
     written_rows_are_counted();
     let sealed = read_sealed(alloc, device, geometry, half)?;
-    if sealed.db.encoded_len() > SECTOR as u64 * u64::from(geometry.checkpoint) - BEFORE_ROWS {
+    if sealed.db.encoded_len()
+        > SECTOR as u64 * u64::from(geometry.checkpoint) - BEFORE_ROWS as u64
+    {
         return Err(SealedError::Damaged);
     }
     Ok(encode_checkpoint(alloc, &sealed.db, epoch, sealed.place)?)

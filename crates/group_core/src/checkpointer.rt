@@ -8,12 +8,11 @@ ghost use Rattle.group_core.specs.Steps.{WritesChunk, SyncsChunks, WritesGate, S
 ghost use Rattle.group_core.specs.StepCalls.{StepCall, Sync, chunk_write, half_write, close_write};
 
 use crate::error::StepError;
-use crate::gates::{closed_gates, open_gate};
 use crate::phases::{AtClosing, AtLaid, AtLive, AtPlan, AtSwitched};
-use crate::places::{area_at, gate_at, other};
 use crate::showcase::Showcase;
 use crate::state::State;
 use crate::values::{Closing, Commit, Laid, Live, Plan, Switched};
+use byte_lists::{closed_gates, open_gate};
 use ckpt_pair::LATEST;
 use group_laws::Check;
 use sector_dev::Device;
@@ -35,7 +34,7 @@ impl<D: Device, S: Showcase> State<D, S> {
         let count = (size / 512 - self.written).min(CHUNK);
         let from = (512 * self.written) as usize;
         let to = (512 * (self.written + count)) as usize;
-        let at = area_at(self.geometry, self.half) + self.written;
+        let at = self.geometry.area_at(self.half) + self.written;
         match self.device.write(at, &self.checkpoint[from..to]) {
             Ok(()) => {
                 self.written += count;
@@ -72,7 +71,7 @@ impl<D: Device, S: Showcase> State<D, S> {
         ensures any_moment { StepLeaves self.old self.new }
     {
         let value = self.plan_turn(Check::Laid, value)?;
-        let at = gate_at(self.geometry, self.half);
+        let at = self.geometry.gate_at(self.half);
         match self.device.write(at, &open_gate()) {
             Ok(()) => {
                 self.check = Check::Switched;
@@ -112,7 +111,7 @@ impl<D: Device, S: Showcase> State<D, S> {
         ensures any_moment { StepLeaves self.old self.new }
     {
         let value = self.plan_turn(Check::Live, value)?;
-        let at = gate_at(self.geometry, other(self.half));
+        let at = self.geometry.gate_at(self.half.other());
         match self.device.write(at, &closed_gates()) {
             Ok(()) => {
                 self.check = Check::Closing;

@@ -7,12 +7,11 @@ ghost use Rattle.group_core.specs.Steps.{FlushStep, TakesGroupTurn};
 ghost use Rattle.group_core.specs.StepCalls.{StepCall, Sync, load_write, gate_write};
 
 use crate::error::StepError;
-use crate::gates::open_gate;
 use crate::phases::{AtDurable, AtOpened, AtStable, AtStaged, AtWritten};
-use crate::places::journal_at;
 use crate::showcase::Showcase;
 use crate::state::State;
 use crate::values::{Commit, Durable, Opened, Stable, Staged, Written};
+use byte_lists::open_gate;
 use group_laws::Flush;
 use sector_dev::Device;
 
@@ -26,7 +25,7 @@ impl<D: Device, S: Showcase> State<D, S> {
         ensures any_moment { StepLeaves self.old self.new }
     {
         let value = self.group_turn(Flush::Staged, value)?;
-        let at = journal_at(self.geometry, self.half) + (self.gate + 1);
+        let at = self.geometry.journal_at(self.half) + (self.gate + 1);
         match self.device.write(at, &self.staged) {
             Ok(()) => {
                 self.flush = Flush::Written;
@@ -60,7 +59,7 @@ impl<D: Device, S: Showcase> State<D, S> {
         ensures any_moment { StepLeaves self.old self.new }
     {
         let value = self.group_turn(Flush::Stable, value)?;
-        let at = journal_at(self.geometry, self.half) + self.gate;
+        let at = self.geometry.journal_at(self.half) + self.gate;
         match self.device.write(at, &open_gate()) {
             Ok(()) => {
                 self.flush = Flush::Opened;

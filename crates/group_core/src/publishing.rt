@@ -4,7 +4,6 @@ ghost use Rattle.group_core.specs.StateView.{StepLeaves};
 ghost use Rattle.group_core.specs.Publishing.{PublishStep};
 
 use crate::error::PublishError;
-use crate::places::other;
 use crate::showcase::Showcase;
 use crate::state::State;
 use crate::values::Durable;
@@ -23,7 +22,7 @@ impl<D: Device, S: Showcase> State<D, S> {
             _ => return Err(PublishError::Stranger(value)),
         }
         if self.taken == 0 {
-            self.half = other(self.half);
+            self.half = self.half.other();
             self.gate = 0;
             self.check = Check::Sealed;
             self.flush = Flush::Resting;

@@ -1,7 +1,7 @@
 //! What is read of a state, which leaves it as it is.
 
 ghost use Rattle.std.specs.Prelude.{◌≡◌, ◌≤◌, ◌↔◌, IsTrue, IfOk, OnErr, length};
-ghost use Rattle.path_db.specs.Answer.{segments_of};
+ghost use Rattle.path_rows.specs.Answer.{segments_of};
 ghost use Rattle.seg_lookup.specs.Answer.{answer_to};
 ghost use Rattle.seg_lookup.specs.Query.{query_view};
 ghost use Rattle.group_laws.specs.declared.phases.Check.TheVariants.{Sealed as sealed};

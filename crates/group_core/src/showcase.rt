@@ -1,8 +1,8 @@
 //! What shows the committed rows.
 
 ghost use Rattle.std.specs.Prelude.{◌≡◌, ℕ, ◌+◌, ◌≤◌, List, [], length, OnOk, OnErr};
-ghost use Rattle.path_db.specs.Database.{RowView};
-ghost use Rattle.path_db.specs.declared.command.Command.{Command as CommandView};
+ghost use Rattle.path_rows.specs.Database.{RowView};
+ghost use Rattle.path_rows.specs.declared.command.Command.{Command as CommandView};
 ghost use Rattle.image_laws.specs.Group.{last_place};
 ghost use Rattle.image_laws.specs.Opening.{StoreValue};
 ghost use Rattle.image_laws.specs.StoreGrowth.{value_after};

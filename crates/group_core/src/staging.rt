@@ -13,20 +13,19 @@ ghost use Rattle.group_core.specs.StateView.{StepLeaves};
 ghost use Rattle.group_core.specs.Staging.{IsLongestFront, Takes, IsRefused, Stages};
 
 use crate::bookkeeping::Turn;
-use crate::gates::closed_gate;
 use crate::phases::AtStaged;
 use crate::showcase::Showcase;
 use crate::state::State;
 use crate::values::{Commit, Staged};
-use gate_journal::{encode_group, encode_seal, fits, payload_sectors, record_len};
+use byte_lists::closed_gate;
+use gate_journal::{
+    MOST_RECORD_BYTES, encode_group, encode_seal, fits, most_commands, payload_sectors, record_len,
+};
 use group_laws::{Check, Flush};
 use path_db::Command;
 use sector_dev::Device;
 use std::alloc::{AllocError, Global};
 use thiserror::Error;
-
-/// The most bytes that the records of a group have together.
-const MOST_RECORD_BYTES: usize = 262_144;
 
 /// Why nothing was staged. The first that holds is answered, in this order: `Stopped`, `InFlight`, `Empty`, `NoRoom`, and then
 /// `NoMemory`.
@@ -109,14 +108,6 @@ impl<D: Device, S: Showcase> State<D, S> {
             _ => Err(StageError::NoRoom),
         }
     }
-}
-
-/// How many commands a group may have.
-fn most_commands(version: u32) -> usize
-    ensures exact { result ≡ (limits_of version).most }
-    ensures some { 1 ≤ result }
-{
-    if version <= 1 { 8 } else { 32 }
 }
 
 /// The longest front of commands that fits one group.

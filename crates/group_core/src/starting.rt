@@ -9,17 +9,14 @@ ghost use Rattle.group_core.specs.Starting.{value_in, GoesOn, IsStarted, check_i
 use crate::bookkeeping::Turn;
 use crate::showcase::Showcase;
 use crate::state::State;
+use ckpt_pair::BEFORE_ROWS;
 use group_laws::{Check, Flush};
 use path_db::written_rows_are_counted;
-use sector_dev::Device;
+use sector_dev::{Device, SECTOR};
 use std::alloc::Global;
 use std::collections::BTreeMap;
 use store_open::Store;
 
-/// The bytes of a sector.
-const SECTOR: u64 = 512;
-/// The bytes of a checkpoint before its rows.
-const BEFORE_ROWS: u64 = 32;
 /// Before the first commit value of an actor.
 const NO_TURN: Turn = Turn {
     number: 0,
@@ -80,7 +77,7 @@ fn goes_on<D: Device>(store: &Store<D>) -> bool
     if store.is_broken() {
         return false;
     }
-    let most = SECTOR * u64::from(store.geometry().checkpoint) - BEFORE_ROWS;
+    let most = SECTOR as u64 * u64::from(store.geometry().checkpoint) - BEFORE_ROWS as u64;
     store.db().encoded_len() <= most && (!store.is_sealed() || store.sealed_len() <= most)
 }
 

@@ -60,7 +60,7 @@ pub struct State<D: Device, S: Showcase> {
 }
 
 impl<D: Device, S: Showcase> Model for State<D, S> {
-    ghost use Rattle.store_open.specs.Geometry.{geometry_view};
+    ghost use Rattle.image_laws.specs.Geometry.{geometry_view};
     ghost use Rattle.group_core.specs.StateView.{StateView};
     ghost use Rattle.group_core.specs.Invariant.{IsState};
 

@@ -12,17 +12,14 @@ use crate::showcase::Showcase;
 use crate::state::State;
 use crate::submit_error::SubmitError;
 use crate::ticket::Ticket;
+use ckpt_pair::BEFORE_ROWS;
 use gate_journal::{commands_are_allowed, is_within_limits};
 use path_db::{Command, written_rows_are_counted};
-use sector_dev::Device;
+use sector_dev::{Device, SECTOR};
 use std::snapshot::Snapshot;
 
 /// The most commands that are pending.
 const MOST_PENDING: usize = 256;
-/// The bytes of a sector.
-const SECTOR: u64 = 512;
-/// The bytes of a checkpoint before its rows.
-const BEFORE_ROWS: u64 = 32;
 
 impl<D: Device, S: Showcase> State<D, S> {
     /// Accepts a command behind all others: it gets the next place, and its outcome is kept until its ticket is redeemed. Where it
@@ -37,7 +34,7 @@ impl<D: Device, S: Showcase> State<D, S> {
         }
         let place = self.next_place();
         let shown = Snapshot::of(&command);
-        let most = SECTOR * u64::from(self.geometry.checkpoint) - BEFORE_ROWS;
+        let most = SECTOR as u64 * u64::from(self.geometry.checkpoint) - BEFORE_ROWS as u64;
         let accepted = accept(
             &mut self.tip,
             &mut self.kept,

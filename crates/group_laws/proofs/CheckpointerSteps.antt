@@ -4,7 +4,7 @@ use Rattle.std.specs.List.{AllByRecursion}
 use Rattle.std.proofs.lemmas.List.{take_at, take_all, drop_at, length-replicate}
 use Rattle.std.proofs.Math.Seq.{take-add}
 use Rattle.byte_lists.specs.Content.{part}
-use Rattle.byte_lists.specs.Sectors.{sectors_of, sector_at, IsOpenGate}
+use Rattle.byte_lists.specs.Sectors.{sectors_of, sector_at, IsOpenGate, closed_gate, open_gate}
 use Rattle.byte_lists.proofs.Contents.{length-part}
 use Rattle.byte_lists.proofs.Padding.{length-padded}
 use Rattle.sector_dev.specs.Disk.{Moment, Disk, IsHonest, reads_of}
@@ -22,7 +22,7 @@ use Rattle.group_laws.specs.declared.phases.Flush.TheVariants.{Durable}
 use Rattle.group_laws.specs.declared.phases.Check.TheVariants.{Planned, Laid, Switched, SwitchFailed, Closing}
 use Rattle.group_laws.specs.Range.{Untouched, AreApart}
 use Rattle.group_laws.specs.Setting.{Setting, HasTitle}
-use Rattle.group_laws.specs.Tail.{Load, Commands, Seal, closed_gate, open_gate, Tail, place_of, CanBeLoad}
+use Rattle.group_laws.specs.Tail.{Load, Commands, Seal, Tail, place_of, CanBeLoad}
 use Rattle.group_laws.specs.FlusherPart.{FlusherPart}
 use Rattle.group_laws.specs.Halves.{ReadsOpen, IsOpenHalf, HasCheckpoint, FirstReadsClosed, IsFirstClosed}
 use Rattle.group_laws.specs.BasePart.{Base, sealed_of, OldStands, NewStands, CanBeWritten, HasWritten, BasePart}

@@ -3,7 +3,7 @@ use Rattle.std.proofs.Common.{◌≡◌, inl, inr, ℕ, ◌+◌, ◌*◌, ◌≤
 use Rattle.std.proofs.lemmas.Bool.{cases_lt}
 use Rattle.std.proofs.lemmas.List.{take_at, take_all, drop_at, length-replicate, get_or-replicate}
 use Rattle.byte_lists.specs.Content.{part}
-use Rattle.byte_lists.specs.Sectors.{whole_sectors, sector_at, IsOpenGate}
+use Rattle.byte_lists.specs.Sectors.{whole_sectors, sector_at, IsOpenGate, closed_gate, open_gate}
 use Rattle.byte_lists.proofs.Padding.{length-padded}
 use Rattle.sector_dev.specs.Disk.{History, Disk, IsHonest, reads_of}
 use Rattle.sector_dev.specs.Image.{IsCleanPart}
@@ -21,7 +21,7 @@ use Rattle.image_laws.proofs.Exports.{length-group_encoding, half_inside, all_of
 use Rattle.group_laws.specs.declared.phases.Flush.TheVariants.{Staged, Written, Stable, Opened, Doubtful, Durable}
 use Rattle.group_laws.specs.Range.{Untouched, AreApart}
 use Rattle.group_laws.specs.Setting.{HasTitle, AreCleanSectors}
-use Rattle.group_laws.specs.Tail.{Load, Commands, Seal, closed_gate, open_gate, load_bytes, written_sectors, Tail, place_of, CanBeLoad}
+use Rattle.group_laws.specs.Tail.{Load, Commands, Seal, load_bytes, written_sectors, Tail, place_of, CanBeLoad}
 use Rattle.group_laws.specs.FlusherPart.{tail_bytes, HasGroups, HasClosedGate, HasLoad, FlusherPart}
 use Rattle.group_laws.specs.FlusherSteps.{by_result, load_at, tail_gate_at, WritesInJournal, WritesLoad, OpensTailGate, SyncsLoad, SyncsTailGate, PublishesGroup}
 use Rattle.group_laws.proofs.Ranges.{part_of_part}

@@ -8,7 +8,7 @@ use Rattle.image_laws.specs.Checkpoint.{checkpoint_encoding}
 use Rattle.group_laws.specs.declared.phases.Check.{Check}
 use Rattle.group_laws.specs.declared.phases.Check.TheVariants.{Ready, Planned, Laid, Switched, SwitchFailed, Live, Closing, CloseFailed}
 use Rattle.group_laws.specs.Setting.{Setting}
-use Rattle.group_laws.specs.Tail.{closed_gate, open_gate}
+use Rattle.byte_lists.specs.Sectors.{closed_gate, open_gate}
 use Rattle.group_laws.specs.BasePart.{Base, BasePart, MayBeSealed}
 use Rattle.group_laws.specs.Kept.{IsTailUntouched}
 use Rattle.group_laws.specs.FlusherSteps.{by_result}

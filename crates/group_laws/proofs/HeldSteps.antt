@@ -7,7 +7,8 @@ use Rattle.image_laws.specs.Layout.{journal_at}
 use Rattle.group_laws.specs.declared.phases.Flush.{Flush}
 use Rattle.group_laws.specs.declared.phases.Flush.TheVariants.{Staged, Written, Stable, Opened, Doubtful, Durable}
 use Rattle.group_laws.specs.Setting.{Setting}
-use Rattle.group_laws.specs.Tail.{Tail, place_of, load_bytes, open_gate}
+use Rattle.byte_lists.specs.Sectors.{open_gate}
+use Rattle.group_laws.specs.Tail.{Tail, place_of, load_bytes}
 use Rattle.group_laws.specs.FlusherPart.{FlusherPart}
 use Rattle.group_laws.specs.BasePart.{MayBeSealed}
 use Rattle.group_laws.specs.Kept.{IsBaseUntouched}

@@ -12,7 +12,8 @@ use Rattle.group_laws.specs.declared.phases.Flush.TheVariants.{Resting, Durable}
 use Rattle.group_laws.specs.declared.phases.Check.{Check}
 use Rattle.group_laws.specs.declared.phases.Check.TheVariants.{Ready, Sealed, Planned, Laid, Switched, SwitchFailed, Live, Closing, CloseFailed}
 use Rattle.group_laws.specs.Setting.{Setting, HasTitle}
-use Rattle.group_laws.specs.Tail.{Load, Seal, closed_gate, open_gate, Tail, place_of}
+use Rattle.byte_lists.specs.Sectors.{closed_gate, open_gate}
+use Rattle.group_laws.specs.Tail.{Load, Seal, Tail, place_of}
 use Rattle.group_laws.specs.FlusherPart.{FlusherPart}
 use Rattle.group_laws.specs.BasePart.{Base, FoldsTo, CanBeWritten, BasePart}
 use Rattle.group_laws.specs.Kept.{IsBesideJournal}

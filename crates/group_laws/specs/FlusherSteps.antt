@@ -8,7 +8,8 @@ use Rattle.image_laws.specs.Layout.{Geometry, journal_at}
 use Rattle.group_laws.specs.declared.phases.Flush.{Flush}
 use Rattle.group_laws.specs.declared.phases.Flush.TheVariants.{Resting, Staged, Written, Stable, Opened, Doubtful, Durable}
 use Rattle.group_laws.specs.Setting.{HasTitle}
-use Rattle.group_laws.specs.Tail.{Load, Commands, Seal, load_bytes, open_gate, Tail, place_of, CanBeLoad, tail_after}
+use Rattle.byte_lists.specs.Sectors.{open_gate}
+use Rattle.group_laws.specs.Tail.{Load, Commands, Seal, load_bytes, Tail, place_of, CanBeLoad, tail_after}
 use Rattle.group_laws.specs.FlusherPart.{HasGroups, FlusherPart}
 use Rattle.group_laws.specs.Kept.{IsInJournal}
 

@@ -8,7 +8,8 @@ use Rattle.image_laws.specs.Layout.{journal_at}
 use Rattle.group_laws.specs.declared.phases.Flush.{Flush}
 use Rattle.group_laws.specs.declared.phases.Flush.TheVariants.{Staged, Written, Stable, Opened, Doubtful}
 use Rattle.group_laws.specs.Setting.{Setting}
-use Rattle.group_laws.specs.Tail.{load_bytes, open_gate}
+use Rattle.byte_lists.specs.Sectors.{open_gate}
+use Rattle.group_laws.specs.Tail.{load_bytes}
 use Rattle.group_laws.specs.FlusherSteps.{by_result}
 use Rattle.group_laws.specs.Standing.{Standing, load_of, Behind, IsHeldBy, IsHeld, OpensToFront}
 

@@ -1,5 +1,6 @@
 -- Where the flusher is in the journal that has the tail, and what it has in flight.
-use Rattle.std.specs.Prelude.{ℕ, ◌+◌, ◌≤◌, false, List, [], ◌∷◌, ◌++◌, length, replicate}
+use Rattle.std.specs.Prelude.{ℕ, ◌+◌, ◌≤◌, false, List, [], ◌∷◌, ◌++◌, length}
+use Rattle.byte_lists.specs.Sectors.{closed_gate}
 use Rattle.image_laws.specs.declared.half.Half.{Half}
 use Rattle.image_laws.specs.Limits.{Limits}
 use Rattle.image_laws.specs.CommandFormat.{CommandFormat}
@@ -24,13 +25,6 @@ payload_of format place Seal = seal_encoding place
 abbrev pub load_sectors : {C : Type 0} → CommandFormat C → Load C → ℕ
 load_sectors format (Commands commands) = group_sectors format commands
 load_sectors format Seal = 1
-
--- gates as they are written
-abbrev pub closed_gate : List ℕ
-closed_gate = replicate 512 0
-
-abbrev pub open_gate : List ℕ
-open_gate = 0xA7 ∷ replicate 511 0
 
 -- what one write leaves behind the tail's gate: the payload, and behind a group the gate that follows, closed
 abbrev pub load_bytes : {C : Type 0} → CommandFormat C → ℕ → Load C → List ℕ

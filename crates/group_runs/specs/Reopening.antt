@@ -1,7 +1,7 @@
 -- What an image opens to, as a machine; and what opening a device that holds it answers.
 use Rattle.std.specs.Prelude.{◌≡◌, ℕ, ◌≤◌, List, length, Result, Ok, Err}
-use Rattle.path_db.specs.Database.{RowView}
-use Rattle.path_db.specs.declared.command.Command.{Command}
+use Rattle.path_rows.specs.Database.{RowView}
+use Rattle.path_rows.specs.declared.command.Command.{Command}
 use Rattle.sector_dev.specs.Disk.{Disk, IsHonest}
 use Rattle.image_laws.specs.Opening.{StoreValue, OpensTo}
 use Rattle.ckpt_pair.specs.Heads.{latest}

@@ -8,6 +8,7 @@ pub mod JournalRefusals
 pub mod JournalLaws
 pub mod Worked
 pub mod Layout
+pub mod Geometry
 pub mod FirstSector
 pub mod StoreFormat
 pub mod Checkpoint

@@ -3,7 +3,7 @@
 use crate::same::assert_same;
 use crate::worked::{CORE_SEGMENT, EGRESS, EXPIRY, SEGMENT, register, roster};
 use isd_as::parse;
-use path_db::PathDb;
+use path_rows::PathDb;
 use seg_core::{SegType, Segment};
 use seg_lookup::{Query, Roster, answer, classify};
 use std::alloc::Global;

@@ -5,9 +5,9 @@ use Rattle.std.proofs.lemmas.Bool.{ne_eqb, eq-eqb}
 use Rattle.seg_core.specs.declared.error.SegError.{SegError}
 use Rattle.seg_core.specs.Steps.{◌>>=◌, result_map}
 use Rattle.seg_core.specs.Registration.{registration_outline, registration_decoding, map_decoding, entry_rows}
-use Rattle.path_db.specs.declared.command.Command.{Command}
-use Rattle.path_db.specs.declared.command.Command.TheVariants as command
-use Rattle.path_db.specs.Database.{RowView}
+use Rattle.path_rows.specs.declared.command.Command.{Command}
+use Rattle.path_rows.specs.declared.command.Command.TheVariants as command
+use Rattle.path_rows.specs.Database.{RowView}
 use Rattle.session_core.specs.declared.message.Message.TheVariants.{Register}
 use Rattle.session_core.specs.declared.service.Ack.{Ack}
 use Rattle.session_core.specs.Reply.{Registered}

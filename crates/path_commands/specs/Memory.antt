@@ -7,11 +7,11 @@ use Rattle.seg_core.specs.Registration.{registration_outline, registration_decod
 use Rattle.seg_check.specs.declared.error.CheckError.{CheckError}
 use Rattle.seg_check.specs.Signatures.{Verdicts}
 use Rattle.group_core.specs.declared.submit_error.SubmitError.TheVariants.{Exhausted}
-use Rattle.path_db.specs.declared.command.Command.{Command}
-use Rattle.path_db.specs.declared.command.Command.TheVariants as command
-use Rattle.path_db.specs.Database.{RowView}
-use Rattle.path_db.specs.Command.{database_after, outcome_of}
-use Rattle.path_db.specs.Answer.{segments_of}
+use Rattle.path_rows.specs.declared.command.Command.{Command}
+use Rattle.path_rows.specs.declared.command.Command.TheVariants as command
+use Rattle.path_rows.specs.Database.{RowView}
+use Rattle.path_rows.specs.Command.{database_after, outcome_of}
+use Rattle.path_rows.specs.Answer.{segments_of}
 use Rattle.seg_lookup.specs.declared.error.LookupError.{LookupError}
 use Rattle.seg_lookup.specs.Roster.{RosterView}
 use Rattle.seg_lookup.specs.Query.{QueryView}

@@ -1,7 +1,7 @@
 -- What taking a command answers.
 use Rattle.std.specs.Prelude.{◌≡◌, ◌≢◌, ◌-◌, ◌^◌, Result, Ok, Err}
-use Rattle.path_db.specs.declared.command.Command.{Command}
-use Rattle.path_db.specs.Command.{TakesMemory}
+use Rattle.path_rows.specs.declared.command.Command.{Command}
+use Rattle.path_rows.specs.Command.{TakesMemory}
 use Rattle.session_core.specs.declared.service.Ack.{Ack}
 use Rattle.group_core.specs.declared.submit_error.SubmitError.TheVariants as submit
 use Rattle.reply_codes.specs.declared.refusal.Refusal.{Refusal}

@@ -12,7 +12,7 @@ ghost use Rattle.path_commands.specs.Memory.{Answers, opening};
 ghost use Rattle.path_commands.specs.Taking.{MayTake};
 
 use group_core::SubmitError;
-use path_db::{Command, PathDb, Registration};
+use path_rows::{Command, PathDb, Registration};
 use reply_codes::{Refusal, check_all};
 use seg_check::Verifier;
 use seg_core::{SegType, Segment, read_registration, read_request};

@@ -2,7 +2,7 @@
 use Rattle.std.proofs.Common.{◌≡◌, ◌<◌, length, arith, ℕ, Bool, true, false, List, [], ◌∷◌, Result, Ok, Err, IsOk, refl, sym, ap, subst}
 use Rattle.seg_core.specs.declared.error.SegError.{SegError}
 use Rattle.path_db.specs.declared.error.DbError.{DbError}
-use Rattle.path_db.specs.Database.{RowView}
+use Rattle.path_rows.specs.Database.{RowView}
 use Rattle.path_db.specs.RecordSteps.{◌>>=◌, check}
 use Rattle.path_db.specs.RowRecord.{record_of, row_decoding, spelled_segment, HasOutline, rows_within, rows_decoding}
 use Rattle.path_db.proofs.Records.{outlined}

@@ -20,8 +20,8 @@ use Rattle.seg_core.specs.Registration.{type_number, type_of}
 use Rattle.seg_core.specs.Encoding.{IsSegment, segment_encoding}
 use Rattle.seg_core.proofs.RoundTrip.{decoding-encoding}
 use Rattle.path_db.specs.declared.error.DbError.TheVariants.{BadRecord}
-use Rattle.path_db.specs.declared.command.Command.TheVariants.{Register, Purge, Remove}
-use Rattle.path_db.specs.Database.{RowView, AreWhole}
+use Rattle.path_rows.specs.declared.command.Command.TheVariants.{Register, Purge, Remove}
+use Rattle.path_rows.specs.Database.{RowView, AreWhole}
 use Rattle.path_db.specs.RecordSteps.{◌>>=◌, check}
 use Rattle.path_db.specs.RowRecord.{row_record, rows_encoding, row_size, has_row, record_of, spelled_segment, row_decoding}
 use Rattle.path_db.specs.CommandRecord.{segments_len, command_encoding, items_decoding, registration_decoding, purge_decoding, removal_decoding, command_decoding}

@@ -15,7 +15,7 @@ use Rattle.seg_core.specs.Registration.{type_of}
 use Rattle.seg_core.specs.Segment.{segment_decoding}
 use Rattle.path_db.specs.declared.error.DbError.{DbError}
 use Rattle.path_db.specs.declared.error.DbError.TheVariants.{NoMemory, BadRecord, Order}
-use Rattle.path_db.specs.Database.{RowView, IsDatabase, AreWhole}
+use Rattle.path_rows.specs.Database.{RowView, IsDatabase, AreWhole}
 use Rattle.path_db.specs.RecordSteps.{◌>>=◌, check}
 use Rattle.path_db.specs.RowRecord.{row_record, rows_encoding, row_size, has_row, record_of, spelled_segment, row_decoding, is_above, rows_within, rows_decoding}
 use Rattle.path_db.specs.RecordRefusals.{HasNoRecord, HasLowerRow, BadRecordIsExact, OrderIsExact, RowsWantNoMemory}

@@ -4,8 +4,8 @@ use Rattle.std.specs.Prelude.{Result, nat_le, ◌==◌}
 use Rattle.byte_lists.specs.Content.{AreBytes}
 use Rattle.byte_lists.specs.Numbers.{eight_at}
 use Rattle.seg_core.specs.Registration.{type_of}
-use Rattle.path_db.specs.declared.command.Command.{Command}
-use Rattle.path_db.specs.declared.command.Command.TheVariants.{Register, Purge, Remove}
+use Rattle.path_rows.specs.declared.command.Command.{Command}
+use Rattle.path_rows.specs.declared.command.Command.TheVariants.{Register, Purge, Remove}
 use Rattle.path_db.specs.declared.error.DbError.{DbError}
 use Rattle.path_db.specs.declared.error.DbError.TheVariants.{BadRecord}
 use Rattle.path_db.specs.RecordSteps.{check}

@@ -12,7 +12,7 @@ use Rattle.seg_core.specs.Message.{last_of}
 use Rattle.seg_core.specs.Registration.{type_of}
 use Rattle.path_db.specs.declared.error.DbError.{DbError}
 use Rattle.path_db.specs.declared.error.DbError.TheVariants.{BadRecord, Order}
-use Rattle.path_db.specs.Database.{RowView, IsDatabase}
+use Rattle.path_rows.specs.Database.{RowView, IsDatabase}
 use Rattle.path_db.specs.RecordSteps.{◌>>=◌, check}
 use Rattle.path_db.specs.RowRecord.{row_record, rows_encoding, row_size, has_row, record_of, spelled_segment, row_decoding, is_above, rows_decoding}
 use Rattle.path_db.specs.RowsReader.{AreRefused}

@@ -12,11 +12,11 @@ use Rattle.byte_lists.specs.Numbers.{four_at}
 use Rattle.byte_lists.proofs.Contents.{length-part}
 use Rattle.path_db.specs.declared.error.DbError.{DbError}
 use Rattle.path_db.specs.declared.error.DbError.TheVariants.{Order}
-use Rattle.path_db.specs.Database.{RowView, key_order, IsRising, AreWhole, row_len, rows_len}
+use Rattle.path_rows.specs.Database.{RowView, key_order, IsRising, AreWhole, row_len, rows_len}
 use Rattle.path_db.specs.RecordSteps.{◌>>=◌, check}
 use Rattle.path_db.specs.RowRecord.{row_record, rows_encoding, row_size, row_decoding, is_above, rows_within, rows_decoding}
 use Rattle.path_db.specs.RecordLaws.{WrittenRowsAreRead, WrittenRowsAreCounted, ReadRowsAreSpelled}
-use Rattle.path_db.proofs.Order.{AllAbove, above_less}
+use Rattle.path_rows.proofs.Exports.{AllAbove, above_less}
 use Rattle.path_db.proofs.Spelled.{went, segment_back, has_room, row_steps, row_spelled, row_whole, bytes_drop}
 use Rattle.path_db.proofs.ReadBack.{row_back, record_len}
 

@@ -7,12 +7,12 @@ use Rattle.std.proofs.lemmas.List.{length-drop}
 use Rattle.seg_core.specs.Message.{last_of}
 use Rattle.path_db.specs.declared.error.DbError.{DbError}
 use Rattle.path_db.specs.declared.error.DbError.TheVariants.{Order}
-use Rattle.path_db.specs.declared.row.Row.{Row}
-use Rattle.path_db.specs.Database.{RowView}
+use Rattle.path_rows.specs.declared.row.Row.{Row}
+use Rattle.path_rows.specs.Database.{RowView}
 use Rattle.path_db.specs.RecordSteps.{◌>>=◌, check}
-use Rattle.path_db.specs.Row.{row_view, row_views}
+use Rattle.path_rows.specs.Row.{row_view, row_views}
 use Rattle.path_db.specs.RowRecord.{row_size, row_decoding, is_above, rows_within, rows_decoding}
-use Rattle.path_db.proofs.Ends.{last_seen}
+use Rattle.path_rows.proofs.Exports.{last_seen}
 use Rattle.path_db.proofs.Records.{one_more}
 
 -- ---- the last row

@@ -23,13 +23,13 @@ use Rattle.seg_core.specs.Encoding.{IsSegment, segment_encoding}
 use Rattle.seg_core.proofs.Whole.{decoding-IsSegment}
 use Rattle.path_db.specs.declared.error.DbError.{DbError}
 use Rattle.path_db.specs.declared.error.DbError.TheVariants.{BadRecord}
-use Rattle.path_db.specs.declared.command.Command.{Command}
-use Rattle.path_db.specs.declared.command.Command.TheVariants.{Register, Purge, Remove}
-use Rattle.path_db.specs.Database.{RowView}
+use Rattle.path_rows.specs.declared.command.Command.{Command}
+use Rattle.path_rows.specs.declared.command.Command.TheVariants.{Register, Purge, Remove}
+use Rattle.path_rows.specs.Database.{RowView}
 use Rattle.path_db.specs.RecordSteps.{◌>>=◌, check}
 use Rattle.path_db.specs.RowRecord.{row_record, rows_encoding, row_size, has_row, record_of, spelled_segment, row_decoding}
 use Rattle.path_db.specs.CommandRecord.{command_encoding, items_decoding, registration_decoding, purge_decoding, removal_decoding, command_decoding}
-use Rattle.path_db.proofs.Lists.{take_all}
+use Rattle.path_rows.proofs.Exports.{take_all}
 use Rattle.path_db.specs.RecordLaws.{ReadCommandsAreSpelled, CommandsAreReadOn}
 
 -- ---- steps

@@ -11,9 +11,9 @@ use Rattle.byte_lists.proofs.Contents.{bytes-part}
 use Rattle.seg_core.specs.Encoding.{segment_encoding}
 use Rattle.seg_core.specs.Registration.{type_of}
 use Rattle.path_db.specs.declared.error.DbError.TheVariants.{BadRecord}
-use Rattle.path_db.specs.declared.command.Command.{Command}
-use Rattle.path_db.specs.declared.command.Command.TheVariants.{Register, Purge, Remove}
-use Rattle.path_db.specs.Database.{RowView, AreWhole}
+use Rattle.path_rows.specs.declared.command.Command.{Command}
+use Rattle.path_rows.specs.declared.command.Command.TheVariants.{Register, Purge, Remove}
+use Rattle.path_rows.specs.Database.{RowView, AreWhole}
 use Rattle.path_db.specs.RecordSteps.{◌>>=◌, check}
 use Rattle.path_db.specs.RowRecord.{row_size, record_of, row_decoding}
 use Rattle.path_db.specs.CommandRecord.{segments_len, items_decoding, registration_decoding, purge_decoding, removal_decoding, command_decoding}

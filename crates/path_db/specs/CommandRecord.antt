@@ -3,13 +3,14 @@ use Rattle.std.specs.Prelude.{◌≡◌, ℕ, zero, suc, ◌+◌, ◌*◌, ◌�
 use Rattle.std.specs.List.{sum_by}
 use Rattle.std.specs.Int.{w64, to_be_bytes}
 use Rattle.byte_lists.specs.Numbers.{eight_at}
+use Rattle.seg_core.specs.declared.format.TheConstants.{MOST_REGISTERED, MOST_REGISTERED_BYTES}
 use Rattle.seg_core.specs.Registration.{type_number, type_of}
 use Rattle.seg_core.specs.Encoding.{segment_encoding}
-use Rattle.path_db.specs.declared.command.Command.{Command}
-use Rattle.path_db.specs.declared.command.Command.TheVariants.{Register, Purge, Remove}
+use Rattle.path_rows.specs.declared.command.Command.{Command}
+use Rattle.path_rows.specs.declared.command.Command.TheVariants.{Register, Purge, Remove}
 use Rattle.path_db.specs.declared.error.DbError.{DbError}
 use Rattle.path_db.specs.declared.error.DbError.TheVariants.{BadRecord}
-use Rattle.path_db.specs.Database.{RowView}
+use Rattle.path_rows.specs.Database.{RowView}
 use Rattle.path_db.specs.RecordSteps.{◌>>=◌, check}
 use Rattle.path_db.specs.RowRecord.{rows_encoding, row_decoding, row_size, record_of, HasOutline}
 
@@ -19,7 +20,7 @@ segments_len rows = sum_by (λ row. length (segment_encoding row.1)) rows
 
 -- A command's limits: at most 16 segments, of at most 131,072 bytes together.
 abbrev pub IsWithinLimits : Command → Type 0
-IsWithinLimits (Register rows) = (length rows ≤ 16) × (segments_len rows ≤ 131072)
+IsWithinLimits (Register rows) = (length rows ≤ MOST_REGISTERED) × (segments_len rows ≤ MOST_REGISTERED_BYTES)
 IsWithinLimits (Purge moment) = Unit {0}
 IsWithinLimits (Remove kind id) = Unit {0}
 
@@ -43,8 +44,8 @@ items_decoding (suc count) bytes = do
 unfoldable pub registration_decoding : List ℕ → Result Command DbError
 registration_decoding [] = Err BadRecord
 registration_decoding (count ∷ items) = do
-  _ ← check (nat_le count 16) BadRecord
-  _ ← check (nat_le (length items) (131072 + 5 * count)) BadRecord
+  _ ← check (nat_le count MOST_REGISTERED) BadRecord
+  _ ← check (nat_le (length items) (MOST_REGISTERED_BYTES + 5 * count)) BadRecord
   rows ← items_decoding count items
   Ok (Register rows)
 
@@ -74,8 +75,8 @@ command_decoding removals (kind ∷ body) =
 -- To read a registration takes memory: it has 1 to 16 segments, in no more bytes than may be, and the first has an outline.
 pub record WantsItems (body : List ℕ) : Type 0 where
   pub some : 1 ≤ slice_index body 0
-  pub most : slice_index body 0 ≤ 16
-  pub short : length (drop 1 body) ≤ 131072 + 5 * slice_index body 0
+  pub most : slice_index body 0 ≤ MOST_REGISTERED
+  pub short : length (drop 1 body) ≤ MOST_REGISTERED_BYTES + 5 * slice_index body 0
   pub outline : HasOutline (drop 1 body)
 
 -- To read the command takes memory: it registers, and to read that takes memory.

@@ -1,17 +1,3 @@
-pub mod Database
-pub mod Put
-pub mod Row
-pub mod RowMap
-pub mod EndPlaces
-pub mod Saved
-pub mod Walk
-pub mod Table
-pub mod Command
-pub mod Outcome
-pub mod Answer
-pub mod CommandLaws
-pub mod OutcomeLaws
-pub mod Wanted
 pub mod RecordSteps
 pub mod RowRecord
 pub mod CommandRecord

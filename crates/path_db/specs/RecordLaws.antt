@@ -1,10 +1,10 @@
 -- Laws of commands and rows as records.
 use Rattle.std.specs.Prelude.{◌≡◌, ℕ, ◌<◌, ◌^◌, Bool, true, List, length, Ok}
 use Rattle.byte_lists.specs.Content.{AreBytes}
-use Rattle.path_db.specs.declared.command.Command.{Command}
-use Rattle.path_db.specs.declared.command.Command.TheVariants.{Register, Purge, Remove}
-use Rattle.path_db.specs.Command.{HasWholeSegments}
-use Rattle.path_db.specs.Database.{RowView, IsDatabase, rows_len}
+use Rattle.path_rows.specs.declared.command.Command.{Command}
+use Rattle.path_rows.specs.declared.command.Command.TheVariants.{Register, Purge, Remove}
+use Rattle.path_rows.specs.Command.{HasWholeSegments}
+use Rattle.path_rows.specs.Database.{RowView, IsDatabase, rows_len}
 use Rattle.path_db.specs.RowRecord.{rows_encoding, rows_decoding}
 use Rattle.path_db.specs.CommandRecord.{IsWithinLimits, command_encoding, command_decoding}
 

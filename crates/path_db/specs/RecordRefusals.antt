@@ -3,10 +3,10 @@ use Rattle.std.specs.Prelude.{◌≡◌, ◌≢◌, ◌↔◌, ℕ, ◌<◌, Lis
 use Rattle.byte_lists.specs.Content.{AreBytes}
 use Rattle.seg_core.specs.Encoding.{IsSegment}
 use Rattle.seg_core.specs.Message.{last_of}
-use Rattle.path_db.specs.declared.command.Command.{Command}
+use Rattle.path_rows.specs.declared.command.Command.{Command}
 use Rattle.path_db.specs.declared.error.DbError.{DbError}
 use Rattle.path_db.specs.declared.error.DbError.TheVariants.{NoMemory, BadRecord, Order}
-use Rattle.path_db.specs.Database.{RowView, IsDatabase}
+use Rattle.path_rows.specs.Database.{RowView, IsDatabase}
 use Rattle.path_db.specs.RowRecord.{row_record, rows_encoding, is_above, rows_decoding}
 use Rattle.path_db.specs.CommandRecord.{command_encoding, command_decoding}
 use Rattle.path_db.specs.RecordLaws.{CanBeWritten}

@@ -2,8 +2,8 @@
 use Rattle.std.specs.Prelude.{◌≡◌, ℕ, ◌≤◌, false, List, ◌++◌, length, drop, Err}
 use Rattle.path_db.specs.declared.error.DbError.{DbError}
 use Rattle.path_db.specs.declared.rows_reader.RowsReader.TheInside.{Inside}
-use Rattle.path_db.specs.Database.{RowView, IsDatabase}
-use Rattle.path_db.specs.Row.{row_views}
+use Rattle.path_rows.specs.Database.{RowView, IsDatabase}
+use Rattle.path_rows.specs.Row.{row_views}
 use Rattle.path_db.specs.RowRecord.{rows_encoding, rows_decoding, has_row}
 
 -- the bytes that were fed: those of the rows that were read, and those behind them

@@ -6,16 +6,16 @@ ghost use Rattle.seg_core.specs.Encoding.{IsSegment};
 ghost use Rattle.seg_core.specs.Registration.{type_number};
 ghost use Rattle.path_db.specs.declared.error.DbError.TheVariants.{NoMemory};
 ghost use Rattle.path_db.specs.RecordSteps.{Gives, Reads};
-ghost use Rattle.path_db.specs.Database.{AreWhole};
-ghost use Rattle.path_db.specs.Command.{HasWholeSegments};
+ghost use Rattle.path_rows.specs.Database.{AreWhole};
+ghost use Rattle.path_rows.specs.Command.{HasWholeSegments};
 ghost use Rattle.path_db.specs.RowRecord.{rows_encoding, HasOutline};
 ghost use Rattle.path_db.specs.CommandRecord.{IsWithinLimits, command_encoding, items_decoding, registration_decoding, purge_decoding, removal_decoding, command_decoding, allows_removals, WantsItems, WantsMemory};
 
-use crate::command::{Command, Registration};
 use crate::error::DbError;
-use crate::row_records::{ROW_HEAD, put_row, read_row, type_byte, type_from};
+use crate::row_records::{put_row, read_row, type_from};
 use byte_lists::read_u64;
-use seg_core::{SegType, Segment};
+use path_rows::{Command, ROW_HEAD, Registration, type_byte};
+use seg_core::{MOST_REGISTERED, MOST_REGISTERED_BYTES, SegType, Segment};
 use std::alloc::{AllocError, Global};
 
 /// The kind of a record that registers segments.
@@ -24,11 +24,6 @@ const REGISTER: u8 = 1;
 const PURGE: u8 = 2;
 /// The kind of a record that removes.
 const REMOVE: u8 = 3;
-
-/// The most segments of a command.
-const MOST_SEGMENTS: u8 = 16;
-/// The most bytes of a command's segments.
-const MOST_BYTES: usize = 131_072;
 
 /// Appends the record of a command: its kind in one byte; behind it the count of its segments in one and each as a row's record,
 /// or a moment in eight big-endian bytes, or a type in one and an id in 32. Where memory is refused, the vector has the items that
@@ -62,7 +57,7 @@ fn put_command(command: &Command, out: &mut Vec<u8>) -> Result<(), AllocError>
 
 /// Appends a kind, a count and the segments.
 fn put_registration(rows: &[(SegType, Segment)], out: &mut Vec<u8>) -> Result<(), AllocError>
-    requires { length rows.now ≤ 16 }
+    requires { length rows.now ≤ MOST_REGISTERED }
     ensures ok { OnOk result (out.new.items ≡ out.old.items ++ (1 ∷ length rows.now ∷ rows_encoding rows.now)) }
     ensures kept { take (length out.old.items) out.new.items ≡ out.old.items }
 {
@@ -130,10 +125,11 @@ fn read_registration(alloc: Global, body: &[u8]) -> Result<Command, DbError>
     let [count, items @ ..] = body else {
         return Err(DbError::BadRecord);
     };
-    if *count > MOST_SEGMENTS || items.len() > MOST_BYTES + ROW_HEAD * usize::from(*count) {
+    let count = usize::from(*count);
+    if count > MOST_REGISTERED || items.len() > MOST_REGISTERED_BYTES + ROW_HEAD * count {
         return Err(DbError::BadRecord);
     }
-    let rows = read_items(alloc, usize::from(*count), items)?;
+    let rows = read_items(alloc, count, items)?;
     Ok(Command::Register(Registration::new(rows)))
 }
 

@@ -1,8 +1,7 @@
-//! Why bytes are no record, and why a command isn't applied.
+//! Why bytes are no record.
 
 ghost use Rattle.std.specs.Prelude.{◌≡◌};
 ghost use Rattle.path_db.specs.declared.error.DbError.TheVariants.{NoMemory};
-ghost use Rattle.path_db.specs.declared.error.ApplyError.TheVariants.{NoMemory as NoMemoryToApply};
 
 use std::alloc::{AllocError, AllocFailed};
 use thiserror::Error;
@@ -35,24 +34,5 @@ impl<T: Drop> From<AllocFailed<T>> for DbError {
 
     fn from(_refused: AllocFailed<T>) -> DbError {
         DbError::NoMemory
-    }
-}
-
-/// Why a command isn't applied. They are numbered from 0 in this order.
-#[derive(Clone, Copy, Debug, PartialEq, Eq, Error)]
-pub enum ApplyError {
-    /// Memory ran out. It says nothing of the command.
-    #[error("out of memory")]
-    NoMemory,
-    /// The rows would take more bytes than they may.
-    #[error("the rows would take too many bytes")]
-    Full,
-}
-
-impl From<AllocError> for ApplyError {
-    ghost from_gives = { λ _ e. e ≡ NoMemoryToApply };
-
-    fn from(_refused: AllocError) -> ApplyError {
-        ApplyError::NoMemory
     }
 }

@@ -2,27 +2,22 @@
 
 ghost use Rattle.std.specs.Prelude.{◌≡◌, ◌≤◌, ◌<◌, ◌++◌, length, take, drop, IfOk, IfErr, OnOk, OnErr, IsOk, is_ok};
 ghost use Rattle.seg_core.specs.Encoding.{IsSegment, segment_encoding};
-ghost use Rattle.seg_core.specs.Registration.{type_number, type_of};
+ghost use Rattle.seg_core.specs.Registration.{type_of};
 ghost use Rattle.seg_core.specs.Segment.{segment_outline};
 ghost use Rattle.path_db.specs.declared.error.DbError.TheVariants.{NoMemory, BadRecord};
 ghost use Rattle.path_db.specs.RecordSteps.{Gives, Reads};
-ghost use Rattle.path_db.specs.Database.{IsDatabase, AreWhole};
-ghost use Rattle.path_db.specs.Row.{row_view, row_views};
+ghost use Rattle.path_rows.specs.Database.{IsDatabase, AreWhole};
+ghost use Rattle.path_rows.specs.Row.{row_view, row_views};
 ghost use Rattle.path_db.specs.RowRecord.{row_record, rows_encoding, row_size, has_row, record_of, row_decoding, spelled_segment, HasOutline, is_above, rows_decoding};
 ghost use Rattle.seg_core.specs.Message.{last_of};
 
-use crate::database::PathDb;
 use crate::error::DbError;
-use crate::row::Row;
-use crate::row_list::Rows;
 use byte_lists::read_u32;
+use path_rows::{PathDb, ROW_HEAD, Row, Rows, type_byte};
 use seg_core::{
     SegError, SegType, Segment, encoded_len, is_encoding_of, put_segment, read_segment,
 };
 use std::alloc::{AllocError, Global};
-
-/// The bytes of a row before its segment: a type in one, a length in four.
-pub(crate) const ROW_HEAD: usize = 5;
 
 /// Appends the records of all rows, in the order of their keys. A record is the type in one byte, the length of the segment's
 /// encoding in four big-endian bytes, and the encoding. Where memory is refused, the vector has the items that it had. To write no
@@ -69,17 +64,6 @@ pub fn row_head(kind: SegType, segment: &Segment) -> [u8; 5]
 {
     let size = (encoded_len(segment) as u32).to_be_bytes();
     [type_byte(kind), size[0], size[1], size[2], size[3]]
-}
-
-/// The number of a type in one byte.
-pub(crate) fn type_byte(kind: SegType) -> u8
-    ensures { result ≡ type_number kind }
-{
-    match kind {
-        SegType::Up => 1,
-        SegType::Down => 2,
-        SegType::Core => 3,
-    }
 }
 
 /// The type of the number in a byte.

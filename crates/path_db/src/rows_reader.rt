@@ -3,15 +3,14 @@
 ghost use Rattle.std.specs.Prelude.{◌≡◌, ◌≢◌, ◌<◌, ◌≤◌, ◌++◌, [], length, drop, IfOk, IfErr, IsOk};
 ghost use Rattle.path_db.specs.declared.error.DbError.TheVariants.{NoMemory};
 ghost use Rattle.path_db.specs.RecordSteps.{Gives};
-ghost use Rattle.path_db.specs.Database.{IsDatabase};
-ghost use Rattle.path_db.specs.Row.{row_views};
+ghost use Rattle.path_rows.specs.Database.{IsDatabase};
+ghost use Rattle.path_rows.specs.Row.{row_views};
 ghost use Rattle.path_db.specs.RowRecord.{rows_encoding, rows_decoding, has_row};
 ghost use Rattle.path_db.specs.RowsReader.{AreRefused, AreReadOn};
 
-use crate::database::PathDb;
 use crate::error::DbError;
-use crate::row::Row;
 use crate::row_records::{is_above_last, read_row, size_of_row};
+use path_rows::{PathDb, Row};
 use std::alloc::{AllocError, Global};
 use std::marker::Model;
 

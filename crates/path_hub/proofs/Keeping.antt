@@ -5,8 +5,8 @@ use mathlib.Core.List.{IsPrefix}
 use lib.ListN.{get_elem?}
 use Rattle.crossbeam_utils.specs.Register.{Admits, TurnsAt, Turns}
 use Rattle.atomic_table.proofs.Lists.{at_set, at_snoc}
-use Rattle.path_db.specs.Database.{RowView}
-use Rattle.path_db.specs.declared.command.Command.{Command}
+use Rattle.path_rows.specs.Database.{RowView}
+use Rattle.path_rows.specs.declared.command.Command.{Command}
 use Rattle.image_laws.specs.Opening.{StoreValue}
 use Rattle.image_laws.specs.StoreGrowth.{value_after}
 use Rattle.store_open.specs.PathStores.{store_format}

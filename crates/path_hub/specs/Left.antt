@@ -1,7 +1,7 @@
 -- What a hub leaves on its device.
 use Rattle.std.specs.Prelude.{ℕ, List}
-use Rattle.path_db.specs.Database.{RowView}
-use Rattle.path_db.specs.declared.command.Command.{Command}
+use Rattle.path_rows.specs.Database.{RowView}
+use Rattle.path_rows.specs.declared.command.Command.{Command}
 use Rattle.image_laws.specs.Opening.{StoreValue, OpensTo}
 use Rattle.image_laws.specs.StoreGrowth.{value_after}
 use Rattle.ckpt_pair.specs.Heads.{latest}

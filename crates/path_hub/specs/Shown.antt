@@ -4,9 +4,9 @@ use Rattle.std.specs.List.{AllByRecursion}
 use mathlib.Core.Option.{some}
 use mathlib.Core.List.{IsPrefix}
 use lib.ListN.{get_elem?}
-use Rattle.path_db.specs.Database.{RowView}
-use Rattle.path_db.specs.Command.{database_after}
-use Rattle.path_db.specs.declared.command.Command.{Command}
+use Rattle.path_rows.specs.Database.{RowView}
+use Rattle.path_rows.specs.Command.{database_after}
+use Rattle.path_rows.specs.declared.command.Command.{Command}
 use Rattle.image_laws.specs.Opening.{StoreValue}
 use Rattle.image_laws.specs.StoreGrowth.{value_after}
 use Rattle.store_open.specs.PathStores.{store_format}

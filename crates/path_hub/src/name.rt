@@ -6,7 +6,7 @@ use std::marker::Brand;
 /// no two hubs have one name, and a note or a reader of one hub is refused by the types of another.
 pub trait HubName {
     ghost use Rattle.std.specs.Prelude.{List};
-    ghost use Rattle.path_db.specs.Database.{RowView};
+    ghost use Rattle.path_rows.specs.Database.{RowView};
     ghost use Rattle.image_laws.specs.Opening.{StoreValue};
 
     /// The rows and the place that the hub opened with.

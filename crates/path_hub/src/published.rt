@@ -16,7 +16,7 @@ pub struct Published {
 
 impl Model for Published {
     ghost use Rattle.std.specs.Prelude.{List};
-    ghost use Rattle.path_db.specs.Database.{RowView};
+    ghost use Rattle.path_rows.specs.Database.{RowView};
     ghost use Rattle.image_laws.specs.Opening.{StoreValue};
 
     ghost Value = { StoreValue (List RowView) };

@@ -4,7 +4,7 @@ ghost use Rattle.std.specs.Prelude.{◌≡◌, ◌⊎◌, ◌≤◌, None, lengt
 ghost use Rattle.std.specs.List.{AllByRecursion};
 ghost use mathlib.Core.List.{IsPrefix};
 ghost use Rattle.seg_core.specs.Encoding.{IsSegment};
-ghost use Rattle.path_db.specs.Answer.{segments_of};
+ghost use Rattle.path_rows.specs.Answer.{segments_of};
 ghost use Rattle.left_right.specs.Sides.{view};
 ghost use Rattle.path_hub.specs.declared.error.HubError.TheVariants.{NoMemory, NoReader};
 ghost use Rattle.path_hub.specs.Sight.{answer_after, place_after};

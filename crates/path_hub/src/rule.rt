@@ -40,7 +40,7 @@ impl<N: HubName> Outcome<Published, SeenGroups> for SeesAll<N> {
 /// Names the group that one step of the writer publishes. The call that publishes picks it.
 pub(crate) trait GroupName {
     ghost use Rattle.std.specs.Prelude.{List};
-    ghost use Rattle.path_db.specs.declared.command.Command.{Command};
+    ghost use Rattle.path_rows.specs.declared.command.Command.{Command};
 
     ghost group: { List Command };
 }

@@ -26,7 +26,7 @@ pub enum Awaited {
 /// was.
 pub trait Steps {
     ghost use Rattle.std.specs.Prelude.{List};
-    ghost use Rattle.path_db.specs.Database.{RowView};
+    ghost use Rattle.path_rows.specs.Database.{RowView};
     ghost use Rattle.image_laws.specs.Opening.{StoreValue};
 
     /// What a receipt says of the rows that were shown when it was given.

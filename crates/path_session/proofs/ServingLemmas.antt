@@ -4,9 +4,9 @@ use Rattle.seg_core.specs.declared.error.SegError.{SegError}
 use Rattle.seg_core.specs.declared.seg_type.SegType.{SegType}
 use Rattle.seg_core.specs.Registration.{registration_decoding, type_of}
 use Rattle.seg_check.specs.declared.error.CheckError.{CheckError}
-use Rattle.path_db.specs.declared.command.Command.{Command}
-use Rattle.path_db.specs.declared.command.Command.TheVariants as command
-use Rattle.path_db.specs.Database.{RowView}
+use Rattle.path_rows.specs.declared.command.Command.{Command}
+use Rattle.path_rows.specs.declared.command.Command.TheVariants as command
+use Rattle.path_rows.specs.Database.{RowView}
 use Rattle.image_laws.specs.Opening.{StoreValue}
 use Rattle.session_core.specs.declared.message.Message.TheVariants.{Register, Purge, Remove}
 use Rattle.session_core.specs.declared.service.Ack.{Ack}

@@ -1,7 +1,7 @@
 -- What contracts see of a service over a hub.
 use Rattle.std.specs.Prelude.{ℕ, List, Option, None}
 use Rattle.seg_check.specs.Signatures.{Verdicts}
-use Rattle.path_db.specs.declared.command.Command.{Command}
+use Rattle.path_rows.specs.declared.command.Command.{Command}
 use Rattle.seg_lookup.specs.Roster.{RosterView}
 use Rattle.group_core.specs.declared.ticket.Receipt.{Receipt}
 use Rattle.path_hub.specs.Sight.{Sight}

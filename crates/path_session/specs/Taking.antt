@@ -1,6 +1,6 @@
 -- What handing a command to the hub answers.
 use Rattle.std.specs.Prelude.{◌≡◌, Result, Ok, Err}
-use Rattle.path_db.specs.declared.command.Command.{Command}
+use Rattle.path_rows.specs.declared.command.Command.{Command}
 use Rattle.session_core.specs.declared.service.Ack.{Ack}
 use Rattle.reply_codes.specs.declared.refusal.Refusal.{Refusal}
 use Rattle.reply_codes.specs.declared.refusal.Refusal.TheVariants.{NoMemory, Message, Check, Lookup, Submit, NoReader, Stopped}

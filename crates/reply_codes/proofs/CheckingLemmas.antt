@@ -4,7 +4,7 @@ use Rattle.std.specs.Option.{option_or}
 use Rattle.seg_check.specs.declared.error.CheckError.{CheckError}
 use Rattle.seg_check.specs.Signatures.{Verdicts}
 use Rattle.seg_check.specs.Checking.{check_refusal}
-use Rattle.path_db.specs.Database.{RowView}
+use Rattle.path_rows.specs.Database.{RowView}
 use Rattle.reply_codes.specs.Checking.{first_refusal}
 
 none_first : {A : Type 0} (a b : Option A) → option_or a b ≡ None → a ≡ None

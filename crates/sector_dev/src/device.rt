@@ -6,9 +6,6 @@ ghost use Rattle.sector_dev.specs.Calls.{ReadCall, WriteCall, SyncCall};
 use std::error::Error;
 use std::fmt;
 
-/// The bytes of a sector.
-pub const SECTOR: usize = 512;
-
 /// Why a call of a device failed.
 #[derive(Clone, Copy, Debug)]
 pub enum DevError {

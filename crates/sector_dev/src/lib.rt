@@ -17,7 +17,8 @@ mod system_file;
 mod trail;
 mod transfers;
 
-pub use device::{DevError, Device, SECTOR};
+pub use byte_lists::SECTOR;
+pub use device::{DevError, Device};
 pub use fault_device::FaultDevice;
 pub use file_device::FileDevice;
 pub use fuse_device::{FuseDevice, Tear};

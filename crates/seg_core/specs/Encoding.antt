@@ -8,7 +8,7 @@ use Rattle.pw_wire.specs.Decoding.{IsBytes}
 use Rattle.pw_wire.specs.Varint.{varint_encoding}
 use Rattle.pw_wire.specs.Field.{varint_field_encoding, bytes_field_encoding}
 use Rattle.seg_core.specs.declared.body.Body.{Body}
-use Rattle.seg_core.specs.declared.outline.TheConstants.{MOST_BYTES}
+use Rattle.seg_core.specs.declared.format.TheConstants.{MOST_SEGMENT_BYTES}
 use Rattle.seg_core.specs.declared.seg_type.SegType.{SegType}
 use Rattle.seg_core.specs.declared.seg_type.SegType.TheVariants.{Up, Down, Core}
 use Rattle.seg_core.specs.SegmentView.{EntryView, SegmentView}
@@ -72,7 +72,7 @@ pub record IsSegment (s : SegmentView) : Type 0 where
   pub counted : HasEntryCount s.entries
   pub chain : IsChain s.entries
   pub no_loop : HasNoLoop s.entries
-  pub short : length (segment_encoding s) ≤ MOST_BYTES
+  pub short : length (segment_encoding s) ≤ MOST_SEGMENT_BYTES
 
 -- ---- a response
 

@@ -3,7 +3,7 @@ use Rattle.std.specs.Prelude.{ℕ, zero, suc, List, [], ◌∷◌, ◌++◌, len
 use Rattle.std.specs.List.{list_any, flat_map}
 use Rattle.seg_core.specs.declared.error.SegError.{SegError}
 use Rattle.seg_core.specs.declared.error.SegError.TheVariants.{RepeatedMessage, BadType, TooLarge}
-use Rattle.seg_core.specs.declared.registration.TheConstants.{MOST_BYTES, MOST_SEGMENTS}
+use Rattle.seg_core.specs.declared.format.TheConstants.{MOST_REGISTERED_BYTES, MOST_REGISTERED}
 use Rattle.seg_core.specs.declared.seg_type.SegType.{SegType}
 use Rattle.seg_core.specs.declared.seg_type.SegType.TheVariants.{Up, Down, Core}
 use Rattle.seg_core.specs.Shapes.{map_shape, map_entry_shape, segments_shape}
@@ -46,7 +46,7 @@ has_type entries kind = list_any (λ entry. type_number entry.0 == type_number k
 unfoldable pub segments_decoding : ℕ → List (List ℕ) → Result (List SegmentView) SegError
 segments_decoding count [] = Ok []
 segments_decoding count (message ∷ messages) = do
-  _ ← check (nat_lt count MOST_SEGMENTS) TooLarge
+  _ ← check (nat_lt count MOST_REGISTERED) TooLarge
   first ← segment_decoding message
   others ← segments_decoding (count + 1) messages
   Ok (first ∷ others)
@@ -77,7 +77,7 @@ map_decoding earlier (message ∷ messages) = do
 -- The messages of the map's entries. It takes no memory to judge its size, and the wire and the kinds of its message.
 unfoldable pub registration_outline : List ℕ → Result (List (List ℕ)) SegError
 registration_outline message = do
-  _ ← check (nat_le (length message) MOST_BYTES) TooLarge
+  _ ← check (nat_le (length message) MOST_REGISTERED_BYTES) TooLarge
   fs ← message_fields map_shape message
   Ok (bytes_fields 1 fs)
 

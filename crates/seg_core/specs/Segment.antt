@@ -3,7 +3,7 @@ use Rattle.std.specs.Prelude.{ℕ, List, length, nat_le, ◌^◌, ◌-◌, Resul
 use Rattle.seg_core.specs.declared.error.SegError.{SegError}
 use Rattle.seg_core.specs.declared.error.SegError.TheVariants.{Chain, Loop, Entries, TooLarge}
 use Rattle.seg_core.specs.declared.info.Info.{Info}
-use Rattle.seg_core.specs.declared.outline.TheConstants.{MOST_BYTES}
+use Rattle.seg_core.specs.declared.format.TheConstants.{MOST_SEGMENT_BYTES}
 use Rattle.seg_core.specs.Shapes.{path_segment_shape, segment_information_shape}
 use Rattle.seg_core.specs.Steps.{◌>>=◌, check, at_most, each}
 use Rattle.seg_core.specs.Message.{message_fields, number_field, bytes_fields, bytes_field_or_empty}
@@ -30,7 +30,7 @@ pub record SegmentOutline : Type 0 where
 -- information. It takes no memory to judge that.
 unfoldable pub segment_outline : List ℕ → Result SegmentOutline SegError
 segment_outline message = do
-  _ ← check (nat_le (length message) MOST_BYTES) TooLarge
+  _ ← check (nat_le (length message) MOST_SEGMENT_BYTES) TooLarge
   fs ← message_fields path_segment_shape message
   _ ← check (is_entry_count (length (bytes_fields 2 fs))) Entries
   info ← info_decoding (bytes_field_or_empty 1 fs)

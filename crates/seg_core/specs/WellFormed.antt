@@ -1,7 +1,7 @@
 -- When the entries of a segment are one path: each leads to the next, and no AS stands twice.
 use Rattle.std.specs.Prelude.{◌≡◌, ◌≢◌, ℕ, ◌<◌, ◌≤◌, ◌^◌, ◌/◌, ◌%◌, List, [], ◌∷◌, ◌++◌, length, map, All, AllPairs, Bool, true, ◌==◌, ◌&&◌, not, nat_le}
 use Rattle.std.specs.List.{list_any}
-use Rattle.seg_core.specs.declared.outline.TheConstants.{MOST_ENTRIES}
+use Rattle.seg_core.specs.declared.format.TheConstants.{MOST_ENTRIES}
 use Rattle.seg_core.specs.SegmentView.{EntryView, SegmentView}
 
 -- ---- what it means

@@ -8,7 +8,7 @@ ghost use Rattle.seg_core.specs.WellFormed.{is_entry_count, is_chain, has_no_loo
 ghost use Rattle.seg_core.specs.Segment.{segment_decoding};
 ghost use Rattle.seg_core.specs.Registration.{registration_decoding};
 ghost use Rattle.seg_core.specs.Encoding.{segment_encoding, IsSegment, response_encoding, by_type};
-ghost use Rattle.seg_core.specs.declared.registration.TheConstants.{MOST_BYTES, MOST_SEGMENTS};
+ghost use Rattle.seg_core.specs.declared.format.TheConstants.{MOST_REGISTERED_BYTES, MOST_REGISTERED};
 ghost use Rattle.seg_core.specs.declared.seg_type.SegType.{SegType};
 ghost use Rattle.std.specs.List.{AllByRecursion, sum_by};
 
@@ -32,11 +32,11 @@ pub fn encodings_are_injective()
 /// 131,072 bytes.
 pub fn read_registrations_are_whole()
     ensures few { (message : List ℕ) (rows : List (SegType × SegmentView)) → IsBytes message
-        → registration_decoding message ≡ Ok rows → length rows ≤ MOST_SEGMENTS }
+        → registration_decoding message ≡ Ok rows → length rows ≤ MOST_REGISTERED }
     ensures whole { (message : List ℕ) (rows : List (SegType × SegmentView)) → IsBytes message
         → registration_decoding message ≡ Ok rows → AllByRecursion (λ row. IsSegment row.1) rows }
     ensures short { (message : List ℕ) (rows : List (SegType × SegmentView)) → IsBytes message
-        → registration_decoding message ≡ Ok rows → sum_by (λ row. length (segment_encoding row.1)) rows ≤ MOST_BYTES }
+        → registration_decoding message ≡ Ok rows → sum_by (λ row. length (segment_encoding row.1)) rows ≤ MOST_REGISTERED_BYTES }
 {}
 
 /// The encoding of a whole segment is bytes, and is read as that segment.
@@ -59,8 +59,8 @@ pub fn path_tests_are_exact()
 
 /// A response of at most 16 whole segments, in at most 131,072 bytes, is read as these, by type.
 pub fn written_responses_are_read()
-    ensures { (rows : List (SegType × SegmentView)) → AllByRecursion (λ row. IsSegment row.1) rows → length rows ≤ MOST_SEGMENTS
-        → length (response_encoding rows) ≤ MOST_BYTES → registration_decoding (response_encoding rows) ≡ Ok (by_type rows) }
+    ensures { (rows : List (SegType × SegmentView)) → AllByRecursion (λ row. IsSegment row.1) rows → length rows ≤ MOST_REGISTERED
+        → length (response_encoding rows) ≤ MOST_REGISTERED_BYTES → registration_decoding (response_encoding rows) ≡ Ok (by_type rows) }
 {}
 
 /// Up to 127 whole segments of one type have a response of at most 16,388 bytes each and 10 more, which for 64 is

@@ -3,7 +3,7 @@
 ghost use Rattle.std.specs.Prelude.{◌≡◌, ℕ, ◌+◌, ◌<◌, ◌≤◌, List, length};
 ghost use Rattle.pw_wire.specs.Varint.{varint_encoding};
 ghost use Rattle.pw_wire.specs.Field.{bytes_field_encoding};
-ghost use Rattle.seg_core.specs.declared.outline.TheConstants.{MOST_BYTES};
+ghost use Rattle.seg_core.specs.declared.format.TheConstants.{MOST_SEGMENT_BYTES};
 ghost use Rattle.seg_core.specs.EntryView.{borrowed_view};
 ghost use Rattle.seg_core.specs.Encoding.{bytes_encoding, optional_encoding, signed_encoding, as_entry_encoding};
 
@@ -32,7 +32,7 @@ pub(crate) fn head_len(len: usize) -> usize
 
 /// The bytes of a field of bytes, which is left out where they are empty.
 fn bytes_len(bytes: &[u8]) -> usize
-    requires { length bytes.now ≤ MOST_BYTES }
+    requires { length bytes.now ≤ MOST_SEGMENT_BYTES }
     ensures { (k : ℕ) → k < 15 → result ≡ length (bytes_encoding k bytes.now) }
 {
     if bytes.is_empty() {
@@ -43,7 +43,7 @@ fn bytes_len(bytes: &[u8]) -> usize
 
 /// The bytes of an entry's signed message.
 pub(crate) fn signed_len(entry: &BorrowedEntry<'_>) -> usize
-    requires { length (signed_encoding (borrowed_view entry.now)) ≤ MOST_BYTES }
+    requires { length (signed_encoding (borrowed_view entry.now)) ≤ MOST_SEGMENT_BYTES }
     ensures { result ≡ length (signed_encoding (borrowed_view entry.now)) }
 {
     bytes_len(entry.signed) + bytes_len(entry.signature)
@@ -51,7 +51,7 @@ pub(crate) fn signed_len(entry: &BorrowedEntry<'_>) -> usize
 
 /// The bytes of the field with what an entry has that is not signed, where it is there.
 fn unsigned_len(entry: &BorrowedEntry<'_>) -> usize
-    requires { length (optional_encoding 2 (borrowed_view entry.now).unsigned) ≤ MOST_BYTES }
+    requires { length (optional_encoding 2 (borrowed_view entry.now).unsigned) ≤ MOST_SEGMENT_BYTES }
     ensures { result ≡ length (optional_encoding 2 (borrowed_view entry.now).unsigned) }
 {
     match entry.unsigned {
@@ -63,7 +63,7 @@ fn unsigned_len(entry: &BorrowedEntry<'_>) -> usize
 /// The bytes of an entry, whose signed message takes so many.
 pub(crate) fn entry_len(entry: &BorrowedEntry<'_>, signed: usize) -> usize
     requires signed { signed ≡ length (signed_encoding (borrowed_view entry.now)) }
-    requires short { length (as_entry_encoding (borrowed_view entry.now)) ≤ MOST_BYTES }
+    requires short { length (as_entry_encoding (borrowed_view entry.now)) ≤ MOST_SEGMENT_BYTES }
     ensures { result ≡ length (as_entry_encoding (borrowed_view entry.now)) }
 {
     head_len(signed) + signed + unsigned_len(entry)

@@ -13,6 +13,7 @@ mod earlier;
 mod entry;
 mod equality;
 mod error;
+mod format;
 mod hop;
 mod info;
 mod laws;
@@ -37,6 +38,7 @@ pub use decoding_laws::{
 };
 pub use entry::Entry;
 pub use error::SegError;
+pub use format::{MOST_ENTRIES, MOST_REGISTERED, MOST_REGISTERED_BYTES, MOST_SEGMENT_BYTES};
 pub use laws::{
     encodings_are_injective, encodings_are_shortest, path_tests_are_exact,
     read_registrations_are_whole, read_segments_are_whole, responses_are_short,

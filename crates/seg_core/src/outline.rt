@@ -11,15 +11,11 @@ ghost use Rattle.seg_core.specs.WellFormed.{is_entry_count};
 
 use crate::bytes_fields::BytesFields;
 use crate::error::SegError;
+use crate::format::{MOST_ENTRIES, MOST_SEGMENT_BYTES};
 use crate::info::{Info, read_info};
 use crate::limits::check;
 use crate::shape::PATH_SEGMENT;
 use crate::slots::slots_of;
-
-/// The most bytes of a segment.
-pub(crate) const MOST_BYTES: usize = 16_384;
-/// The most entries of a segment.
-const MOST_ENTRIES: usize = 64;
 
 /// A segment whose entries are not read.
 #[derive(Clone, Copy)]
@@ -51,7 +47,7 @@ pub(crate) fn read_outline(message: &[u8]) -> Result<Outline<'_>, SegError>
     ensures outline { Reads outline_view result (segment_outline message.now) }
     ensures memory { IfErr result (λ e. e ≢ NoMemory) }
 {
-    check(message.len() <= MOST_BYTES, SegError::TooLarge)?;
+    check(message.len() <= MOST_SEGMENT_BYTES, SegError::TooLarge)?;
     let slots = slots_of::<5>(&PATH_SEGMENT, message)?;
     let entries = slots.bytes_fields(2);
     check(is_entry_count(entries), SegError::Entries)?;

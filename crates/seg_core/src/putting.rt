@@ -3,14 +3,14 @@
 ghost use Rattle.std.specs.Prelude.{◌≡◌, ◌+◌, ◌<◌, ◌≤◌, ◌++◌, length, IfOk, OnOk};
 ghost use Rattle.std.specs.Option.{option_map, ForSome};
 ghost use Rattle.pw_wire.specs.Field.{bytes_field_encoding};
-ghost use Rattle.seg_core.specs.declared.outline.TheConstants.{MOST_BYTES};
+ghost use Rattle.seg_core.specs.declared.format.TheConstants.{MOST_SEGMENT_BYTES};
 ghost use Rattle.seg_core.specs.Pieces.{IsWithin, AreWithin, piece_at, pieces_at};
 ghost use Rattle.seg_core.specs.EntryView.{borrowed_pieces, borrowed_view};
 ghost use Rattle.seg_core.specs.Encoding.{head_encoding, bytes_encoding, optional_encoding, pieces_encoding, as_entry_encoding};
 
 use crate::entry::BorrowedEntry;
+use crate::format::MOST_SEGMENT_BYTES;
 use crate::lengths::{entry_len, signed_len};
-use crate::outline::MOST_BYTES;
 use crate::pieces::{Span, Spans};
 use pw_wire::put_varint;
 use std::alloc::AllocError;
@@ -33,7 +33,7 @@ pub(crate) fn put_head(out: &mut Vec<u8>, number: u32, len: usize) -> Result<(),
 
 /// Appends a piece.
 fn put_piece(out: &mut Vec<u8>, bytes: &[u8]) -> Result<Span, AllocError>
-    requires { length out.old.items + length bytes.now ≤ MOST_BYTES }
+    requires { length out.old.items + length bytes.now ≤ MOST_SEGMENT_BYTES }
     ensures put { IfOk result (λ _. out.new.items ≡ out.old.items ++ bytes.now) }
     ensures within { IfOk result (λ span. IsWithin out.new.items span) }
     ensures there { IfOk result (λ span. piece_at out.new.items span ≡ bytes.now) }
@@ -49,7 +49,7 @@ fn put_piece(out: &mut Vec<u8>, bytes: &[u8]) -> Result<Span, AllocError>
 /// Appends a piece as a field.
 fn put_field(out: &mut Vec<u8>, number: u32, bytes: &[u8]) -> Result<Span, AllocError>
     requires number { number < 15 }
-    requires short { length out.old.items + length (bytes_field_encoding number bytes.now) ≤ MOST_BYTES }
+    requires short { length out.old.items + length (bytes_field_encoding number bytes.now) ≤ MOST_SEGMENT_BYTES }
     ensures put { IfOk result (λ _. out.new.items ≡ out.old.items ++ bytes_field_encoding number bytes.now) }
     ensures within { IfOk result (λ span. IsWithin out.new.items span) }
     ensures there { IfOk result (λ span. piece_at out.new.items span ≡ bytes.now) }
@@ -61,7 +61,7 @@ fn put_field(out: &mut Vec<u8>, number: u32, bytes: &[u8]) -> Result<Span, Alloc
 /// Appends a piece as a field, which is left out where it is empty.
 pub(crate) fn put_bytes(out: &mut Vec<u8>, number: u32, bytes: &[u8]) -> Result<Span, AllocError>
     requires number { number < 15 }
-    requires short { length out.old.items + length (bytes_encoding number bytes.now) ≤ MOST_BYTES }
+    requires short { length out.old.items + length (bytes_encoding number bytes.now) ≤ MOST_SEGMENT_BYTES }
     ensures put { IfOk result (λ _. out.new.items ≡ out.old.items ++ bytes_encoding number bytes.now) }
     ensures within { IfOk result (λ span. IsWithin out.new.items span) }
     ensures there { IfOk result (λ span. piece_at out.new.items span ≡ bytes.now) }
@@ -74,7 +74,7 @@ pub(crate) fn put_bytes(out: &mut Vec<u8>, number: u32, bytes: &[u8]) -> Result<
 
 /// Appends what is not signed as a field, where it is there.
 fn put_unsigned(out: &mut Vec<u8>, bytes: Option<&[u8]>) -> Result<Option<Span>, AllocError>
-    requires { length out.old.items + length (optional_encoding 2 (option_map (λ s. s.now) bytes)) ≤ MOST_BYTES }
+    requires { length out.old.items + length (optional_encoding 2 (option_map (λ s. s.now) bytes)) ≤ MOST_SEGMENT_BYTES }
     ensures put { IfOk result (λ _. out.new.items ≡ out.old.items ++ optional_encoding 2 (option_map (λ s. s.now) bytes.entry)) }
     ensures within { IfOk result (λ span. ForSome span (λ s. IsWithin out.new.items s)) }
     ensures there { IfOk result (λ span. option_map (λ s. piece_at out.new.items s) span ≡ option_map (λ s. s.now) bytes.entry) }
@@ -87,7 +87,7 @@ fn put_unsigned(out: &mut Vec<u8>, bytes: Option<&[u8]>) -> Result<Option<Span>,
 
 /// Appends the pieces of an entry: its signed message, of which the tag and the length stand there, and what is not signed.
 fn put_pieces(out: &mut Vec<u8>, entry: &BorrowedEntry<'_>) -> Result<Spans, AllocError>
-    requires { length out.old.items + length (pieces_encoding (borrowed_view entry.now)) ≤ MOST_BYTES }
+    requires { length out.old.items + length (pieces_encoding (borrowed_view entry.now)) ≤ MOST_SEGMENT_BYTES }
     ensures put { IfOk result (λ _. out.new.items ≡ out.old.items ++ pieces_encoding (borrowed_view entry.now)) }
     ensures within { IfOk result (λ spans. AreWithin out.new.items spans) }
     ensures there { IfOk result (λ spans. pieces_at out.new.items spans ≡ borrowed_pieces entry.now) }
@@ -104,7 +104,7 @@ fn put_pieces(out: &mut Vec<u8>, entry: &BorrowedEntry<'_>) -> Result<Spans, All
 
 /// Appends an entry as a field of its segment.
 pub(crate) fn put_entry(out: &mut Vec<u8>, entry: &BorrowedEntry<'_>) -> Result<Spans, AllocError>
-    requires { length out.old.items + length (bytes_field_encoding 2 (as_entry_encoding (borrowed_view entry.now))) ≤ MOST_BYTES }
+    requires { length out.old.items + length (bytes_field_encoding 2 (as_entry_encoding (borrowed_view entry.now))) ≤ MOST_SEGMENT_BYTES }
     ensures put { IfOk result (λ _. out.new.items ≡ out.old.items ++ bytes_field_encoding 2 (as_entry_encoding (borrowed_view entry.now))) }
     ensures within { IfOk result (λ spans. AreWithin out.new.items spans) }
     ensures there { IfOk result (λ spans. pieces_at out.new.items spans ≡ borrowed_pieces entry.now) }

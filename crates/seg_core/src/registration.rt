@@ -15,17 +15,13 @@ ghost use Rattle.seg_core.specs.Encoding.{IsSegment};
 use crate::bytes_fields::BytesFields;
 use crate::earlier::Earlier;
 use crate::error::SegError;
+use crate::format::{MOST_REGISTERED, MOST_REGISTERED_BYTES};
 use crate::limits::check;
 use crate::seg_type::SegType;
 use crate::segment::{Segment, read_segment};
 use crate::shape::{MAP_ENTRY, SEGMENT_MAP, SEGMENTS};
 use crate::slots::slots_of;
 use std::alloc::Global;
-
-/// The most bytes of a registration.
-const MOST_BYTES: usize = 131_072;
-/// The most segments of a registration.
-const MOST_SEGMENTS: usize = 16;
 
 /// Appends the segments of one type to those that came before them.
 #[tactic(auto, unfolding(crate::specs::Registration::segments_decoding))]
@@ -40,7 +36,7 @@ fn read_segments(
         (segments_decoding (length found.old.items) (bytes_fields messages.entry.field_number (fields messages.entry.rest.now)))) }
 {
     for message in messages {
-        check(found.len() < MOST_SEGMENTS, SegError::TooLarge)?;
+        check(found.len() < MOST_REGISTERED, SegError::TooLarge)?;
         found.push((kind, read_segment(alloc, message)?))?;
     }
     Ok(())
@@ -85,7 +81,7 @@ fn read_outline(message: &[u8]) -> Result<BytesFields<'_>, SegError>
     ensures outline { Reads (λ entries. bytes_fields entries.field_number (fields entries.rest.now)) result (registration_outline message.now) }
     ensures memory { IfErr result (λ e. e ≢ NoMemory) }
 {
-    check(message.len() <= MOST_BYTES, SegError::TooLarge)?;
+    check(message.len() <= MOST_REGISTERED_BYTES, SegError::TooLarge)?;
     let slots = slots_of::<4>(&SEGMENT_MAP, message)?;
     Ok(slots.bytes_fields(1))
 }

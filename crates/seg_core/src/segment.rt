@@ -6,7 +6,7 @@ ghost use Rattle.std.specs.List.{sum_by};
 ghost use Rattle.pw_wire.specs.Field.{bytes_field_encoding};
 ghost use Rattle.pw_wire.specs.Fields.{fields};
 ghost use Rattle.seg_core.specs.declared.error.SegError.TheVariants.{NoMemory};
-ghost use Rattle.seg_core.specs.declared.outline.TheConstants.{MOST_BYTES};
+ghost use Rattle.seg_core.specs.declared.format.TheConstants.{MOST_SEGMENT_BYTES};
 ghost use Rattle.seg_core.specs.Steps.{Gives, each};
 ghost use Rattle.seg_core.specs.Message.{bytes_fields};
 ghost use Rattle.seg_core.specs.Pieces.{AreWithin};
@@ -20,8 +20,9 @@ use crate::bytes_fields::BytesFields;
 use crate::digest::digest_of;
 use crate::entry::{Entry, MarkedEntry, read_as_entry};
 use crate::error::SegError;
+use crate::format::MOST_SEGMENT_BYTES;
 use crate::limits::check;
-use crate::outline::{MOST_BYTES, read_outline};
+use crate::outline::read_outline;
 use crate::path::{has_no_loop, is_chain};
 use crate::pieces::Span;
 use crate::putting::{put_bytes, put_entry};
@@ -128,7 +129,7 @@ impl fmt::Debug for Segment {
 
 /// Reads an entry, and appends its encoding.
 fn read_entry(message: &[u8], out: &mut Vec<u8>) -> Result<MarkedEntry, SegError>
-    requires { length out.old.items + length (bytes_field_encoding 2 message.now) ≤ MOST_BYTES }
+    requires { length out.old.items + length (bytes_field_encoding 2 message.now) ≤ MOST_SEGMENT_BYTES }
     ensures decoding { Gives (λ e. marked_view out.new.items e) result (as_entry_decoding message.now) }
     ensures put { IfOk result (λ e. out.new.items ≡ out.old.items ++ bytes_field_encoding 2 (as_entry_encoding (marked_view out.new.items e))) }
     ensures within { IfOk result (λ e. AreWithin out.new.items e.spans) }
@@ -148,7 +149,7 @@ fn read_entries(
     messages: BytesFields<'_>,
     out: &mut Vec<u8>,
 ) -> Result<Vec<MarkedEntry>, SegError>
-    requires { length out.old.items + sum_by (λ t. length (bytes_field_encoding 2 t)) (bytes_fields messages.field_number (fields messages.rest.now)) ≤ MOST_BYTES }
+    requires { length out.old.items + sum_by (λ t. length (bytes_field_encoding 2 t)) (bytes_fields messages.field_number (fields messages.rest.now)) ≤ MOST_SEGMENT_BYTES }
     ensures decoding { Gives (λ v. marked_views out.new.items v.items) result
         (each as_entry_decoding (bytes_fields messages.entry.field_number (fields messages.entry.rest.now))) }
     ensures put { IfOk result (λ v. out.new.items ≡ out.old.items ++ entries_encoding (marked_views out.new.items v.items)) }

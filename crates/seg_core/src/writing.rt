@@ -2,17 +2,17 @@
 
 ghost use Rattle.std.specs.Prelude.{◌≡◌, ◌↔◌, ◌+◌, ◌≤◌, ◌++◌, length, IfOk, IsOk, OnOk, OnErr, IsTrue};
 ghost use Rattle.std.specs.Vec.{vec_len, vec_capacity};
-ghost use Rattle.seg_core.specs.declared.outline.TheConstants.{MOST_BYTES};
+ghost use Rattle.seg_core.specs.declared.format.TheConstants.{MOST_SEGMENT_BYTES};
 ghost use Rattle.seg_core.specs.Encoding.{segment_encoding, IsSegment};
 
-use crate::outline::MOST_BYTES;
+use crate::format::MOST_SEGMENT_BYTES;
 use crate::segment::Segment;
 use std::alloc::{AllocError, Global};
 
 /// How many bytes a `PathSegment` takes in its one encoding, at most 16,384.
 pub fn encoded_len(segment: &Segment) -> usize
     ensures exact { result ≡ length (segment_encoding segment.now) }
-    ensures most { result ≤ MOST_BYTES }
+    ensures most { result ≤ MOST_SEGMENT_BYTES }
     ensures whole { IsSegment segment.now }
 {
     segment.encoding().len()

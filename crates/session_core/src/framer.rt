@@ -7,6 +7,7 @@ ghost use Rattle.session_core.specs.Framer.{message_view, message_views, fault_o
 
 use crate::error::FrameError;
 use crate::frames::next_frame;
+use crate::front::drop_front;
 use crate::message::Message;
 use std::alloc::{AllocError, Global};
 use std::marker::Model;
@@ -118,14 +119,4 @@ fn message_copy(alloc: Global, message: Message<&[u8]>) -> Result<Message, Alloc
         Message::Purge(moment) => Message::Purge(moment),
         Message::Remove(kind, id) => Message::Remove(kind, id),
     })
-}
-
-/// Takes so many bytes off the front.
-fn drop_front(bytes: &mut Vec<u8>, count: usize)
-    requires { count ≤ length bytes.old.items }
-    ensures { bytes.new.items ≡ drop count bytes.old.items }
-{
-    let rest = bytes.len() - count;
-    bytes.copy_within(count.., 0);
-    bytes.truncate(rest);
 }

@@ -5,6 +5,7 @@ ghost use Rattle.session_core.specs.Front.{IsFront};
 
 use crate::error::FrameError;
 use crate::frames::next_frame;
+use crate::front::drop_front;
 use crate::message::Message;
 use std::alloc::{AllocError, Global};
 use std::marker::Model;
@@ -75,14 +76,4 @@ impl Inbox {
     {
         self.used += count;
     }
-}
-
-/// Takes so many bytes off the front of the memory.
-fn drop_front(bytes: &mut Vec<u8>, count: usize)
-    requires { count ≤ length bytes.old.items }
-    ensures { bytes.new.items ≡ drop count bytes.old.items }
-{
-    let rest = bytes.len() - count;
-    bytes.copy_within(count.., 0);
-    bytes.truncate(rest);
 }

@@ -8,6 +8,7 @@
 mod error;
 mod framer;
 mod frames;
+mod front;
 mod inbox;
 pub mod laws;
 mod lines;
@@ -25,7 +26,7 @@ pub use framer::{Fed, Framer};
 pub use frames::MOST_LENGTH;
 pub use lines::serve_in_lines;
 pub use message::Message;
-pub use path_db::Outcome;
+pub use path_rows::Outcome;
 pub use reading::read_all;
 pub use reply::{Form, MOST_REPLY, Reply};
 pub use service::{Ack, Code, MOST_SEGMENTS, Service};

@@ -8,7 +8,7 @@ ghost use Rattle.session_core.specs.Reply.{ReplyView};
 ghost use Rattle.session_core.specs.Service.{reply_to_register, reply_to_lookup, reply_to_purge, reply_to_remove, AnswersBehind};
 ghost use Rattle.session_core.specs.declared.message.Message.TheVariants.{Register, Lookup, Purge, Remove};
 
-use path_db::Outcome;
+use path_rows::Outcome;
 use seg_core::{SegType, Segment};
 use std::alloc::Global;
 

@@ -1,6 +1,6 @@
 -- What was shown of a store where a write failed.
 use Rattle.std.proofs.Common.{ℕ, List, Option, inr}
-use Rattle.path_db.specs.Database.{RowView}
+use Rattle.path_rows.specs.Database.{RowView}
 use Rattle.sector_dev.specs.Disk.{Disk, IsHonest, reads_of}
 use Rattle.store_open.specs.Open.{IsOpened}
 use Rattle.store_open.specs.PathStores.{IsStoreOf}

@@ -2,7 +2,7 @@
 use Rattle.std.specs.Prelude.{◌⊎◌, ℕ, List, Option}
 use Rattle.std.specs.Io.KnownBytes.{Appends}
 use Rattle.sector_dev.specs.Disk.{Disk, IsHonest, reads_of}
-use Rattle.path_db.specs.Database.{RowView}
+use Rattle.path_rows.specs.Database.{RowView}
 use Rattle.store_open.specs.PathStores.{IsStoreOf}
 use Rattle.store_commands.specs.Text.{store_text}
 use Rattle.store_commands.specs.Writing.{IsWrittenInPart}

@@ -1,7 +1,7 @@
 //! The lines of a drawing.
 
 ghost use Rattle.std.specs.Prelude.{◌≡◌, Some, IfOk, IfErr, string_bytes};
-ghost use Rattle.store_open.specs.Geometry.{geometry_view};
+ghost use Rattle.image_laws.specs.Geometry.{geometry_view};
 ghost use Rattle.store_commands.specs.Drawing.{title_line, BeginsWithTitle, DrawsSo};
 ghost use Rattle.store_commands.specs.Writing.{IsOfWriting};
 

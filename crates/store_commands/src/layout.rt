@@ -4,7 +4,7 @@ ghost use Rattle.std.specs.Prelude.{◌≡◌, ◌≤◌};
 ghost use Rattle.sector_dev.specs.Disk.{IsHonest, reads_of};
 ghost use Rattle.image_laws.specs.FirstSector.{geometry_in};
 ghost use Rattle.image_laws.specs.Layout.{IsGeometry, image_sectors};
-ghost use Rattle.store_open.specs.Geometry.{geometry_view};
+ghost use Rattle.image_laws.specs.Geometry.{geometry_view};
 ghost use Rattle.store_open.specs.Looking.{LooksAt};
 ghost use Rattle.store_commands.specs.Devices.{LeavesDevice};
 ghost use Rattle.store_commands.specs.Drawing.{DrawsSo, faults_after_drawing};

@@ -3,7 +3,7 @@
 ghost use Rattle.std.specs.Prelude.{◌≡◌, IfOk, string_bytes};
 ghost use Rattle.std.specs.Option.{option_map};
 ghost use Rattle.seg_core.specs.EntryView.{entry_view};
-ghost use Rattle.path_db.specs.Row.{row_view};
+ghost use Rattle.path_rows.specs.Row.{row_view};
 ghost use Rattle.store_commands.specs.Text.{type_word, end_text, row_head, row_ends, row_line, place_line, formatted_line};
 
 use path_db::Row;

@@ -5,14 +5,9 @@ ghost use Rattle.store_open.specs.Looking.{LooksAt};
 ghost use Rattle.store_commands.specs.Walking.{GoesOnBehind};
 
 use byte_lists::{is_open, read_u32, read_u64};
-use gate_journal::payload_sectors;
+use gate_journal::{GROUP, SEAL, payload_sectors};
 use sector_dev::{DevError, Device};
 use store_open::read_sector;
-
-/// The first byte of a group's header, and of a seal's.
-const GROUP: u8 = 1;
-
-const SEAL: u8 = 2;
 
 /// How a journal ends.
 #[derive(Clone, Copy, Debug, PartialEq, Eq)]

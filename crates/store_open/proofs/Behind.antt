@@ -1,6 +1,6 @@
 -- What stands behind a store while it is made, and while one half takes over from the other.
 use Rattle.std.proofs.Common.{◌≡◌, inl, inr, ℕ, ◌+◌, ◌*◌, ◌<◌, ◌≤◌, List, length, refl, ◌∙◌, ap, arith, Result}
-use Rattle.byte_lists.specs.Sectors.{padded}
+use Rattle.byte_lists.specs.Sectors.{padded, open_gate, closed_gate}
 use Rattle.byte_lists.specs.Content.{part}
 use Rattle.byte_lists.proofs.Contents.{length-overwrite, part_above}
 use Rattle.sector_dev.specs.Disk.{Disk, IsHonest, IsWhole}
@@ -12,7 +12,7 @@ use Rattle.image_laws.specs.declared.half.Half.{Half}
 use Rattle.image_laws.specs.declared.half.Half.TheVariants.{First, Second}
 use Rattle.image_laws.specs.Layout.{Geometry, IsGeometry, image_sectors, other, area_at, gate_at, journal_at}
 use Rattle.image_laws.specs.FirstSector.{first_sector}
-use Rattle.store_open.specs.NewStore.{first_checkpoint_bytes, open_sector, closed_sector, HasRoomFor, SameBehind}
+use Rattle.store_open.specs.NewStore.{first_checkpoint_bytes, HasRoomFor, SameBehind}
 use Rattle.store_open.specs.TakingOver.{IsTornAt, laid, switched, IsTakingOver}
 use Rattle.store_open.proofs.Gates.{gates_inside}
 
@@ -43,19 +43,19 @@ module _ (geometry : Geometry) (start : Disk) where
         → Stretch start mid Kept → WriteCall sector bytes result mid new → Stretch start new Kept
     kept_area mid new sector bytes result at is whole so_far call = kept_written mid new sector bytes result (ap length is) (omega (arith, at, has.allowed)) whole so_far call
 
-    pub kept_gate : {T E : Type 0} (mid new : Disk) (sector : ℕ) (bytes : List ℕ) (result : Result T E) → sector ≡ gate_at geometry First → bytes ≡ open_sector → (IsHonest mid → IsWhole mid)
+    pub kept_gate : {T E : Type 0} (mid new : Disk) (sector : ℕ) (bytes : List ℕ) (result : Result T E) → sector ≡ gate_at geometry First → bytes ≡ open_gate → (IsHonest mid → IsWhole mid)
         → Stretch start mid Kept → WriteCall sector bytes result mid new → Stretch start new Kept
     kept_gate mid new sector bytes result at is whole so_far call = kept_written mid new sector bytes result (ap length is) (omega (arith, at, has.allowed)) whole so_far call
 
-    pub kept_journal : {T E : Type 0} (mid new : Disk) (sector : ℕ) (bytes : List ℕ) (result : Result T E) → sector ≡ journal_at geometry First → bytes ≡ closed_sector → (IsHonest mid → IsWhole mid)
+    pub kept_journal : {T E : Type 0} (mid new : Disk) (sector : ℕ) (bytes : List ℕ) (result : Result T E) → sector ≡ journal_at geometry First → bytes ≡ closed_gate → (IsHonest mid → IsWhole mid)
         → Stretch start mid Kept → WriteCall sector bytes result mid new → Stretch start new Kept
     kept_journal mid new sector bytes result at is whole so_far call = kept_written mid new sector bytes result (ap length is) (omega (arith, at, has.allowed)) whole so_far call
 
-    pub kept_second_gate : {T E : Type 0} (mid new : Disk) (sector : ℕ) (bytes : List ℕ) (result : Result T E) → sector ≡ gate_at geometry Second → bytes ≡ closed_sector → (IsHonest mid → IsWhole mid)
+    pub kept_second_gate : {T E : Type 0} (mid new : Disk) (sector : ℕ) (bytes : List ℕ) (result : Result T E) → sector ≡ gate_at geometry Second → bytes ≡ closed_gate → (IsHonest mid → IsWhole mid)
         → Stretch start mid Kept → WriteCall sector bytes result mid new → Stretch start new Kept
     kept_second_gate mid new sector bytes result at is whole so_far call = kept_written mid new sector bytes result (ap length is) (omega (arith, at, has.allowed)) whole so_far call
 
-    pub kept_second_journal : {T E : Type 0} (mid new : Disk) (sector : ℕ) (bytes : List ℕ) (result : Result T E) → sector ≡ journal_at geometry Second → bytes ≡ closed_sector → (IsHonest mid → IsWhole mid)
+    pub kept_second_journal : {T E : Type 0} (mid new : Disk) (sector : ℕ) (bytes : List ℕ) (result : Result T E) → sector ≡ journal_at geometry Second → bytes ≡ closed_gate → (IsHonest mid → IsWhole mid)
         → Stretch start mid Kept → WriteCall sector bytes result mid new → Stretch start new Kept
     kept_second_journal mid new sector bytes result at is whole so_far call = kept_written mid new sector bytes result (ap length is) (omega (arith, at, has.allowed)) whole so_far call
 
@@ -84,12 +84,12 @@ module _ (geometry : Geometry) (limits : IsGeometry geometry) (half : Half) (byt
       (record { torn = bytes; size = refl; is = refl })
 
   switched_size : length (switched geometry half bytes reads) ≡ length reads
-  switched_size = length-overwrite (512 * gate_at geometry (other half)) open_sector (laid geometry half bytes reads) (omega (arith, gate_inside (other half), laid_size, long)) ∙ laid_size
+  switched_size = length-overwrite (512 * gate_at geometry (other half)) open_gate (laid geometry half bytes reads) (omega (arith, gate_inside (other half), laid_size, long)) ∙ laid_size
 
   switched_beyond : Beyond (switched geometry half bytes reads)
   switched_beyond =
       torn_beyond (512 * gate_at geometry (other half)) 512 (laid geometry half bytes reads) (switched geometry half bytes reads) laid_size (omega (arith, gate_inside (other half))) laid_beyond
-      (record { torn = open_sector; size = refl; is = refl })
+      (record { torn = open_gate; size = refl; is = refl })
 
   pub taking_beyond : (content : List ℕ) → IsTakingOver geometry half bytes reads content → Beyond content
   taking_beyond content (inl tear) =

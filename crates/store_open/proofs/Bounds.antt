@@ -1,7 +1,7 @@
 -- What an honest device tells of a store is within its bounds.
 use Rattle.std.proofs.Common.{◌≡◌, ℕ, ◌+◌, ◌*◌, ◌≤◌, Bool, true, false, List, Option, Some, None, length, sym, ◌∙◌, ap, subst, arith}
-use Rattle.path_db.specs.Database.{RowView}
-use Rattle.path_db.specs.declared.command.Command.{Command}
+use Rattle.path_rows.specs.Database.{RowView}
+use Rattle.path_rows.specs.declared.command.Command.{Command}
 use Rattle.image_laws.specs.declared.half.Half.{Half}
 use Rattle.image_laws.specs.Journal.{Reading, IsJournal}
 use Rattle.image_laws.specs.Checkpoint.{Head}

@@ -3,20 +3,20 @@ use Rattle.std.proofs.Common.{◌≡◌, ℕ, ◌+◌, List, [], ◌++◌, lengt
 use Rattle.std.proofs.lemmas.List.{take-take}
 use Rattle.std.specs.Int.{w32, to_be_bytes}
 use Rattle.byte_lists.specs.Content.{AreBytes}
-use Rattle.byte_lists.specs.Sectors.{IsOpenGate}
+use Rattle.byte_lists.specs.Sectors.{IsOpenGate, closed_gate}
 use Rattle.image_laws.specs.declared.half.Half.TheVariants.{First}
 use Rattle.image_laws.specs.Layout.{Geometry, area_of}
 use Rattle.image_laws.specs.Checkpoint.{head_encoding, first_checkpoint, IsCheckpoint, CanBeCheckpoint}
 use Rattle.image_laws.specs.StoreFormat.{StoreFormat}
-use Rattle.store_open.specs.NewStore.{first_head, closed_sector, IsNewStore, IsEmptyStore, IsFormattedInAny}
+use Rattle.store_open.specs.NewStore.{first_head, IsNewStore, IsEmptyStore, IsFormattedInAny}
 use Rattle.ckpt_pair.specs.Heads.{latest}
 use Rattle.image_laws.proofs.TakeOver.{opens_empty}
-use Rattle.path_db.specs.Database.{RowView}
-use Rattle.path_db.specs.declared.command.Command.{Command}
+use Rattle.path_rows.specs.Database.{RowView}
+use Rattle.path_rows.specs.declared.command.Command.{Command}
 use Rattle.store_open.specs.PathStores.{store_format}
 
 -- a closed gate isn't open
-closed : (sector : List ℕ) → sector ≡ closed_sector → IsOpenGate sector → ⊥
+closed : (sector : List ℕ) → sector ≡ closed_gate → IsOpenGate sector → ⊥
 closed sector is opened = omega (arith, ap (λ (list : List ℕ). get_or list 0 0) is, opened)
 
 no_bytes : AreBytes []

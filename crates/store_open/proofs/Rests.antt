@@ -1,8 +1,8 @@
 -- A device that is opened: what a stop leaves while it is brought to rest, and what it then tells.
 use Rattle.std.proofs.Common.{◌≡◌, inl, inr, ℕ, ◌≤◌, Bool, true, false, List, [], Result, Ok, Err, Option, Some, None, OnOk, refl, sym, ◌∙◌, ap, subst, arith}
 use Rattle.byte_lists.specs.Content.{part}
-use Rattle.path_db.specs.Database.{RowView}
-use Rattle.path_db.specs.declared.command.Command.{Command}
+use Rattle.path_rows.specs.Database.{RowView}
+use Rattle.path_rows.specs.declared.command.Command.{Command}
 use Rattle.sector_dev.specs.Disk.{History, Disk, IsHonest, IsWhole, reads_of}
 use Rattle.sector_dev.specs.Image.{IsFromImage}
 use Rattle.sector_dev.specs.Calls.{Keeps, SyncCall}
@@ -24,7 +24,7 @@ use Rattle.ckpt_pair.specs.Heads.{latest}
 use Rattle.store_open.specs.Closing.{IsClosing, IsClosingUnused, HasClosedGates, HasNoGateToClose, synced_by}
 use Rattle.store_open.specs.declared.folded.Folded.{Folded}
 use Rattle.store_open.specs.Folded.{store_on, TellsOnAny}
-use Rattle.store_open.specs.Geometry.{geometry_view}
+use Rattle.image_laws.specs.Geometry.{geometry_view}
 use Rattle.store_open.specs.Open.{OpensAlike, IsOpened, HasNothingToClose}
 use Rattle.store_open.specs.PathStores.{store_format}
 use Rattle.store_open.specs.Store.{StoreView, IsAtRest, IsSound}

@@ -1,8 +1,8 @@
 -- What an image opens with, step by step: each refusal of a step is the opening's.
 use Rattle.std.proofs.Common.{◌≡◌, ◌≢◌, ℕ, Bool, true, false, List, Result, Ok, Err, Option, Some, None, IfOk, refl, sym, ◌∙◌, ap, subst, arith}
 use Rattle.std.specs.Option.{option_map, is_some}
-use Rattle.path_db.specs.Database.{RowView}
-use Rattle.path_db.specs.declared.command.Command.{Command}
+use Rattle.path_rows.specs.Database.{RowView}
+use Rattle.path_rows.specs.declared.command.Command.{Command}
 use Rattle.image_laws.specs.declared.half.Half.{Half}
 use Rattle.image_laws.specs.declared.half.Half.TheVariants.{First, Second}
 use Rattle.image_laws.specs.GroupReading.{JournalRefusal}
@@ -31,9 +31,9 @@ use Rattle.store_open.specs.declared.error.OpenError.{OpenError}
 use Rattle.store_open.specs.declared.error.OpenError.TheVariants.{NotAStore, Device, Pair, Journal, NoMemory}
 use Rattle.store_open.specs.Heads.{HasHeads}
 use Rattle.store_open.specs.Open.{with_tail_seen, OpensSo, RefusesOpening}
-use Rattle.store_open.specs.declared.geometry.Geometry.{Geometry}
+use Rattle.image_laws.specs.declared.geometry.Geometry.{Geometry}
 use Rattle.store_open.specs.declared.opening.Found.{Found}
-use Rattle.store_open.specs.Geometry.{geometry_view}
+use Rattle.image_laws.specs.Geometry.{geometry_view}
 use Rattle.store_open.specs.NewStore.{HasRoomFor}
 use Rattle.store_open.specs.PathStores.{store_format}
 use Rattle.store_open.specs.Refusals.{error_of_pair, faults_after, LooksFor, ScansSo, PairSo, OnOkOrNoMemory}

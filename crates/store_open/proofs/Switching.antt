@@ -3,7 +3,7 @@ use Rattle.std.proofs.Common.{◌≡◌, inl, inr, ℕ, ◌+◌, ◌*◌, ◌/�
 use Rattle.std.proofs.lemmas.Bool.{cases_eq}
 use Rattle.std.proofs.lemmas.List.{length-replicate}
 use Rattle.byte_lists.specs.Content.{overwrite}
-use Rattle.byte_lists.specs.Sectors.{sector_at, IsOpenGate}
+use Rattle.byte_lists.specs.Sectors.{sector_at, IsOpenGate, open_gate}
 use Rattle.image_laws.specs.declared.half.Half.{Half}
 use Rattle.image_laws.specs.Layout.{Geometry, other, area_at, gate_at, area_of, gate_of, journal_of, Area, Journal, InHalf, image_sectors}
 use Rattle.image_laws.specs.StoreFormat.{StoreFormat}
@@ -12,7 +12,6 @@ use Rattle.image_laws.specs.Opening.{Opening, IsOpening, value_of, OpensTo}
 use Rattle.image_laws.specs.TakeOver.{FoldsJournal, taken_over, empty_journal}
 use Rattle.image_laws.specs.Switch.{IsLaid}
 use Rattle.image_laws.proofs.Exports.{half_inside, area_long, writes_leave_others, part_written, written_there, closed_area_may_change, switches_by_the_gate_at_rest, gate_beside, other_twice, halves_differ}
-use Rattle.store_open.specs.NewStore.{open_sector}
 use Rattle.store_open.specs.Closing.{IsClosing, HasClosedGates}
 use Rattle.store_open.specs.TakingOver.{laid, switched, taken, IsTakingOver}
 use Rattle.store_open.proofs.Gates.{gates_inside, first_gate, zero_there, closing_both}
@@ -96,19 +95,19 @@ module _ {Db C : Type 0} (format : StoreFormat Db C) (latest : ℕ) (image : Lis
   switching : (gate : List ℕ) → length gate ≡ 512 → Switches gate
   switching gate long = switches_by_the_gate_at_rest Db C format latest one opening next gate one_opens may.none one_laid one_closed long
 
-  open_long : length open_sector ≡ 512
+  open_long : length open_gate ≡ 512
   open_long = refl
 
   pub same_value : value_of format fresh ≡ value_of format opening
-  same_value = (switching open_sector open_long).2
+  same_value = (switching open_gate open_long).2
 
   two_opens : IsOpening format latest two fresh
-  two_opens = (switching open_sector open_long).0 refl
+  two_opens = (switching open_gate open_long).0 refl
 
   -- the old half is still open, and its gates may be closed
   two_old_open : IsOpenGate (gate_of geometry opening.chosen two)
   two_old_open =
-      subst IsOpenGate (sym (gate_beside geometry one one_opens.half.store.room new open_sector open_long opening.chosen (halves_differ opening.chosen))) one_opens.half.gate
+      subst IsOpenGate (sym (gate_beside geometry one one_opens.half.store.room new open_gate open_long opening.chosen (halves_differ opening.chosen))) one_opens.half.gate
 
   two_long : 512 * (gate_at geometry opening.chosen + 2) ≤ length two
   two_long = omega (arith, gates_inside geometry opening.chosen (omega (arith, may.is.half.store.limits)), two_opens.half.store.room)

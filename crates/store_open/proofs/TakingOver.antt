@@ -10,7 +10,7 @@ use Rattle.sector_dev.proofs.Images.{image_is_reads, every_written}
 use Rattle.sector_dev.proofs.Stretches.{honest_before, stretch_here, stretch_then, stretch_weaker, stretch_write, stretch_sync, stretch_honest}
 use Rattle.image_laws.specs.declared.half.Half.{Half}
 use Rattle.image_laws.specs.Layout.{Geometry, other, area_at, gate_at}
-use Rattle.store_open.specs.NewStore.{open_sector}
+use Rattle.byte_lists.specs.Sectors.{open_gate}
 use Rattle.store_open.specs.TakingOver.{IsTornAt, laid, switched, taken, IsTakingOver}
 
 -- what nothing was written to is torn nowhere
@@ -60,7 +60,7 @@ module _ (geometry : Geometry) (half new : Half) (is_other : new ≡ other half)
       is_laid : IsHonest start → reads_of one ≡ laid geometry half bytes (reads_of start)
       is_laid honest = written honest ∙ ap (λ (n : ℕ). overwrite (512 * n) bytes (reads_of start)) at_area
 
-      module _ (gate : ℕ) (opening : List ℕ) (two : Disk) (gate_place : gate ≡ gate_at geometry new) (is_open : opening ≡ open_sector)
+      module _ (gate : ℕ) (opening : List ℕ) (two : Disk) (gate_place : gate ≡ gate_at geometry new) (is_open : opening ≡ open_gate)
           (torn_gate : Stretch one two (IsTornAt (512 * gate) (length opening) (reads_of one))) where
         at_gate : gate ≡ gate_at geometry (other half)
         at_gate = gate_place ∙ ap (gate_at geometry) is_other

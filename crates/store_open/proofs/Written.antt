@@ -2,7 +2,7 @@
 use Rattle.std.proofs.Common.{◌≡◌, ℕ, ◌+◌, ◌*◌, ◌<◌, ◌≤◌, List, length, take, drop, sym, ◌∙◌, ap, subst, arith, refl, Result, Ok, Err, OnOk}
 use Rattle.std.proofs.lemmas.List.{take-take}
 use Rattle.byte_lists.specs.Content.{part, overwrite}
-use Rattle.byte_lists.specs.Sectors.{whole_sectors, sector_at, padded}
+use Rattle.byte_lists.specs.Sectors.{whole_sectors, sector_at, padded, open_gate, closed_gate}
 use Rattle.byte_lists.proofs.Contents.{length-overwrite, part_below, part_new}
 use Rattle.sector_dev.specs.Disk.{History, Disk, IsHonest, IsWhole, reads_of}
 use Rattle.sector_dev.specs.Calls.{WriteCall, SyncCall}
@@ -13,7 +13,7 @@ use Rattle.sector_dev.proofs.Stretches.{honest_after}
 use Rattle.image_laws.specs.declared.half.Half.TheVariants.{First, Second}
 use Rattle.image_laws.specs.Layout.{Geometry, IsGeometry, image_sectors, area_at, gate_at, journal_at}
 use Rattle.image_laws.specs.FirstSector.{first_sector}
-use Rattle.store_open.specs.NewStore.{first_checkpoint_bytes, open_sector, closed_sector, IsNewStore, IsEmptyStore, HoldsNewStore, HasRoomFor}
+use Rattle.store_open.specs.NewStore.{first_checkpoint_bytes, IsNewStore, IsEmptyStore, HoldsNewStore, HasRoomFor}
 use Rattle.store_open.proofs.NewStores.{empty_store}
 
 -- a sector is written: it has these bytes, and those before it stay as they were
@@ -34,10 +34,10 @@ record HasNewSectors (geometry : Geometry) (content : List ℕ) : Type 0 where
   room : image_sectors geometry ≤ whole_sectors content
   title : sector_at 0 content ≡ first_sector geometry
   begins : sector_at (area_at geometry First) content ≡ padded first_checkpoint_bytes
-  gate : sector_at (gate_at geometry First) content ≡ open_sector
-  journal : sector_at (journal_at geometry First) content ≡ closed_sector
-  second_gate : sector_at (gate_at geometry Second) content ≡ closed_sector
-  second_journal : sector_at (journal_at geometry Second) content ≡ closed_sector
+  gate : sector_at (gate_at geometry First) content ≡ open_gate
+  journal : sector_at (journal_at geometry First) content ≡ closed_gate
+  second_gate : sector_at (gate_at geometry Second) content ≡ closed_gate
+  second_journal : sector_at (journal_at geometry Second) content ≡ closed_gate
 
 -- they make one
 new_store : (geometry : Geometry) (content : List ℕ) → IsGeometry geometry → HasNewSectors geometry content → IsNewStore geometry content
@@ -63,27 +63,27 @@ new_store geometry content limits has = record {
 module _ (geometry : Geometry) (limits : IsGeometry geometry) (r0 r1 r2 r3 r4 r5 r6 : List ℕ) (room : 512 * image_sectors geometry ≤ length r0)
     (is1 : r1 ≡ overwrite (512 * 0) (first_sector geometry) r0)
     (is2 : r2 ≡ overwrite (512 * area_at geometry First) (padded first_checkpoint_bytes) r1)
-    (is3 : r3 ≡ overwrite (512 * gate_at geometry First) open_sector r2)
-    (is4 : r4 ≡ overwrite (512 * journal_at geometry First) closed_sector r3)
-    (is5 : r5 ≡ overwrite (512 * gate_at geometry Second) closed_sector r4)
-    (is6 : r6 ≡ overwrite (512 * journal_at geometry Second) closed_sector r5) where
+    (is3 : r3 ≡ overwrite (512 * gate_at geometry First) open_gate r2)
+    (is4 : r4 ≡ overwrite (512 * journal_at geometry First) closed_gate r3)
+    (is5 : r5 ≡ overwrite (512 * gate_at geometry Second) closed_gate r4)
+    (is6 : r6 ≡ overwrite (512 * journal_at geometry Second) closed_gate r5) where
   put1 : IsPut 0 (first_sector geometry) r0 r1
   put1 = put 0 (first_sector geometry) r0 r1 is1 refl (omega (arith, room))
 
   put2 : IsPut (area_at geometry First) (padded first_checkpoint_bytes) r1 r2
   put2 = put (area_at geometry First) (padded first_checkpoint_bytes) r1 r2 is2 refl (omega (arith, room, put1.long, limits))
 
-  put3 : IsPut (gate_at geometry First) open_sector r2 r3
-  put3 = put (gate_at geometry First) open_sector r2 r3 is3 refl (omega (arith, room, put1.long, put2.long, limits))
+  put3 : IsPut (gate_at geometry First) open_gate r2 r3
+  put3 = put (gate_at geometry First) open_gate r2 r3 is3 refl (omega (arith, room, put1.long, put2.long, limits))
 
-  put4 : IsPut (journal_at geometry First) closed_sector r3 r4
-  put4 = put (journal_at geometry First) closed_sector r3 r4 is4 refl (omega (arith, room, put1.long, put2.long, put3.long, limits))
+  put4 : IsPut (journal_at geometry First) closed_gate r3 r4
+  put4 = put (journal_at geometry First) closed_gate r3 r4 is4 refl (omega (arith, room, put1.long, put2.long, put3.long, limits))
 
-  put5 : IsPut (gate_at geometry Second) closed_sector r4 r5
-  put5 = put (gate_at geometry Second) closed_sector r4 r5 is5 refl (omega (arith, room, put1.long, put2.long, put3.long, put4.long, limits))
+  put5 : IsPut (gate_at geometry Second) closed_gate r4 r5
+  put5 = put (gate_at geometry Second) closed_gate r4 r5 is5 refl (omega (arith, room, put1.long, put2.long, put3.long, put4.long, limits))
 
-  put6 : IsPut (journal_at geometry Second) closed_sector r5 r6
-  put6 = put (journal_at geometry Second) closed_sector r5 r6 is6 refl (omega (arith, room, put1.long, put2.long, put3.long, put4.long, put5.long, limits))
+  put6 : IsPut (journal_at geometry Second) closed_gate r5 r6
+  put6 = put (journal_at geometry Second) closed_gate r5 r6 is6 refl (omega (arith, room, put1.long, put2.long, put3.long, put4.long, put5.long, limits))
 
   -- what stands before the journal's first gate stays from there on
   kept_behind : (sector : ℕ) → sector < journal_at geometry First → sector_at sector r6 ≡ sector_at sector r3
@@ -120,7 +120,7 @@ synced_store E u geometry old new call honest is =
 module _ {T E : Type 0} (geometry : Geometry) (d0 : Disk) (has : HasRoomFor geometry d0) (whole : IsHonest d0 → IsWhole d0)
     (s2 s3 s4 s5 s6 : ℕ) (b1 b2 b3 b4 b5 b6 : List ℕ)
     (at2 : s2 ≡ area_at geometry First) (at3 : s3 ≡ gate_at geometry First) (at4 : s4 ≡ journal_at geometry First) (at5 : s5 ≡ gate_at geometry Second) (at6 : s6 ≡ journal_at geometry Second)
-    (is1 : b1 ≡ first_sector geometry) (is2 : b2 ≡ padded first_checkpoint_bytes) (is3 : b3 ≡ open_sector) (is4 : b4 ≡ closed_sector) (is5 : b5 ≡ closed_sector) (is6 : b6 ≡ closed_sector) where
+    (is1 : b1 ≡ first_sector geometry) (is2 : b2 ≡ padded first_checkpoint_bytes) (is3 : b3 ≡ open_gate) (is4 : b4 ≡ closed_gate) (is5 : b5 ≡ closed_gate) (is6 : b6 ≡ closed_gate) where
   pub laid_out : (u1 u2 u3 u4 u5 u6 : T) (result : Result T E) (d1 d2 d3 d4 d5 d6 d7 : Disk)
       → WriteCall 0 b1 (success E u1) d0 d1 → WriteCall s2 b2 (success E u2) d1 d2 → WriteCall s3 b3 (success E u3) d2 d3
       → WriteCall s4 b4 (success E u4) d3 d4 → WriteCall s5 b5 (success E u5) d4 d5 → WriteCall s6 b6 (success E u6) d5 d6
@@ -139,7 +139,7 @@ module _ {T E : Type 0} (geometry : Geometry) (d0 : Disk) (has : HasRoomFor geom
       (omega (arith, (whole h0).size, has.room))
       (written E u1 0 0 b1 (first_sector geometry) d0 d1 w1 refl is1 h0)
       (written E u2 s2 (area_at geometry First) b2 (padded first_checkpoint_bytes) d1 d2 w2 at2 is2 h1)
-      (written E u3 s3 (gate_at geometry First) b3 open_sector d2 d3 w3 at3 is3 h2)
-      (written E u4 s4 (journal_at geometry First) b4 closed_sector d3 d4 w4 at4 is4 h3)
-      (written E u5 s5 (gate_at geometry Second) b5 closed_sector d4 d5 w5 at5 is5 h4)
-      (written E u6 s6 (journal_at geometry Second) b6 closed_sector d5 d6 w6 at6 is6 h5)))
+      (written E u3 s3 (gate_at geometry First) b3 open_gate d2 d3 w3 at3 is3 h2)
+      (written E u4 s4 (journal_at geometry First) b4 closed_gate d3 d4 w4 at4 is4 h3)
+      (written E u5 s5 (gate_at geometry Second) b5 closed_gate d4 d5 w5 at5 is5 h4)
+      (written E u6 s6 (journal_at geometry Second) b6 closed_gate d5 d6 w6 at6 is6 h5)))

@@ -1,12 +1,12 @@
 -- What a store comes to whose commands were folded.
 use Rattle.std.specs.Prelude.{false, List}
-use Rattle.path_db.specs.Database.{RowView}
-use Rattle.path_db.specs.declared.command.Command.{Command}
+use Rattle.path_rows.specs.Database.{RowView}
+use Rattle.path_rows.specs.declared.command.Command.{Command}
 use Rattle.sector_dev.specs.Disk.{Disk}
 use Rattle.image_laws.specs.Opening.{Opening}
 use Rattle.ckpt_pair.specs.Heads.{head_view}
 use Rattle.store_open.specs.declared.folded.Folded.{Folded}
-use Rattle.store_open.specs.Geometry.{geometry_view}
+use Rattle.image_laws.specs.Geometry.{geometry_view}
 use Rattle.store_open.specs.Store.{StoreView, Tells}
 
 -- the store that it is on a device

@@ -1,8 +1,8 @@
 -- What a store is that was just made, to the byte, and what making one answers.
-use Rattle.std.specs.Prelude.{◌≡◌, ◌++◌, ℕ, ◌*◌, ◌≤◌, ◌<◌, List, [], replicate, ◌∷◌, Result, Ok, Err}
+use Rattle.std.specs.Prelude.{◌≡◌, ◌++◌, ℕ, ◌*◌, ◌≤◌, ◌<◌, List, [], Result, Ok, Err}
 use Rattle.std.specs.Int.{w32, to_be_bytes}
 use Rattle.byte_lists.specs.Content.{part}
-use Rattle.byte_lists.specs.Sectors.{sector_at, padded}
+use Rattle.byte_lists.specs.Sectors.{sector_at, padded, open_gate, closed_gate}
 use Rattle.sector_dev.specs.Disk.{Disk, IsHonest, reads_of}
 use Rattle.sector_dev.specs.Image.{EveryImage}
 use Rattle.sector_dev.specs.Calls.{one_more}
@@ -25,23 +25,16 @@ first_head = record { version = latest; epoch = 1; place = 0 }
 abbrev pub first_checkpoint_bytes : List ℕ
 first_checkpoint_bytes = head_encoding first_head ++ (to_be_bytes w32 0 ++ to_be_bytes w32 0)
 
--- gates as they are written
-abbrev pub open_sector : List ℕ
-open_sector = 0xA7 ∷ replicate 511 0
-
-abbrev pub closed_sector : List ℕ
-closed_sector = replicate 512 0
-
 -- A new store: the first half is open, with no rows, and its journal's first gate is closed; both of the second half are closed.
 -- Each of these sectors is as it was written, with zeros behind what counts in it.
 pub record IsNewStore (geometry : Geometry) (image : List ℕ) : Type 0 where
   pub store : IsStore geometry image
   pub title : sector_at 0 image ≡ first_sector geometry
   pub begins : sector_at 0 (area_of geometry First image) ≡ padded first_checkpoint_bytes
-  pub gate : gate_of geometry First image ≡ open_sector
-  pub journal : sector_at 0 (journal_of geometry First image) ≡ closed_sector
-  pub second_gate : gate_of geometry Second image ≡ closed_sector
-  pub second_journal : sector_at 0 (journal_of geometry Second image) ≡ closed_sector
+  pub gate : gate_of geometry First image ≡ open_gate
+  pub journal : sector_at 0 (journal_of geometry First image) ≡ closed_gate
+  pub second_gate : gate_of geometry Second image ≡ closed_gate
+  pub second_journal : sector_at 0 (journal_of geometry Second image) ≡ closed_gate
 
 -- In any format of databases and commands it is a formatted store.
 abbrev pub IsFormattedInAny : Type 0 → Type 0 → Type 0

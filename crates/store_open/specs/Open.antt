@@ -1,8 +1,8 @@
 -- What opening a device answers: by what is read of it, and what it leaves.
 use Rattle.std.specs.Prelude.{◌≡◌, ◌≢◌, ◌⊎◌, ℕ, ◌*◌, List, Result, Ok, Err, IsOk, Option, Some}
 use Rattle.std.specs.Option.{option_map}
-use Rattle.path_db.specs.Database.{RowView}
-use Rattle.path_db.specs.declared.command.Command.{Command}
+use Rattle.path_rows.specs.Database.{RowView}
+use Rattle.path_rows.specs.declared.command.Command.{Command}
 use Rattle.sector_dev.specs.Disk.{History, Disk, IsHonest, reads_of, after_sync}
 use Rattle.image_laws.specs.declared.half.Half.{Half}
 use Rattle.image_laws.specs.GroupReading.{JournalRefusal}
@@ -25,7 +25,7 @@ use Rattle.store_open.specs.declared.opening.Found.{Found}
 use Rattle.store_open.specs.declared.error.OpenError.{OpenError}
 use Rattle.store_open.specs.declared.error.OpenError.TheVariants.{NotAStore, Device, Pair, Journal, NoMemory}
 use Rattle.store_open.specs.Closing.{HasNoGateToClose}
-use Rattle.store_open.specs.Geometry.{geometry_view}
+use Rattle.image_laws.specs.Geometry.{geometry_view}
 use Rattle.store_open.specs.Heads.{choice_by_heads}
 use Rattle.store_open.specs.NewStore.{SameBehind}
 use Rattle.store_open.specs.PathStores.{store_format}

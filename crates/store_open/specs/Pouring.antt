@@ -1,7 +1,7 @@
 -- How a checkpoint is laid piece by piece.
 use Rattle.std.specs.Prelude.{◌≡◌, ℕ, ◌+◌, ◌*◌, List, [], ◌++◌, length, Option, Some, None}
 use Rattle.byte_lists.specs.Content.{overwrite}
-use Rattle.path_db.specs.Database.{RowView}
+use Rattle.path_rows.specs.Database.{RowView}
 use Rattle.path_db.specs.RowRecord.{row_record}
 use Rattle.sector_dev.specs.Disk.{Disk, IsHonest, reads_of}
 

@@ -1,7 +1,7 @@
 -- What contracts see of a store that was opened, and what its device holds.
 use Rattle.std.specs.Prelude.{◌≡◌, ℕ, ◌+◌, ◌*◌, ◌^◌, ◌-◌, ◌<◌, ◌≤◌, min, Bool, true, false, List, [], Result, Ok, Err}
-use Rattle.path_db.specs.Database.{RowView, rows_len}
-use Rattle.path_db.specs.declared.command.Command.{Command}
+use Rattle.path_rows.specs.Database.{RowView, rows_len}
+use Rattle.path_rows.specs.declared.command.Command.{Command}
 use Rattle.sector_dev.specs.Disk.{Disk, IsHonest}
 use Rattle.sector_dev.specs.Image.{EveryImage}
 use Rattle.sector_dev.specs.Calls.{one_more}

@@ -1,6 +1,6 @@
 -- What holds of a store whatever its device does.
 use Rattle.std.specs.Prelude.{◌≡◌, ℕ, ◌+◌, ◌≤◌, true, false}
-use Rattle.path_db.specs.Database.{IsDatabase}
+use Rattle.path_rows.specs.Database.{IsDatabase}
 use Rattle.sector_dev.specs.Disk.{IsHonest}
 use Rattle.ckpt_pair.specs.Heads.{latest}
 use Rattle.store_open.specs.NewStore.{HasRoomFor}

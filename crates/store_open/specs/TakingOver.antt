@@ -3,7 +3,7 @@ use Rattle.std.specs.Prelude.{◌≡◌, ◌⊎◌, ℕ, ◌*◌, List, length, 
 use Rattle.byte_lists.specs.Content.{overwrite}
 use Rattle.image_laws.specs.declared.half.Half.{Half}
 use Rattle.image_laws.specs.Layout.{Geometry, other, area_at, gate_at}
-use Rattle.store_open.specs.NewStore.{open_sector}
+use Rattle.byte_lists.specs.Sectors.{open_gate}
 
 -- the content is the old one, but for any n bytes at an offset
 pub record IsTornAt (at n : ℕ) (old content : List ℕ) : Type 0 where
@@ -17,7 +17,7 @@ abbrev pub laid : Geometry → Half → List ℕ → List ℕ → List ℕ
 laid geometry half bytes image = overwrite (512 * area_at geometry (other half)) bytes image
 
 abbrev pub switched : Geometry → Half → List ℕ → List ℕ → List ℕ
-switched geometry half bytes image = overwrite (512 * gate_at geometry (other half)) open_sector (laid geometry half bytes image)
+switched geometry half bytes image = overwrite (512 * gate_at geometry (other half)) open_gate (laid geometry half bytes image)
 
 abbrev pub taken : Geometry → Half → List ℕ → List ℕ → List ℕ
 taken geometry half bytes image = overwrite (512 * gate_at geometry half) (replicate 1024 0) (switched geometry half bytes image)

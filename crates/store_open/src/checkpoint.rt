@@ -10,12 +10,9 @@ use crate::laying::BUFFER;
 use crate::store::Store;
 use crate::store_error::StoreError;
 use crate::taking_over::take_over;
-use ckpt_pair::{Head, LATEST, checkpoint_head};
+use ckpt_pair::{BEFORE_ROWS, Head, LATEST, checkpoint_head};
 use path_db::written_rows_are_counted;
 use sector_dev::{Device, SECTOR};
-
-/// The bytes of a checkpoint before its rows.
-const BEFORE_ROWS: u64 = 32;
 
 impl<D: Device> Store<D> {
     /// Writes all rows to the other half, with the next epoch, in the version that is written, piece by piece; syncs, opens that
@@ -76,7 +73,7 @@ impl<D: Device> Store<D> {
             return Err(StoreError::Exhausted);
         }
         if self.db.encoded_len()
-            > SECTOR as u64 * u64::from(self.geometry.checkpoint) - BEFORE_ROWS
+            > SECTOR as u64 * u64::from(self.geometry.checkpoint) - BEFORE_ROWS as u64
         {
             return Err(StoreError::Unfit);
         }

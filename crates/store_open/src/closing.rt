@@ -6,15 +6,14 @@ ghost use Rattle.sector_dev.specs.Disk.{IsHonest, reads_of};
 ghost use Rattle.sector_dev.specs.Calls.{count_after};
 ghost use Rattle.sector_dev.specs.Stretch.{Stretch};
 ghost use Rattle.image_laws.specs.Layout.{IsGeometry, image_sectors, other};
-ghost use Rattle.store_open.specs.Geometry.{geometry_view};
+ghost use Rattle.image_laws.specs.Geometry.{geometry_view};
 ghost use Rattle.store_open.specs.Looking.{LooksAt};
 ghost use Rattle.store_open.specs.NewStore.{HasRoomFor};
 ghost use Rattle.store_open.specs.Closing.{IsClosing, IsClosingUnused, HasClosedGates, HasNoGateToClose, synced_by};
 
-use crate::Geometry;
 use crate::reading::read_sector;
 use byte_lists::is_open;
-use image_laws::Half;
+use image_laws::{Geometry, Half};
 use sector_dev::{DevError, Device, SECTOR};
 
 /// Closes what of a half's two gates reads open: both in one write where the half gate does, and else the journal's first gate

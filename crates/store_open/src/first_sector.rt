@@ -9,12 +9,12 @@ ghost use Rattle.sector_dev.specs.Disk.{IsHonest, reads_of};
 ghost use Rattle.sector_dev.specs.Calls.{Keeps, count_after};
 ghost use Rattle.image_laws.specs.FirstSector.{store_magic, layout_number, geometry_in};
 ghost use Rattle.image_laws.specs.Layout.{IsGeometry, image_sectors};
-ghost use Rattle.store_open.specs.Geometry.{geometry_view};
+ghost use Rattle.image_laws.specs.Geometry.{geometry_view};
 ghost use Rattle.store_open.specs.NewStore.{HasRoomFor};
 
-use crate::Geometry;
 use crate::sectors::{LAYOUT, STORE_MAGIC};
 use byte_lists::{read_u32, read_u64};
+use image_laws::Geometry;
 use sector_dev::{DevError, Device, SECTOR};
 
 /// The sizes of the store on a device, in sector 0: none where what reads give is no store. The device stays as it is.

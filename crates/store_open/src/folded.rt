@@ -1,16 +1,15 @@
 //! What a store comes to whose commands are folded.
 
 ghost use Rattle.std.specs.Prelude.{◌↔◌, IfOk, IsTrue};
-ghost use Rattle.path_db.specs.Database.{IsDatabase};
+ghost use Rattle.path_rows.specs.Database.{IsDatabase};
 ghost use Rattle.store_open.specs.Folded.{TellsOnAny};
 ghost use Rattle.store_open.specs.Open.{opening_view};
 ghost use Rattle.store_open.specs.StoreShape.{IsWithin};
 
-use crate::Geometry;
 use crate::folding::fold;
 use crate::opening::Found;
 use ckpt_pair::{Checkpoint, Head, LATEST};
-use image_laws::Half;
+use image_laws::{Geometry, Half};
 use path_db::PathDb;
 use std::alloc::AllocError;
 

@@ -6,16 +6,15 @@ ghost use Rattle.image_laws.specs.Layout.{IsGeometry, image_sectors};
 ghost use Rattle.image_laws.specs.OpeningReading.{head_of};
 ghost use Rattle.ckpt_pair.specs.Heads.{latest, head_seen};
 ghost use Rattle.store_open.specs.declared.error.OpenError.TheVariants.{NoMemory};
-ghost use Rattle.store_open.specs.Geometry.{geometry_view};
+ghost use Rattle.image_laws.specs.Geometry.{geometry_view};
 ghost use Rattle.store_open.specs.Refusals.{LooksFor, PairSo};
 ghost use Rattle.store_open.specs.Heads.{chosen_half, choice_by_heads, HasHeads};
 
-use crate::Geometry;
 use crate::error::OpenError;
 use crate::reading::read_sector;
 use byte_lists::is_open;
 use ckpt_pair::{Head, Heads, choose, read_head};
-use image_laws::Half;
+use image_laws::{Geometry, Half};
 use sector_dev::Device;
 
 /// The head of a half: none where its gate reads closed, and then its area isn't read. It takes no memory.

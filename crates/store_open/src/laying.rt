@@ -4,7 +4,7 @@ ghost use Rattle.std.specs.Prelude.{◌≡◌, ◌≤◌, ◌<◌, ◌+◌, ◌-
 ghost use Rattle.std.specs.Option.{option_map, ForSome};
 ghost use Rattle.byte_lists.specs.Content.{overwrite};
 ghost use Rattle.byte_lists.specs.Sectors.{padded};
-ghost use Rattle.path_db.specs.Row.{row_view};
+ghost use Rattle.path_rows.specs.Row.{row_view};
 ghost use Rattle.path_db.specs.RowRecord.{row_record, rows_encoding};
 ghost use Rattle.sector_dev.specs.Disk.{IsHonest, reads_of};
 ghost use Rattle.sector_dev.specs.Calls.{WriteCall, count_after};
@@ -16,7 +16,8 @@ ghost use Rattle.store_open.specs.declared.laying.TheConstants.{BUFFER, PIECE};
 
 use crate::sectors::put;
 use byte_lists::sector_count;
-use path_db::{PathDb, Row, Rows, row_head};
+use ckpt_pair::BEFORE_ROWS;
+use path_db::{PathDb, ROW_HEAD, Row, Rows, row_head};
 use sector_dev::{DevError, Device, SECTOR};
 
 /// The bytes that are written at once.
@@ -27,12 +28,6 @@ const PIECE_SECTORS: u64 = 256;
 
 /// The bytes of the buffer: those of a piece, and of the seven greatest rows, in whole sectors.
 pub(crate) const BUFFER: usize = 246_272;
-
-/// The bytes of a checkpoint before its rows.
-const BEFORE_ROWS: usize = 32;
-
-/// The bytes of a row before its segment.
-const ROW_HEAD: usize = 5;
 
 /// Writes what a checkpoint begins with and its rows from a sector on, filled with zeros to whole sectors, piece by piece from one
 /// buffer; then syncs. Nothing may be dirty.

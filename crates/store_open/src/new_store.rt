@@ -6,12 +6,12 @@ ghost use Rattle.sector_dev.specs.Calls.{Keeps, count_after};
 ghost use Rattle.sector_dev.specs.Image.{IsFromImage};
 ghost use Rattle.sector_dev.specs.Stretch.{Stretch};
 ghost use Rattle.image_laws.specs.Layout.{IsGeometry, image_sectors};
-ghost use Rattle.store_open.specs.Geometry.{geometry_view};
+ghost use Rattle.image_laws.specs.Geometry.{geometry_view};
 ghost use Rattle.store_open.specs.NewStore.{Formats, HoldsNewStore, HasRoomFor, SameBehind};
 
-use crate::Geometry;
-use crate::sectors::{closed_gate, first_checkpoint, first_sector, open_gate};
-use image_laws::Half;
+use crate::sectors::{first_checkpoint, first_sector};
+use byte_lists::{closed_gate, open_gate};
+use image_laws::{Geometry, Half};
 use sector_dev::{DevError, Device};
 use thiserror::Error;
 

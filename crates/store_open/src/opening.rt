@@ -1,7 +1,7 @@
 //! What is found on a device that is to be opened.
 
 ghost use Rattle.std.specs.Prelude.{◌≡◌, None, Ok, IfOk};
-ghost use Rattle.path_db.specs.Database.{IsDatabase};
+ghost use Rattle.path_rows.specs.Database.{IsDatabase};
 ghost use Rattle.sector_dev.specs.Disk.{IsHonest, reads_of};
 ghost use Rattle.byte_lists.specs.Sectors.{is_open_gate};
 ghost use Rattle.image_laws.specs.Layout.{other, gate_of};
@@ -11,14 +11,13 @@ ghost use Rattle.ckpt_pair.specs.Reading.{checkpoint_view};
 ghost use Rattle.gate_journal.specs.Scanning.{reading_of};
 ghost use Rattle.std.specs.Option.{option_map, IfSome};
 ghost use Rattle.image_laws.specs.FirstSector.{geometry_in};
-ghost use Rattle.store_open.specs.Geometry.{geometry_view};
+ghost use Rattle.image_laws.specs.Geometry.{geometry_view};
 ghost use Rattle.store_open.specs.Heads.{choice_by_heads, HasHeads};
 ghost use Rattle.store_open.specs.NewStore.{HasRoomFor};
 ghost use Rattle.store_open.specs.Open.{opening_view, with_tail_seen, OpensSo, HasFront, WantsMemoryToOpen};
 ghost use Rattle.store_open.specs.PathStores.{store_format};
 ghost use Rattle.store_open.specs.Refusals.{LooksFor, OnOkOrNoMemory};
 
-use crate::Geometry;
 use crate::error::OpenError;
 use crate::first_sector::read_geometry;
 use crate::heads::{Choice, choose_half};
@@ -26,7 +25,7 @@ use crate::rows::read_checkpoint;
 use crate::scanning::scan_journal;
 use ckpt_pair::{Checkpoint, PairError, tail_half};
 use gate_journal::Scan;
-use image_laws::Half;
+use image_laws::{Geometry, Half};
 use sector_dev::Device;
 use std::alloc::Global;
 

@@ -3,33 +3,30 @@
 ghost use Rattle.std.specs.Prelude.{◌≡◌, ◌+◌, ◌*◌, ◌≤◌, IfOk, IsOk};
 ghost use Rattle.byte_lists.specs.Content.{part};
 ghost use Rattle.sector_dev.specs.Disk.{IsHonest, reads_of};
-ghost use Rattle.path_db.specs.Database.{IsDatabase};
+ghost use Rattle.path_rows.specs.Database.{IsDatabase};
 ghost use Rattle.image_laws.specs.CheckpointReading.{checkpoint_in};
 ghost use Rattle.image_laws.specs.Layout.{IsGeometry, image_sectors, area_of};
 ghost use Rattle.ckpt_pair.specs.Heads.{latest};
 ghost use Rattle.ckpt_pair.specs.Reading.{checkpoint_view, front_in};
 ghost use Rattle.ckpt_pair.specs.Rows.{rows_format};
-ghost use Rattle.store_open.specs.Geometry.{geometry_view};
+ghost use Rattle.image_laws.specs.Geometry.{geometry_view};
 ghost use Rattle.store_open.specs.Refusals.{LooksFor, PairSo, OnOkOrNoMemory};
 ghost use Rattle.store_open.specs.Rows.{FeedsSo};
 
-use crate::Geometry;
 use crate::error::OpenError;
 use crate::reading::read_sector;
 use crate::scanning::read_piece;
 use ckpt_pair::{
-    Checkpoint, checkpoints_are_read_by_their_fronts, feed_rows, finish_rows, read_front,
+    BEFORE_ROWS, Checkpoint, checkpoints_are_read_by_their_fronts, feed_rows, finish_rows,
+    read_front,
 };
-use image_laws::Half;
+use image_laws::{Geometry, Half};
 use path_db::RowsReader;
 use sector_dev::Device;
 use std::alloc::Global;
 
 /// The most sectors that are read at a time: 1 MiB.
 const PIECE: u64 = 2048;
-
-/// The bytes before the rows of a checkpoint.
-const BEFORE_ROWS: u64 = 32;
 
 /// Reads the rows of the area that begins at a sector, which have so many bytes, in pieces of at most 1 MiB.
 pub(crate) fn feed_area<D: Device>(
@@ -42,10 +39,10 @@ pub(crate) fn feed_area<D: Device>(
     ensures looks { LooksFor result (D.disk device.old) (D.disk device.new) }
     ensures rows { IsHonest (D.disk device.old) → FeedsSo (part (512 * area + 32) size (reads_of (D.disk device.old))) result }
 {
-    let end = BEFORE_ROWS + u64::from(size);
+    let end = BEFORE_ROWS as u64 + u64::from(size);
     let sectors = (end + 511) / 512;
     let mut reader = RowsReader::new(alloc);
-    let mut fed = BEFORE_ROWS;
+    let mut fed = BEFORE_ROWS as u64;
     'pieces: while fed < end {
         let first = fed / 512;
         let count = (sectors - first).min(PIECE);

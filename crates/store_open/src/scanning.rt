@@ -8,13 +8,12 @@ ghost use Rattle.image_laws.specs.JournalReading.{journal_scan};
 ghost use Rattle.image_laws.specs.Layout.{IsGeometry, image_sectors, journal_of};
 ghost use Rattle.gate_journal.specs.Commands.{command_format};
 ghost use Rattle.store_open.specs.declared.error.OpenError.TheVariants.{Device as IsDevice, NoMemory};
-ghost use Rattle.store_open.specs.Geometry.{geometry_view};
+ghost use Rattle.image_laws.specs.Geometry.{geometry_view};
 ghost use Rattle.store_open.specs.Refusals.{LooksFor, ScansSo};
 
-use crate::Geometry;
 use crate::error::OpenError;
 use gate_journal::{Progress, Scan, Scanner};
-use image_laws::Half;
+use image_laws::{Geometry, Half};
 use sector_dev::{Device, SECTOR};
 use std::alloc::Global;
 

@@ -1,20 +1,19 @@
 //! Reading a half whose journal a seal ends.
 
 ghost use Rattle.std.specs.Prelude.{◌≡◌, ◌≤◌, IfOk};
-ghost use Rattle.path_db.specs.Database.{IsDatabase};
+ghost use Rattle.path_rows.specs.Database.{IsDatabase};
 ghost use Rattle.sector_dev.specs.Disk.{IsHonest, reads_of};
 ghost use Rattle.image_laws.specs.Layout.{IsGeometry, image_sectors};
 ghost use Rattle.store_open.specs.declared.sealed.SealedError.TheVariants.{NoMemory as IsNoMemory};
-ghost use Rattle.store_open.specs.Geometry.{geometry_view};
+ghost use Rattle.image_laws.specs.Geometry.{geometry_view};
 ghost use Rattle.store_open.specs.Sealed.{LooksAtHalf, ReadsSealed, sealed_half, sealed_error_of};
 
-use crate::Geometry;
 use crate::error::OpenError;
 use crate::folding::fold;
 use crate::rows::read_checkpoint;
 use crate::scanning::scan_journal;
 use ckpt_pair::Head;
-use image_laws::Half;
+use image_laws::{Geometry, Half};
 use path_db::PathDb;
 use sector_dev::Device;
 use std::alloc::{AllocError, Global};

@@ -4,10 +4,11 @@ ghost use Rattle.std.specs.Prelude.{◌≡◌, ◌+◌, ◌≤◌, length};
 ghost use Rattle.byte_lists.specs.Content.{overwrite};
 ghost use Rattle.byte_lists.specs.Sectors.{padded};
 ghost use Rattle.image_laws.specs.FirstSector as laws;
-ghost use Rattle.store_open.specs.Geometry.{geometry_view};
+ghost use Rattle.image_laws.specs.Geometry.{geometry_view};
 ghost use Rattle.store_open.specs.NewStore as written;
 
-use crate::Geometry;
+use ckpt_pair::{CHECKPOINT_MAGIC, LATEST};
+use image_laws::Geometry;
 use sector_dev::SECTOR;
 
 /// The eight letters SCPATHDB, as one number.
@@ -15,12 +16,6 @@ pub(crate) const STORE_MAGIC: u64 = 0x5343504154484442;
 
 /// The number of the layout.
 pub(crate) const LAYOUT: u32 = 1;
-
-/// The four letters PCKP, as one number.
-const CHECKPOINT_MAGIC: u32 = 0x50434b50;
-
-/// The version of the format in which a store is made.
-const LATEST: u32 = 2;
 
 /// Sector 0: the name and the number of the layout, and the sizes, big-endian.
 pub(crate) fn first_sector(geometry: Geometry) -> [u8; 512]
@@ -51,20 +46,4 @@ pub(crate) fn first_checkpoint() -> [u8; 512]
     sector[4..8].copy_from_slice(&LATEST.to_be_bytes());
     sector[15] = 1;
     sector
-}
-
-/// A sector that opens a gate.
-pub(crate) fn open_gate() -> [u8; 512]
-    ensures { result ≡ written.open_sector }
-{
-    let mut sector = [0; SECTOR];
-    sector[0] = 0xa7;
-    sector
-}
-
-/// A sector that closes one.
-pub(crate) fn closed_gate() -> [u8; 512]
-    ensures { result ≡ written.closed_sector }
-{
-    [0; SECTOR]
 }

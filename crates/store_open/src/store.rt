@@ -1,14 +1,13 @@
 //! Stores that were opened.
 
 ghost use Rattle.std.specs.Prelude.{◌≡◌};
-ghost use Rattle.path_db.specs.Database.{IsDatabase};
-ghost use Rattle.store_open.specs.Geometry.{geometry_view};
+ghost use Rattle.path_rows.specs.Database.{IsDatabase};
+ghost use Rattle.image_laws.specs.Geometry.{geometry_view};
 ghost use Rattle.store_open.specs.Store.{half_of_tail};
 ghost use Rattle.store_open.specs.StoreShape.{IsStoreWhole};
 
-use crate::Geometry;
 use ckpt_pair::Head;
-use image_laws::Half;
+use image_laws::{Geometry, Half};
 use path_db::PathDb;
 use sector_dev::Device;
 use std::alloc::Global;
@@ -31,7 +30,7 @@ pub struct Store<D: Device> {
 
 impl<D: Device> Model for Store<D> {
     ghost use Rattle.ckpt_pair.specs.Heads.{head_view};
-    ghost use Rattle.store_open.specs.Geometry.{geometry_view};
+    ghost use Rattle.image_laws.specs.Geometry.{geometry_view};
     ghost use Rattle.store_open.specs.Store.{StoreView};
     ghost use Rattle.store_open.specs.StoreShape.{IsStoreWhole};
 

@@ -8,14 +8,13 @@ ghost use Rattle.sector_dev.specs.Disk.{IsHonest, reads_of};
 ghost use Rattle.sector_dev.specs.Calls.{Keeps, count_after};
 ghost use Rattle.sector_dev.specs.Stretch.{Stretch};
 ghost use Rattle.image_laws.specs.Layout.{IsGeometry, image_sectors};
-ghost use Rattle.store_open.specs.Geometry.{geometry_view};
+ghost use Rattle.image_laws.specs.Geometry.{geometry_view};
 ghost use Rattle.store_open.specs.declared.laying.TheConstants.{BUFFER};
 ghost use Rattle.store_open.specs.TakingOver.{IsTornAt, IsTakingOver, taken};
 
-use crate::Geometry;
 use crate::laying::lay;
-use crate::sectors::open_gate;
-use image_laws::Half;
+use byte_lists::open_gate;
+use image_laws::{Geometry, Half};
 use path_db::PathDb;
 use sector_dev::{DevError, Device, SECTOR};
 

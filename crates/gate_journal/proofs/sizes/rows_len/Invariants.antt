@@ -1,5 +1,5 @@
 use Rattle.std.proofs.Common.{◌≡◌, ◌+◌, ◌*◌, ◌≤◌, take}
-use Rattle.path_db.specs.Database.{AreWhole}
+use Rattle.path_rows.specs.Database.{AreWhole}
 use Rattle.path_db.specs.CommandRecord.{segments_len}
 use Rattle.gate_journal.proofs.sizes.rows_len.Given as goal
 

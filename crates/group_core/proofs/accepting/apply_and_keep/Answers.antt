@@ -1,7 +1,7 @@
 use Rattle.std.proofs.Common.{◌∙◌, ap}
 use Rattle.std.specs.Ordering.{nat_cmp}
 use Rattle.std.specs.BTreeMap.{insert_entry}
-use Rattle.path_db.specs.declared.outcome.Outcome.{Outcome}
+use Rattle.path_rows.specs.declared.outcome.Outcome.{Outcome}
 use Rattle.group_core.proofs.Keeping.{put_over}
 use Rattle.group_core.proofs.accepting.apply_and_keep.Goals as goal
 

@@ -1,7 +1,7 @@
 use Rattle.std.proofs.Common.{◌≡◌, ℕ, Result, Err, Vec, Global, sym, ◌∙◌, ap, subst, arith}
 use Rattle.std.proofs.lemmas.Result.{err_from_is_err_and}
 use Rattle.sector_dev.specs.Disk.{reads_of}
-use Rattle.store_open.specs.Geometry.{geometry_view}
+use Rattle.image_laws.specs.Geometry.{geometry_view}
 use Rattle.store_open.specs.Sealed.{sealed_half, sealed_view}
 use Rattle.store_open.specs.declared.sealed.SealedError.{SealedError}
 use Rattle.group_core.specs.Beginning.{EncodesSealed}

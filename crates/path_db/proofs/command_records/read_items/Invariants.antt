@@ -1,5 +1,5 @@
 use Rattle.std.proofs.Common.{◌≡◌, ◌-◌, ◌<◌}
-use Rattle.path_db.specs.Database.{AreWhole}
+use Rattle.path_rows.specs.Database.{AreWhole}
 use Rattle.path_db.specs.RowRecord.{HasOutline}
 use Rattle.path_db.specs.CommandRecord.{items_decoding}
 use Rattle.path_db.proofs.Records.{items_behind}

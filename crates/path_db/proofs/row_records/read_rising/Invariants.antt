@@ -1,6 +1,6 @@
 use Rattle.std.proofs.Common.{◌≡◌, length, ◌⊎◌}
-use Rattle.path_db.specs.Database.{AreWhole}
-use Rattle.path_db.specs.Row.{row_views}
+use Rattle.path_rows.specs.Database.{AreWhole}
+use Rattle.path_rows.specs.Row.{row_views}
 use Rattle.path_db.specs.RowRecord.{rows_decoding, HasOutline}
 use Rattle.path_db.proofs.RowsRead.{rows_behind}
 use Rattle.path_db.proofs.row_records.read_rising.Given as goal

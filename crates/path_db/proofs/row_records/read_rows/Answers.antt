@@ -1,6 +1,6 @@
 use Rattle.std.proofs.Common.{rules, ◌<◌, length, arith}
 use Rattle.std.proofs.lemmas.List.{length-map}
-use Rattle.path_db.specs.Row.{row_view, row_views}
+use Rattle.path_rows.specs.Row.{row_view, row_views}
 use Rattle.path_db.proofs.Outlined.{some_outlined}
 use Rattle.path_db.proofs.RowsBack.{rows_read}
 use Rattle.path_db.proofs.row_records.read_rows.Goals as goal

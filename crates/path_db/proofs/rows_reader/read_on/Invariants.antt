@@ -1,6 +1,6 @@
 use Rattle.std.proofs.Common.{◌≡◌, ◌≤◌, ◌-◌, ◌++◌, length, drop}
-use Rattle.path_db.specs.Database.{IsDatabase}
-use Rattle.path_db.specs.Row.{row_views}
+use Rattle.path_rows.specs.Database.{IsDatabase}
+use Rattle.path_rows.specs.Row.{row_views}
 use Rattle.path_db.specs.RowRecord.{rows_encoding}
 use Rattle.path_db.proofs.rows_reader.read_on.Given as goal
 

@@ -1,5 +1,5 @@
 use Rattle.std.proofs.Common.{string_bytes}
-use Rattle.store_open.specs.Geometry.{geometry_view}
+use Rattle.image_laws.specs.Geometry.{geometry_view}
 use Rattle.store_commands.proofs.Drawn.{begins}
 use Rattle.store_commands.proofs.drawing.drawing.Goals as goal
 

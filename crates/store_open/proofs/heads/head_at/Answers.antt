@@ -7,7 +7,7 @@ use Rattle.image_laws.specs.OpeningReading.{head_of}
 use Rattle.ckpt_pair.specs.declared.head.Head.{Head}
 use Rattle.ckpt_pair.specs.Heads.{latest, head_seen}
 use Rattle.ckpt_pair.specs.Refusals.{Reads}
-use Rattle.store_open.specs.Geometry.{geometry_view}
+use Rattle.image_laws.specs.Geometry.{geometry_view}
 use Rattle.store_open.specs.declared.error.OpenError.{OpenError}
 use Rattle.store_open.specs.Refusals.{error_of_pair, PairSo}
 use Rattle.store_open.proofs.Fronts.{head_told, pair_told, pair_refused}

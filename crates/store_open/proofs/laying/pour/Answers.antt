@@ -1,7 +1,7 @@
 -- Nothing is written at first, and each piece goes on.
 use Rattle.std.proofs.Common.{rules, ◌≡◌, ◌∷◌, ◌++◌, take, ◌∙◌, arith}
 use Rattle.std.proofs.lemmas.List.{length-take-le}
-use Rattle.path_db.specs.Row.{row_view}
+use Rattle.path_rows.specs.Row.{row_view}
 use Rattle.path_db.specs.RowRecord.{rows_encoding}
 use Rattle.store_open.proofs.Pouring.{torn_here, torn_on, poured_none, row_more, poured_piece}
 use Rattle.store_open.proofs.laying.pour.Goals as goal

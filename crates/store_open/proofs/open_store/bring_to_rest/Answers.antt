@@ -6,7 +6,7 @@ use Rattle.sector_dev.specs.Calls.{one_more}
 use Rattle.sector_dev.proofs.Stretches.{honest_before, honest_after}
 use Rattle.image_laws.specs.Layout as laws
 use Rattle.store_open.specs.Closing.{synced_by}
-use Rattle.store_open.specs.Geometry.{geometry_view}
+use Rattle.image_laws.specs.Geometry.{geometry_view}
 use Rattle.store_open.specs.NewStore.{HasRoomFor}
 use Rattle.store_open.specs.Open.{opening_view, OpensAlike}
 use Rattle.store_open.specs.declared.folded.Folded.{Folded}

@@ -2,8 +2,8 @@
 use Rattle.std.proofs.Common.{◌≡◌, refl, sym, ◌∙◌, ap, subst, Result, Ok, Err, None}
 use Rattle.std.proofs.lemmas.Result.{err_from_is_err_and}
 use Rattle.byte_lists.specs.Sectors.{is_open_gate}
-use Rattle.path_db.specs.Database.{RowView}
-use Rattle.path_db.specs.declared.command.Command.{Command}
+use Rattle.path_rows.specs.Database.{RowView}
+use Rattle.path_rows.specs.declared.command.Command.{Command}
 use Rattle.sector_dev.specs.Disk.{History, reads_of}
 use Rattle.sector_dev.proofs.Stretches.{honest_after, honest_before}
 use Rattle.image_laws.specs.GroupReading.{JournalRefusal}
@@ -13,7 +13,7 @@ use Rattle.image_laws.specs.Opening.{Opening}
 use Rattle.image_laws.specs.OpeningReading.{by_checkpoint, by_journal, behind_journal, journal_from}
 use Rattle.gate_journal.specs.Scanning.{reading_of}
 use Rattle.ckpt_pair.specs.Reading.{checkpoint_view}
-use Rattle.store_open.specs.Geometry.{geometry_view}
+use Rattle.image_laws.specs.Geometry.{geometry_view}
 use Rattle.store_open.specs.Heads.{HasHeads}
 use Rattle.store_open.specs.PathStores.{store_format}
 use Rattle.store_open.specs.Open.{opening_view, with_tail_seen, OpensSo, RefusesOpening}

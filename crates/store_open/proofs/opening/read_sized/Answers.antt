@@ -4,8 +4,8 @@ use Rattle.std.specs.Option.{option_map, IfSome}
 use Rattle.sector_dev.specs.Disk.{reads_of}
 use Rattle.image_laws.specs.OpeningReading.{by_geometry}
 use Rattle.ckpt_pair.specs.Heads.{latest}
-use Rattle.store_open.specs.declared.geometry.Geometry.{Geometry}
-use Rattle.store_open.specs.Geometry.{geometry_view}
+use Rattle.image_laws.specs.declared.geometry.Geometry.{Geometry}
+use Rattle.image_laws.specs.Geometry.{geometry_view}
 use Rattle.store_open.specs.NewStore.{HasRoomFor}
 use Rattle.store_open.specs.PathStores.{store_format}
 use Rattle.store_open.specs.Open.{opening_view, OpensSo, HasFront, WantsMemoryToOpen}

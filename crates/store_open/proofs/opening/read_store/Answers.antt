@@ -1,8 +1,8 @@
 -- The half that is chosen, its checkpoint, and what stands behind it.
 use Rattle.std.proofs.Common.{◌≡◌, ◌*◌, IsOk, refl, sym, ◌∙◌, ap, subst, List, Result, Ok, Err}
 use Rattle.std.proofs.lemmas.Result.{err_from_is_err_and}
-use Rattle.path_db.specs.Database.{RowView}
-use Rattle.path_db.specs.declared.command.Command.{Command}
+use Rattle.path_rows.specs.Database.{RowView}
+use Rattle.path_rows.specs.declared.command.Command.{Command}
 use Rattle.sector_dev.specs.Disk.{History, reads_of}
 use Rattle.sector_dev.proofs.Stretches.{honest_after, honest_before, keeps_then}
 use Rattle.image_laws.specs.CheckpointReading.{checkpoint_in}
@@ -13,7 +13,7 @@ use Rattle.ckpt_pair.specs.declared.reading.Checkpoint.{Checkpoint}
 use Rattle.ckpt_pair.specs.Heads.{latest}
 use Rattle.ckpt_pair.specs.Reading.{checkpoint_view, front_in}
 use Rattle.ckpt_pair.specs.Rows.{rows_format}
-use Rattle.store_open.specs.Geometry.{geometry_view}
+use Rattle.image_laws.specs.Geometry.{geometry_view}
 use Rattle.store_open.specs.Heads.{chosen_half, choice_by_heads, HasHeads}
 use Rattle.store_open.specs.PathStores.{store_format}
 use Rattle.store_open.specs.Open.{opening_view, OpensSo, HasFront}

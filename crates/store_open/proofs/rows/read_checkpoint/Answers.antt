@@ -10,7 +10,7 @@ use Rattle.ckpt_pair.specs.declared.reading.Checkpoint.{Checkpoint}
 use Rattle.ckpt_pair.specs.Heads.{latest}
 use Rattle.ckpt_pair.specs.Reading.{front_view, checkpoint_view}
 use Rattle.ckpt_pair.specs.Rows.{rows_format}
-use Rattle.store_open.specs.Geometry.{geometry_view}
+use Rattle.image_laws.specs.Geometry.{geometry_view}
 use Rattle.store_open.specs.declared.error.OpenError.{OpenError}
 use Rattle.store_open.specs.Refusals.{error_of_pair, PairSo}
 use Rattle.store_open.specs.Rows.{FeedsSo}

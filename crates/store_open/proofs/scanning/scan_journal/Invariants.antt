@@ -4,7 +4,7 @@ use Rattle.sector_dev.specs.Disk.{IsHonest, reads_of}
 use Rattle.sector_dev.specs.Calls.{Keeps}
 use Rattle.image_laws.specs.Layout.{journal_of}
 use Rattle.gate_journal.specs.Scanning.{pieces_left, IsReadUpTo}
-use Rattle.store_open.specs.Geometry.{geometry_view}
+use Rattle.image_laws.specs.Geometry.{geometry_view}
 use Rattle.store_open.proofs.scanning.scan_journal.Given as goal
 
 -- The device is as it was, and the journal is read up to the scanner's gate, by the version.

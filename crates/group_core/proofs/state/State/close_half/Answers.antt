@@ -1,6 +1,6 @@
 use Rattle.std.proofs.Common.{◌≡◌, inr, refl, ◌∙◌, ap, arith, rules}
 use Rattle.image_laws.specs.Layout.{gate_at}
-use Rattle.store_open.specs.Geometry.{geometry_view}
+use Rattle.image_laws.specs.Geometry.{geometry_view}
 use Rattle.group_laws.specs.declared.phases.Check.TheVariants.{Ready as ready, CloseFailed as close_failed, Closing as closing, Live as live}
 use Rattle.group_core.proofs.Soundness.{checking}
 use Rattle.group_core.proofs.States.{leaves_write}

@@ -1,5 +1,5 @@
 use Rattle.std.proofs.Common.{◌≡◌, inl, ◌+◌, length, refl, ◌∙◌, ap, arith, rules}
-use Rattle.store_open.specs.Geometry.{geometry_view}
+use Rattle.image_laws.specs.Geometry.{geometry_view}
 use Rattle.group_laws.specs.declared.phases.Flush.TheVariants.{Resting as resting, Stable as stable, Opened as opened, Doubtful as doubtful}
 use Rattle.group_core.proofs.Soundness.{flushing}
 use Rattle.group_core.proofs.States.{leaves_write}

@@ -1,5 +1,5 @@
 use Rattle.std.proofs.Common.{◌≡◌, inr, length, ◌∙◌, refl, ap, arith, rules}
-use Rattle.store_open.specs.Geometry.{geometry_view}
+use Rattle.image_laws.specs.Geometry.{geometry_view}
 use Rattle.group_laws.specs.declared.phases.Check.TheVariants.{Ready as ready, Laid as laid, SwitchFailed as switch_failed, Switched as switched}
 use Rattle.group_core.proofs.Soundness.{checking}
 use Rattle.group_core.proofs.States.{leaves_write}

@@ -1,0 +1,23 @@
+-- Index keys in an index, and how they stand to each other.
+use Rattle.std.specs.Prelude.{ℕ, List, Bool, ◌==◌, ◌&&◌}
+use Rattle.std.specs.List.{list_any}
+use Rattle.std.specs.Ordering.{nat_cmp, is_eq, ordering_then}
+use Rattle.std.specs.Cmp.Lexicographic.{slice_cmp}
+use Rattle.std.specs.declared.cmp.Ordering.{Ordering}
+use Rattle.end_index.specs.declared.index_key.IndexKey.{IndexKey}
+
+-- the order of index keys: by type, then by ISD-AS, then by the bytes of the id
+abbrev pub index_key_cmp : IndexKey → IndexKey → Ordering
+index_key_cmp p q = ordering_then (nat_cmp p.kind q.kind) (ordering_then (nat_cmp p.isd_as q.isd_as) (slice_cmp nat_cmp p.id q.id))
+
+-- two index keys are the same
+abbrev pub is_same : IndexKey → IndexKey → Bool
+is_same p q = is_eq (index_key_cmp p q)
+
+-- an index key is among these
+abbrev pub has : List IndexKey → IndexKey → Bool
+has index_keys q = list_any (is_same q) index_keys
+
+-- an index key is of this type and this ISD-AS
+abbrev pub stands_at : ℕ → ℕ → IndexKey → Bool
+stands_at kind isd_as index_key = index_key.kind == kind && index_key.isd_as == isd_as

@@ -1,0 +1,71 @@
+//! The sizes of a store, and where its regions begin.
+
+ghost use Rattle.std.specs.Prelude.{◌≡◌, ◌↔◌, IsTrue};
+ghost use Rattle.image_laws.specs.Layout.{IsGeometry, image_sectors, area_at, gate_at, journal_at};
+ghost use Rattle.image_laws.specs.Layout as laws;
+ghost use Rattle.image_laws.specs.Geometry.{geometry_view};
+
+use crate::half::Half;
+
+/// The fewest sectors of a checkpoint area.
+const LEAST_CHECKPOINT: u32 = 2;
+/// The fewest sectors of a journal: those of the largest group and a seal, with their gates.
+const LEAST_JOURNAL: u32 = 516;
+/// The most sectors of a checkpoint area, and of a journal.
+const MOST_SECTORS: u32 = 1_048_576;
+
+/// The sizes of both halves of a store, in sectors of 512 bytes: of the checkpoint area, and of the journal.
+#[derive(Clone, Copy, Debug, PartialEq, Eq)]
+pub struct Geometry {
+    pub checkpoint: u32,
+    pub journal: u32,
+}
+
+impl Geometry {
+    /// Whether these sizes are allowed: 2 to 1,048,576 sectors of checkpoint area, 516 to 1,048,576 sectors of journal.
+    pub fn is_allowed(self) -> bool
+        ensures { IsTrue result ↔ IsGeometry (geometry_view self) }
+    {
+        LEAST_CHECKPOINT <= self.checkpoint
+            && self.checkpoint <= MOST_SECTORS
+            && LEAST_JOURNAL <= self.journal
+            && self.journal <= MOST_SECTORS
+    }
+
+    /// How many sectors a store of these sizes takes.
+    pub fn sectors(self) -> u64
+        ensures { result ≡ image_sectors (geometry_view self) }
+    {
+        1 + self.half_sectors() + self.half_sectors()
+    }
+
+    fn half_sectors(self) -> u64
+        ensures { result ≡ laws.half_sectors (geometry_view self) }
+    {
+        self.checkpoint as u64 + 1 + self.journal as u64
+    }
+
+    /// The sector where a half's checkpoint area begins.
+    pub fn area_at(self, half: Half) -> u64
+        ensures { result ≡ area_at (geometry_view self) half }
+    {
+        match half {
+            Half::First => 1,
+            Half::Second => 1 + self.half_sectors(),
+        }
+    }
+
+    /// The sector of a half's gate.
+    pub fn gate_at(self, half: Half) -> u64
+        ensures { result ≡ gate_at (geometry_view self) half }
+    {
+        self.area_at(half) + self.checkpoint as u64
+    }
+
+    /// The sector where a half's journal begins, which is the journal's first gate.
+    pub fn journal_at(self, half: Half) -> u64
+        ensures { result ≡ journal_at (geometry_view self) half }
+    {
+        self.gate_at(half) + 1
+    }
+}

@@ -1,7 +1,0 @@
-use Rattle.std.proofs.Common.{◌∙◌}
-use Rattle.isd_as.specs.IsdAs.{number_of}
-use Rattle.path_db.proofs.Ends.{begins_is}
-use Rattle.path_db.proofs.answers.covers_first.Goals as goal
-
-pub returns : goal.returns
-returns c = c.covers_entry.ensures ∙ begins_is (number_of c.args.pattern) c.args.entries.now c.first.result c.first.ensures.value

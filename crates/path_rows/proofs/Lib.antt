@@ -1,0 +1,26 @@
+mod Lists
+mod Lens
+mod Order
+mod Rising
+mod Indices
+mod Steps
+mod Ends
+mod Found
+mod Drops
+mod Keyed
+mod Typed
+mod IndexKeys
+mod Keys
+mod Canon
+mod PutRow
+mod Restored
+mod Covered
+mod Removed
+mod Rebuilt
+mod ShownLeft
+mod ShownFirst
+mod Walked
+mod Newest
+mod Kept
+mod Counts
+pub mod Exports

@@ -1,0 +1,99 @@
+-- The index keys after a purge and a removal: for `purge` and `remove`.
+use Rattle.std.proofs.Common.{◌≡◌, ℕ, Bool, true, false, not, ◌&&◌, List, if◌then◌else◌, Option, Some, None, refl, sym, ap, ◌∙◌, subst}
+use Rattle.std.specs.Option.{is_some}
+use Rattle.std.specs.Ordering.{nat_cmp}
+use Rattle.std.specs.Cmp.Lexicographic.{slice_cmp}
+use Rattle.std.proofs.lemmas.Bool.{false≢true}
+use Rattle.std.proofs.lemmas.Map.Lookups.{exact_bytes}
+use Rattle.end_index.specs.declared.index_key.IndexKey.{IndexKey}
+use Rattle.end_index.specs.IndexKey.{has, is_same}
+use Rattle.path_rows.specs.Database.{RowView, IsRising, is_under, row_under}
+use Rattle.path_rows.specs.Command.{is_valid_beyond, database_after_purge, database_after_removal}
+use Rattle.path_rows.specs.CommandLaws.{kept_if}
+use Rattle.path_rows.specs.RowMap.{indexed_key}
+use Rattle.path_rows.specs.Saved.{is_key}
+use Rattle.path_rows.specs.EndKeys.{is_of, is_index_key, ends_at, stands, IsIndex}
+use Rattle.path_rows.proofs.Keys.{test_leaves, its_key, equal_from}
+use Rattle.path_rows.proofs.Rising.{rising_filtered}
+use Rattle.path_rows.proofs.Canon.{database_is_canonical}
+use Rattle.path_rows.proofs.PutRow.{found_is_under, removal_leaves, is_key_itself}
+use Rattle.path_rows.proofs.IndexKeys.{EndOf, same_if, same_from, one_index_key, both_from}
+
+-- ---- a purge
+
+purged_index_key : (end : EndOf) (number : ℕ) (p : RowView → Bool) (found : Option RowView) → (is_some (kept_if p found) && ends_at end number found) ≡ ends_at end number (kept_if p found)
+purged_index_key end number p None = refl
+purged_index_key end number p (Some row) = by (p row)
+  where
+    by : (b : Bool) → (is_some (if b then Some row else None) && ends_at end number (Some row)) ≡ ends_at end number (if b then Some row else None)
+    by true = refl
+    by false = refl
+
+pub purged_index : (end : EndOf) (rows : List RowView) (moment : ℕ) (before after : List IndexKey) → IsRising rows → IsIndex end rows before
+    → ((q : IndexKey) → has after q ≡ (is_some (row_under (indexed_key q) (database_after_purge rows moment)) && has before q)) → IsIndex end (database_after_purge rows moment) after
+purged_index end rows moment before after rising index kept q =
+    let left = test_leaves (indexed_key q) (is_valid_beyond moment) rows rising in
+    kept q
+    ∙ ap (λ b. is_some (row_under (indexed_key q) (database_after_purge rows moment)) && b) (index q)
+    ∙ ap (λ found. is_some found && stands end rows q) left
+    ∙ purged_index_key end q.isd_as (is_valid_beyond moment) (row_under (indexed_key q) rows)
+    ∙ sym (ap (ends_at end q.isd_as) left)
+
+-- ---- a removal
+
+module _ (end : EndOf) (rows : List RowView) (rising : IsRising rows) (l : List ℕ) (row : RowView) (there : row_under l rows ≡ Some row) (p : IndexKey) (its : is_index_key end p row ≡ true) where
+  same_key : indexed_key p ≡ l
+  same_key = its_key (indexed_key p) row (first_of (is_under (indexed_key p) row) (is_of (end row.1.entries) p.isd_as) its) ∙ sym (its_key l row (found_is_under l rows row there))
+    where
+      first_of : (a b : Bool) → (a && b) ≡ true → a ≡ true
+      first_of true b e = refl
+      first_of false b e = e
+
+  key_from : (q : IndexKey) → is_key (indexed_key q) l ≡ true → indexed_key q ≡ l
+  key_from q e = exact_bytes (indexed_key q) l (equal_from (slice_cmp nat_cmp (indexed_key q) l) e)
+
+  other_index_key : (q : IndexKey) (b : Bool) → is_same q p ≡ b → is_key (indexed_key q) l ≡ false → is_same q p ≡ false
+  other_index_key q true same e =
+      let parts = same_from q p same in
+      let keys : indexed_key q ≡ l = rw (parts.kind, parts.id) same_key in
+      absurd (false≢true (sym e ∙ subst (λ k. is_key k l ≡ true) (sym keys) (is_key_itself l)))
+  other_index_key q false same e = same
+
+  and_false : (b : Bool) → (b && false) ≡ false
+  and_false true = refl
+  and_false false = refl
+
+  removed_index_key : (q : IndexKey) (b c : Bool) (before after : List IndexKey) → is_key (indexed_key q) l ≡ b → is_of (end row.1.entries) q.isd_as ≡ c → IsIndex end rows before → has after q ≡ (not (is_same q p) && has before q)
+      → has after q ≡ ends_at end q.isd_as (if b then None else row_under (indexed_key q) rows)
+  removed_index_key q true true before after e of index taken =
+      let same = same_if q p (one_index_key end q p row (both_from (is_under (indexed_key q) row) (is_of (end row.1.entries) q.isd_as) (subst (λ k. is_under k row ≡ true) (sym (key_from q e)) (found_is_under l rows row there)) of) its) in
+      taken ∙ ap (λ b. not b && has before q) same
+  removed_index_key q true false before after e of index taken =
+      taken ∙ ap (λ b. not (is_same q p) && b) (index q ∙ ap (λ k. ends_at end q.isd_as (row_under k rows)) (key_from q e) ∙ ap (ends_at end q.isd_as) there ∙ of) ∙ and_false (not (is_same q p))
+  removed_index_key q false c before after e of index taken =
+      taken ∙ ap (λ b. not b && has before q) (other_index_key q (is_same q p) refl e) ∙ index q
+
+  pub removed_index : (before after : List IndexKey) (left : List RowView) → left ≡ database_after_removal rows l → IsIndex end rows before → ((q : IndexKey) → has after q ≡ (not (is_same q p) && has before q)) → IsIndex end left after
+  removed_index before after left is index taken q =
+      removed_index_key q (is_key (indexed_key q) l) (is_of (end row.1.entries) q.isd_as) before after refl refl index (taken q)
+      ∙ sym (ap (λ rows. stands end rows q) is ∙ ap (ends_at end q.isd_as) (removal_leaves (indexed_key q) l rows rising))
+
+-- where no row stands under a key, a removal keeps all index keys
+pub kept_index : (end : EndOf) (rows left : List RowView) (index_keys : List IndexKey) → left ≡ rows → IsIndex end rows index_keys → IsIndex end left index_keys
+kept_index end rows left index_keys same index q = index q ∙ ap (λ rows. stands end rows q) (sym same)
+
+pub purged_now : (end : EndOf) (rows now : List RowView) (moment : ℕ) (before after : List IndexKey) → now ≡ database_after_purge rows moment → IsRising rows → IsIndex end rows before
+    → ((q : IndexKey) → has after q ≡ (is_some (row_under (indexed_key q) now) && has before q)) → IsIndex end now after
+purged_now end rows now moment before after left rising index kept =
+    subst (λ l. IsIndex end l after) (sym left)
+    (purged_index end rows moment before after rising index (λ q. kept q ∙ ap (λ l. is_some (row_under (indexed_key q) l) && has before q) left))
+
+-- a removal under a key with no row keeps all
+pub none_to_remove : (l : List ℕ) (rows : List RowView) → IsRising rows → row_under l rows ≡ None → database_after_removal rows l ≡ rows
+none_to_remove l rows rising none =
+    database_is_canonical (database_after_removal rows l) rows (rising_filtered (λ row. not (is_under l row)) rows rising) rising
+    (λ k. removal_leaves k l rows rising ∙ under_none k (is_key k l) refl)
+  where
+    under_none : (k : List ℕ) (b : Bool) → is_key k l ≡ b → (if b then None else row_under k rows) ≡ row_under k rows
+    under_none k true e = sym (ap (λ m. row_under m rows) (exact_bytes k l (equal_from (slice_cmp nat_cmp k l) e)) ∙ none)
+    under_none k false e = refl

@@ -1,0 +1,39 @@
+-- Which rows a lookup shows.
+use Rattle.std.specs.Prelude.{ℕ, List, [], ◌∷◌, Bool, false, ◌==◌, ◌&&◌, take, filter, map, Option, Some, None}
+use Rattle.isd_as.specs.IsdAs.{covers_number}
+use Rattle.seg_core.specs.declared.seg_type.SegType.{SegType}
+use Rattle.seg_core.specs.SegmentView.{EntryView, SegmentView}
+use Rattle.seg_core.specs.Message.{last_of}
+use Rattle.seg_core.specs.Registration.{type_number}
+use Rattle.path_rows.specs.Database.{RowView}
+use Rattle.path_rows.specs.Command.{is_valid_beyond}
+
+-- an entry is there, and its ISD-AS is covered
+abbrev pub covers_entry : ℕ → Option EntryView → Bool
+covers_entry pattern None = false
+covers_entry pattern (Some e) = covers_number pattern e.ia
+
+abbrev pub first_of : List EntryView → Option EntryView
+first_of [] = None
+first_of (e ∷ es) = Some e
+
+-- a row is of this type
+abbrev pub is_of_type : SegType → RowView → Bool
+is_of_type kind row = type_number row.0 == type_number kind
+
+-- A row is of the type, the start covers its first entry, and the end its last.
+abbrev pub matches : SegType → ℕ → ℕ → RowView → Bool
+matches kind start end row =
+    (type_number row.0 == type_number kind) && (covers_entry start (first_of row.1.entries) && covers_entry end (last_of row.1.entries))
+
+-- a row that matches and expires after this moment
+abbrev pub is_shown : SegType → ℕ → ℕ → ℕ → RowView → Bool
+is_shown kind start end now row = matches kind start end row && is_valid_beyond now row
+
+-- the first rows by key that match and are valid, at most so many
+unfoldable pub answer_of : ℕ → List RowView → SegType → ℕ → ℕ → ℕ → List RowView
+answer_of limit rows kind start end now = take limit (filter (is_shown kind start end now) rows)
+
+-- the segments of rows
+abbrev pub segments_of : List RowView → List SegmentView
+segments_of rows = map (λ row. row.1) rows

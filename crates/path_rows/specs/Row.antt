@@ -1,0 +1,25 @@
+-- What a kept row stands for.
+use Rattle.std.specs.Prelude.{◌≡◌, ℕ, ◌<◌, ◌≤◌, List, length, map}
+use Rattle.std.specs.List.{HoldsAt}
+use Rattle.std.specs.List.Sorted.{IsPartitionPoint}
+use Rattle.std.specs.Ordering.{nat_cmp}
+use Rattle.std.specs.Cmp.Lexicographic.{slice_cmp}
+use Rattle.std.specs.declared.cmp.Ordering.TheVariants.{Less, Equal, Greater}
+use Rattle.path_rows.specs.declared.row.Row.{Row}
+use Rattle.path_rows.specs.Database.{RowView, key_of}
+
+abbrev pub row_view : Row → RowView
+row_view row = (row.kind, row.segment)
+
+abbrev pub row_views : List Row → List RowView
+row_views rows = map row_view rows
+
+-- the row at this index has the key
+abbrev pub IsIndex : List Row → List ℕ → ℕ → Type 0
+IsIndex rows k at = (at < length rows) × HoldsAt (λ row. slice_cmp nat_cmp (key_of (row_view row)) k ≡ Equal) rows at
+
+-- the key would go to this index: the keys before it are lower, those from it on are greater
+abbrev pub IsGap : List Row → List ℕ → ℕ → Type 0
+IsGap rows k at =
+    (at ≤ length rows)
+    × IsPartitionPoint (λ row. slice_cmp nat_cmp (key_of (row_view row)) k ≡ Less) (λ row. slice_cmp nat_cmp (key_of (row_view row)) k ≡ Greater) rows at

@@ -1,0 +1,39 @@
+-- The rows of a map by their keys.
+use Rattle.std.specs.Prelude.{◌≡◌, ℕ, List, ◌∷◌, if◌then◌else◌, Option, Some, None}
+use Rattle.std.specs.List.{AllByRecursion}
+use Rattle.std.specs.Map.{values_of}
+use Rattle.end_index.specs.declared.index_key.IndexKey.{IndexKey}
+use Rattle.path_rows.specs.declared.row.Row.{Row}
+use Rattle.path_rows.specs.declared.row_key.RowKey.{RowKey}
+use Rattle.path_rows.specs.Database.{RowView, key_of, IsRising, is_under, row_under, row_len}
+use Rattle.path_rows.specs.Row.{row_view, row_views}
+
+-- the bytes of a key
+abbrev pub bytes_of : RowKey → List ℕ
+bytes_of k = k.kind ∷ k.id
+
+-- the rows that the entries of a map hold
+abbrev pub views_of : List (RowKey × Row) → List RowView
+views_of entries = row_views (values_of entries)
+
+-- each row stands under its own key
+abbrev pub AreUnderTheirKeys : List (RowKey × Row) → Type 0
+AreUnderTheirKeys entries = AllByRecursion (λ entry. bytes_of entry.0 ≡ key_of (row_view entry.1)) entries
+
+-- Each row stands under its own key, and the keys rise.
+pub record AreKeyed (entries : List (RowKey × Row)) : Type 0 where
+  pub own : AreUnderTheirKeys entries
+  pub rising : IsRising (views_of entries)
+
+-- after it the row stands under its key, and under each other key what stood there
+abbrev pub Holds : List RowView → RowView → List RowView → Type 0
+Holds old row new = (k : List ℕ) → row_under k new ≡ (if is_under k row then Some row else row_under k old)
+
+-- the key of the row at an index key
+abbrev pub indexed_key : IndexKey → List ℕ
+indexed_key index_key = index_key.kind ∷ index_key.id
+
+-- the bytes of a row, if there is one
+abbrev pub len_if_any : Option RowView → ℕ
+len_if_any None = 0
+len_if_any (Some row) = row_len row

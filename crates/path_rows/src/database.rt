@@ -1,0 +1,315 @@
+//! The database.
+
+ghost use Rattle.std.specs.Prelude.{◌≡◌, ◌-◌, ◌^◌, ◌<◌, ◌≤◌, [], ◌∷◌, None, length, min, max, not, count_by, if◌then◌else◌, IfOk, IfErr, OnOk, OnErr};
+ghost use Rattle.std.specs.List.{AllByRecursion};
+ghost use Rattle.std.specs.Option.{option_copied, option_map, is_some, ForSome};
+ghost use Rattle.path_rows.specs.declared.error.ApplyError.TheVariants.{Full};
+ghost use Rattle.path_rows.specs.Database.{IsDatabase, AreWhole, key, row_under, rows_len};
+ghost use Rattle.path_rows.specs.Put.{database_after_puts, changes_of};
+ghost use Rattle.path_rows.specs.Outcome.{outcome_of_puts, outcome_of_drops};
+ghost use Rattle.path_rows.specs.Command.{database_after, database_after_purge, database_after_removal, is_valid_beyond, outcome_of, TakesMemory};
+ghost use Rattle.path_rows.specs.Row.{row_views};
+ghost use Rattle.path_rows.specs.Answer.{answer_of, segments_of};
+ghost use Rattle.seg_core.specs.Encoding.{IsSegment};
+ghost use Rattle.isd_as.specs.IsdAs.{number_of};
+
+use crate::answers::{Wanted, first_shown, is_indexed, shown_at};
+use crate::command::Command;
+use crate::end::End;
+use crate::end_keys::{add_both, index_key_of, keep_standing, sweep, touched_keys};
+use crate::error::ApplyError;
+use crate::format::type_byte;
+use crate::outcome::Outcome;
+use crate::row::Row;
+use crate::row_list::Rows;
+use crate::row_map::RowMap;
+use crate::row_puts::{put_after, rows_of, saved_rows};
+use end_index::EndIndex;
+use isd_as::IsdAs;
+use seg_core::{SegType, Segment};
+use std::alloc::{AllocError, Global};
+use std::marker::Model;
+
+/// A finite map from keys to segments. A key is a type and an id, and keys are in the order of the type's number and then
+/// of the id's bytes. It keeps the allocator that it was made with.
+#[derive(Drop)]
+pub struct PathDb {
+    alloc: Global,
+    rows: RowMap,
+    by_first: EndIndex,
+    by_last: EndIndex,
+    bytes: u128,
+}
+
+impl Model for PathDb {
+    ghost use Rattle.std.specs.Prelude.{List};
+    ghost use Rattle.path_rows.specs.Database.{RowView};
+    ghost use Rattle.path_rows.specs.Table.{rows_of_table, IsTable};
+
+    ghost Value = { List RowView };
+
+    ghost view = { rows_of_table };
+
+    ghost invariant = { IsTable };
+}
+
+impl PathDb {
+    /// No rows.
+    pub fn new(alloc: Global) -> PathDb
+        ensures { result ≡ [] }
+    {
+        PathDb {
+            alloc,
+            rows: RowMap::new(alloc),
+            by_first: EndIndex::new(alloc),
+            by_last: EndIndex::new(alloc),
+            bytes: 0,
+        }
+    }
+
+    /// The database of these rows. No rows take no memory.
+    pub fn of_rows(alloc: Global, rows: Vec<Row>) -> Result<PathDb, AllocError>
+        requires { IsDatabase (row_views rows.items) }
+        ensures same { IfOk result (λ db. db ≡ row_views rows.items) }
+        ensures memory { OnErr result (0 < length rows.items) }
+    {
+        let mut db = PathDb::new(alloc);
+        match db.put(rows, u128::MAX) {
+            Ok(_) => Ok(db),
+            Err(_) => Err(AllocError),
+        }
+    }
+
+    /// Applies a command, whole or, where memory runs out, not at all. A purge, a removal and a registration of nothing take
+    /// no memory. A segment that is registered is shared with its row.
+    pub fn apply(&mut self, command: &Command) -> Result<Outcome, AllocError>
+        ensures database { OnOk result (self.new ≡ database_after self.old command.now) }
+        ensures outcome { IfOk result (λ outcome. outcome ≡ outcome_of self.old command.now) }
+        ensures refused { OnErr result (self.new ≡ self.old) }
+        ensures memory { OnErr result (TakesMemory command.now) }
+        ensures whole { IsDatabase self.new }
+    {
+        match self.apply_up_to(command, u128::MAX) {
+            Ok(outcome) => Ok(outcome),
+            Err(_) => Err(AllocError),
+        }
+    }
+
+    /// Applies a command whole, or not at all where memory runs out or the rows would take more than `most` bytes as records. A
+    /// purge and a removal never take more than there was, and are applied whatever the limit, as is a registration of nothing.
+    pub fn apply_within(&mut self, command: &Command, most: u64) -> Result<Outcome, ApplyError>
+        ensures database { OnOk result (self.new ≡ database_after self.old command.now) }
+        ensures outcome { IfOk result (λ outcome. outcome ≡ outcome_of self.old command.now) }
+        ensures within { OnOk result (rows_len self.new ≤ max most (rows_len self.old)) }
+        ensures fits { OnOk result (TakesMemory command.now → rows_len self.new ≤ most) }
+        ensures refused { OnErr result (self.new ≡ self.old) }
+        ensures full { IfErr result (λ e. e ≡ Full → most < rows_len (database_after self.old command.now)) }
+        ensures registers { OnErr result (TakesMemory command.now) }
+        ensures whole { IsDatabase self.new }
+    {
+        self.apply_up_to(command, u128::from(most))
+    }
+
+    /// Applies a command whole, or not at all.
+    #[tactic(auto, unfolding(crate::specs::Command::database_after, crate::specs::Command::outcome_of))]
+    fn apply_up_to(&mut self, command: &Command, most: u128) -> Result<Outcome, ApplyError>
+        ensures database { OnOk result (self.new ≡ database_after self.old command.now) }
+        ensures outcome { IfOk result (λ outcome. outcome ≡ outcome_of self.old command.now) }
+        ensures within { OnOk result (rows_len self.new ≤ max most (rows_len self.old)) }
+        ensures fits { OnOk result (TakesMemory command.now → rows_len self.new ≤ most) }
+        ensures refused { OnErr result (self.new ≡ self.old) }
+        ensures full { IfErr result (λ e. e ≡ Full → most < rows_len (database_after self.old command.now)) }
+        ensures registers { OnErr result (TakesMemory command.now) }
+        ensures whole { IsDatabase self.new }
+    {
+        match command {
+            Command::Register(registration) => self.register(registration.as_slice(), most),
+            Command::Purge(moment) => Ok(self.purge(*moment)),
+            Command::Remove(kind, id) => Ok(self.remove(*kind, id)),
+        }
+    }
+
+    /// Puts segments one after the other, or none of them.
+    fn register(&mut self, new: &[(SegType, Segment)], most: u128) -> Result<Outcome, ApplyError>
+        ensures database { OnOk result (self.new ≡ database_after_puts self.old new.now) }
+        ensures outcome { IfOk result (λ outcome. outcome ≡ outcome_of_puts (changes_of self.old new.now)) }
+        ensures within { OnOk result (rows_len self.new ≤ max most (rows_len self.old)) }
+        ensures fits { OnOk result (0 < length new.now → rows_len self.new ≤ most) }
+        ensures refused { OnErr result (self.new ≡ self.old) }
+        ensures full { IfErr result (λ e. e ≡ Full → most < rows_len (database_after_puts self.old new.now)) }
+        ensures memory { OnErr result (0 < length new.now) }
+        ensures whole { IsDatabase self.new }
+    {
+        if let [one] = new {
+            if let Some(outcome) = self.renew(one, most) {
+                return Ok(outcome);
+            }
+        }
+        let new = rows_of(self.alloc, new)?;
+        self.put(new, most)
+    }
+
+    /// Puts a segment, where a row stands under its key and at its ends, and with its own all rows have no more than `most` bytes.
+    /// Else nothing changes.
+    fn renew(&mut self, new: &(SegType, Segment), most: u128) -> Option<Outcome>
+        ensures database { ForSome result (λ _. self.new ≡ database_after_puts self.old (new.now ∷ [])) }
+        ensures outcome { ForSome result (λ outcome. outcome ≡ outcome_of_puts (changes_of self.old (new.now ∷ []))) }
+        ensures within { ForSome result (λ _. rows_len self.new ≤ most) }
+        ensures whole { ForSome result (λ _. IsDatabase self.new) }
+        ensures none { result ≡ None → self.new ≡ self.old }
+    {
+        let Ok(segment) = new.1.try_clone() else {
+            return None;
+        };
+        let row = Row::new(new.0, segment);
+        if most.saturating_sub(self.bytes) < u128::from(row.len()) {
+            return None;
+        }
+        let change = self.rows.renew(&mut self.bytes, row)?;
+        let mut outcome = Outcome::nothing();
+        outcome.count(change);
+        Some(outcome)
+    }
+
+    /// Puts rows one after the other, or none of them where memory runs out or the rows would take more than `most` bytes.
+    fn put(&mut self, new: Vec<Row>, most: u128) -> Result<Outcome, ApplyError>
+        requires { AreWhole (row_views new.items) }
+        ensures database { OnOk result (self.new ≡ database_after_puts self.old (row_views new.items)) }
+        ensures outcome { IfOk result (λ outcome. outcome ≡ outcome_of_puts (changes_of self.old (row_views new.items))) }
+        ensures within { OnOk result (rows_len self.new ≤ max most (rows_len self.old)) }
+        ensures fits { OnOk result (0 < length new.items → rows_len self.new ≤ most) }
+        ensures refused { OnErr result (self.new ≡ self.old) }
+        ensures full { IfErr result (λ e. e ≡ Full → most < rows_len (database_after_puts self.old (row_views new.items))) }
+        ensures memory { OnErr result (0 < length new.items) }
+        ensures whole { IsDatabase self.new }
+    {
+        let saved = saved_rows(self.alloc, &self.rows, &new)?;
+        if new.is_empty() {
+            return Ok(Outcome::nothing());
+        }
+        let firsts = touched_keys(self.alloc, End::First, &new, &saved)?;
+        let lasts = touched_keys(self.alloc, End::Last, &new, &saved)?;
+        let added = add_both(&mut self.by_first, &firsts, &mut self.by_last, &lasts);
+        let put = put_after(added, &mut self.rows, &mut self.bytes, new, saved, most);
+        sweep(End::First, &mut self.by_first, &self.rows, &firsts);
+        sweep(End::Last, &mut self.by_last, &self.rows, &lasts);
+        put
+    }
+
+    /// Drops every row that expires at the moment or before.
+    fn purge(&mut self, moment: u64) -> Outcome
+        ensures database { self.new ≡ database_after_purge self.old moment }
+        ensures fewer { rows_len self.new ≤ rows_len self.old }
+        ensures outcome { result ≡ outcome_of_drops (count_by (λ row. not (is_valid_beyond moment row)) self.old) }
+        ensures whole { IsDatabase self.new }
+    {
+        let before = self.rows.len();
+        self.rows.purge(moment);
+        keep_standing(&mut self.by_first, &self.rows);
+        keep_standing(&mut self.by_last, &self.rows);
+        self.bytes = self.rows.bytes();
+        Outcome::dropped(before - self.rows.len())
+    }
+
+    /// Drops the row of a type and an id, where there is one.
+    fn remove(&mut self, kind: SegType, id: &[u8; 32]) -> Outcome
+        ensures database { self.new ≡ database_after_removal self.old (key kind id.now) }
+        ensures fewer { rows_len self.new ≤ rows_len self.old }
+        ensures outcome { result ≡ outcome_of_drops (if is_some (row_under (key kind id.now) self.old) then 1 else 0) }
+        ensures whole { IsDatabase self.new }
+    {
+        let Some(row) = self.rows.remove(kind, id) else {
+            return Outcome::dropped(0);
+        };
+        self.by_first.remove(&index_key_of(End::First, &row));
+        self.by_last.remove(&index_key_of(End::Last, &row));
+        self.bytes -= u128::from(row.len());
+        Outcome::dropped(1)
+    }
+
+    /// The segment of a type and an id.
+    pub fn get(&self, kind: SegType, id: &[u8; 32]) -> Option<&Segment>
+        ensures same { option_copied result ≡ option_map (λ row. row.1) (row_under (key kind id.now) self.now) }
+        ensures whole { IsDatabase self.now }
+    {
+        match self.rows.get(kind, id) {
+            Some(row) => Some(&row.segment),
+            None => None,
+        }
+    }
+
+    /// All rows, in the order of their keys.
+    pub fn rows(&self) -> Rows<'_>
+        ensures same { result ≡ self.now }
+        ensures whole { IsDatabase self.now }
+    {
+        self.rows.rows()
+    }
+
+    /// The segments of the first rows by key, at most `limit`, that are of this type, whose first entry `start` covers and
+    /// whose last `end` covers (a part that is 0 covers all), and that expire after `now`, in half seconds since 1970. The
+    /// segments are shared, not copied. An answer of none takes no memory.
+    pub fn matching(
+        &self,
+        kind: SegType,
+        start: IsdAs,
+        end: IsdAs,
+        now: u64,
+        limit: usize,
+    ) -> Result<Vec<Segment>, AllocError>
+        ensures same { IfOk result (λ found. found.items ≡ segments_of (answer_of limit self.now kind (number_of start) (number_of end) now)) }
+        ensures memory { OnErr result (0 < length (answer_of limit self.now kind (number_of start) (number_of end) now)) }
+        ensures few { IfOk result (λ found. length found.items ≤ limit) }
+        ensures whole { IfOk result (λ found. AllByRecursion IsSegment found.items) }
+    {
+        let wanted = Wanted {
+            kind,
+            start,
+            end,
+            moment: now,
+        };
+        if is_indexed(end) {
+            let index_keys = self.by_last.keys_at(type_byte(kind), end.to_u64());
+            return shown_at(self.alloc, &self.rows, index_keys, wanted, limit);
+        }
+        if is_indexed(start) {
+            let index_keys = self.by_first.keys_at(type_byte(kind), start.to_u64());
+            return shown_at(self.alloc, &self.rows, index_keys, wanted, limit);
+        }
+        first_shown(self.alloc, self.rows.of_type(kind), wanted, limit)
+    }
+
+    /// How many rows there are. It costs nothing.
+    pub fn len(&self) -> usize
+        ensures count { result ≡ length self.now }
+        ensures whole { IsDatabase self.now }
+    {
+        self.rows.len()
+    }
+
+    /// The bytes of all rows as records: for each a type in one, a length in four, and the segment's encoding. A greater
+    /// count is told as 2^64 - 1. It costs nothing, as it is kept up to date.
+    pub fn encoded_len(&self) -> u64
+        ensures { result ≡ min (rows_len self.now) (2 ^ 64 - 1) }
+    {
+        u64::try_from(self.bytes).unwrap_or(u64::MAX)
+    }
+
+    /// An equal database, which shares the segments. A copy of no rows takes no memory.
+    pub fn try_clone(&self) -> Result<PathDb, AllocError>
+        ensures same { IfOk result (λ copy. copy ≡ self.now) }
+        ensures memory { OnErr result (0 < length self.now) }
+        ensures whole { IfOk result (λ copy. IsDatabase copy) }
+    {
+        if self.rows.len() == 0 {
+            return Ok(PathDb::new(self.alloc));
+        }
+        Ok(PathDb {
+            alloc: self.alloc,
+            rows: self.rows.try_clone(self.alloc)?,
+            by_first: self.by_first.try_clone()?,
+            by_last: self.by_last.try_clone()?,
+            bytes: self.bytes,
+        })
+    }
+}

@@ -1,0 +1,26 @@
+//! Why a command isn't applied.
+
+ghost use Rattle.std.specs.Prelude.{◌≡◌};
+ghost use Rattle.path_rows.specs.declared.error.ApplyError.TheVariants.{NoMemory};
+
+use std::alloc::AllocError;
+use thiserror::Error;
+
+/// Why a command isn't applied. They are numbered from 0 in this order.
+#[derive(Clone, Copy, Debug, PartialEq, Eq, Error)]
+pub enum ApplyError {
+    /// Memory ran out. It says nothing of the command.
+    #[error("out of memory")]
+    NoMemory,
+    /// The rows would take more bytes than they may.
+    #[error("the rows would take too many bytes")]
+    Full,
+}
+
+impl From<AllocError> for ApplyError {
+    ghost from_gives = { λ _ e. e ≡ NoMemory };
+
+    fn from(_refused: AllocError) -> ApplyError {
+        ApplyError::NoMemory
+    }
+}

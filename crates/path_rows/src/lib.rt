@@ -1,0 +1,38 @@
+//! The rows of a path segment server: a finite map from keys, a type and an id, to segments, and what commands make of it.
+//!
+//! To the layer above, `PathDb::apply` answers the database that the definition gives after a command and what the command
+//! did, or refuses for want of memory and leaves all as it was; `apply_within` refuses as well what would take too many
+//! bytes. `rows` is the map in the order of its keys, and `matching` what a lookup shows of it.
+#![tactic(auto)]
+
+mod answers;
+mod change;
+mod command;
+mod command_laws;
+mod database;
+mod end;
+mod end_keys;
+mod error;
+mod format;
+mod key_order;
+mod outcome;
+mod outcome_laws;
+mod row;
+mod row_key;
+mod row_list;
+mod row_map;
+mod row_puts;
+mod row_range;
+
+pub use command::{Command, Registration};
+pub use command_laws::{
+    commands_append, commands_keep_database, database_is_canonical, keys_are_separate,
+    purge_leaves_valid, register_leaves_newest, remove_leaves_others,
+};
+pub use database::PathDb;
+pub use error::ApplyError;
+pub use format::{ROW_HEAD, type_byte};
+pub use outcome::Outcome;
+pub use outcome_laws::{each_put_is_counted, rows_are_counted};
+pub use row::Row;
+pub use row_list::Rows;

@@ -1,0 +1,76 @@
+//! A row of the database.
+
+ghost use Rattle.std.specs.Prelude.{◌≡◌, ◌≤◌, length, IfOk};
+ghost use Rattle.std.specs.Ordering.{nat_cmp};
+ghost use Rattle.std.specs.Cmp.Lexicographic.{slice_cmp};
+ghost use Rattle.seg_core.specs.Encoding.{segment_encoding};
+ghost use Rattle.seg_core.specs.Digest.{segment_digest};
+ghost use Rattle.path_rows.specs.Database.{key, key_of, row_len};
+
+use crate::format::ROW_HEAD;
+use seg_check::seg_id;
+use seg_core::{SegType, Segment, encoded_len};
+use std::alloc::AllocError;
+use std::cmp::Ordering;
+
+/// A segment of the database with its type, and its id.
+#[derive(Drop)]
+pub struct Row {
+    pub kind: SegType,
+    /// SHA-256 over the hops of the segment.
+    pub id: [u8; 32],
+    pub segment: Segment,
+    pub ghost identified: { id ≡ segment_digest segment },
+    pub ghost short: { length (segment_encoding segment) ≤ 16384 },
+}
+
+impl Row {
+    ghost use Rattle.path_rows.specs.Row.{row_view};
+
+    /// The row of a segment.
+    pub fn new(kind: SegType, segment: Segment) -> Row
+        ensures { row_view result ≡ (kind, segment) }
+    {
+        let id = seg_id(&segment);
+        Row { kind, id, segment }
+    }
+
+    /// An equal row, which shares the segment. It takes no memory, and is refused where 2^63 share the segment.
+    pub fn try_clone(&self) -> Result<Row, AllocError>
+        ensures view { IfOk result (λ copy. row_view copy ≡ row_view self.now) }
+        ensures same { IfOk result (λ copy. copy ≡ self.now) }
+    {
+        Ok(Row {
+            kind: self.kind,
+            id: self.id,
+            segment: self.segment.try_clone()?,
+        })
+    }
+
+    /// How the row's key stands to that of a type and an id.
+    #[tactic(auto, unfolding(crate::specs::Database::key_of))]
+    pub fn cmp_key(&self, kind: SegType, id: &[u8; 32]) -> Ordering
+        ensures { result ≡ slice_cmp nat_cmp (key_of (row_view self.now)) (key kind id.now) }
+    {
+        match self.kind.number().cmp(&kind.number()) {
+            Ordering::Equal => self.id.as_slice().cmp(&id.as_slice()),
+            unequal => unequal,
+        }
+    }
+
+    /// The bytes of the row.
+    pub(crate) fn len(&self) -> u64
+        ensures same { result ≡ row_len (row_view self.now) }
+        ensures short { result ≤ 16389 }
+    {
+        (ROW_HEAD + encoded_len(&self.segment)) as u64
+    }
+}
+
+impl Clone for Row {
+    ghost is_clone = { λ row copy. copy ≡ row };
+
+    fn clone(&self) -> Result<Row, AllocError> {
+        self.try_clone()
+    }
+}

@@ -1,0 +1,200 @@
+//! The rows of a database by their keys.
+
+ghost use Rattle.std.specs.Prelude.{◌≡◌, ◌+◌, ◌*◌, ◌<◌, ◌≤◌, ◌^◌, [], IfOk, OnErr, None, filter, length};
+ghost use Rattle.std.specs.Option.{ForSome, option_map};
+ghost use Rattle.path_rows.specs.declared.end.End.TheVariants.{First, Last};
+ghost use Rattle.path_rows.specs.Database.{IsRising, key, key_of, row_under, row_len, rows_len};
+ghost use Rattle.path_rows.specs.Command.{database_after_purge, database_after_removal};
+ghost use Rattle.path_rows.specs.Answer.{is_of_type};
+ghost use Rattle.path_rows.specs.EndKeys.{end_of, IsSeenTo};
+ghost use Rattle.path_rows.specs.Put.{database_after_put, change_of};
+ghost use Rattle.path_rows.specs.Row.{row_view};
+ghost use Rattle.path_rows.specs.RowMap.{Holds, bytes_of, len_if_any, indexed_key};
+
+use crate::change::Change;
+use crate::end_keys::keeps_keys;
+use crate::format::type_byte;
+use crate::row::Row;
+use crate::row_key::RowKey;
+use crate::row_list::Rows;
+use crate::row_range::RowRange;
+use end_index::IndexKey;
+use seg_check::expiry;
+use seg_core::SegType;
+use std::alloc::{AllocError, Global};
+use std::collections::BTreeMap;
+use std::marker::Model;
+use std::mem::replace;
+
+/// Rows, each under its key, in the order of the keys.
+#[derive(Drop)]
+pub(crate) struct RowMap {
+    rows: BTreeMap<RowKey, Row>,
+}
+
+impl Model for RowMap {
+    ghost use Rattle.std.specs.Prelude.{List};
+    ghost use Rattle.path_rows.specs.Database.{RowView};
+    ghost use Rattle.path_rows.specs.RowMap.{views_of, AreKeyed};
+
+    ghost Value = { List RowView };
+
+    ghost view = { λ s. views_of s.rows.entries };
+
+    ghost invariant = { λ s. AreKeyed s.rows.entries };
+}
+
+impl RowMap {
+    /// No rows.
+    pub(crate) fn new(alloc: Global) -> RowMap
+        ensures { result ≡ [] }
+    {
+        RowMap {
+            rows: BTreeMap::new(alloc),
+        }
+    }
+
+    /// How many rows there are.
+    pub(crate) fn len(&self) -> usize
+        ensures same { result ≡ length self.now }
+        ensures few { result < 2 ^ 63 }
+        ensures bytes { rows_len self.now ≤ 16389 * result }
+        ensures rising { IsRising self.now }
+    {
+        self.rows.len()
+    }
+
+    /// All rows, in the order of their keys.
+    pub(crate) fn rows(&self) -> Rows<'_>
+        ensures { result ≡ self.now }
+    {
+        Rows::of(self.rows.values())
+    }
+
+    /// The rows of a type, in the order of their keys. No others are walked.
+    pub(crate) fn of_type(&self, kind: SegType) -> RowRange<'_>
+        ensures { result ≡ filter (is_of_type kind) self.now }
+    {
+        let number = type_byte(kind);
+        let low = RowKey {
+            kind: number,
+            id: [0; 32],
+        };
+        let high = RowKey {
+            kind: number + 1,
+            id: [0; 32],
+        };
+        RowRange::of(self.rows.range(low..high))
+    }
+
+    /// An equal map, which shares the segments. A copy of no rows takes no memory.
+    pub(crate) fn try_clone(&self, alloc: Global) -> Result<RowMap, AllocError>
+        ensures same { IfOk result (λ copy. copy ≡ self.now) }
+        ensures memory { OnErr result (0 < length self.now) }
+    {
+        if self.rows.is_empty() {
+            return Ok(RowMap::new(alloc));
+        }
+        Ok(RowMap {
+            rows: self.rows.clone()?,
+        })
+    }
+
+    /// The bytes of all rows.
+    pub(crate) fn bytes(&self) -> u128
+        ensures { result ≡ rows_len self.now }
+    {
+        self.rows.values().map(|row| u128::from(row.len())).sum()
+    }
+
+    /// The row of an index key.
+    pub(crate) fn at(&self, index_key: &IndexKey) -> Option<&Row>
+        ensures { option_map (λ row. row_view row.now) result ≡ row_under (indexed_key index_key.now) self.now }
+    {
+        let key = RowKey {
+            kind: index_key.kind,
+            id: index_key.id,
+        };
+        self.rows.get(&key)
+    }
+
+    /// The row of a type and an id.
+    pub(crate) fn get(&self, kind: SegType, id: &[u8; 32]) -> Option<&Row>
+        ensures same { option_map (λ row. row_view row.now) result ≡ row_under (key kind id.now) self.now }
+        ensures rising { IsRising self.now }
+    {
+        let key = row_key(kind, id);
+        self.rows.get(&key)
+    }
+
+    /// Puts a row under its key, and gives back the one that stood there, in whose place it takes no memory.
+    pub(crate) fn set(&mut self, row: Row) -> Result<Option<Row>, AllocError>
+        ensures ok { IfOk result (λ old. Holds self.old (row_view row) self.new) }
+        ensures old { IfOk result (λ old. option_map row_view old ≡ row_under (key_of (row_view row)) self.old) }
+        ensures bytes { IfOk result (λ old. rows_len self.new + len_if_any (option_map row_view old) ≡ rows_len self.old + row_len (row_view row)) }
+        ensures err { OnErr result (self.new ≡ self.old) }
+        ensures absent { OnErr result (row_under (key_of (row_view row)) self.old ≡ None) }
+        ensures rising { IsRising self.new }
+    {
+        let key = row_key(row.kind, &row.id);
+        let old = self.rows.insert(key, row)?;
+        Ok(old)
+    }
+
+    /// Puts a row in the place of an older one under its key that stands at the same ends, or keeps one that is as new, and tells
+    /// which. It takes no memory. Where no such row stands there, nothing changes. `bytes` counts the bytes of all rows.
+    pub(crate) fn renew(&mut self, bytes: &mut u128, row: Row) -> Option<Change>
+        requires { bytes.old ≡ rows_len self.old }
+        ensures rows { ForSome result (λ _. self.new ≡ database_after_put self.old (row_view row)) }
+        ensures change { ForSome result (λ change. change ≡ change_of self.old (row_view row)) }
+        ensures first { ForSome result (λ _. IsSeenTo (end_of First) [] (row_view row) (row_under (key_of (row_view row)) self.old)) }
+        ensures last { ForSome result (λ _. IsSeenTo (end_of Last) [] (row_view row) (row_under (key_of (row_view row)) self.old)) }
+        ensures bytes { bytes.new ≡ rows_len self.new }
+        ensures more { bytes.new ≤ bytes.old + row_len (row_view row) }
+        ensures none { result ≡ None → self.new ≡ self.old }
+    {
+        let _count = self.len();
+        let key = row_key(row.kind, &row.id);
+        let old = self.rows.get_mut(&key)?;
+        if !keeps_keys(&row, old) {
+            return None;
+        }
+        if old.segment.timestamp() >= row.segment.timestamp() {
+            return Some(Change::Kept);
+        }
+        *bytes += u128::from(row.len());
+        let old = replace(old, row);
+        *bytes -= u128::from(old.len());
+        Some(Change::Updated)
+    }
+
+    /// Takes out the row of a type and an id. That takes no memory.
+    pub(crate) fn remove(&mut self, kind: SegType, id: &[u8; 32]) -> Option<Row>
+        ensures left { self.new ≡ database_after_removal self.old (key kind id.now) }
+        ensures old { option_map row_view result ≡ row_under (key kind id.now) self.old }
+        ensures bytes { rows_len self.new + len_if_any (option_map row_view result) ≡ rows_len self.old }
+        ensures was_rising { IsRising self.old }
+        ensures rising { IsRising self.new }
+    {
+        let key = row_key(kind, id);
+        self.rows.remove(&key)
+    }
+
+    /// Keeps the rows that expire after a moment. That takes no memory.
+    pub(crate) fn purge(&mut self, moment: u64)
+        ensures left { self.new ≡ database_after_purge self.old moment }
+        ensures rising { IsRising self.new }
+    {
+        self.rows.retain(|_, row| moment < expiry(&row.segment));
+    }
+}
+
+/// The key of a type and an id.
+fn row_key(kind: SegType, id: &[u8; 32]) -> RowKey
+    ensures { bytes_of result ≡ key kind id.now }
+{
+    RowKey {
+        kind: type_byte(kind),
+        id: *id,
+    }
+}

@@ -1,0 +1,51 @@
+//! Some rows of a database, one after the other.
+
+ghost use Rattle.std.specs.Prelude.{◌≡◌, length};
+ghost use Rattle.std.specs.Iterator.{YieldsFirstBy, at_most};
+ghost use Rattle.path_rows.specs.Row.{row_view};
+ghost use Rattle.path_rows.specs.RowMap.{views_of};
+
+use crate::row::Row;
+use crate::row_key::RowKey;
+use std::collections::btree_map::Range;
+use std::marker::Model;
+
+/// The rows that are left of a range of keys, in the order of their keys.
+#[derive(Drop)]
+pub(crate) struct RowRange<'a> {
+    rows: Range<'a, RowKey, Row>,
+}
+
+impl<'a> Model for RowRange<'a> {
+    ghost use Rattle.std.specs.Prelude.{List};
+    ghost use Rattle.path_rows.specs.Database.{RowView};
+    ghost use Rattle.path_rows.specs.RowMap.{views_of};
+
+    ghost Value = { List RowView };
+
+    ghost view = { λ s. views_of s.rows };
+}
+
+impl<'a> RowRange<'a> {
+    /// All of these.
+    pub(crate) fn of(rows: Range<'a, RowKey, Row>) -> RowRange<'a>
+        ensures { result ≡ views_of rows.entry }
+    {
+        RowRange { rows }
+    }
+}
+
+impl<'a> Iterator for RowRange<'a> {
+    type Item = &'a Row;
+
+    ghost next_gives = { YieldsFirstBy (λ row. row_view row.now) (λ s. s) };
+
+    ghost remaining = { λ s. at_most (length s) };
+
+    fn next(&mut self) -> Option<&'a Row> {
+        match self.rows.next() {
+            Some((_, row)) => Some(row),
+            None => None,
+        }
+    }
+}
