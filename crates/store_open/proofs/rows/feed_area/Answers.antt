@@ -15,11 +15,11 @@ pieces-preserved g c = record {
   keeps = keeps_then _ _ _ c.pieces.invariant.keeps c.in_ok-piece.ensures.looks.keeps;
   faults = c.in_ok-piece.ensures.looks.faults ∙ c.pieces.invariant.faults;
   history = λ honest. c.in_ok-piece.ensures.looks.history (honest_after _ _ c.pieces.invariant.keeps honest) ∙ c.pieces.invariant.history honest;
-  from = omega (arith, c.pieces.invariant.from, c.pieces-test.true, c.min-to.ensures, c.min-count.ensures, c.from-end.ensures);
+  from = omega (arith, c.pieces.invariant.from, c.pieces-test.true, c.min-to.ensures, c.min-count.ensures, c.from.ensures);
   to = omega (arith, c.pieces-test.true, c.min-to.ensures);
   read = λ honest. c.in_ok-reader.ensures.fed ∙ fed_more (reads_of (g.D.Device.disk c.args.device.now)) (reads_of (g.D.Device.disk c.pieces.device)) c.pieces.reader c.deref.result.now c.in_ok-piece.piece.items
       c.args.area c.pieces.fed c.min-count.result c.min-to.result c.pieces.invariant.from
-      (omega (arith, c.pieces-test.true, c.min-to.ensures, c.min-count.ensures, c.from-end.ensures)) (omega (arith, c.min-to.ensures))
+      (omega (arith, c.pieces-test.true, c.min-to.ensures, c.min-count.ensures, c.from.ensures)) (omega (arith, c.min-to.ensures))
       (c.pieces.invariant.read honest) (ap (λ (h : History). h.now.reads) (c.pieces.invariant.history honest)) c.deref.ensures.value
       (c.in_ok-piece.ensures.read (honest_after _ _ c.pieces.invariant.keeps honest));
 }
@@ -31,10 +31,10 @@ returns-in_err-reader-clause-rows g c honest =
     let so : c.from_residual-in_err-reader.result ≡ Err (error_of_pair e) = made.1 ∙ ap (λ (x : OpenError). Err x) made.2 in
     subst (FeedsSo (part (512 * c.args.area + 32) c.args.size (reads_of (g.D.Device.disk c.args.device.now)))) (sym so)
     (feed_refused e _ (512 * c.args.area + 32) (512 * (c.pieces.fed / 512) + c.min-to.result - 32) c.args.size (reads_of (g.D.Device.disk c.args.device.now))
-    (omega (arith, c.pieces-test.true, c.min-to.ensures, c.min-count.ensures, c.from-end.ensures))
+    (omega (arith, c.pieces-test.true, c.min-to.ensures, c.min-count.ensures, c.from.ensures))
     (fed_more (reads_of (g.D.Device.disk c.args.device.now)) (reads_of (g.D.Device.disk c.pieces.device)) c.pieces.reader c.deref.result.now c.in_ok-piece.piece.items
     c.args.area c.pieces.fed c.min-count.result c.min-to.result c.pieces.invariant.from
-    (omega (arith, c.pieces-test.true, c.min-to.ensures, c.min-count.ensures, c.from-end.ensures)) (omega (arith, c.min-to.ensures))
+    (omega (arith, c.pieces-test.true, c.min-to.ensures, c.min-count.ensures, c.from.ensures)) (omega (arith, c.min-to.ensures))
     (c.pieces.invariant.read honest) (ap (λ (h : History). h.now.reads) (c.pieces.invariant.history honest)) c.deref.ensures.value
     (c.in_ok-piece.ensures.read (honest_after _ _ c.pieces.invariant.keeps honest)))
     c.in_err-reader.ensures.refused)
