@@ -9,6 +9,7 @@ use seg_core::{SegType, Segment};
 use seg_lookup::Query;
 use std::alloc::{AllocError, Global};
 use std::process::Abort;
+use worked_segments::ID;
 
 /// An event, and what it is to be answered.
 pub(crate) type Line = (Act, Said);
@@ -116,14 +117,7 @@ pub(crate) const EIGHT_OLDER: Outcome = Outcome { kept: 8, ..NOTHING };
 /// The ids of segments by the interface by which they are left: SHA-256 over `0001ff0000000110 0000`, the interface, and
 /// `0001ff0000000111 0002 0000`.
 const IDS: [(u8, [u8; 32]); 3] = [
-    (
-        1,
-        [
-            0x8a, 0xdc, 0xea, 0x68, 0xdc, 0x57, 0xcb, 0xbe, 0x68, 0xda, 0x71, 0x42, 0xaf, 0x88,
-            0xb6, 0x8a, 0x9d, 0x27, 0xa5, 0x90, 0xe1, 0xd5, 0x15, 0x7c, 0x53, 0xc2, 0xbb, 0x2c,
-            0x76, 0x23, 0x45, 0xff,
-        ],
-    ),
+    (1, ID),
     (
         2,
         [

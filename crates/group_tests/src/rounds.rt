@@ -10,12 +10,7 @@ use std::alloc::Global;
 use std::process::Abort;
 use std::test::Fail;
 use store_open::Store;
-
-/// The id of the sealed store's segment: SHA-256 over `0001ff0000000110 0000 0001 0001ff0000000111 0002 0000`.
-const ID: [u8; 32] = [
-    0x8a, 0xdc, 0xea, 0x68, 0xdc, 0x57, 0xcb, 0xbe, 0x68, 0xda, 0x71, 0x42, 0xaf, 0x88, 0xb6, 0x8a,
-    0x9d, 0x27, 0xa5, 0x90, 0xe1, 0xd5, 0x15, 0x7c, 0x53, 0xc2, 0xbb, 0x2c, 0x76, 0x23, 0x45, 0xff,
-];
+use worked_segments::ID;
 
 /// Makes a whole round before this step of the flusher, or behind the last one.
 fn with_round(rt: &impl Abort, work: Work<MemDevice>, before: u64) -> Work<MemDevice> {

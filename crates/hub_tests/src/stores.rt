@@ -10,6 +10,7 @@ use seg_lookup::Query;
 use std::alloc::Global;
 use std::process::Abort;
 use store_open::{Geometry, OpenError, Store, format, open};
+use worked_segments::{EGRESS, SEGMENT};
 
 /// The least sizes that are allowed: sector 0, and then for each half two sectors of checkpoint area, a gate, and 516 sectors of
 /// journal. There is room for ten rows of the segments here, which take 93 bytes each.
@@ -24,25 +25,8 @@ const SEAL: [u8; 16] = [2, 0, 0, 0, 0, 0, 0, 0, 0, 0, 0, 0, 0, 0, 0, 1];
 /// How long a commit is waited for, in rests of at most 10 milliseconds.
 const MOST_RESTS: u64 = 3000;
 
-/// Two entries, from 1-ff00:0:110 to 1-ff00:0:111.
-const SEGMENT: [u8; 88] = [
-    0x0a, 0x08, 0x08, 0x80, 0xe2, 0xcf, 0xaa, 0x06, 0x10, 0x07, // the segment's information
-    0x12, 0x29, 0x0a, 0x27, 0x0a, 0x25, // the first entry, its signed message, header and body
-    0x12, 0x23, 0x08, 0x90, 0x82, 0x80, 0x80, 0x80, 0xe0, 0x7f, // its AS
-    0x10, 0x91, 0x82, 0x80, 0x80, 0x80, 0xe0, 0x7f, // the next AS
-    0x1a, 0x0e, 0x0a, 0x0c, 0x10, 0x01, 0x18, 0x3f, 0x22, 0x06, // the hop entry and its hop field
-    0x01, 0x02, 0x03, 0x04, 0x05, 0x06, 0x28, 0xc0, 0x0b, // a MAC, and the MTU
-    0x12, 0x21, 0x0a, 0x1f, 0x0a, 0x1d, // the second entry
-    0x12, 0x1b, 0x08, 0x91, 0x82, 0x80, 0x80, 0x80, 0xe0, 0x7f, // its AS
-    0x1a, 0x0e, 0x0a, 0x0c, 0x08, 0x02, 0x18, 0x3f, 0x22, 0x06, // the hop entry and its hop field
-    0x0a, 0x0b, 0x0c, 0x0d, 0x0e, 0x0f, 0x28, 0xc0, 0x0b, // a MAC, and the MTU
-];
-
 /// Where in the segment the lowest seven bits of its first AS are, beside a bit that is set.
 const FIRST_AS: usize = 19;
-
-/// Where in the segment the interface is by which its first AS is left. With another one its id is another.
-const EGRESS: usize = 39;
 
 /// Sizes with room for 175 rows of the segments here.
 pub(crate) const WIDE: Geometry = Geometry {

@@ -1,7 +1,7 @@
 //! What a database shows of a lookup.
 
 use crate::same::assert_same;
-use crate::worked::{CORE_SEGMENT, EGRESS, EXPIRY, SEGMENT, register, roster};
+use crate::worked::{CORE_SEGMENT, EGRESS, EXP_TIME, SEGMENT, register, roster};
 use isd_as::parse;
 use path_rows::PathDb;
 use seg_core::{SegType, Segment};
@@ -83,7 +83,7 @@ fn assert_moments(rt: &impl Abort, db: &PathDb, cores: &Roster) -> Result<(), Fa
 fn expiry_boundary_hidden(rt: HostRuntime) -> Result<(), Fail> {
     let cores = roster(rt.alloc(), &["1-ff00:0:110"])?;
     let mut bytes = SEGMENT;
-    bytes[EXPIRY] = 0;
+    bytes[EXP_TIME] = 0;
     let db = one_row(rt.alloc(), SegType::Down, &bytes)?;
     assert_moments(&rt, &db, &cores)
 }
