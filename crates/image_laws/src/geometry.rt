@@ -8,11 +8,11 @@ ghost use Rattle.image_laws.specs.Geometry.{geometry_view};
 use crate::half::Half;
 
 /// The fewest sectors of a checkpoint area.
-const LEAST_CHECKPOINT: u32 = 2;
+pub const LEAST_CHECKPOINT: u32 = 2;
 /// The fewest sectors of a journal: those of the largest group and a seal, with their gates.
-const LEAST_JOURNAL: u32 = 516;
+pub const LEAST_JOURNAL: u32 = 516;
 /// The most sectors of a checkpoint area, and of a journal.
-const MOST_SECTORS: u32 = 1_048_576;
+pub const MOST_SECTORS: u32 = 1_048_576;
 
 /// The sizes of both halves of a store, in sectors of 512 bytes: of the checkpoint area, and of the journal.
 #[derive(Clone, Copy, Debug, PartialEq, Eq)]

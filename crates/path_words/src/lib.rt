@@ -12,6 +12,7 @@ ghost use Rattle.clap.specs.Words.{subcommand_names};
 ghost use Rattle.clap.specs.declared.builder.command.Command.TheViews.{out-Command};
 
 use clap::{Arg, ArgAction, Command, value_parser};
+use image_laws::{LEAST_CHECKPOINT, LEAST_JOURNAL, MOST_SECTORS};
 pub use reading::read;
 use std::alloc::{AllocError, Global};
 
@@ -72,9 +73,6 @@ const CORES_HELP: &str = "The core ASes, as ISD-AS texts joined by commas";
 /// What the help says of the key.
 const KEY_HELP: &str = "Check signatures by this key of a test profile; without it all are trusted";
 
-/// The most sectors of a checkpoint area, and of a journal.
-const MOST_SECTORS: i64 = 1_048_576;
-
 /// The program's commands and their options.
 pub fn command<'a>(alloc: Global) -> Result<Command<'a>, AllocError>
     ensures { IfOk result (λ command. subcommand_names command ≡ codes "once" ∷ codes "format" ∷ codes "show" ∷ codes "upgrade" ∷ codes "run" ∷ []) }
@@ -133,8 +131,8 @@ fn format_command<'a>(alloc: Global) -> Result<Command<'a>, AllocError>
             "Makes a file of 1 + 2 * (C + 1 + J) sectors with an empty store; one that is there is lost",
         )
         .arg(device_argument(alloc))?
-        .arg(sectors(option(alloc, CHECKPOINT, "C", checkpoint), 2))?
-        .arg(sectors(option(alloc, JOURNAL, "J", journal), 516))
+        .arg(sectors(option(alloc, CHECKPOINT, "C", checkpoint), LEAST_CHECKPOINT))?
+        .arg(sectors(option(alloc, JOURNAL, "J", journal), LEAST_JOURNAL))
 }
 
 /// The command that prints what a store has.
@@ -218,8 +216,8 @@ fn flag<'a>(alloc: Global, name: &'static str, help: &'static str) -> Arg<'a> {
 }
 
 /// An option that has to be there, whose value is a number of sectors.
-fn sectors<'a>(option: Arg<'a>, least: i64) -> Arg<'a> {
+fn sectors<'a>(option: Arg<'a>, least: u32) -> Arg<'a> {
     option
-        .value_parser(value_parser!(u32).range(least..=MOST_SECTORS))
+        .value_parser(value_parser!(u32).range(i64::from(least)..=i64::from(MOST_SECTORS)))
         .required(true)
 }
