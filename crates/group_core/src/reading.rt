@@ -36,6 +36,13 @@ impl<D: Device, S: Showcase> State<D, S> {
         }
     }
 
+    /// How many commands are committed since the store was made: the command of each lower place is.
+    pub fn place(&self) -> u64
+        ensures { result ≡ self.now.value.place }
+    {
+        self.place
+    }
+
     /// A law. Between two calls a stop leaves what is committed, with a front of the pending commands as long as the flusher's phase
     /// allows; and no more commands are in flight than are pending.
     pub fn stops_leave_fronts(&self)
