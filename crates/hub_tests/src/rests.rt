@@ -12,40 +12,46 @@ use std::sync::Wait;
 use std::test::Fail;
 use std::time::{Clock, Duration, Instant};
 
-/// How many changes there were of each kind after each call, beyond those that there were at first.
+/// How many changes there were of each kind after each call, beyond those that there were at first: of the outcomes, of that of one
+/// place, and of that of the next place.
 #[derive(Drop)]
 struct Grown {
     work: Vec<u64>,
     seal: Vec<u64>,
     outcome: Vec<u64>,
+    next: Vec<u64>,
 }
 
 /// Counts the changes of a state after each call.
 struct Counts<'a, S> {
     steps: &'a S,
-    first: [u64; 3],
+    place: u64,
+    first: [u64; 4],
     grown: Grown,
 }
 
-/// How many changes there were of each kind.
-fn changes<S: Steps>(steps: &S) -> [u64; 3] {
+/// How many changes there were of each kind: of the outcomes, of that of this place, and of that of the next place.
+fn changes<S: Steps>(steps: &S, place: u64) -> [u64; 4] {
     [
         steps.changes(Awaited::Work),
         steps.changes(Awaited::Seal),
-        steps.changes(Awaited::Outcome),
+        steps.changes(Awaited::Outcome(place)),
+        steps.changes(Awaited::Outcome(place.wrapping_add(1))),
     ]
 }
 
 impl<'a, S: Steps> Counts<'a, S> {
     /// Counts from now on.
-    fn new(alloc: Global, steps: &'a S) -> Counts<'a, S> {
+    fn new(alloc: Global, steps: &'a S, place: u64) -> Counts<'a, S> {
         Counts {
             steps,
-            first: changes(steps),
+            place,
+            first: changes(steps, place),
             grown: Grown {
                 work: Vec::new(alloc),
                 seal: Vec::new(alloc),
                 outcome: Vec::new(alloc),
+                next: Vec::new(alloc),
             },
         }
     }
@@ -54,6 +60,7 @@ impl<'a, S: Steps> Counts<'a, S> {
     fn end(self) -> Grown {
         let Counts {
             steps: _steps,
+            place: _place,
             first: _first,
             grown,
         } = self;
@@ -63,10 +70,11 @@ impl<'a, S: Steps> Counts<'a, S> {
 
 impl<S: Steps> Watch for Counts<'_, S> {
     fn see(&mut self, _answer: Answer) {
-        let [work, seal, outcome] = changes(self.steps);
+        let [work, seal, outcome, next] = changes(self.steps, self.place);
         let _ = self.grown.work.push(work.wrapping_sub(self.first[0]));
         let _ = self.grown.seal.push(seal.wrapping_sub(self.first[1]));
         let _ = self.grown.outcome.push(outcome.wrapping_sub(self.first[2]));
+        let _ = self.grown.next.push(next.wrapping_sub(self.first[3]));
     }
 }
 
@@ -77,29 +85,33 @@ fn assert_grown(rt: &impl Abort, kind: &str, grown: &[u64], wanted: &[u64]) {
 
 /// A purge is submitted, staged, written, synced, its gate opened and synced, published, and redeemed.
 fn assert_group<S: Steps>(rt: &impl Abort, alloc: Global, steps: &S) {
-    let mut counts = Counts::new(alloc, steps);
+    let mut counts = Counts::new(alloc, steps, GROUPS - 1);
     commit(rt, steps, &mut counts);
     let Grown {
         work,
         seal,
         outcome,
+        next,
     } = counts.end();
     assert_grown(rt, "work", &work, &[1, 1, 1, 1, 1, 1, 1, 1]);
     assert_grown(rt, "seal", &seal, &[0, 0, 0, 0, 0, 0, 0, 0]);
     assert_grown(rt, "outcome", &outcome, &[0, 0, 0, 0, 0, 0, 1, 1]);
+    assert_grown(rt, "next", &next, &[0; 8]);
 }
 
 /// The same calls, where a seal is published: the purge waits, and is committed then.
 fn assert_seal<S: Steps>(rt: &impl Abort, alloc: Global, steps: &S) {
-    let mut counts = Counts::new(alloc, steps);
+    let mut counts = Counts::new(alloc, steps, GROUPS);
     let ticket = seal(rt, steps, &mut counts);
     let Grown {
         work,
         seal,
-        outcome: _outcome,
+        outcome,
+        next: _next,
     } = counts.end();
     assert_grown(rt, "work", &work, &[1, 1, 1, 1, 1, 1, 1, 1]);
     assert_grown(rt, "seal", &seal, &[0, 0, 0, 0, 0, 0, 1, 1]);
+    assert_grown(rt, "outcome", &outcome, &[0; 8]);
     flush(rt, steps, &mut Unwatched);
     spend(rt, steps, &mut Unwatched, ticket);
 }
@@ -107,12 +119,13 @@ fn assert_seal<S: Steps>(rt: &impl Abort, alloc: Global, steps: &S) {
 /// A checkpoint is begun, written, synced, its gate opened and synced, the old half closed and synced, with a staging that is refused
 /// between two of these calls.
 fn assert_fold<S: Steps>(rt: &impl Abort, alloc: Global, steps: &S) {
-    let mut counts = Counts::new(alloc, steps);
+    let mut counts = Counts::new(alloc, steps, GROUPS + 1);
     fold(rt, steps, &mut counts);
     let Grown {
         work,
         seal,
         outcome,
+        next: _next,
     } = counts.end();
     assert_grown(rt, "work", &work, &[0, 0, 0, 0, 0, 0, 0, 0, 0, 0, 0, 0, 1]);
     assert_grown(rt, "seal", &seal, &[0; 13]);
@@ -121,17 +134,19 @@ fn assert_fold<S: Steps>(rt: &impl Abort, alloc: Global, steps: &S) {
 
 /// The state is stopped.
 fn assert_halt<S: Steps>(rt: &impl Abort, alloc: Global, steps: &S) {
-    let mut counts = Counts::new(alloc, steps);
+    let mut counts = Counts::new(alloc, steps, GROUPS + 1);
     steps.halt();
     counts.see(Answer::Done);
     let Grown {
         work,
         seal,
         outcome,
+        next,
     } = counts.end();
     assert_grown(rt, "work", &work, &[1]);
     assert_grown(rt, "seal", &seal, &[1]);
     assert_grown(rt, "outcome", &outcome, &[1]);
+    assert_grown(rt, "next", &next, &[1]);
 }
 
 /// Counts the changes that calls make.
@@ -204,13 +219,15 @@ impl<D: Device, R: Wait + Clock + Abort> HubJob<D, R> for Rests {
         let Rests = self;
         let rt = hub.handle();
         commit_all(rt, hub, &mut Unwatched, GROUPS - 1);
-        let [work, _seal, outcome] = changes(hub);
+        let mine = Awaited::Outcome(GROUPS - 1);
+        let next = Awaited::Outcome(GROUPS);
+        let [work, _seal, outcome, _next] = changes(hub, GROUPS - 1);
         let ticket = submit(rt, hub, &mut Unwatched);
         assert_prompt(rt, hub, Awaited::Work, work);
         flush(rt, hub, &mut Unwatched);
-        assert_prompt(rt, hub, Awaited::Outcome, outcome);
+        assert_prompt(rt, hub, mine, outcome);
         spend(rt, hub, &mut Unwatched, ticket);
-        for awaited in [Awaited::Work, Awaited::Seal, Awaited::Outcome] {
+        for awaited in [Awaited::Work, Awaited::Seal, mine, next] {
             assert_slow(rt, hub, awaited);
         }
         let sealed = hub.changes(Awaited::Seal);
@@ -221,11 +238,12 @@ impl<D: Device, R: Wait + Clock + Abort> HubJob<D, R> for Rests {
         let work = hub.changes(Awaited::Work);
         fold(rt, hub, &mut Unwatched);
         assert_prompt(rt, hub, Awaited::Work, work);
-        let [work, sealed, outcome] = changes(hub);
+        let [work, sealed, outcome, after] = changes(hub, GROUPS - 1);
         hub.halt();
         assert_prompt(rt, hub, Awaited::Work, work);
         assert_prompt(rt, hub, Awaited::Seal, sealed);
-        assert_prompt(rt, hub, Awaited::Outcome, outcome);
+        assert_prompt(rt, hub, mine, outcome);
+        assert_prompt(rt, hub, next, after);
     }
 }
 

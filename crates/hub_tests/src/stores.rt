@@ -179,16 +179,17 @@ pub(crate) fn receipt_of<S: Steps>(
     steps: &S,
     ticket: Ticket,
 ) -> Option<Receipt<S::Note>> {
+    let awaited = Awaited::Outcome(ticket.place());
     let mut ticket = ticket;
     for _ in 0..MOST_RESTS {
-        let seen = steps.changes(Awaited::Outcome);
+        let seen = steps.changes(awaited);
         match steps.redeem(ticket) {
             Redeemed::Committed(receipt) => return Some(receipt),
             Redeemed::Unknown(_place) => return None,
             Redeemed::Waiting(back) => ticket = back,
             Redeemed::Stranger(back) => ticket = back,
         }
-        steps.rest(Awaited::Outcome, seen);
+        steps.rest(awaited, seen);
     }
     panic!(rt; "a command is not committed")
 }

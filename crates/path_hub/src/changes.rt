@@ -1,6 +1,8 @@
 //! The changes of a state that threads wait for.
 
+use crate::bells::Bells;
 use crate::steps::Awaited;
+use std::sync::atomic::{AtomicU64, Ordering};
 use std::sync::{Condvar, Wait};
 use std::time::Duration;
 
@@ -13,7 +15,9 @@ const LONGEST_REST: u64 = 10;
 pub(crate) struct Changes {
     work: Condvar,
     seal: Condvar,
-    outcome: Condvar,
+    outcomes: Bells,
+    /// The outcome of each command below this place is there; 2^64 - 1 once the state has stopped.
+    reached: AtomicU64,
 }
 
 impl Changes {
@@ -22,7 +26,8 @@ impl Changes {
         Changes {
             work: Condvar::new(),
             seal: Condvar::new(),
-            outcome: Condvar::new(),
+            outcomes: Bells::new(),
+            reached: AtomicU64::new(0),
         }
     }
 
@@ -36,11 +41,25 @@ impl Changes {
         self.bell(awaited).notify_all();
     }
 
+    /// Wakes the threads whose commands have these places: from the first up to the second, which is left out.
+    pub(crate) fn announce_outcomes(&self, from: u64, to: u64) {
+        self.reached.fetch_max(to, Ordering::SeqCst);
+        for place in from..to {
+            self.announce(Awaited::Outcome(place));
+        }
+    }
+
     /// Wakes all: the state has stopped.
     pub(crate) fn announce_stop(&self) {
+        self.reached.store(u64::MAX, Ordering::SeqCst);
         self.work.notify_all();
         self.seal.notify_all();
-        self.outcome.notify_all();
+        self.outcomes.ring_all();
+    }
+
+    /// Whether the outcome of the command of a place was announced, or a stop.
+    pub(crate) fn has_reached(&self, place: u64) -> bool {
+        place < self.reached.load(Ordering::SeqCst)
     }
 
     /// Waits until there are more changes of a kind than `seen`, at most 10 milliseconds.
@@ -53,7 +72,7 @@ impl Changes {
         match awaited {
             Awaited::Work => &self.work,
             Awaited::Seal => &self.seal,
-            Awaited::Outcome => &self.outcome,
+            Awaited::Outcome(place) => self.outcomes.of(place),
         }
     }
 }

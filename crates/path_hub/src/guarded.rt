@@ -105,12 +105,12 @@ impl<D: Device, N: HubName, R: Wait + Clock> Steps for Hub<D, N, R> {
     #[tactic(auto, using(crate::proofs::Through::handed_in))]
     fn publish(&self, value: Durable) -> Result<(), PublishError> {
         let mut state = self.state.lock(&self.rt);
+        let from = state.place();
         let published = state.publish(value);
+        let to = state.place();
         let sealed = state.is_sealed();
         MutexGuard::unlock(state);
-        if published.is_ok() {
-            self.changes.announce(Awaited::Outcome);
-        }
+        self.changes.announce_outcomes(from, to);
         if sealed {
             self.changes.announce(Awaited::Seal);
         }

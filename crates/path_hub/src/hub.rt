@@ -64,16 +64,24 @@ impl<D: Device, N: HubName, R: Wait + Clock> Hub<D, N, R> {
             Err((_, refusal)) => return Err(HubError::Submit(refusal)),
         };
         for _ in self.rt.forever() {
-            let seen = self.changes(Awaited::Outcome);
+            self.await_outcome(ticket.place());
             match self.redeem(ticket) {
                 Redeemed::Committed(receipt) => return Ok(receipt),
                 Redeemed::Unknown(place) => return Err(HubError::Stopped(place)),
                 Redeemed::Waiting(back) => ticket = back,
                 Redeemed::Stranger(back) => ticket = back,
             }
-            self.rest(Awaited::Outcome, seen);
         }
         unreachable!()
+    }
+
+    /// Waits until the command of a place is committed or the state has stopped, at most 10 milliseconds.
+    fn await_outcome(&self, place: u64) {
+        let awaited = Awaited::Outcome(place);
+        let seen = self.changes(awaited);
+        if !self.changes.has_reached(place) {
+            self.rest(awaited, seen);
+        }
     }
 
     /// Stops the state for good: the actors' loops end, and so do the calls that wait for a commit.

@@ -7,6 +7,7 @@
 //! `HubReader::lookup` answers from what is published, which is never older than what this reader was shown or has learnt.
 #![tactic(auto)]
 
+mod bells;
 mod changes;
 mod checkpointer;
 mod crew;

@@ -17,8 +17,8 @@ pub enum Awaited {
     Work,
     /// A sealed journal: the checkpointer waits for it.
     Seal,
-    /// That a group is published: whoever has submitted a command waits for it.
-    Outcome,
+    /// That the command of this place is committed: whoever has submitted it waits for that.
+    Outcome(u64),
 }
 
 /// A state that several threads work on. Each call but `changes` and `rest` is one call of the state's method of that name, made
