@@ -1,6 +1,6 @@
 //! Readers that wait for nobody.
 
-ghost use Rattle.std.specs.Prelude.{◌≡◌, ◌⊎◌, ◌≤◌, None, length, IfOk, IfErr, IfSome, OnOk, OnErr};
+ghost use Rattle.std.specs.Prelude.{◌≡◌, ◌⊎◌, ◌≤◌, ◌<◌, None, length, IfOk, IfErr, IfSome, OnOk, OnErr};
 ghost use Rattle.std.specs.List.{AllByRecursion};
 ghost use mathlib.Core.List.{IsPrefix};
 ghost use Rattle.seg_core.specs.Encoding.{IsSegment};
@@ -65,11 +65,13 @@ impl<N: HubName> HubReader<N> {
         ensures fresh { OnOk result (self.old.seen ≤ place_after N.opening self.new.groups) }
         ensures seen { OnOk result (self.new.seen ≡ place_after N.opening self.new.groups) }
 
-        // Memory runs out only for an answer that isn't empty, after the reader has looked; without a look it has seen what it had.
+        // Memory runs out only for an answer that isn't empty, after the reader has looked. NoReader comes only where the reader can't look,
+        // or where what is published is older than what it has seen: it has then seen what it had.
         ensures why { IfErr result (λ e. (e ≡ NoMemory) ⊎ (e ≡ NoReader)) }
         ensures memory { IfErr result (λ e. e ≡ NoMemory → 1 ≤ length (answer_after N.opening self.new.groups query.now now)) }
         ensures looked { IfErr result (λ e. e ≡ NoMemory → self.new.seen ≡ place_after N.opening self.new.groups) }
         ensures kept { IfErr result (λ e. e ≡ NoReader → self.new.seen ≡ self.old.seen) }
+        ensures unshown { IfErr result (λ e. e ≡ NoReader → (self.new.groups ≡ self.old.groups) ⊎ (place_after N.opening self.new.groups < self.old.seen)) }
         ensures grows { self.old.seen ≤ self.new.seen }
     {
         let Some(sight) = look_in(&mut self.seat, query, now) else {
@@ -110,6 +112,7 @@ fn look_in<N: HubName>(seat: &mut HubSeat<N>, query: &Query, now: u64) -> Option
     ensures few { IfSome result (λ f. IfOk f.found (λ found. length found.items ≤ ANSWER_LIMIT)) }
     ensures whole { IfSome result (λ f. IfOk f.found (λ found. AllByRecursion IsSegment found.items)) }
     ensures memory { IfSome result (λ f. OnErr f.found (1 ≤ length (answer_after N.opening (view seat.new.place).groups query.now now))) }
+    ensures gone { result ≡ None → (view seat.new.place).groups ≡ (view seat.old.place).groups }
 {
     replace_with(
         seat,
@@ -126,6 +129,7 @@ fn look<N: HubName>(seat: HubSeat<N>, query: &Query, now: u64) -> (HubSeat<N>, O
     ensures few { IfSome result.1 (λ f. IfOk f.found (λ found. length found.items ≤ ANSWER_LIMIT)) }
     ensures whole { IfSome result.1 (λ f. IfOk f.found (λ found. AllByRecursion IsSegment found.items)) }
     ensures memory { IfSome result.1 (λ f. OnErr f.found (1 ≤ length (answer_after N.opening (view result.0.place).groups query.now now))) }
+    ensures gone { result.1 ≡ None → (view result.0.place).groups ≡ (view seat.place).groups }
 {
     match seat.enter_as::<SeesAll<N>>() {
         Ok(reading) => {
