@@ -3,14 +3,31 @@
 ghost use Rattle.sector_dev.specs.Disk.{IsHonest};
 ghost use Rattle.sector_dev.specs.Image.{EveryImage};
 ghost use Rattle.std.specs.Prelude.{◌≡◌, [], IfOk, OnOk};
-ghost use Rattle.group_core.specs.StateView.{MayOpen};
-ghost use Rattle.group_core.specs.Ending.{HandsOut, HoldsStoreOf};
+ghost use Rattle.group_core.specs.StateView.{MayOpen, StepLeaves};
+ghost use Rattle.group_core.specs.Ending.{Abandons, HandsOut, HoldsStoreOf};
 
 use crate::showcase::Showcase;
 use crate::state::State;
+use crate::values::Durable;
+use group_laws::Flush;
 use sector_dev::Device;
 
 impl<D: Device, S: Showcase> State<D, S> {
+    /// Gives up a group or a seal that is durable, where the state has stopped: it is not published any more, and its value is
+    /// spent. Where the state goes on, or it isn't this value's turn, the value comes back. It makes no call of the device, and
+    /// takes no memory.
+    pub fn abandon(&mut self, value: Durable) -> Result<(), Durable>
+        ensures abandons { Abandons value result self.old self.new }
+        ensures any_moment { StepLeaves self.old self.new }
+    {
+        let is_turn = self.flush == Flush::Durable && value.is_of(self.home, self.group.number);
+        if !is_turn || !self.stopped {
+            return Err(value);
+        }
+        self.group.spend(value);
+        Ok(())
+    }
+
     /// Hands the device out, unless an outcome is still kept or a commit value is still out: then the state comes back. It makes
     /// no call of the device, and takes no memory.
     pub fn into_device(self) -> Result<D, State<D, S>>

@@ -43,6 +43,13 @@ impl<D: Device, S: Showcase> State<D, S> {
         self.place
     }
 
+    /// The device.
+    pub fn device(&self) -> &D
+        ensures { D.disk result.now ≡ self.now.disk }
+    {
+        &self.device
+    }
+
     /// A law. Between two calls a stop leaves what is committed, with a front of the pending commands as long as the flusher's phase
     /// allows; and no more commands are in flight than are pending.
     pub fn stops_leave_fronts(&self)
