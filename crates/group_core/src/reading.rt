@@ -1,9 +1,12 @@
 //! What is read of a state, which leaves it as it is.
 
 ghost use Rattle.std.specs.Prelude.{◌≡◌, ◌≤◌, ◌↔◌, IsTrue, IfOk, OnErr, length};
+ghost use Rattle.std.specs.List.{AllByRecursion};
+ghost use Rattle.seg_core.specs.Encoding.{IsSegment};
 ghost use Rattle.path_rows.specs.Answer.{segments_of};
 ghost use Rattle.seg_lookup.specs.Answer.{answer_to};
 ghost use Rattle.seg_lookup.specs.Query.{query_view};
+ghost use Rattle.seg_lookup.specs.declared.answers.TheConstants.{ANSWER_LIMIT};
 ghost use Rattle.group_laws.specs.declared.phases.Check.TheVariants.{Sealed as sealed};
 ghost use Rattle.group_core.specs.Keeping.{KeepsOutcomes};
 ghost use Rattle.group_core.specs.Reading.{IsFree};
@@ -74,6 +77,8 @@ impl<D: Device> State<D, PlainShow> {
     pub fn look_up(&self, query: &Query, now: u64) -> Result<Vec<Segment>, AllocError>
         ensures answer { IfOk result (λ found. found.items ≡ segments_of (answer_to self.now.value.db (query_view query.now) now)) }
         ensures memory { OnErr result (1 ≤ length (answer_to self.now.value.db (query_view query.now) now)) }
+        ensures few { IfOk result (λ found. length found.items ≤ ANSWER_LIMIT) }
+        ensures whole { IfOk result (λ found. AllByRecursion IsSegment found.items) }
     {
         answer(self.show.db(), query, now)
     }

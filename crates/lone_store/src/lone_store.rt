@@ -1,10 +1,13 @@
 //! A store in memory that one caller drives.
 
-ghost use Rattle.std.specs.Prelude.{◌≡◌, IfOk};
+ghost use Rattle.std.specs.Prelude.{◌≡◌, ◌≤◌, length, IfOk};
+ghost use Rattle.std.specs.List.{AllByRecursion};
+ghost use Rattle.seg_core.specs.Encoding.{IsSegment};
 ghost use Rattle.path_rows.specs.Answer.{segments_of};
 ghost use Rattle.path_db.specs.CommandRecord.{IsWithinLimits};
 ghost use Rattle.seg_lookup.specs.Answer.{answer_to};
 ghost use Rattle.seg_lookup.specs.Query.{query_view};
+ghost use Rattle.seg_lookup.specs.declared.answers.TheConstants.{ANSWER_LIMIT};
 ghost use Rattle.lone_store.specs.LoneView.{no_rows};
 ghost use Rattle.lone_store.specs.Taking.{MayTake};
 
@@ -78,6 +81,8 @@ impl LoneStore {
     /// had run out for an earlier command.
     pub fn look_up(&mut self, query: &Query, now: u64) -> Result<Vec<Segment>, AllocError>
         ensures answer { IfOk result (λ found. found.items ≡ segments_of (answer_to self.old.rows (query_view query.now) now)) }
+        ensures few { IfOk result (λ found. length found.items ≤ ANSWER_LIMIT) }
+        ensures whole { IfOk result (λ found. AllByRecursion IsSegment found.items) }
         ensures same { self.new ≡ self.old }
     {
         settle(&mut self.state, &mut self.held)?;
