@@ -3,3 +3,4 @@ mod Digits
 mod MemoryLemmas
 mod SessionLemmas
 mod Kept
+mod Unserved

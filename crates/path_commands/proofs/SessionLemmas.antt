@@ -40,7 +40,7 @@ read_all input read None c end = absurd c
 read_all input read (Some rest) c end = c ∙ ap (λ (t : List ℕ). read ++ t) end ∙ append-nil read
 
 -- no bytes are less than a frame
-nothing_is_partial : IsPartial []
+pub nothing_is_partial : IsPartial []
 nothing_is_partial = record { length_is_right = λ le. absurd (omega (arith, le)); kind_is_right = λ le. absurd (omega (arith, le)); incomplete = λ le. absurd (omega (arith, le)) }
 
 all_frames : (bytes rest : List ℕ) (messages : List MessageView) → AreWholeFrames bytes messages rest → rest ≡ [] → AreFrames bytes messages (Rest [])

@@ -1,15 +1,15 @@
--- A service in memory: what it holds, and what it answers to a message.
-use Rattle.std.specs.Prelude.{◌≡◌, ℕ, ◌+◌, ◌-◌, ◌^◌, ◌<◌, ◌⊎◌, length, List, [], ◌==◌, if◌then◌else◌, Option, Some, None, Result, Ok, Err, IsOk}
+-- A service over a store in memory: what it holds, and what it answers to a message.
+use Rattle.std.specs.Prelude.{◌≡◌, ℕ, ◌+◌, ◌-◌, ◌*◌, ◌^◌, ◌⊎◌, Bool, List, [], ◌==◌, nat_le, if◌then◌else◌, Option, Some, None, Result, Ok, Err, IsOk}
 use Rattle.seg_core.specs.declared.error.SegError.{SegError}
 use Rattle.seg_core.specs.declared.seg_type.SegType.{SegType}
 use Rattle.seg_core.specs.Request.{request_decoding}
 use Rattle.seg_core.specs.Registration.{registration_outline, registration_decoding, type_of}
 use Rattle.seg_check.specs.declared.error.CheckError.{CheckError}
 use Rattle.seg_check.specs.Signatures.{Verdicts}
-use Rattle.group_core.specs.declared.submit_error.SubmitError.TheVariants.{Exhausted}
+use Rattle.group_core.specs.declared.submit_error.SubmitError.TheVariants.{Full, Exhausted}
 use Rattle.path_rows.specs.declared.command.Command.{Command}
 use Rattle.path_rows.specs.declared.command.Command.TheVariants as command
-use Rattle.path_rows.specs.Database.{RowView}
+use Rattle.path_rows.specs.Database.{RowView, rows_len}
 use Rattle.path_rows.specs.Command.{database_after, outcome_of}
 use Rattle.path_rows.specs.Answer.{segments_of}
 use Rattle.seg_lookup.specs.declared.error.LookupError.{LookupError}
@@ -55,10 +55,16 @@ after_command served c = record served { rows = database_after served.rows c; pl
 abbrev pub ack_of : Served → Command → Ack
 ack_of served c = record { place = served.place; outcome = outcome_of served.rows c }
 
--- A command takes the next place. The last number of 64 bits is no place.
+-- whether rows have room in a checkpoint area of 4,096 sectors
+abbrev pub fits_store : List RowView → Bool
+fits_store rows = nat_le (32 + rows_len rows) (512 * 4096)
+
+-- A command takes the next place. The last number of 64 bits is no place; and the rows after the command have to fit.
 abbrev pub command_step : (Ack → ReplyView) → Served → Command → Step
 command_step taken served c =
-    if served.place == 2 ^ 64 - 1 then refused_step served (submit_code Exhausted) else (taken (ack_of served c), after_command served c)
+    if served.place == 2 ^ 64 - 1 then refused_step served (submit_code Exhausted)
+    else if fits_store (database_after served.rows c) then (taken (ack_of served c), after_command served c)
+    else refused_step served (submit_code Full)
 
 abbrev pub checked_step : Served → List RowView → Option CheckError → Step
 checked_step served new None = command_step Registered served (command.Register new)
@@ -89,27 +95,27 @@ message_step served (Remove kind id) = removal_step served id (type_of kind)
 
 -- ---- want of memory
 
--- a reply that shows a segment
-abbrev pub ShowsSome : ReplyView → Type 0
-ShowsSome (Registered ack) = ⊥
-ShowsSome (Found kind segments) = 0 < length segments
-ShowsSome (Purged ack) = ⊥
-ShowsSome (Removed ack) = ⊥
-ShowsSome (Refused code) = ⊥
+-- a reply that shows segments, or that there are none
+abbrev pub IsFound : ReplyView → Type 0
+IsFound (Registered ack) = ⊥
+IsFound (Found kind segments) = Unit {0}
+IsFound (Purged ack) = ⊥
+IsFound (Removed ack) = ⊥
+IsFound (Refused code) = ⊥
 
--- Whether memory may run out for a message: a registration is refused without memory where its outline is; a lookup takes
--- memory just where it shows a segment; a purge and a removal take none.
+-- Whether memory may run out for a message: a registration is refused without memory where its outline is, a removal where its
+-- type is none, and a lookup where it asks for no segments.
 abbrev pub MayRunOut : Served → MessageView → Type 0
 MayRunOut served (Register body) = IsOk (registration_outline body)
-MayRunOut served (Lookup body) = ShowsSome (message_step served (Lookup body)).0
-MayRunOut served (Purge moment) = ⊥
-MayRunOut served (Remove kind id) = ⊥
+MayRunOut served (Lookup body) = IsFound (message_step served (Lookup body)).0
+MayRunOut served (Purge moment) = Unit {0}
+MayRunOut served (Remove kind id) = IsOk (type_of kind)
 
--- The message was refused memory, and nothing changed.
+-- The message was refused memory: nothing changed, or its command was taken, and the outcome isn't reported.
 pub record IsOutOfMemory (old : Served) (message : MessageView) (reply : ReplyView) (new : Served) : Type 0 where
   pub refused : reply ≡ Refused memory_code
   pub may : MayRunOut old message
-  pub same : new ≡ old
+  pub left : (new ≡ old) ⊎ (new ≡ (message_step old message).1)
 
 -- The message was answered by its step.
 pub record IsStep (old : Served) (message : MessageView) (reply : ReplyView) (new : Served) : Type 0 where

@@ -5,7 +5,7 @@ ghost use Rattle.path_commands.specs.HexSession.{IsHexSession, AreAnsweredInLine
 
 use crate::error::Fault;
 use crate::hex_input::bytes_of;
-use crate::memory::Memory;
+use crate::lone_service::LoneService;
 use seg_check::Verifier;
 use seg_lookup::Roster;
 use session_core::{FrameError, Source, read_all, serve_in_lines};
@@ -43,6 +43,10 @@ fn answer_in_lines<W: Write, V: Verifier>(
 ) -> Result<u64, FrameError>
     ensures { AreAnsweredInLines (opening cores.now (V.verifies checker.now) now) input.items (W.contents writer.old) (W.contents writer.new) result }
 {
-    let mut memory = Memory::new(alloc, cores, checker, now);
-    serve_in_lines(alloc, input, writer, &mut memory)
+    let Ok(mut service) = LoneService::new(alloc, cores, checker, now) else {
+        return Err(FrameError::NoMemory);
+    };
+    let served = serve_in_lines(alloc, input, writer, &mut service);
+    service.end();
+    served
 }

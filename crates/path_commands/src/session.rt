@@ -1,9 +1,9 @@
-//! One session over a database in memory.
+//! One session over a store in memory.
 
 ghost use Rattle.path_commands.specs.Memory.{opening};
 ghost use Rattle.path_commands.specs.Session.{IsSession};
 
-use crate::memory::Memory;
+use crate::lone_service::LoneService;
 use seg_check::Verifier;
 use seg_lookup::Roster;
 use session_core::{FrameError, Source, serve};
@@ -25,6 +25,10 @@ pub fn once<R: Source, W: Write, V: Verifier>(
     ensures { IsSession R.gives turns (opening cores.now (V.verifies checker.now) now) reader.old reader.new
         (R.remaining reader.new) (W.contents writer.old) (W.contents writer.new) result }
 {
-    let mut memory = Memory::new(alloc, cores, checker, now);
-    serve(alloc, reader, writer, &mut memory, turns)
+    let Ok(mut service) = LoneService::new(alloc, cores, checker, now) else {
+        return Err(FrameError::NoMemory);
+    };
+    let served = serve(alloc, reader, writer, &mut service, turns);
+    service.end();
+    served
 }

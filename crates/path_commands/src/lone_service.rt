@@ -1,61 +1,76 @@
-//! A service over a database in memory.
+//! A service over a store in memory.
 
 ghost use Rattle.std.specs.Prelude.{◌≡◌, ◌≤◌, length, IfOk};
 ghost use Rattle.std.specs.List.{AllByRecursion};
 ghost use Rattle.seg_core.specs.Encoding.{IsSegment};
+ghost use Rattle.path_db.specs.CommandRecord.{IsWithinLimits};
 ghost use Rattle.session_core.specs.declared.message.Message.TheVariants.{Register, Lookup, Purge, Remove};
 ghost use Rattle.session_core.specs.declared.service.TheConstants.{MOST_SEGMENTS};
 ghost use Rattle.session_core.specs.Reply.{Registered, Purged, Removed};
 ghost use Rattle.reply_codes.specs.Replies.{reply_to_command, reply_to_query};
 ghost use Rattle.path_commands.specs.Kept.{served_by};
 ghost use Rattle.path_commands.specs.Memory.{Answers, opening};
-ghost use Rattle.path_commands.specs.Taking.{MayTake};
+ghost use Rattle.path_commands.specs.Taking.{refusal_of, MayTake};
 
 use group_core::SubmitError;
-use path_rows::{Command, PathDb, Registration};
+use lone_store::{LoneStore, TakeError, Taken};
+use path_rows::{Command, Registration};
 use reply_codes::{Refusal, check_all};
 use seg_check::Verifier;
-use seg_core::{SegType, Segment, read_registration, read_request};
-use seg_lookup::{Roster, answer, classify};
+use seg_core::{SegType, Segment, read_registration, read_registrations_are_whole, read_request};
+use seg_lookup::{Roster, classify};
 use session_core::{Ack, Code, Service};
-use std::alloc::Global;
+use std::alloc::{AllocError, Global};
 
-/// The core ASes, who judges signatures and the moment, and the database with the place that the next command takes.
-#[derive(Drop)]
-pub struct Memory<'a, V: Verifier> {
+/// The core ASes, who judges signatures and the moment, and a store in memory. It isn't dropped: `end` ends it.
+pub struct LoneService<'a, V: Verifier> {
     roster: &'a Roster,
     checker: &'a V,
     /// In half seconds since 1970.
     moment: u64,
-    database: PathDb,
-    place: u64,
+    store: LoneStore,
 }
 
-impl<'a, V: Verifier> Memory<'a, V> {
+impl<'a, V: Verifier> LoneService<'a, V> {
     /// No rows, and place 0. The moment is in half seconds since 1970.
-    pub fn new(alloc: Global, roster: &'a Roster, checker: &'a V, now: u64) -> Memory<'a, V>
-        ensures { served_by V.verifies result ≡ opening roster.now (V.verifies checker.now) now }
+    pub fn new(
+        alloc: Global,
+        roster: &'a Roster,
+        checker: &'a V,
+        now: u64,
+    ) -> Result<LoneService<'a, V>, AllocError>
+        ensures { IfOk result (λ service. served_by V.verifies service ≡ opening roster.now (V.verifies checker.now) now) }
     {
-        Memory {
+        let store = LoneStore::new(alloc)?;
+        Ok(LoneService {
             roster,
             checker,
             moment: now,
-            database: PathDb::new(alloc),
-            place: 0,
-        }
+            store,
+        })
     }
 
-    /// Applies a command at the next place. Where memory runs out, nothing changes.
-    fn take(&mut self, command: &Command) -> Result<Ack, Refusal>
-        ensures { MayTake (served_by V.verifies self.old) command.now result (served_by V.verifies self.new) }
+    /// Ends the service, and drops its store. It takes no memory.
+    pub fn end(self) {
+        let LoneService {
+            roster: _roster,
+            checker: _checker,
+            moment: _moment,
+            store,
+        } = self;
+        store.end();
+    }
+
+    /// Applies a command at the next place, and commits it. Where memory runs out nothing changes, or the command is taken, and its
+    /// outcome isn't reported.
+    fn take(&mut self, command: Command) -> Result<Ack, Refusal>
+        requires within { IsWithinLimits command }
+        ensures { MayTake (served_by V.verifies self.old) command result (served_by V.verifies self.new) }
     {
-        let place = self.place;
-        if place == u64::MAX {
-            return Err(Refusal::Submit(SubmitError::Exhausted));
+        match self.store.take(command) {
+            Ok(Taken { place, outcome }) => Ok(Ack { place, outcome }),
+            Err(error) => Err(refusal_of(error)),
         }
-        let outcome = self.database.apply(command)?;
-        self.place = place + 1;
-        Ok(Ack { place, outcome })
     }
 
     /// Registers the segments of a registration, once they are accepted.
@@ -63,9 +78,10 @@ impl<'a, V: Verifier> Memory<'a, V> {
     fn accept(&mut self, alloc: Global, message: &[u8]) -> Result<Ack, Refusal>
         ensures { Answers (served_by V.verifies self.old) (Register message.now) (reply_to_command Registered result) (served_by V.verifies self.new) }
     {
+        read_registrations_are_whole();
         let new = read_registration(alloc, message)?;
         check_all(&new, self.checker, self.moment)?;
-        self.take(&Command::Register(Registration::new(new)))
+        self.take(Command::Register(Registration::new(new)))
     }
 
     /// Drops what has expired by a moment.
@@ -73,7 +89,7 @@ impl<'a, V: Verifier> Memory<'a, V> {
     fn drop_expired(&mut self, moment: u64) -> Result<Ack, Refusal>
         ensures { Answers (served_by V.verifies self.old) (Purge moment) (reply_to_command Purged result) (served_by V.verifies self.new) }
     {
-        self.take(&Command::Purge(moment))
+        self.take(Command::Purge(moment))
     }
 
     /// Drops the segment of a type's number and an id.
@@ -82,24 +98,35 @@ impl<'a, V: Verifier> Memory<'a, V> {
         ensures { Answers (served_by V.verifies self.old) (Remove kind id.now) (reply_to_command Removed result) (served_by V.verifies self.new) }
     {
         let kind = SegType::from_number(u64::from(kind))?;
-        self.take(&Command::Remove(kind, *id))
+        self.take(Command::Remove(kind, *id))
     }
 
     /// The segments that a request asks for, of one type.
     #[tactic(auto, unfolding(crate::specs::Memory::message_step))]
-    fn find(&self, message: &[u8]) -> Result<(SegType, Vec<Segment>), Refusal>
-        ensures answers { Answers (served_by V.verifies self.now) (Lookup message.now) (reply_to_query result) (served_by V.verifies self.now) }
+    fn find(&mut self, message: &[u8]) -> Result<(SegType, Vec<Segment>), Refusal>
+        ensures answers { Answers (served_by V.verifies self.old) (Lookup message.now) (reply_to_query result) (served_by V.verifies self.new) }
         ensures few { IfOk result (λ found. length found.1.items ≤ MOST_SEGMENTS) }
         ensures whole { IfOk result (λ found. AllByRecursion IsSegment found.1.items) }
     {
         let (source, destination) = read_request(message)?;
         let query = classify(self.roster, source, destination)?;
-        let found = answer(&self.database, &query, self.moment)?;
+        let found = self.store.look_up(&query, self.moment)?;
         Ok((query.kind, found))
     }
 }
 
-impl<V: Verifier> Service for Memory<'_, V> {
+/// The refusal that says why a store didn't take a command.
+fn refusal_of(error: TakeError) -> Refusal
+    ensures { result ≡ refusal_of error }
+{
+    match error {
+        TakeError::NoMemory => Refusal::NoMemory,
+        TakeError::Full => Refusal::Submit(SubmitError::Full),
+        TakeError::Exhausted => Refusal::Submit(SubmitError::Exhausted),
+    }
+}
+
+impl<V: Verifier> Service for LoneService<'_, V> {
     ghost use Rattle.path_commands.specs.Kept.{served_by};
     ghost use Rattle.path_commands.specs.Memory.{Answers};
 

@@ -1,7 +1,7 @@
 use Rattle.std.proofs.Common.{sym}
 use Rattle.path_commands.specs.Kept.{served_by}
 use Rattle.path_commands.proofs.MemoryLemmas.{registration_taken}
-use Rattle.path_commands.proofs.memory.Memory.accept.Goals as goal
+use Rattle.path_commands.proofs.lone_service.LoneService.accept.Goals as goal
 
 pub returns : goal.returns
 returns g c =
