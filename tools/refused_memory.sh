@@ -1,8 +1,8 @@
 #!/usr/bin/env bash
 # Runs the built program over stored sessions, once for each of its allocations, which is refused in that run. A run ends
 # as it should in one of three ways: it prints all replies; or it says `error: memory`, and printed a front of them; or
-# one reply is the code of want of memory, and all others are those of the session without that request, which so
-# changed nothing. It needs a C compiler and Perl, and is no part of the gate.
+# one reply is the code of want of memory, and all others are those of the session, as that request's command was taken, or
+# those of the session without that request, which changed nothing. It needs a C compiler and Perl, and is no part of the gate.
 #
 #     tools/refused_memory.sh [PROGRAM]
 #
@@ -34,11 +34,12 @@ is_front() { # whether what was printed is a front of the bytes of all replies
   head -c "$(stat -c %s "$work/out")" "$work/all_bytes" | cmp -s - "$work/out"
 }
 
-is_told() { # whether one reply is the code, and the others are those of the session without that request
+is_told() { # whether one reply is the code, and the others are those of the session, or of the session without that request
   local at
   [ "$(grep -cx 00000002ff01 "$work/replies")" = 1 ] || return 1
   at=$(grep -nx 00000002ff01 "$work/replies" | cut -d: -f1)
   sed "${at}d" "$work/replies" >"$work/others"
+  sed "${at}d" "$work/all_replies" | cmp -s "$work/others" - && return 0
   sed "${at}d" "$work/requests" | session
   cmp -s "$work/others" "$work/replies"
 }
@@ -47,6 +48,7 @@ refuse_each() { # a name; the requests are in a file, the words in a variable
   local name=$1 number runs=0 whole=0 stopped=0 told=0 wrong=0 of_run
   session <"$work/requests"
   cp "$work/out" "$work/all_bytes"
+  cp "$work/replies" "$work/all_replies"
   for number in $(seq 1 100000); do
     export REFUSED_ALLOCATION=$number
     LD_PRELOAD=$work/refused.so "$program" "${words[@]}" <"$work/in" >"$work/out" 2>"$work/err"

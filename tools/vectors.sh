@@ -7,9 +7,8 @@
 # words, one a line; NAME.in, hexadecimal text, which is standard input as it stands where --hex is among the words,
 # and else encodes it; NAME.out, standard output; NAME.err, the line of standard error that begins with `error:`, which
 # is not compared where the status is 2; and NAME.status, the exit status. A case may have NAME.note, which says what it
-# is about; where that begins with `full`, the case needs a store of limited size, and is left out. A case over a file has
-# @DEV among its words in place of the file's path, and no NAME.in: NAME.img.gz is the file before, packed, where there is
-# one, and NAME.after its SHA-256 afterwards, in hexadecimal digits.
+# is about. A case over a file has @DEV among its words in place of the file's path, and no NAME.in: NAME.img.gz is the
+# file before, packed, where there is one, and NAME.after its SHA-256 afterwards, in hexadecimal digits.
 set -u
 
 usage='usage: tools/vectors.sh [-p PROGRAM] FOLDER..'
@@ -59,20 +58,16 @@ run_case() { # the case's path with no ending
 }
 
 run_folder() {
-    local args case cases=0 left_out=0 wrong=0
+    local args case cases=0 wrong=0
     for args in "$1"/*.args; do
         [ -e "$args" ] || continue # a folder with no case
         case=${args%.args}
-        if [ "$(head -c 4 "$case.note" 2> /dev/null)" = full ]; then
-            left_out=$((left_out + 1))
-            continue
-        fi
         cases=$((cases + 1))
         differs=0
         run_case "$case"
         wrong=$((wrong + differs))
     done
-    echo "$1: $cases cases, $wrong differ, $left_out left out"
+    echo "$1: $cases cases, $wrong differ"
     [ "$cases" -gt 0 ] || wrong=$((wrong + 1))
     differences=$((differences + wrong))
 }

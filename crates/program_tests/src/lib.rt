@@ -9,6 +9,12 @@ mod commands;
 #[cfg(test)]
 mod digits;
 #[cfg(test)]
+mod full_store;
+#[cfg(test)]
+mod many_commands;
+#[cfg(test)]
+mod refused_memory;
+#[cfg(test)]
 mod replies;
 #[cfg(test)]
 mod sessions;

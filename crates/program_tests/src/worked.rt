@@ -42,14 +42,19 @@ pub const NO_CORE: &str = "00000002ff43";
 /// A place and no rows.
 pub const NONE_INSERTED: &str = "0000001981000000000000000000000000000000000000000000000000";
 
+/// Appends the bytes of a hexadecimal text.
+pub fn push_digits(rt: &impl Abort, alloc: Global, bytes: &mut Vec<u8>, text: &str) {
+    let more = hex::decode(alloc, text).expect(rt, "no digits");
+    bytes
+        .extend_from_slice(more.as_slice())
+        .expect(rt, "no memory");
+}
+
 /// The bytes of these hexadecimal texts.
 pub fn joined(rt: &impl Abort, alloc: Global, texts: &[&str]) -> Vec<u8> {
     let mut bytes = Vec::new(alloc);
     for text in texts {
-        let more = hex::decode(alloc, *text).expect(rt, "no digits");
-        bytes
-            .extend_from_slice(more.as_slice())
-            .expect(rt, "no memory");
+        push_digits(rt, alloc, &mut bytes, text);
     }
     bytes
 }
