@@ -1,0 +1,70 @@
+//! The door of a server: where its peers come in.
+
+use crate::accepting::{Failure, after_failure};
+use std::net::{OpenListener, TcpStream};
+use std::sync::atomic::{AtomicU64, Ordering};
+use std::sync::{Mutex, Wait};
+use std::thread::sleep;
+use std::time::{Clock, Duration};
+
+/// How long descriptors or memory are waited for, in milliseconds.
+const PAUSE: u64 = 50;
+
+/// A listener, until it is closed, and how many sessions of how many were started.
+#[derive(Drop)]
+pub(crate) struct Door<L> {
+    listener: Mutex<Option<L>>,
+    /// How many sessions are to be started; 0 is no end.
+    wanted: u64,
+    started: AtomicU64,
+}
+
+impl<L: OpenListener<Stream = TcpStream> + Drop> Door<L> {
+    /// An open door.
+    pub(crate) fn new(listener: L, wanted: u64) -> Door<L> {
+        Door {
+            listener: Mutex::new(Some(listener)),
+            wanted,
+            started: AtomicU64::new(0),
+        }
+    }
+
+    /// Whether all sessions that are wanted were started.
+    pub(crate) fn is_done(&self) -> bool {
+        self.wanted > 0 && self.started.load(Ordering::SeqCst) >= self.wanted
+    }
+
+    /// Counts a session that is being started.
+    pub(crate) fn count(&self) {
+        self.started.fetch_add(1, Ordering::SeqCst);
+    }
+
+    /// Takes back the count of a session that couldn't be started.
+    pub(crate) fn discount(&self) {
+        self.started.fetch_sub(1, Ordering::SeqCst);
+    }
+
+    /// Closes the door: peers are refused from now on.
+    pub(crate) fn close<R: Wait>(&self, rt: &R) {
+        let mut listener = self.listener.lock(rt);
+        *listener = None;
+    }
+
+    /// Waits for the next peer. `None`: the door is closed, or its listener is broken. Where descriptors or memory are short, the peer
+    /// is waited for until it can be accepted.
+    pub(crate) fn next_peer<R: Wait + Clock>(&self, rt: &R) -> Option<TcpStream> {
+        let listener = self.listener.lock(rt);
+        let listener = (*listener).as_ref()?;
+        for accepted in listener.incoming() {
+            match accepted {
+                Ok(stream) => return Some(stream),
+                Err(error) => match after_failure(&error) {
+                    Failure::Again => {}
+                    Failure::Pause => sleep(rt, Duration::from_millis(PAUSE)),
+                    Failure::Broken => return None,
+                },
+            }
+        }
+        None
+    }
+}

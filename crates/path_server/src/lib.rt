@@ -1,0 +1,26 @@
+//! The TCP server: sessions over a hub, each in a thread of its own.
+//!
+//! To the layer above, `serve_store` accepts connections of a listener and answers each as a session of the store, at most 64 at one
+//! time, until the number of sessions that its options name have been started; then the listener is closed, and once the last session
+//! has ended, the device comes out. `run_on` is the same without the device.
+#![tactic(auto)]
+
+mod accepting;
+mod door;
+mod draining;
+mod error;
+mod options;
+mod reports;
+mod running;
+mod seats;
+mod server;
+mod sessions;
+mod turned_away;
+mod turning_away;
+
+pub use accepting::{Failure, after_failure};
+pub use error::RunError;
+pub use options::Options;
+pub use reports::{Report, Reports, Silent};
+pub use running::{System, run_on, serve_store};
+pub use seats::MOST_SESSIONS;

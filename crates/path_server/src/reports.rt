@@ -1,0 +1,38 @@
+//! What a server reports while it runs.
+
+use std::fmt;
+use std::fmt::{Display, Formatter};
+
+/// What happened to a server that its operator should know.
+#[derive(Clone, Copy, Debug, PartialEq, Eq)]
+pub enum Report {
+    /// The device failed, and the store takes no more commands; lookups go on.
+    Stopped,
+    /// This number of peers, since the last such report, were turned away, because 64 sessions were open.
+    TurnedAway(u64),
+}
+
+impl Display for Report {
+    fn fmt<W: fmt::Write>(&self, f: &mut Formatter<W>) -> fmt::Result {
+        match self {
+            Report::Stopped => write!(
+                f,
+                "the store has stopped at a fault of its device; lookups go on"
+            ),
+            Report::TurnedAway(count) => write!(f, "sessions refused, as 64 are open: {count}"),
+        }
+    }
+}
+
+/// Takes the reports of a server. The thread that accepts connections and that of the flusher call it.
+pub trait Reports {
+    fn report(&self, report: Report);
+}
+
+/// Drops each report.
+#[derive(Clone, Copy)]
+pub struct Silent;
+
+impl Reports for Silent {
+    fn report(&self, _report: Report) {}
+}

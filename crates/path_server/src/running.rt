@@ -1,0 +1,99 @@
+//! A server from its first session to its last.
+
+ghost use Rattle.std.specs.Prelude.{OnOk};
+ghost use Rattle.sector_dev.specs.Disk.{IsHonest};
+ghost use Rattle.sector_dev.specs.Image.{EveryImage};
+ghost use Rattle.group_core.specs.Starting.{value_in};
+ghost use Rattle.path_hub.specs.Left.{OpensAfter};
+
+use crate::error::RunError;
+use crate::options::Options;
+use crate::reports::Reports;
+use crate::server::Server;
+use path_hub::with_crew;
+use sector_dev::Device;
+use seg_check::{TrustAll, Verifier};
+use std::alloc::Global;
+use std::net::{OpenListener, TcpStream};
+use std::sync::Wait;
+use std::thread::Threads;
+use std::time::Clock;
+use store_open::Store;
+
+/// The home number of the state that a server keeps: a process runs one server.
+const HOME: u64 = 1;
+
+/// What the threads of a server take of the system.
+pub trait System: Wait + Clock + Threads + Copy + Drop + Send + Sync {}
+
+impl<R: Wait + Clock + Threads + Copy + Drop + Send + Sync> System for R {}
+
+/// Serves sessions over a store until the number that the options name has been started and has ended, and returns that number. The
+/// device is dropped. A broken listener is `Net`, and want of memory for an actor's thread or the readers `NoMemory`.
+pub fn run_on<
+    R: System,
+    L: OpenListener<Stream = TcpStream> + Drop + Send,
+    D: Device + Drop + Send,
+    O: Reports + Sync,
+>(
+    rt: R,
+    alloc: Global,
+    listener: L,
+    store: Store<D>,
+    options: &Options,
+    reports: &O,
+) -> Result<u64, RunError> {
+    let (device, served) = serve_store(rt, alloc, listener, store, options, reports);
+    drop(device);
+    served
+}
+
+/// The same, and hands the device out: where it is honest, it opens to the store's rows and place after the commands that were
+/// published and some more that were accepted, whatever the sessions did.
+pub fn serve_store<
+    R: System,
+    L: OpenListener<Stream = TcpStream> + Drop + Send,
+    D: Device + Send,
+    O: Reports + Sync,
+>(
+    rt: R,
+    alloc: Global,
+    listener: L,
+    store: Store<D>,
+    options: &Options,
+    reports: &O,
+) -> (D, Result<u64, RunError>)
+    ensures { OnOk result.1 (IsHonest (D.disk result.0) → EveryImage (D.disk result.0).history.now (OpensAfter (value_in store))) }
+{
+    match &options.key {
+        Some(key) => serve_checked(rt, alloc, listener, store, options, key, reports),
+        None => serve_checked(rt, alloc, listener, store, options, &TrustAll, reports),
+    }
+}
+
+/// Serves sessions whose signatures are judged by a verifier.
+fn serve_checked<
+    R: System,
+    L: OpenListener<Stream = TcpStream> + Drop + Send,
+    D: Device + Send,
+    V: Verifier + Sync,
+    O: Reports + Sync,
+>(
+    rt: R,
+    alloc: Global,
+    listener: L,
+    store: Store<D>,
+    options: &Options,
+    verifier: &V,
+    reports: &O,
+) -> (D, Result<u64, RunError>)
+    ensures { OnOk result.1 (IsHonest (D.disk result.0) → EveryImage (D.disk result.0).history.now (OpensAfter (value_in store))) }
+{
+    let server = Server::new(alloc, listener, options, verifier, reports);
+    let (device, attended) = with_crew(rt, alloc, store, HOME, &server);
+    match attended {
+        Ok(_) if server.is_broken() => (device, Err(RunError::Net)),
+        Ok(count) => (device, Ok(count)),
+        Err(_) => (device, Err(RunError::NoMemory)),
+    }
+}

@@ -1,0 +1,54 @@
+//! One session over a connection.
+
+use crate::draining::drain_for;
+use path_session::{FrameError, Service, serve};
+use std::alloc::Global;
+use std::io;
+use std::io::BufWriter;
+use std::net::{Shutdown, TcpStream};
+use std::time::{Clock, Duration};
+
+/// The most reads of a session.
+const TURNS: u64 = 1_000_000_000;
+
+/// How long a connection stays open after a fault of its session, so that the peer gets the replies before it: in milliseconds.
+const PARTING: u64 = 1_000;
+
+/// The longest wait of one read in that time, in milliseconds.
+const PARTING_READ: u64 = 100;
+
+/// Answers the messages that a connection brings, and returns how many replies there were, a count that stays at 2^64 - 1. Replies go
+/// out when all that has come is answered, or the buffer of 8,192 bytes is full. A read or a write that waits for the peer longer than
+/// `idle` is a failed one.
+pub(crate) fn serve_stream<S: Service>(
+    alloc: Global,
+    stream: &TcpStream,
+    service: &mut S,
+    idle: Option<Duration>,
+) -> Result<u64, FrameError> {
+    if set_up(stream, idle).is_err() {
+        return Err(FrameError::Read);
+    }
+    let Ok(mut output) = BufWriter::new(alloc, stream) else {
+        return Err(FrameError::NoMemory);
+    };
+    let mut input = stream;
+    serve(alloc, &mut input, &mut output, service, TURNS)
+}
+
+/// Small replies are sent at once, since `BufWriter` gathers them, and silent peers are given up.
+fn set_up(stream: &TcpStream, idle: Option<Duration>) -> io::Result<()> {
+    stream.set_nodelay(true)?;
+    stream.set_read_timeout(idle)?;
+    stream.set_write_timeout(idle)
+}
+
+/// Ends a connection before its input has ended. A close over input that wasn't read would reset the connection, and the peer would
+/// lose the replies that it hasn't got yet: so what comes within a second is read and dropped.
+pub(crate) fn part(clock: &impl Clock, stream: &TcpStream) {
+    let _shut = stream.shutdown(Shutdown::Write);
+    let wait = Some(Duration::from_millis(PARTING_READ));
+    if stream.set_read_timeout(wait).is_ok() {
+        drain_for(clock, stream, Duration::from_millis(PARTING));
+    }
+}

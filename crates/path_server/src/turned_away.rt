@@ -1,0 +1,58 @@
+//! How many peers were turned away.
+
+use std::sync::{Mutex, Wait};
+use std::time::{Clock, Duration, Instant};
+
+/// The least time from one report to the next, in seconds.
+const BETWEEN: u64 = 1;
+
+/// How many peers were turned away since the last report of them, and when that was.
+#[derive(Drop)]
+struct Count {
+    peers: u64,
+    reported: Option<Instant>,
+}
+
+impl Count {
+    /// Whether the last report is old enough for a next one.
+    fn is_due(&self, clock: &impl Clock) -> bool {
+        match self.reported {
+            Some(reported) => match reported.elapsed(clock) {
+                Ok(elapsed) => elapsed >= Duration::from_secs(BETWEEN),
+                Err(_) => false,
+            },
+            None => true,
+        }
+    }
+}
+
+/// Counts peers that were turned away, so that they are reported once a second at most.
+#[derive(Drop)]
+pub(crate) struct TurnedAway {
+    count: Mutex<Count>,
+}
+
+impl TurnedAway {
+    /// None yet.
+    pub(crate) fn new() -> TurnedAway {
+        TurnedAway {
+            count: Mutex::new(Count {
+                peers: 0,
+                reported: None,
+            }),
+        }
+    }
+
+    /// Counts one more. If a report is due, it is of this number.
+    pub(crate) fn count<R: Wait + Clock>(&self, rt: &R) -> Option<u64> {
+        let mut count = self.count.lock(rt);
+        count.peers = count.peers.saturating_add(1);
+        if !count.is_due(rt) {
+            return None;
+        }
+        let peers = count.peers;
+        count.peers = 0;
+        count.reported = Instant::now(rt).ok();
+        Some(peers)
+    }
+}
