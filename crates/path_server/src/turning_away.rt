@@ -2,8 +2,8 @@
 
 ghost use Rattle.std.specs.Prelude.{OnOk};
 ghost use Rattle.std.specs.Io.KnownBytes.{Appends};
+ghost use Rattle.reply_codes.specs.Codes.{reader_code};
 ghost use Rattle.session_core.specs.Reply.{Refused, reply_frame};
-ghost use Rattle.path_server.specs.TurningAway.{no_seat_code};
 
 use crate::draining::drain;
 use std::io;
@@ -28,7 +28,7 @@ pub(crate) fn turn_away(stream: &TcpStream) {
 /// Writes the frame of the refusal.
 #[tactic(auto, unfolding(session_core::specs::Reply::reply_frame, session_core::specs::Frames::frame_encoding))]
 fn write_refusal<W: Write>(output: &mut W) -> io::Result<()>
-    ensures { OnOk result (Appends (W.contents output.old) (W.contents output.new) (reply_frame (Refused no_seat_code))) }
+    ensures { OnOk result (Appends (W.contents output.old) (W.contents output.new) (reply_frame (Refused reader_code))) }
 {
     output.write_all(&[0, 0, 0, 2, 0xff, 0x61])
 }

@@ -1,0 +1,22 @@
+//! Tests of `path_server`, a module for each subject. Both ends of each connection are in one process, over the loopback: the tests see
+//! what no clause says of sockets, of threads and of the time that passes.
+#![tactic(auto)]
+
+#[cfg(test)]
+mod accepts;
+#[cfg(test)]
+mod doors;
+#[cfg(test)]
+mod ends;
+#[cfg(test)]
+mod peers;
+#[cfg(test)]
+mod places;
+#[cfg(test)]
+mod rows;
+#[cfg(test)]
+mod stops;
+#[cfg(test)]
+mod stores;
+#[cfg(test)]
+mod worlds;

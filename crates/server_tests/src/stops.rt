@@ -1,0 +1,114 @@
+//! A sync that is held, and a device that fails, while sessions are open.
+
+use crate::doors::{Door, Holds, Latch};
+use crate::peers::{EMPTY_LOOKUP, NO_DESTINATION, Peer};
+use crate::rows::{FOUND, LOOKUP, NOTHING, PURGE, REGISTERED, REGISTRATION};
+use crate::stores::{LEAST, failing, formatted, opens_to};
+use crate::worlds::{Clients, Counts, Outside, options, serve_clients};
+use sector_dev::HeldDevice;
+use std::alloc::Global;
+use std::io;
+use std::net::SocketAddr;
+use std::test::Fail;
+
+/// One session registers while a sync of its group is held, and another looks up meanwhile; then the first one gets its receipt, and
+/// both see the segment.
+#[derive(Drop)]
+struct Holding<'a> {
+    door: &'a Door,
+}
+
+impl Clients for Holding<'_> {
+    type Seen = [bool; 6];
+
+    fn meet<R: Outside>(&self, rt: R, alloc: Global, to: SocketAddr) -> io::Result<[bool; 6]> {
+        let mut first = Peer::connect(rt, alloc, to)?;
+        let mut second = Peer::connect(rt, alloc, to)?;
+        // The store is open once a request is answered.
+        let is_open = second.asks(EMPTY_LOOKUP, NO_DESTINATION)?;
+        self.door.arm(&rt);
+        first.send(REGISTRATION)?;
+        let is_held = self.door.is_held_soon(&rt);
+        let is_answered = second.asks(LOOKUP, NOTHING);
+        self.door.open(&rt);
+        let is_acknowledged = first.receives(REGISTERED)?;
+        let is_learnt = first.asks(LOOKUP, FOUND)?;
+        let is_shown = second.asks(LOOKUP, FOUND)?;
+        let is_answered = is_answered?;
+        Ok([
+            is_open,
+            is_held,
+            is_answered,
+            is_acknowledged,
+            is_learnt,
+            is_shown,
+        ])
+    }
+}
+
+#[test]
+fn held_sync_lookup(rt: HostRuntime) -> Result<(), Fail> {
+    let alloc = rt.alloc();
+    let door = Door::new();
+    let holds = Holds {
+        rt: &rt,
+        door: &door,
+    };
+    let device = HeldDevice::new(formatted(&rt, alloc, LEAST), holds);
+    let options = options(&rt, alloc, 2);
+    let clients = Holding { door: &door };
+    let (device, served, seen) = serve_clients(
+        &rt,
+        alloc,
+        device,
+        &options,
+        &clients,
+        &Counts::new(),
+    );
+    assert_eq!(rt; served, Ok(2));
+    assert_eq!(rt; seen?, [true; 6]);
+    assert_eq!(rt; door.latch(&rt), Latch::Open);
+    let (device, _gate) = device.into_parts();
+    let _device = opens_to(&rt, alloc, device, (1, 93, 1));
+    Ok(())
+}
+
+/// A command before the device fails, one that meets the fault, one after it in another session, and lookups of both.
+struct Failing;
+
+impl Clients for Failing {
+    type Seen = [bool; 6];
+
+    fn meet<R: Outside>(&self, rt: R, alloc: Global, to: SocketAddr) -> io::Result<[bool; 6]> {
+        let mut first = Peer::connect(rt, alloc, to)?;
+        let mut second = Peer::connect(rt, alloc, to)?;
+        let is_new = second.asks(LOOKUP, NOTHING)?;
+        let is_acknowledged = first.asks(REGISTRATION, REGISTERED)?;
+        let is_unknown = first.asks(PURGE, "00000002ff62")?;
+        let is_stopped = second.asks(PURGE, "00000002ff54")?;
+        let is_found = first.asks(LOOKUP, FOUND)?;
+        let is_shown = second.asks(LOOKUP, FOUND)?;
+        Ok([
+            is_new,
+            is_acknowledged,
+            is_unknown,
+            is_stopped,
+            is_found,
+            is_shown,
+        ])
+    }
+}
+
+#[test]
+fn lookups_go_on_after_a_fault(rt: HostRuntime) -> Result<(), Fail> {
+    let alloc = rt.alloc();
+    let device = failing(&rt, alloc);
+    let options = options(&rt, alloc, 2);
+    let counts = Counts::new();
+    let (_device, served, seen) = serve_clients(&rt, alloc, device, &options, &Failing, &counts);
+    assert_eq!(rt; served, Ok(2));
+    assert_eq!(rt; seen?, [true; 6]);
+    assert_eq!(rt; counts.stopped(), 1);
+    assert_eq!(rt; counts.turned_away(), 0);
+    Ok(())
+}
