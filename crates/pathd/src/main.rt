@@ -4,23 +4,55 @@
 //! program's input, output, files and status alone.
 #![tactic(auto)]
 
+mod notices;
+mod serving;
 mod stores;
 
+use crate::serving::serve_file;
 use crate::stores::{format_file, show_file, upgrade_file};
 use clap::error::ErrorKind;
 use clap::{ArgMatches, Error};
 use path_commands::{Fault, cores_of, key_of, once, once_in_hex};
-use path_words::{CORES, FORMAT, HEX, KEY, NOW, ONCE, SHOW, UPGRADE, read};
+use path_words::{CORES, FORMAT, HEX, KEY, NOW, ONCE, RUN, SHOW, UPGRADE, read};
 use seg_check::{TrustAll, Verifier};
 use seg_lookup::Roster;
 use std::env;
 use std::fs::File;
 use std::io::{BufWriter, Read, Write};
+use std::net::{Net, TcpListener, TcpStream};
 use std::process::ExitCode;
 use std::rt::{Env, Files};
+use std::sync::Wait;
+use std::thread::Threads;
+use std::time::Clock;
 
 /// How many reads a session takes at most.
 const TURNS: u64 = 1_000_000_000;
+
+/// What the program takes of the system.
+trait System: Env
+    + Print
+    + Eprint
+    + AllocGlobal
+    + Files<File = File>
+    + Net<Listener = TcpListener, Stream = TcpStream>
+    + Wait
+    + Clock
+    + Threads
+    + Sync {}
+
+impl<
+    R: Env
+        + Print
+        + Eprint
+        + AllocGlobal
+        + Files<File = File>
+        + Net<Listener = TcpListener, Stream = TcpStream>
+        + Wait
+        + Clock
+        + Threads
+        + Sync,
+> System for R {}
 
 /// What ends the program. It prints these words behind `error: `.
 #[derive(Clone, Copy, Debug, thiserror::Error)]
@@ -29,6 +61,9 @@ enum Ended {
     Session(#[from] Fault),
     #[error(transparent)]
     Store(#[from] store_commands::Fault),
+    /// The address can't be read or bound, or the listener broke.
+    #[error("net")]
+    Net,
 }
 
 fn main(rt: HostRuntime) -> ExitCode {
@@ -42,7 +77,7 @@ fn main(rt: HostRuntime) -> ExitCode {
 }
 
 /// Reads the words of the command line, and does what they ask for.
-fn run<R: Env + Print + Eprint + AllocGlobal + Files<File = File>, I: Read, O: Write + Drop>(
+fn run<R: System, I: Read, O: Write + Drop>(
     rt: &R,
     input: &mut I,
     mut output: O,
@@ -63,6 +98,8 @@ fn run<R: Env + Print + Eprint + AllocGlobal + Files<File = File>, I: Read, O: W
         show_file(rt, options, output)?;
     } else if let Some(options) = matches.subcommand_matches(ONCE) {
         answer(rt, options, input, output)?;
+    } else if let Some(options) = matches.subcommand_matches(RUN) {
+        serve_file(rt, options, &mut output)?;
     }
     Ok(ExitCode::SUCCESS)
 }

@@ -69,12 +69,12 @@ pub(crate) fn upgrade_file<R: AllocGlobal + Files<File = File>, O: Write>(
     }
 }
 
-fn path_of<'a>(options: &ArgMatches<'a>) -> &'a str {
+pub(crate) fn path_of<'a>(options: &ArgMatches<'a>) -> &'a str {
     options.get_str(DEVICE).unwrap_or("")
 }
 
 /// A device over a file that was opened.
-fn device_over(opened: io::Result<SystemFile>) -> Result<FileDevice<SystemFile>, Fault> {
+pub(crate) fn device_over(opened: io::Result<SystemFile>) -> Result<FileDevice<SystemFile>, Fault> {
     let Ok(file) = opened else {
         return Err(Fault::File);
     };
