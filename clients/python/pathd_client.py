@@ -1,6 +1,6 @@
-"""A client of `pathd once`: the messages, the frames around them, and a session with a child process.
+"""A client of `pathd`: the messages, the frames around them, a session with a server over TCP, and one with a child process.
 
-The messages are made and read by `segments_pb2`, which protoc generates from docs/segments.proto. Each byte is told in
+The messages are made and read by `segments_pb2`, which protoc generates from docs/segments.proto. Each byte is in
 docs/FORMATS.md. An ISD-AS is a number here, the ISD in its upper 16 bits and the AS in its lower 48.
 """
 from __future__ import annotations
@@ -8,6 +8,7 @@ from __future__ import annotations
 import hashlib
 import io
 import re
+import socket
 import struct
 import subprocess
 from collections.abc import Iterator, Sequence
@@ -236,13 +237,20 @@ REFUSALS = {
     0x41: "both sides are 0-0",
     0x42: "a side has an AS, and no ISD",
     0x43: "neither side is a core AS",
+    0x51: "too many commands wait to be committed",
+    0x52: "the store has no room for the rows",
+    0x53: "the command is too large",
+    0x54: "the store has stopped",
     0x55: "no place is left",
+    0x57: "the store is of a version that has no removals",
+    0x61: "the server has 64 sessions, which is the most",
+    0x62: "the store stopped before the command was committed: it may be kept or lost",
 }
 
 
 @dataclass(frozen=True)
 class Refused:
-    """A request was refused, and changed nothing."""
+    """A request was refused. It changed nothing, unless the code is 0x62."""
 
     code: int
 
@@ -288,6 +296,46 @@ def read_reply(request: Request, content: bytes) -> Reply:
     if len(body) != 24:
         raise SessionError(f"an acknowledgement of {len(body)} bytes")
     return Ack(*struct.unpack(">QIIII", body))
+
+
+def read_content(stream: BinaryIO) -> bytes:
+    """The content of the next frame of a stream that a server writes."""
+    for content in read_frames(stream):
+        return content
+    raise SessionError("the server ended the session")
+
+
+class Session:
+    """A session with a server over TCP, as a context: the connection is closed at its end."""
+
+    # How many requests `pipeline` sends before it waits for a reply: few enough that neither side's buffers are ever full.
+    WINDOW: ClassVar[int] = 64
+
+    def __init__(self, host: str, port: int, timeout: float = 30.0) -> None:
+        self.socket = socket.create_connection((host, port), timeout)
+        self.socket.setsockopt(socket.IPPROTO_TCP, socket.TCP_NODELAY, 1)
+        self.replies = self.socket.makefile("rb")
+
+    def __enter__(self) -> Session:
+        return self
+
+    def __exit__(self, *_ended: object) -> None:
+        self.replies.close()
+        self.socket.close()
+
+    def ask(self, request: Request) -> Reply:
+        """Sends a request, and waits for its reply."""
+        self.socket.sendall(frame(request))
+        return read_reply(request, read_content(self.replies))
+
+    def pipeline(self, requests: Sequence[Request]) -> list[Reply]:
+        """Sends requests without waiting for the replies between them, and answers the replies in order."""
+        replies = []
+        for first in range(0, len(requests), self.WINDOW):
+            sent = requests[first : first + self.WINDOW]
+            self.socket.sendall(b"".join(map(frame, sent)))
+            replies += [read_reply(request, read_content(self.replies)) for request in sent]
+        return replies
 
 
 def run_session(words: Sequence[str], requests: Sequence[Request]) -> list[Reply]:
