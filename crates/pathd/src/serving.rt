@@ -7,7 +7,7 @@ use clap::ArgMatches;
 use path_commands::{Fault, cores_of, key_of};
 use path_server::{Options, RunError, run_on};
 use path_words::{CORES, IDLE, KEY, LISTEN, QUIET, SESSIONS};
-use sector_dev::{FileDevice, SystemFile};
+use sector_dev::{Device, FileDevice, SystemFile};
 use seg_lookup::Roster;
 use std::alloc::Global;
 use std::fs::File;
@@ -28,16 +28,33 @@ pub(crate) fn serve_file<R: System, O: Write>(
     output: &mut O,
 ) -> Result<(), Ended> {
     let options = options_of(rt.alloc(), words)?;
-    let path = path_of(words);
-    let store = store_of(rt, path)?;
-    let listener = bind(rt, words.get_str(LISTEN).unwrap_or(""))?;
+    let store = store_of(rt, path_of(words))?;
     let notices = Notices::new(rt, words.get_flag(QUIET));
-    notices.begin(path, &store, &listener);
-    print_ready(output).map_err(|_| Fault::Output)?;
+    let listener = match listen(rt, words, output, &notices, &store) {
+        Ok(listener) => listener,
+        Err(ended) => {
+            let _device = store.into_device();
+            return Err(ended);
+        }
+    };
     let count = run_on(rt, rt.alloc(), listener, store, &options, &notices).map_err(ended)?;
     notices.end();
     print_served(output, count).map_err(|_| Fault::Output)?;
     Ok(())
+}
+
+/// Listens, and says so.
+fn listen<R: System, O: Write, D: Device>(
+    rt: &R,
+    words: &ArgMatches<'_>,
+    output: &mut O,
+    notices: &Notices<'_, R>,
+    store: &Store<D>,
+) -> Result<TcpListener, Ended> {
+    let listener = bind(rt, words.get_str(LISTEN).unwrap_or(""))?;
+    notices.begin(path_of(words), store, &listener);
+    print_ready(output).map_err(|_| Fault::Output)?;
+    Ok(listener)
 }
 
 /// The options of the server, as the words have them.
