@@ -13,22 +13,56 @@
 # argument it copies the program there. A third argument is a program that was built before, which it runs in place of building one.
 #
 #     bench/hub.sh [ROUNDS [FOLDER [PROGRAM]]]
+#
+# With `stress` it runs bench/hub_stress.rattle in place of this: eight threads that register, remove and purge, and eight that look up,
+# LOOKUPS times in all (1,000,000 where none is given), at a hub whose journal is sealed every few groups. Each lookup is then checked
+# against the commands in the order of their places. It prints how many lookups, commands, checkpoints and errors there were, and ends
+# with status 1 where there was an error. With `--break` it then checks the records with four kinds of faults put into them, one kind at a
+# time, prints how many errors each check found, and ends with status 1 where one found none. With a FOLDER it keeps the program there, and
+# runs the one that it finds there.
+#
+#     bench/hub.sh stress [LOOKUPS] [--break] [FOLDER]
 set -euo pipefail
 root=$(cd "$(dirname "$0")/.." && pwd)
-rounds=${1:-9}
 work=$(mktemp -d)
 trap 'rm -rf "$work"' EXIT
-program=${3:+$(realpath "$3")}
-if [ -z "$program" ]; then
-  mkdir -p "$work/crates/hub_figures/src"
+
+crates() { # copies the crates that a program here is built on, and lists them and the program, whose name this is
+  mkdir -p "$work/crates/$1/src"
   for crate in isd_as byte_lists end_index pw_wire seg_core seg_check path_rows path_db seg_lookup image_laws gate_journal ckpt_pair sector_dev \
     store_open group_laws group_core path_hub; do
     cp -r "$root/crates/$crate" "$work/crates/" # with what was proved of it, if it was
     grep "^$crate:" "$root/crates.txt"
   done > "$work/crates.txt"
-  echo 'hub_figures: path_hub store_open sector_dev seg_lookup path_db seg_core isd_as' >> "$work/crates.txt"
+  echo "$1: path_hub store_open sector_dev seg_lookup path_db seg_core isd_as" >> "$work/crates.txt"
   git init -q "$work"
+}
+
+if [ "${1:-}" = stress ]; then
+  shift
+  lookups=1000000
+  faults=
+  folder=
+  for word in "$@"; do
+    case $word in
+      --break) faults=break ;;
+      *[!0-9]*) folder=$(realpath "$word") ;;
+      *) lookups=$word ;;
+    esac
+  done
+  python3 "$root/bench/walks_rows.py" "$work/segments" 64 0 8
+  program=${folder:-$work}/hub_stress
+  if [ ! -x "$program" ]; then
+    crates hub_stress
+    cp "$root/bench/hub_stress.rattle" "$work/crates/hub_stress/src/main.rt"
+    (cd "$work/crates/hub_stress" && rt run -- "$work/segments" 8) > "$work/log" 2>&1 || { cat "$work/log"; exit 1; }
+    cp "$work/crates/hub_stress/out/hub_stress" "$program"
+  fi
+  "$program" "$work/segments" "$lookups" $faults
+  exit
 fi
+rounds=${1:-9}
+program=${3:+$(realpath "$3")}
 source() {
   cat <<'SOURCE'
 #![tactic(auto)]
@@ -530,6 +564,7 @@ python3 "$root/bench/walks_rows.py" "$work/segments" 1000 0 1000
 gcc -O2 "$root/bench/group_writes.c" -o "$work/group_writes"
 gcc -O2 -shared -fPIC "$root/bench/slow_sync.c" -o "$work/slow_sync.so"
 if [ -z "$program" ]; then
+  crates hub_figures
   source > "$work/crates/hub_figures/src/main.rt"
   cp "$work/segments" "$work/crates/hub_figures"
   (cd "$work/crates/hub_figures" && rt run -- alone) > "$work/log" 2>&1 || { cat "$work/log"; exit 1; }
