@@ -9,7 +9,7 @@
 # - resident memory with 0, 1 and 64 sessions, and with 100,000 rows.
 #
 # It needs Python 3, gcc, g++, and Debian's libleveldb-dev and libsqlite3-dev. It proves and builds the two programs where they aren't given:
-# PATHD is crates/pathd/out/pathd of `rt run`, ECHO that of bench/echo_server.rt.
+# PATHD is crates/pathd/out/pathd of `rt run`, ECHO that of bench/echo_server.rattle.
 #
 #     bench/server.sh [ROUNDS [PATHD ECHO]]
 set -euo pipefail
@@ -27,7 +27,7 @@ else
   pathd=$root/crates/pathd/out/pathd
   mkdir -p "$work/echo/crates/echo_server/src"
   git init -q "$work/echo"
-  cp "$root/bench/echo_server.rt" "$work/echo/crates/echo_server/src/main.rt"
+  cp "$root/bench/echo_server.rattle" "$work/echo/crates/echo_server/src/main.rt"
   echo 'echo_server:' > "$work/echo/crates.txt"
   # It serves until it is stopped: building it is all that is wanted.
   (cd "$work/echo/crates/echo_server" && RT_SECONDS=1 rt run >/dev/null 2>&1) || true
