@@ -1,6 +1,6 @@
 #!/usr/bin/env bash
-# Runs the commands of the built program over a file on which another process holds the system's lock. `format`, `show` and
-# `upgrade` are refused beside any lock, `show --layout` beside an exclusive one, and a command that is refused leaves the
+# Runs the commands of the built program over a file on which another process holds the system's lock. `format`, `show`,
+# `upgrade` and `run` are refused beside any lock, `show --layout` beside an exclusive one, and a command that is refused leaves the
 # file as it is. Then two `show` at once: while the first one waits in its sync, the second is refused, and the first goes on.
 # It needs Python and Debian's strace, and is no part of the gate.
 #
@@ -63,6 +63,7 @@ for lock in LOCK_EX LOCK_SH; do
   refused format "$store" --checkpoint 2 --journal 516
   refused show "$store"
   refused upgrade "$store"
+  refused run "$store" --listen 127.0.0.1:0
   if [ "$lock" = LOCK_EX ]; then refused show "$store" --layout; else ends 0 "" show "$store" --layout; fi
   release
 done
@@ -77,6 +78,17 @@ done
 refused show "$store"
 ends 0 "" --help
 wait "$first"
+holder="a server"
+"$program" run "$store" --listen 127.0.0.1:0 --quiet >"$work/ready" &
+server=$!
+for _ in $(seq 200); do # until it listens
+  grep -qx ready "$work/ready" && break
+  sleep 0.02
+done
+refused show "$store"
+refused run "$store" --listen 127.0.0.1:0
+kill "$server"
+wait "$server" 2>/dev/null
 cmp "$work/first" "$work/shown" || differences=$((differences + 1))
 holder="no lock"
 ends 0 "" show "$store"
