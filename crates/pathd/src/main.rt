@@ -4,10 +4,12 @@
 //! program's input, output, files and status alone.
 #![tactic(auto)]
 
+mod listening;
 mod notices;
 mod serving;
 mod stores;
 
+use crate::listening::Listens;
 use crate::serving::serve_file;
 use crate::stores::{format_file, show_file, upgrade_file};
 use clap::error::ErrorKind;
@@ -19,7 +21,6 @@ use seg_lookup::Roster;
 use std::env;
 use std::fs::File;
 use std::io::{BufWriter, Read, Write};
-use std::net::{Net, TcpListener, TcpStream};
 use std::process::ExitCode;
 use std::rt::{Env, Files};
 use std::sync::Wait;
@@ -35,7 +36,7 @@ trait System: Env
     + Eprint
     + AllocGlobal
     + Files<File = File>
-    + Net<Listener = TcpListener, Stream = TcpStream>
+    + Listens
     + Wait
     + Clock
     + Threads
@@ -47,7 +48,7 @@ impl<
         + Eprint
         + AllocGlobal
         + Files<File = File>
-        + Net<Listener = TcpListener, Stream = TcpStream>
+        + Listens
         + Wait
         + Clock
         + Threads

@@ -1,5 +1,6 @@
 //! The command that serves sessions over TCP.
 
+use crate::listening::Listens;
 use crate::notices::Notices;
 use crate::stores::{device_over, path_of};
 use crate::{Ended, System};
@@ -13,7 +14,7 @@ use std::alloc::Global;
 use std::fs::File;
 use std::io;
 use std::io::Write;
-use std::net::{Net, SocketAddr, TcpListener, TcpStream};
+use std::net::{SocketAddr, TcpListener};
 use std::rt::Files;
 use std::time::Duration;
 use store_open::{Store, open};
@@ -97,14 +98,11 @@ fn store_of<R: Files<File = File> + AllocGlobal>(
 }
 
 /// Listens at a socket address.
-fn bind<R: Net<Listener = TcpListener, Stream = TcpStream>>(
-    rt: &R,
-    text: &str,
-) -> Result<TcpListener, Ended> {
+fn bind<R: Listens>(rt: &R, text: &str) -> Result<TcpListener, Ended> {
     let Ok(address) = text.parse::<SocketAddr>() else {
         return Err(Ended::Net);
     };
-    TcpListener::bind(rt, address).map_err(|_| Ended::Net)
+    rt.listen(address).map_err(|_| Ended::Net)
 }
 
 /// Prints that the server listens.

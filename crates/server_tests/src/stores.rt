@@ -16,8 +16,10 @@ const MANY: u64 = 1000;
 
 /// A new store of these sizes. Where memory is refused, it is asked for once more.
 pub(crate) fn formatted(rt: &impl Abort, alloc: Global, geometry: Geometry) -> MemDevice {
-    let made = match MemDevice::new(alloc, geometry.sectors()) {
-        Err(_) => MemDevice::new(alloc, geometry.sectors()),
+    let sectors = geometry.sectors();
+    assert!(rt; sectors <= 4096);
+    let made = match MemDevice::new(alloc, sectors) {
+        Err(_) => MemDevice::new(alloc, sectors),
         made => made,
     };
     let Ok(mut device) = made else {
