@@ -11,6 +11,8 @@
 # It needs Python 3, gcc, g++, and Debian's libleveldb-dev and libsqlite3-dev. It proves and builds the two programs where they aren't given:
 # PATHD is crates/pathd/out/pathd of `rt run`, ECHO that of bench/echo_server.rattle.
 #
+# Each figure is taken over SECONDS_EACH seconds, 2 where that variable is not set.
+#
 #     bench/server.sh [ROUNDS [PATHD ECHO]]
 set -euo pipefail
 root=$(cd "$(dirname "$0")/.." && pwd)
@@ -36,7 +38,7 @@ fi
 gcc -O2 -o "$work/load" "$root/bench/server_load.c" -lpthread
 gcc -O2 -shared -fPIC -o "$work/slow_sync.so" "$root/bench/slow_sync.c"
 g++ -O2 -o "$work/rivals" "$root/bench/server_rivals.cc" -lleveldb -lsqlite3 -lpthread
-seconds=2
+seconds=${SECONDS_EACH:-2}
 
 # Starts a server whose first line, or whose first notice, has its address; sets `port` and `server`.
 started() {
