@@ -116,7 +116,7 @@ latencies() {
 
 resident() {
   pathd_started '' 0
-  local none one many gone
+  local none one many gone full
   none=$(awk '/VmRSS/ {print $2}' "/proc/$server/status")
   "$work/load" "$port" 1 1 lookup > /dev/null
   one=$(awk '/VmRSS/ {print $2}' "/proc/$server/status")
@@ -125,8 +125,10 @@ resident() {
   # A thousand sessions a second and more, one after the other in each of 32 threads.
   "$work/load" "$port" 32 10 connect >> "$work/coming"
   gone=$(awk '/VmRSS/ {print $2}' "/proc/$server/status")
+  python3 "$root/bench/server_rows.py" "$port" 100000
+  full=$(awk '/VmRSS/ {print $2}' "/proc/$server/status")
   stop
-  echo "$none $one $many $gone" >> "$work/resident"
+  echo "$none $one $many $gone $full" >> "$work/resident"
 }
 
 for _ in $(seq "$rounds"); do
@@ -148,4 +150,4 @@ done
 echo "a lookup's 50th, 99th, 99.9th percentile in us, 4 sessions, nobody registers: $(python3 "$median" < "$work/idle")"
 echo "the same while 8 sessions register at half of their greatest rate: $(python3 "$median" < "$work/busy")"
 echo "sessions of one request a second, 32 at one time, and their percentiles in us: $(python3 "$median" < "$work/coming")"
-echo "resident KiB before a session, after 1, after 64 at one time, after 10 seconds of sessions: $(python3 "$median" < "$work/resident")"
+echo "resident KiB before a session, after 1, after 64 at one time, after 10 seconds of sessions, with 100,000 rows: $(python3 "$median" < "$work/resident")"
