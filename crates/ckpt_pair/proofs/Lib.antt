@@ -1,3 +1,4 @@
 mod Lengths
 mod Fronts
 mod Stored
+mod Streams

@@ -4,3 +4,4 @@ pub mod Rows
 pub mod Checkpoint
 pub mod Reading
 pub mod ErrorNumber
+pub mod Stream

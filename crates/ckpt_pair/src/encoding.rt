@@ -1,8 +1,8 @@
 //! Checkpoints as they are written.
 
-ghost use Rattle.std.specs.Prelude.{◌≡◌, ◌<◌, ◌≤◌, ◌^◌, ◌++◌, ◌+◌, length, take, IfOk, OnOk};
+ghost use Rattle.std.specs.Prelude.{◌≡◌, ◌<◌, ◌≤◌, ◌^◌, ◌++◌, ◌+◌, List, length, take, IfOk, OnOk};
 ghost use Rattle.image_laws.specs.Checkpoint.{checkpoint_bytes, checkpoint_encoding, CanBeCheckpoint};
-ghost use Rattle.path_rows.specs.Database.{IsDatabase, rows_len};
+ghost use Rattle.path_rows.specs.Database.{RowView, IsDatabase, rows_len};
 ghost use Rattle.path_db.specs.RowRecord.{rows_encoding};
 ghost use Rattle.ckpt_pair.specs.Rows.{rows_format};
 ghost use Rattle.ckpt_pair.specs.Checkpoint.{written_checkpoint};
@@ -40,8 +40,16 @@ pub fn checkpoint_head(db: &PathDb, epoch: u64, place: u64) -> [u8; 32]
     ensures spelled { result ++ rows_encoding db.now ≡ checkpoint_bytes rows_format (written_checkpoint epoch place db.now) }
     ensures can { CanBeCheckpoint rows_format (written_checkpoint epoch place db.now) }
 {
-    let size = db.encoded_len() as u32;
-    let count = row_count(db);
+    checkpoint_front(epoch, place, db.encoded_len() as u32, row_count(db))
+}
+
+/// The same of any rows, by how many bytes they have as records, and how many they are: these numbers have to be known of the rows
+/// that are to be written after it.
+pub fn checkpoint_front(epoch: u64, place: u64, size: u32, count: u32) -> [u8; 32]
+    ensures spelled { (rows : List RowView) → rows_len rows ≡ size → length rows ≡ count
+        → result ++ rows_encoding rows ≡ checkpoint_bytes rows_format (written_checkpoint epoch place rows) }
+    ensures can { (rows : List RowView) → IsDatabase rows → rows_len rows < 2 ^ 32 → CanBeCheckpoint rows_format (written_checkpoint epoch place rows) }
+{
     let mut head = [0; BEFORE_ROWS];
     put(&mut head, 0, &CHECKPOINT_MAGIC.to_be_bytes());
     put(&mut head, 4, &LATEST.to_be_bytes());

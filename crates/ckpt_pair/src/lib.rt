@@ -11,17 +11,19 @@ mod format;
 mod head;
 mod pieces;
 mod reading;
+mod row_stream;
 mod rows_laws;
 
 pub use choice::{choose, openings_go_on_there, tail_half};
-pub use encoding::{checkpoint_head, encode_checkpoint};
+pub use encoding::{checkpoint_front, checkpoint_head, encode_checkpoint};
 pub use error::PairError;
 pub use format::{BEFORE_ROWS, CHECKPOINT_MAGIC, LATEST};
 pub use head::{Head, Heads, read_head};
 pub use path_db::RowsReader;
 pub use pieces::{feed_rows, finish_rows};
 pub use reading::{Checkpoint, Front, read_front, read_half};
+pub use row_stream::RowStream;
 pub use rows_laws::{
     checkpoints_are_read_by_their_fronts, databases_can_be_checkpoints,
-    read_checkpoints_are_databases,
+    read_checkpoints_are_databases, streams_read_halves,
 };

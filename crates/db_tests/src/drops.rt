@@ -7,7 +7,7 @@ use std::alloc::Global;
 use std::process::Abort;
 use std::test::Fail;
 
-/// So many rows went.
+/// This number of rows went.
 fn purged(purged: u32) -> Outcome {
     Outcome {
         inserted: 0,
@@ -42,7 +42,7 @@ fn assert_drops(
     assert_each(rt, &mut database, name, commands)
 }
 
-// A database of the worked segment, which stands until the moment of its expiry, and under its own type: each command, how
+// A database of the worked segment, which is there until the moment of its expiry, and under its own type: each command, how
 // many rows go, and how many are left.
 #[test]
 fn rows_are_dropped(rt: HostRuntime) -> Result<(), Fail> {

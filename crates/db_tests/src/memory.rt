@@ -18,7 +18,7 @@ fn sixteen(alloc: Global) -> Result<Command, Fail> {
     Ok(Command::Register(Registration::new(rows)))
 }
 
-/// How many rows there are, their bytes, and whether the worked segment stands as a down and as a core segment.
+/// How many rows there are, their bytes, and whether the worked segment is there as a down and as a core segment.
 fn shown(database: &PathDb) -> (usize, u64, bool, bool) {
     (
         count_rows(database),
@@ -73,7 +73,7 @@ fn refused_registration_changes_nothing(rt: HostRuntime) -> Result<(), Fail> {
     Ok(assert_sixteen(&rt, &mut database, &command)?)
 }
 
-/// The command that registers eight segments of the ids of eight that stand, made later, and eight of other ids.
+/// The command that registers eight segments of the ids of eight that are there, made later, and eight of other ids.
 fn eight_and_eight(alloc: Global) -> Result<Command, Fail> {
     let mut rows = Vec::new(alloc);
     for egress in 1..=16 {

@@ -17,7 +17,7 @@ fn done(inserted: u32, updated: u32, kept: u32) -> Outcome {
     }
 }
 
-/// Registers a segment, and sees what that did, and whose row stands then.
+/// Registers a segment, and sees what that did, and whose row is there then.
 fn assert_put(
     rt: &impl Abort,
     alloc: Global,
@@ -32,7 +32,7 @@ fn assert_put(
     Ok(())
 }
 
-// One segment with the timestamps 10, 11, 11 and 9, each time with another segment id, which tells whose row stands.
+// One segment with the timestamps 10, 11, 11 and 9, each time with another segment id, which shows whose row is there.
 #[test]
 fn newer_timestamp_wins(rt: HostRuntime) -> Result<(), Fail> {
     let mut database = no_rows(rt.alloc());
@@ -56,7 +56,7 @@ fn four(alloc: Global) -> Result<Registration, Fail> {
     Ok(Registration::new(rows))
 }
 
-/// Sees that the second of four segments stands once they are registered.
+/// Sees that the second of four segments is there once they are registered.
 fn assert_second_stands(
     rt: &impl Abort,
     database: &mut PathDb,

@@ -1,5 +1,5 @@
-//! Want of memory while records are written or read. Each test is run with each of its allocations refused in turn: what stood
-//! before the refused call stands, the call succeeds when it is tried again, and no answer is another for the refusal.
+//! Want of memory while records are written or read. Each test is run with each of its allocations refused in turn: what was there
+//! before the refused call stays, the call succeeds when it is tried again, and no answer is another for the refusal.
 
 use crate::records::{assert_written_as, changed, read_again, registration, rows_of};
 use path_db::{
@@ -9,10 +9,10 @@ use std::alloc::{AllocError, Global};
 use std::process::Abort;
 use std::test::Fail;
 
-/// What stands before a record that is appended.
+/// What is before a record that is appended.
 const FRONT: [u8; 3] = [7, 8, 9];
 
-/// Sees that the vector has what stood in it, and behind it these bytes.
+/// Sees that the vector has what was in it, and after it these bytes.
 fn assert_behind_front(rt: &impl Abort, out: &[u8], bytes: &[u8]) {
     assert_eq!(rt; out.get(..3), Some(&FRONT[..]));
     assert_eq!(rt; out.get(3..), Some(bytes));
@@ -28,7 +28,7 @@ fn write(database: &PathDb, out: &mut Vec<u8>) -> Result<(), AllocError> {
     write_rows(database, out)
 }
 
-/// Sees that a database is written as these bytes, behind what stood there.
+/// Sees that a database is written as these bytes, after what was there.
 fn assert_appended(
     rt: &impl Abort,
     alloc: Global,
@@ -121,7 +121,7 @@ const REMOVAL: [u8; 34] = [
     25, 26, 27, 28, 29, 30, 31, 32,
 ];
 
-/// Sees that a command is written as these bytes, behind what stood there.
+/// Sees that a command is written as these bytes, after what was there.
 fn assert_written(rt: &impl Abort, alloc: Global, bytes: &[u8]) -> Result<(), Fail> {
     let command = read_command(alloc, bytes, 2)?;
     let mut out = Vec::from_slice(alloc, &FRONT)?;

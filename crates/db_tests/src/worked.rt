@@ -86,7 +86,7 @@ pub(crate) fn len_of(database: &PathDb) -> u64 {
     database.encoded_len()
 }
 
-/// Whether a segment stands under a type and an id.
+/// Whether a segment is under a type and an id.
 pub(crate) fn is_there(database: &PathDb, kind: SegType, id: &[u8; 32]) -> bool {
     database.get(kind, id).is_some()
 }

@@ -26,7 +26,7 @@ fn read_of(alloc: Global, area: &[u8]) -> Result<(u32, usize), PairError> {
     Ok((checkpoint.head.version, checkpoint.db.rows().count()))
 }
 
-// A store that is new: one sector, zeros behind the front.
+// A store that is new: one sector, zeros after the front.
 #[test]
 fn new_store_is_written(rt: HostRuntime) -> Result<(), Fail> {
     let bytes = encode_checkpoint(rt.alloc(), &PathDb::new(rt.alloc()), 1, 0)?;
@@ -55,7 +55,7 @@ fn rows_are_read_and_written(rt: HostRuntime) -> Result<(), Fail> {
     Ok(())
 }
 
-// Of the head, the length, the count and the rows a byte is changed. What stands behind the rows isn't read.
+// Of the head, the length, the count and the rows a byte is changed. What is after the rows isn't read.
 #[test]
 fn changed_areas(rt: HostRuntime) -> Result<(), Fail> {
     for (at, byte, expected) in [

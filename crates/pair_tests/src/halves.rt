@@ -1,4 +1,4 @@
-//! Heads, which half is chosen, and where the tail stands.
+//! Heads, which half is chosen, and which half has the tail.
 
 use crate::worked::changed;
 use ckpt_pair::{Head, Heads, PairError, choose, read_head, tail_half};
@@ -27,7 +27,7 @@ fn head_of(gate: &[u8], area: &[u8]) -> Result<Option<Head>, PairError> {
     read_head(gate, area)
 }
 
-// The worked head, and each refusal by a byte changed. Behind a closed gate nothing is judged.
+// The worked head, and each refusal by a byte changed. After a closed gate nothing is judged.
 #[test]
 fn heads_are_read(rt: HostRuntime) -> Result<(), Fail> {
     let older = Head {
@@ -81,7 +81,7 @@ fn halves_are_chosen(rt: HostRuntime) -> Result<(), Fail> {
     Ok(())
 }
 
-// The tail stands behind a seal in the other half, which has to be closed.
+// After a seal the tail is in the other half, which has to be closed.
 #[test]
 fn tails_are_found(rt: HostRuntime) -> Result<(), Fail> {
     let both = Heads {

@@ -93,7 +93,7 @@ fn changed_pieces(rt: HostRuntime) -> Result<(), Fail> {
     Ok(())
 }
 
-/// How many bytes and rows the front of an area of this size tells.
+/// How many bytes and rows the front of an area of this size gives.
 fn front_of(bytes: &[u8], size: u64) -> Result<(u32, u32), PairError> {
     if bytes.len() < 32 {
         return Err(PairError::NoHalf);
@@ -102,7 +102,7 @@ fn front_of(bytes: &[u8], size: u64) -> Result<(u32, u32), PairError> {
     Ok((front.size, front.count))
 }
 
-// The front tells how many bytes are to be read of an area, which may be larger than what is there to read.
+// The front gives how many bytes have to be read of an area, which may be larger than what is there to read.
 #[test]
 fn fronts_are_read(rt: HostRuntime) -> Result<(), Fail> {
     let area = area(rt.alloc())?;

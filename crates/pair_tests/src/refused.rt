@@ -43,7 +43,7 @@ fn refused_memory_of_written_checkpoints(rt: HostRuntime) -> Result<(), Fail> {
 }
 
 // The area as it is, and with a byte changed: the version and the length, which are judged without memory, the third row's type,
-// and the count, which are judged behind rows that were read.
+// and the count, which are judged after rows that were read.
 #[test]
 fn refused_memory_of_read_checkpoints(rt: HostRuntime) -> Result<(), Fail> {
     for (at, byte, takes_memory, refusal) in [

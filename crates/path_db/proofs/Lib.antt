@@ -8,4 +8,7 @@ mod Spelled
 mod ReadBack
 pub mod RowsBack
 mod RowPieces
+mod LongRows
+mod WalkSteps
+mod WalkEnds
 pub mod Exports

@@ -57,15 +57,15 @@ encoded_more rows row left each read =
 -- ---- a whole row is read as it is, whatever stands behind it
 
 -- a row by whether it is there, its first byte and its message
-row_by : Bool → ℕ → List ℕ → Result RowView DbError
+unfoldable pub row_by : Bool → ℕ → List ℕ → Result RowView DbError
 row_by there first message =
     check there BadRecord >>= λ _. record_of (type_of first) >>= λ kind. spelled_segment message >>= λ segment. Ok (kind, segment)
 
-row_is : (bytes : List ℕ) → row_decoding bytes ≡ row_by (has_row bytes) (slice_index bytes 0) (part 5 (four_at 1 bytes) bytes)
+pub row_is : (bytes : List ℕ) → row_decoding bytes ≡ row_by (has_row bytes) (slice_index bytes 0) (part 5 (four_at 1 bytes) bytes)
 unfolding row_decoding row_by
 row_is bytes = refl
 
-part_longer : (at n : ℕ) (bytes behind : List ℕ) → at + n ≤ length bytes → part at n (bytes ++ behind) ≡ part at n bytes
+pub part_longer : (at n : ℕ) (bytes behind : List ℕ) → at + n ≤ length bytes → part at n (bytes ++ behind) ≡ part at n bytes
 part_longer at n bytes behind within =
     ap (take n) (drop-append-le at bytes behind (omega (arith, within)))
     ∙ take-append-le n (drop at bytes) behind (omega (arith, within, length-drop at bytes))

@@ -4,3 +4,5 @@ pub mod CommandRecord
 pub mod RecordLaws
 pub mod RecordRefusals
 pub mod RowsReader
+pub mod Key
+pub mod RowWalk

@@ -6,12 +6,17 @@
 
 mod command_records;
 mod error;
+mod key;
+mod one_key;
 mod record_laws;
 mod row_records;
+mod row_walk;
 mod rows_reader;
 
 pub use command_records::{read_command, write_command};
 pub use error::DbError;
+pub use key::Key;
+pub use one_key::row_after;
 pub use path_rows::{
     ApplyError, Command, Outcome, PathDb, ROW_HEAD, Registration, Row, Rows, commands_append,
     commands_keep_database, database_is_canonical, each_put_is_counted, keys_are_separate,
@@ -23,4 +28,5 @@ pub use record_laws::{
     written_commands_are_read, written_rows_are_counted, written_rows_are_read,
 };
 pub use row_records::{read_rows, row_head, write_rows};
+pub use row_walk::RowWalk;
 pub use rows_reader::RowsReader;

@@ -6,17 +6,17 @@ use Rattle.ckpt_pair.specs.Checkpoint.{written_checkpoint}
 use Rattle.path_db.specs.RowRecord.{rows_encoding}
 use Rattle.ckpt_pair.proofs.Lengths.{put_behind, six_parts, records_len}
 use Rattle.ckpt_pair.proofs.Stored.{can_be}
-use Rattle.ckpt_pair.proofs.encoding.checkpoint_head.Goals as goal
+use Rattle.ckpt_pair.proofs.encoding.checkpoint_front.Goals as goal
 
 pub returns-clause-spelled : goal.returns-clause-spelled
-returns-clause-spelled c =
+returns-clause-spelled c = λ rows size count.
     let a = c.to_be_bytes.result in
     let b = c.to_be_bytes-2.result in
     let d = c.to_be_bytes-3.result in
     let e = c.to_be_bytes-4.result in
     let f = c.to_be_bytes-5.result in
     let g = c.to_be_bytes-6.result in
-    let rows = rows_encoding c.args.db.now in
+    let records = rows_encoding rows in
     let one = put_behind 0 4 (replicate 32 0) c.put.new.head [] a refl (omega arith) c.put.ensures.put in
     let two = put_behind 4 4 c.put.new.head c.put-2.new.head a b one (omega arith) c.put-2.ensures.put in
     let three = put_behind 8 8 c.put-2.new.head c.put-3.new.head (a ++ b) d two (omega arith) c.put-3.ensures.put in
@@ -24,16 +24,16 @@ returns-clause-spelled c =
     let five = put_behind 24 4 c.put-4.new.head c.put-5.new.head (((a ++ b) ++ d) ++ e) f four (omega arith) c.put-5.ensures.put in
     let six = put_behind 28 4 c.put-5.new.head c.put-6.new.head ((((a ++ b) ++ d) ++ e) ++ f) g five (omega arith) c.put-6.ensures.put in
     let all : c.put-6.new.head ≡ ((((a ++ b) ++ d) ++ e) ++ f) ++ g = sym (take_all 32 c.put-6.new.head (omega (arith, c.put-6.ensures.size))) ∙ six in
-    ap (λ (list : List ℕ). list ++ rows) all ∙ six_parts a b d e f g rows
-    ∙ search (rules, records_len c.args.db.now)
+    ap (λ (list : List ℕ). list ++ records) all ∙ six_parts a b d e f g records
+    ∙ search (rules, records_len rows, size, count)
 
 pub returns-clause-can : goal.returns-clause-can
-returns-clause-can c =
-    let written = written_checkpoint c.args.epoch c.args.place c.args.db.now in
+returns-clause-can c = λ rows is small.
+    let written = written_checkpoint c.args.epoch c.args.place rows in
     let head : CanBeHead written.head = record {
       some = omega arith;
       version = omega arith;
       epoch = omega (arith, c.ranges.epoch.fits);
       place = omega (arith, c.ranges.place.fits);
     } in
-    can_be written.head written.db head c.row_count-count.ensures.whole c.requires
+    can_be written.head rows head is small

@@ -1,0 +1,120 @@
+//! The rows of a checkpoint as a stream: one after the other, from pieces of their bytes, and not kept.
+
+ghost use Rattle.std.specs.Prelude.{◌≡◌, ◌≢◌, ◌+◌, ◌≤◌, ◌<◌, ◌∷◌, ◌++◌, [], List, ℕ, length, take, IfOk, IfErr, IfSome, IfNone, OnOk, OnErr, Some, None, false};
+ghost use Rattle.path_rows.specs.Database.{RowView};
+ghost use Rattle.path_rows.specs.Row.{row_view};
+ghost use Rattle.path_db.specs.RowRecord.{rows_decoding, has_row, HasOutline};
+ghost use Rattle.path_db.specs.RowWalk.{HasGiven};
+ghost use Rattle.ckpt_pair.specs.declared.error.PairError.TheVariants.{NoMemory, BadCheckpoint};
+ghost use Rattle.ckpt_pair.specs.Rows.{as_counted};
+ghost use Rattle.ckpt_pair.specs.Stream.{HasStreamed, AreNoStreamedRows, IsRefusedWalk};
+
+use crate::error::PairError;
+use path_db::{DbError, Row, RowWalk};
+use std::alloc::{AllocError, Global};
+use std::marker::Model;
+
+/// Gives the rows of a checkpoint one after the other, from pieces of their bytes, cut anywhere. It keeps the bytes that were
+/// pushed after the last row that it gave: once all whole rows are given, these are fewer than 16,389.
+#[derive(Drop)]
+pub struct RowStream {
+    walk: RowWalk,
+    bytes: u32,
+    rows: u32,
+}
+
+impl Model for RowStream {
+    ghost use Rattle.ckpt_pair.specs.Stream.{StreamView, stream_view};
+
+    ghost Value = { StreamView };
+
+    ghost view = { stream_view };
+}
+
+impl RowStream {
+    /// A stream before the first piece, of `count` rows in `length` bytes, as the front of a checkpoint has them. It takes no
+    /// memory.
+    pub fn new(alloc: Global, length: u32, count: u32) -> RowStream
+        ensures { HasStreamed length count [] [] result }
+    {
+        RowStream {
+            walk: RowWalk::new(alloc),
+            bytes: length,
+            rows: count,
+        }
+    }
+
+    /// Adds the next piece of a half's area from the rows on. Bytes after those of the rows are not taken. An empty piece takes no
+    /// memory; where memory is refused, the stream is as it was.
+    pub fn push(&mut self, piece: &[u8]) -> Result<(), AllocError>
+        ensures pushed { OnOk result ((size count : ℕ) (pushed : List ℕ) (given : List RowView) → HasStreamed size count pushed given self.old
+            → HasStreamed size count (pushed ++ piece.now) given self.new) }
+        ensures refused { OnErr result (self.new ≡ self.old) }
+        ensures memory { OnErr result (0 < length piece.now) }
+    {
+        let taken = front_of(piece, self.bytes);
+        self.walk.push(taken)?;
+        self.bytes -= taken.len() as u32;
+        Ok(())
+    }
+
+    /// The next row, where all of its bytes were pushed. Where all bytes of the rows were pushed, none is answered only after the
+    /// last row. Bytes that are no row, a row that is out of order or one more than the count, and bytes that end within a row or
+    /// with fewer rows are `BadCheckpoint`, as `read_half` has it, whatever bytes come next. Memory is wanted where the row's
+    /// segment has an outline. After an error the stream is as it was.
+    pub fn next(&mut self) -> Result<Option<Row>, PairError>
+        ensures row { IfOk result (λ next. IfSome next (λ row. (size count : ℕ) (pushed : List ℕ) (given : List RowView) → HasStreamed size count pushed given self.old
+            → HasStreamed size count pushed (given ++ row_view row ∷ []) self.new)) }
+        ensures fewer { IfOk result (λ next. IfSome next (λ _. self.new.rows + 1 ≡ self.old.rows)) }
+        ensures all { IfOk result (λ next. IfNone next ((size count : ℕ) (pushed : List ℕ) (given : List RowView) → HasStreamed size count pushed given self.old → size ≤ length pushed
+            → as_counted count (rows_decoding (take size pushed)) ≡ Some given)) }
+        ensures short { IfOk result (λ next. IfNone next (length self.new.walk.rest < 16389)) }
+        ensures none { IfOk result (λ next. IfNone next (self.new ≡ self.old)) }
+        ensures refused { IfErr result (λ e. e ≢ NoMemory → (e ≡ BadCheckpoint) × AreNoStreamedRows self.old) }
+        ensures kept { OnErr result (self.new ≡ self.old) }
+        ensures memory { IfErr result (λ e. e ≡ NoMemory → HasOutline self.old.walk.rest) }
+    {
+        if self.rows == 0 {
+            if self.walk.has_rest() {
+                return Err(PairError::BadCheckpoint);
+            }
+            return Ok(None);
+        }
+        match next_row(&mut self.walk)? {
+            Some(row) => {
+                self.rows -= 1;
+                Ok(Some(row))
+            }
+            None => {
+                if self.bytes == 0 {
+                    return Err(PairError::BadCheckpoint);
+                }
+                Ok(None)
+            }
+        }
+    }
+}
+
+/// The first bytes of a piece, at most as many as these.
+fn front_of(piece: &[u8], most: u32) -> &[u8]
+    ensures front { result.now ≡ take most piece.now }
+    ensures few { length result.now ≤ most }
+{
+    &piece[..piece.len().min(most as usize)]
+}
+
+/// The next row of a walk, and what is no row as a bad checkpoint.
+fn next_row(walk: &mut RowWalk) -> Result<Option<Row>, PairError>
+    ensures row { IfOk result (λ next. IfSome next (λ row. (fed : List ℕ) (given : List RowView) → HasGiven fed given walk.old → HasGiven fed (given ++ row_view row ∷ []) walk.new)) }
+    ensures none { IfOk result (λ next. IfNone next ((walk.new ≡ walk.old) × (has_row walk.old.rest ≡ false))) }
+    ensures short { IfOk result (λ next. IfNone next (length walk.new.rest < 16389)) }
+    ensures refused { IfErr result (λ e. e ≢ NoMemory → (e ≡ BadCheckpoint) × IsRefusedWalk walk.old) }
+    ensures kept { OnErr result (walk.new ≡ walk.old) }
+    ensures memory { IfErr result (λ e. e ≡ NoMemory → HasOutline walk.old.rest) }
+{
+    match walk.next() {
+        Ok(next) => Ok(next),
+        Err(DbError::NoMemory) => Err(PairError::NoMemory),
+        Err(_) => Err(PairError::BadCheckpoint),
+    }
+}

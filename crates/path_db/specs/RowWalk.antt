@@ -1,0 +1,72 @@
+-- Rows that are given one after the other: what was fed, what was given, and what is left.
+use Rattle.std.specs.Prelude.{◌≡◌, ℕ, ◌≤◌, ◌<◌, ◌⊎◌, Bool, true, false, List, ◌++◌, length, drop, Option, Some, None, Ok, Err}
+use Rattle.std.specs.Option.{option_map}
+use Rattle.std.specs.Ordering.{nat_cmp, is_lt}
+use Rattle.std.specs.Cmp.Lexicographic.{slice_cmp}
+use Rattle.byte_lists.specs.Content.{AreBytes}
+use Rattle.byte_lists.specs.Numbers.{four_at}
+use Rattle.seg_core.specs.Encoding.{IsSegment}
+use Rattle.seg_core.specs.Message.{last_of}
+use Rattle.path_rows.specs.Database.{RowView, key_of, IsDatabase}
+use Rattle.path_db.specs.declared.error.DbError.{DbError}
+use Rattle.path_db.specs.declared.error.DbError.TheVariants.{BadRecord, Order}
+use Rattle.path_db.specs.declared.key.Key.{Key}
+use Rattle.path_db.specs.declared.row_walk.RowWalk.TheInside.{Inside}
+use Rattle.path_db.specs.Key.{key_bytes}
+use Rattle.path_db.specs.RowRecord.{rows_encoding, has_row, row_size, row_decoding}
+
+-- the key of the last row that was given, and the bytes after it
+pub record WalkView : Type 0 where
+  pub last : Option (List ℕ)
+  pub rest : List ℕ
+
+abbrev pub walk_view : Inside → WalkView
+walk_view s = record { last = option_map key_bytes s.last; rest = drop s.at s.rest.items }
+
+abbrev pub IsWalk : Inside → Type 0
+IsWalk s = s.at ≤ length s.rest.items
+
+-- These bytes were fed, and these rows given: a database, whose records with the bytes that are left are all that was fed.
+pub record HasGiven (fed : List ℕ) (given : List RowView) (walk : WalkView) : Type 0 where
+  pub database : IsDatabase given
+  pub last : walk.last ≡ option_map key_of (last_of given)
+  pub split : rows_encoding given ++ walk.rest ≡ fed
+
+-- there is no key, or the row's is strictly above it
+abbrev pub is_above_bytes : Option (List ℕ) → RowView → Bool
+is_above_bytes None row = true
+is_above_bytes (Some k) row = is_lt (slice_cmp nat_cmp k (key_of row))
+
+abbrev pub is_above_key : Option Key → RowView → Bool
+is_above_key last row = is_above_bytes (option_map key_bytes last) row
+
+-- The length of a row is there, and is more than a segment has.
+pub record IsTooLong (left : List ℕ) : Type 0 where
+  pub there : 5 ≤ length left
+  pub long : 16384 < four_at 1 left
+
+-- Not all bytes of the row at the front are there, which has at most 16,389.
+pub record IsShort (left : List ℕ) : Type 0 where
+  pub none : has_row left ≡ false
+  pub few : length left < 16389
+
+-- A row is the next one after a key, in this number of bytes.
+pub record IsNextRow (left : List ℕ) (last : Option Key) (row : RowView) (size : ℕ) : Type 0 where
+  pub there : has_row left ≡ true
+  pub read : row_decoding left ≡ Ok row
+  pub whole : IsSegment row.1
+  pub above : is_above_key last row ≡ true
+  pub sized : size ≡ row_size left
+  pub within : size ≤ length left
+  pub bytes : AreBytes left
+
+-- A whole row isn't above the key.
+pub record IsLowerRow (left : List ℕ) (last : Option Key) : Type 0 where
+  pub row : RowView
+  pub read : row_decoding left ≡ Ok row
+  pub lower : is_above_key last row ≡ false
+
+-- what is there is no row, whatever comes next: it is too long, or is there whole and is no row, or isn't above the key
+abbrev pub IsNoNextRow : List ℕ → Option Key → DbError → Type 0
+IsNoNextRow left last e =
+    ((e ≡ BadRecord) × IsTooLong left) ⊎ ((has_row left ≡ true) × ((row_decoding left ≡ Err e) ⊎ (IsLowerRow left last × (e ≡ Order))))

@@ -1,0 +1,56 @@
+//! The keys of rows.
+
+ghost use Rattle.std.specs.Prelude.{◌≡◌};
+ghost use Rattle.std.specs.Ordering.{nat_cmp};
+ghost use Rattle.std.specs.Cmp.Lexicographic.{slice_cmp};
+ghost use Rattle.path_rows.specs.Database.{key_of};
+ghost use Rattle.path_rows.specs.Row.{row_view};
+ghost use Rattle.path_db.specs.Key.{key_bytes};
+
+use path_rows::Row;
+use seg_check::seg_id;
+use seg_core::{SegType, Segment};
+use std::cmp::Ordering;
+
+/// The key of a row: its type and its id. Keys are in the order of the types' numbers, and under one type in the order of the
+/// ids' bytes.
+#[derive(Clone, Copy, Debug, PartialEq, Eq)]
+pub struct Key {
+    pub kind: SegType,
+    /// SHA-256 over the hops of the segment.
+    pub id: [u8; 32],
+}
+
+impl Key {
+    /// The key of a segment of a type. It computes the id.
+    #[tactic(auto, unfolding(path_rows::specs::Database::key_of))]
+    pub fn of(kind: SegType, segment: &Segment) -> Key
+        ensures { key_bytes result ≡ key_of (kind, segment.now) }
+    {
+        Key {
+            kind,
+            id: seg_id(segment),
+        }
+    }
+
+    /// The key of a row, which has its id.
+    #[tactic(auto, unfolding(path_rows::specs::Database::key_of))]
+    pub fn of_row(row: &Row) -> Key
+        ensures { key_bytes result ≡ key_of (row_view row.now) }
+    {
+        Key {
+            kind: row.kind,
+            id: row.id,
+        }
+    }
+
+    /// How the key compares to another.
+    pub fn order(&self, other: &Key) -> Ordering
+        ensures { result ≡ slice_cmp nat_cmp (key_bytes self.now) (key_bytes other.now) }
+    {
+        match self.kind.number().cmp(&other.kind.number()) {
+            Ordering::Equal => self.id.as_slice().cmp(&other.id.as_slice()),
+            unequal => unequal,
+        }
+    }
+}

@@ -1,0 +1,164 @@
+//! Rows that are read one after the other from pieces of their records, and not kept.
+
+ghost use Rattle.std.specs.Prelude.{◌≡◌, ◌≢◌, ◌≤◌, ◌<◌, ◌∷◌, ◌++◌, [], List, ℕ, length, drop, true, false, IfOk, IfErr, IfSome, IfNone, OnOk, OnErr, MatchOption, nat_lt};
+ghost use Rattle.path_db.specs.declared.error.DbError.TheVariants.{NoMemory, BadRecord};
+ghost use Rattle.path_rows.specs.Database.{RowView};
+ghost use Rattle.path_rows.specs.Row.{row_view};
+ghost use Rattle.path_db.specs.RowRecord.{has_row, row_size, HasOutline};
+ghost use Rattle.path_db.specs.RowsReader.{AreRefused};
+ghost use Rattle.path_db.specs.RowWalk.{HasGiven, IsNextRow, IsNoNextRow, IsTooLong, IsShort, is_above_key};
+
+use crate::error::DbError;
+use crate::key::Key;
+use crate::row_records::read_row;
+use byte_lists::read_u32;
+use path_rows::{ROW_HEAD, Row};
+use seg_core::MOST_SEGMENT_BYTES;
+use std::alloc::{AllocError, Global};
+use std::marker::Model;
+
+/// Reads rows from pieces of their records, cut anywhere, and gives them one after the other. It keeps the key of the last row
+/// that it gave, and of the bytes those after that row: once all whole rows are given, these are fewer than 16,389 bytes, the
+/// greatest row's.
+#[derive(Drop)]
+pub struct RowWalk {
+    alloc: Global,
+    last: Option<Key>,
+    rest: Vec<u8>,
+    at: usize,
+}
+
+impl Model for RowWalk {
+    ghost use Rattle.path_db.specs.RowWalk.{WalkView, walk_view, IsWalk};
+
+    ghost Value = { WalkView };
+
+    ghost view = { walk_view };
+
+    ghost invariant = { IsWalk };
+}
+
+impl RowWalk {
+    /// A walk before the first piece. It takes no memory.
+    pub fn new(alloc: Global) -> RowWalk
+        ensures { HasGiven [] [] result }
+    {
+        RowWalk {
+            alloc,
+            last: None,
+            rest: Vec::new(alloc),
+            at: 0,
+        }
+    }
+
+    /// Adds the next piece. An empty piece takes no memory; where memory is refused, the walk is as it was.
+    pub fn push(&mut self, piece: &[u8]) -> Result<(), AllocError>
+        ensures fed { OnOk result ((fed : List ℕ) (given : List RowView) → HasGiven fed given self.old → HasGiven (fed ++ piece.now) given self.new) }
+        ensures rest { OnOk result (self.new.rest ≡ self.old.rest ++ piece.now) }
+        ensures refused { OnErr result (self.new ≡ self.old) }
+        ensures memory { OnErr result (0 < length piece.now) }
+    {
+        if piece.is_empty() {
+            return Ok(());
+        }
+        self.at = forget_front(&mut self.rest, self.at);
+        self.rest.extend_from_slice(piece)?;
+        Ok(())
+    }
+
+    /// The next row, where all of its bytes are there. Bytes that are no row are `BadRecord`, a record that says more than 16,384
+    /// bytes as soon as its length is there; and a row whose key isn't strictly above that of the row before is `Order`. What is
+    /// refused is refused whatever bytes come next. Memory is wanted where the row's segment has an outline. After an error the
+    /// walk is as it was.
+    pub fn next(&mut self) -> Result<Option<Row>, DbError>
+        ensures row { IfOk result (λ next. MatchOption next ((self.new ≡ self.old) × (has_row self.old.rest ≡ false))
+            (λ row. (fed : List ℕ) (given : List RowView) → HasGiven fed given self.old → HasGiven fed (given ++ row_view row ∷ []) self.new)) }
+        ensures fewer { IfOk result (λ next. IfSome next (λ _. length self.new.rest < length self.old.rest)) }
+        ensures short { IfOk result (λ next. IfNone next (length self.new.rest < 16389)) }
+        ensures refused { IfErr result (λ e. e ≢ NoMemory → (fed : List ℕ) (given : List RowView) → HasGiven fed given self.old → AreRefused fed e) }
+        ensures kept { OnErr result (self.new ≡ self.old) }
+        ensures memory { IfErr result (λ e. e ≡ NoMemory → HasOutline self.old.rest) }
+    {
+        let left = from_place(&self.rest, self.at);
+        match next_of(self.alloc, &self.last, left)? {
+            Some((row, size)) => {
+                self.last = Some(Key::of_row(&row));
+                self.at += size;
+                Ok(Some(row))
+            }
+            None => Ok(None),
+        }
+    }
+
+    /// Whether bytes are left after the rows that were given.
+    pub fn has_rest(&self) -> bool
+        ensures { result ≡ nat_lt 0 (length self.now.rest) }
+    {
+        self.at < self.rest.len()
+    }
+}
+
+/// The bytes from a place on.
+fn from_place(bytes: &[u8], at: usize) -> &[u8]
+    requires { at ≤ length bytes.now }
+    ensures { result.now ≡ drop at bytes.now }
+{
+    &bytes[at..]
+}
+
+/// The row at the front of bytes, after a row of this key, and how many bytes it has; none where its bytes are not all there.
+fn next_of(alloc: Global, last: &Option<Key>, left: &[u8]) -> Result<Option<(Row, usize)>, DbError>
+    ensures row { IfOk result (λ next. MatchOption next (IsShort left.now) (λ found. IsNextRow left.now last.now (row_view found.0) found.1)) }
+    ensures refused { IfErr result (λ e. e ≢ NoMemory → IsNoNextRow left.now last.now e) }
+    ensures memory { IfErr result (λ e. e ≡ NoMemory → HasOutline left.now) }
+{
+    let Some(size) = size_of_next(left)? else {
+        return Ok(None);
+    };
+    let ((kind, segment), _after) = read_row(alloc, left)?;
+    let row = Row::new(kind, segment);
+    if !is_above(last, &row) {
+        return Err(DbError::Order);
+    }
+    Ok(Some((row, size)))
+}
+
+/// How many bytes the row at the front has: none where they are not all there. A length of more than 16,384 is refused.
+fn size_of_next(left: &[u8]) -> Result<Option<usize>, DbError>
+    ensures size { IfOk result (λ size. MatchOption size (IsShort left.now) (λ size. (has_row left.now ≡ true) × (size ≡ row_size left.now) × (size ≤ length left.now))) }
+    ensures refused { IfErr result (λ e. (e ≡ BadRecord) × IsTooLong left.now) }
+{
+    if left.len() < ROW_HEAD {
+        return Ok(None);
+    }
+    let size = read_u32(left, 1) as usize;
+    if size > MOST_SEGMENT_BYTES {
+        return Err(DbError::BadRecord);
+    }
+    if left.len() - ROW_HEAD < size {
+        return Ok(None);
+    }
+    Ok(Some(ROW_HEAD + size))
+}
+
+/// Whether there is no key, or the row's is strictly above it.
+fn is_above(last: &Option<Key>, row: &Row) -> bool
+    ensures { result ≡ is_above_key last.now (row_view row.now) }
+{
+    match last {
+        Some(key) => key.order(&Key::of_row(row)).is_lt(),
+        None => true,
+    }
+}
+
+/// Drops the bytes at the front, and answers where the others begin.
+fn forget_front(bytes: &mut Vec<u8>, count: usize) -> usize
+    requires { count ≤ length bytes.old.items }
+    ensures left { bytes.new.items ≡ drop count bytes.old.items }
+    ensures front { result ≡ 0 }
+{
+    let size = bytes.len();
+    bytes.copy_within(count..size, 0);
+    bytes.truncate(size - count);
+    0
+}
