@@ -1,0 +1,4 @@
+mod Members
+mod Newest
+mod Folds
+mod Agreeing

@@ -1,0 +1,38 @@
+-- What makes servers agree that get the same registrations.
+use Rattle.std.specs.Prelude.{◌≡◌, ◌↔◌, List, map, Contains}
+use Rattle.std.specs.List.{flat_map}
+use Rattle.path_rows.specs.declared.command.Command.{Command}
+use Rattle.path_rows.specs.declared.command.Command.TheVariants.{Register}
+use Rattle.path_rows.specs.Database.{RowView, key_of, AreWhole, IsDatabase}
+use Rattle.path_rows.specs.Command.{database_after, database_after_all}
+
+-- the commands of registrations, each of some rows
+abbrev pub commands_of : List (List RowView) → List Command
+commands_of registrations = map (λ rows. Register rows) registrations
+
+-- all rows of registrations, in order
+abbrev pub rows_of : List (List RowView) → List RowView
+rows_of registrations = flat_map (λ rows. rows) registrations
+
+-- each row of the one is in the other, in whatever order and however often
+abbrev pub HaveSameRows : List RowView → List RowView → Type 0
+HaveSameRows one other = (row : RowView) → Contains one row ↔ Contains other row
+
+-- no two different rows of one key have one timestamp
+abbrev pub AreApart : List RowView → Type 0
+AreApart rows =
+    (row other : RowView) → Contains rows row → Contains rows other → key_of row ≡ key_of other → row.1.timestamp ≡ other.1.timestamp → row ≡ other
+
+-- Two servers of the same rows that get registrations of the same segments, whole and apart, have the same rows afterwards.
+abbrev pub RegistrationsCommute : Type 0
+RegistrationsCommute =
+    (rows : List RowView) (one other : List (List RowView)) → IsDatabase rows → AreWhole (rows_of one) → AreWhole (rows_of other)
+    → HaveSameRows (rows_of one) (rows_of other) → AreApart (rows_of one)
+    → database_after_all rows (commands_of one) ≡ database_after_all rows (commands_of other)
+
+-- Registering segments again that were all registered changes nothing, whatever came between.
+abbrev pub RegistrationsRepeat : Type 0
+RegistrationsRepeat =
+    (rows : List RowView) (registrations : List (List RowView)) (again : List RowView) → IsDatabase rows → AreWhole (rows_of registrations) → AreWhole again
+    → ((row : RowView) → Contains again row → Contains (rows_of registrations) row)
+    → database_after (database_after_all rows (commands_of registrations)) (Register again) ≡ database_after_all rows (commands_of registrations)
