@@ -8,8 +8,8 @@ use std::io::BufWriter;
 use std::net::{Shutdown, TcpStream};
 use std::time::{Clock, Duration};
 
-/// The most reads of a session.
-const TURNS: u64 = 1_000_000_000;
+/// The most reads that the program makes of a session's input.
+pub const MOST_READS: u64 = 1_000_000_000;
 
 /// How long a connection stays open after a fault of its session, so that the peer gets the replies before it: in milliseconds.
 const PARTING: u64 = 1_000;
@@ -33,7 +33,7 @@ pub(crate) fn serve_stream<S: Service>(
         return Err(FrameError::NoMemory);
     };
     let mut input = stream;
-    serve(alloc, &mut input, &mut output, service, TURNS)
+    serve(alloc, &mut input, &mut output, service, MOST_READS)
 }
 
 /// Small replies are sent at once, since `BufWriter` gathers them, and silent peers are given up.

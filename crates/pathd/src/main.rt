@@ -15,6 +15,7 @@ use crate::stores::{format_file, show_file, upgrade_file};
 use clap::error::ErrorKind;
 use clap::{ArgMatches, Error};
 use path_commands::{Fault, cores_of, key_of, once, once_in_hex};
+use path_server::MOST_READS;
 use path_words::{CORES, FORMAT, HEX, KEY, NOW, ONCE, RUN, SHOW, UPGRADE, read};
 use seg_check::{TrustAll, Verifier};
 use seg_lookup::Roster;
@@ -26,9 +27,6 @@ use std::rt::{Env, Files};
 use std::sync::Wait;
 use std::thread::Threads;
 use std::time::Clock;
-
-/// How many reads a session takes at most.
-const TURNS: u64 = 1_000_000_000;
 
 /// What the program takes of the system.
 trait System: Env
@@ -137,13 +135,29 @@ fn answer_checked<R: AllocGlobal, I: Read, O: Write + Drop, V: Verifier>(
 ) -> Result<(), Fault> {
     let now = options.get_one::<u64>(NOW).unwrap_or(0);
     if options.get_flag(HEX) {
-        once_in_hex(rt.alloc(), input, &mut output, cores, checker, now, TURNS)?;
+        once_in_hex(
+            rt.alloc(),
+            input,
+            &mut output,
+            cores,
+            checker,
+            now,
+            MOST_READS,
+        )?;
         return Ok(());
     }
     let Ok(mut output) = BufWriter::new(rt.alloc(), output) else {
         return Err(Fault::Memory);
     };
-    once(rt.alloc(), input, &mut output, cores, checker, now, TURNS)?;
+    once(
+        rt.alloc(),
+        input,
+        &mut output,
+        cores,
+        checker,
+        now,
+        MOST_READS,
+    )?;
     Ok(())
 }
 

@@ -112,7 +112,7 @@ module _ {S : Type 0} (form : Form) (answers : S → MessageView → ReplyView �
         parts = refl;
         one = omega arith;
         front = f.front;
-        begins = (f.begins.0, append-nil (told_as form reply) ∙ f.begins.1);
+        begins = (f.rest, append-nil (told_as form reply) ∙ f.begins);
         written_is = refl;
       };
       stops = tt;

@@ -2,6 +2,7 @@
 use Rattle.std.specs.Prelude.{◌≡◌, ℕ, ◌+◌, ◌-◌, ◌^◌, min, List, [], ◌++◌, length, Option, Some, None, Result, Ok, Err}
 use Rattle.std.specs.List.{AllByRecursion}
 use Rattle.std.specs.Io.KnownBytes.{Appends}
+use Rattle.whole_writes.specs.Written.{IsWrittenInPart}
 use Rattle.session_core.specs.declared.error.FrameError.{FrameError}
 use Rattle.session_core.specs.declared.error.FrameError.TheVariants as error
 use Rattle.session_core.specs.declared.reply.Reply.{Reply}
@@ -11,7 +12,7 @@ use Rattle.session_core.specs.Reply.{ReplyView, HasReplySize}
 use Rattle.session_core.specs.ReplyViews.{reply_view}
 use Rattle.session_core.specs.Service.{Exchange, messages_of, replies_of, AreAnswered}
 use Rattle.session_core.specs.declared.reply.Form.{Form}
-use Rattle.session_core.specs.Session.{Begins, Tells, EndsEarly}
+use Rattle.session_core.specs.Session.{Tells, EndsEarly}
 
 -- The message at the front was answered, and its frame taken off.
 pub record IsFirstAnswered {S : Type 0} (answers : S → MessageView → ReplyView → S → Type 0) (old : S) (bytes : List ℕ) (reply : ReplyView) (new : S) (rest : List ℕ) : Type 0 where
@@ -56,12 +57,6 @@ pub record AreFrontsAnswered {S : Type 0} (form : Form) (answers : S → Message
   pub appended : Appends output output_left written
   pub told : Tells form result written exchanges
   pub stops : StopsFor count exchanges rest left result
-
--- A front of the bytes was written.
-pub record IsWrittenInPart (output output_left : Option (List ℕ)) (bytes : List ℕ) : Type 0 where
-  pub front : List ℕ
-  pub begins : Begins front bytes
-  pub appended : Appends output output_left front
 
 -- A write failed after a front of the bytes.
 pub record FailsWithin (output output_left : Option (List ℕ)) (bytes : List ℕ) (e : FrameError) : Type 0 where

@@ -1,6 +1,6 @@
 //! Replies on their way to a writer.
 
-ghost use Rattle.std.specs.Prelude.{◌≡◌, ◌≤◌, ◌++◌, [], length, take, OnOk, IfOk, IfErr, string_bytes};
+ghost use Rattle.std.specs.Prelude.{◌≡◌, ◌++◌, OnOk, IfOk, IfErr, string_bytes};
 ghost use Rattle.std.specs.Io.KnownBytes.{Appends};
 ghost use Rattle.session_core.specs.Reply.{HasReplySize, Found, reply_frame, told_as};
 ghost use Rattle.session_core.specs.ReplyViews.{reply_view};
@@ -14,6 +14,7 @@ use crate::reply::{
 use seg_core::{SegType, Segment};
 use std::alloc::{AllocError, Global};
 use std::io::Write;
+use whole_writes::WriteFailed;
 
 /// Writes a reply. Where memory runs out, nothing of it is written.
 pub(crate) fn write_reply<W: Write>(
@@ -103,24 +104,8 @@ pub fn write_all<W: Write>(writer: &mut W, bytes: &[u8]) -> Result<(), FrameErro
     ensures ok { OnOk result (Appends (W.contents writer.old) (W.contents writer.new) bytes.now) }
     ensures err { IfErr result (FailsWithin (W.contents writer.old) (W.contents writer.new) bytes.now) }
 {
-    let mut rest = bytes;
-    while !rest.is_empty() {
-        let count = write_some(writer, rest)?;
-        rest = rest.split_at(count).1;
-    }
-    Ok(())
-}
-
-/// Writes a front of the bytes, of at least one.
-fn write_some<W: Write>(writer: &mut W, bytes: &[u8]) -> Result<usize, FrameError>
-    ensures ok { IfOk result (λ n. Appends (W.contents writer.old) (W.contents writer.new) (take n bytes.now)) }
-    ensures some { IfOk result (λ n. 1 ≤ n) }
-    ensures within { IfOk result (λ n. n ≤ length bytes.now) }
-    ensures err { IfErr result (λ e. e ≡ FrameError.Write) }
-    ensures nothing { IfErr result (λ _. Appends (W.contents writer.old) (W.contents writer.new) []) }
-{
-    match writer.write(bytes) {
-        Ok(0) | Err(_) => Err(FrameError::Write),
-        Ok(count) => Ok(count),
+    match whole_writes::write_all(writer, bytes) {
+        Ok(()) => Ok(()),
+        Err(WriteFailed) => Err(FrameError::Write),
     }
 }

@@ -1,4 +1,4 @@
--- What writes in pieces have done together: for `write_all` and what writes by it.
+-- What writes in turn have done together: for what writes by `write_all`.
 use Rattle.std.proofs.Common.{◌≡◌, ℕ, List, ◌++◌, take, drop, Option, Result, Ok, Err, IfErr, sym, ap, ◌∙◌, append_assoc, take-append-drop}
 use Rattle.std.specs.Io.KnownBytes.{Appends}
 use Rattle.std.proofs.KnownBytes.{Appends-trans}
@@ -10,13 +10,6 @@ pub record HasWritten (output output_left : Option (List ℕ)) (bytes rest : Lis
   pub front : List ℕ
   pub parts : bytes ≡ front ++ rest
   pub appended : Appends output output_left front
-
-pub HasWritten-more : (a b c : Option (List ℕ)) (bytes rest : List ℕ) (n : ℕ) → HasWritten a b bytes rest → Appends b c (take n rest) → HasWritten a c bytes (drop n rest)
-HasWritten-more a b c bytes rest n w more = record {
-  front = w.front ++ take n rest;
-  parts = w.parts ∙ ap (λ (t : List ℕ). w.front ++ t) (sym (take-append-drop n rest)) ∙ sym (append_assoc w.front (take n rest) (drop n rest));
-  appended = Appends-trans a b c w.front (take n rest) w.appended more;
-}
 
 -- the next bytes of the rest, and what is left behind them
 pub HasWritten-next : (a b c : Option (List ℕ)) (bytes next rest : List ℕ) → HasWritten a b bytes (next ++ rest) → Appends b c next → HasWritten a c bytes rest
@@ -32,11 +25,11 @@ pub fails_behind : (a b c : Option (List ℕ)) (bytes next rest : List ℕ) (fau
 fails_behind a b c bytes next rest fault w f = record {
   part = record {
     front = w.front ++ f.part.front;
-    behind = f.part.behind ++ rest;
+    rest = f.part.rest ++ rest;
     begins = w.parts
         ∙ ap (λ (t : List ℕ). w.front ++ (t ++ rest)) f.part.begins
-        ∙ ap (λ (t : List ℕ). w.front ++ t) (append_assoc f.part.front f.part.behind rest)
-        ∙ sym (append_assoc w.front f.part.front (f.part.behind ++ rest));
+        ∙ ap (λ (t : List ℕ). w.front ++ t) (append_assoc f.part.front f.part.rest rest)
+        ∙ sym (append_assoc w.front f.part.front (f.part.rest ++ rest));
     appended = Appends-trans a b c w.front f.part.front w.appended f.part.appended;
   };
   of_writing = f.of_writing;
@@ -48,8 +41,8 @@ pub fails_first : (a b : Option (List ℕ)) (head body : List ℕ) (fault : Faul
 fails_first a b head body fault f = record {
   part = record {
     front = f.part.front;
-    behind = f.part.behind ++ body;
-    begins = ap (λ (t : List ℕ). t ++ body) f.part.begins ∙ append_assoc f.part.front f.part.behind body;
+    rest = f.part.rest ++ body;
+    begins = ap (λ (t : List ℕ). t ++ body) f.part.begins ∙ append_assoc f.part.front f.part.rest body;
     appended = f.part.appended;
   };
   of_writing = f.of_writing;
@@ -59,8 +52,8 @@ pub fails_second : (a b c : Option (List ℕ)) (head body : List ℕ) (fault : F
 fails_second a b c head body fault w f = record {
   part = record {
     front = head ++ f.part.front;
-    behind = f.part.behind;
-    begins = ap (λ (t : List ℕ). head ++ t) f.part.begins ∙ sym (append_assoc head f.part.front f.part.behind);
+    rest = f.part.rest;
+    begins = ap (λ (t : List ℕ). head ++ t) f.part.begins ∙ sym (append_assoc head f.part.front f.part.rest);
     appended = Appends-trans a b c head f.part.front w f.part.appended;
   };
   of_writing = f.of_writing;

@@ -9,7 +9,7 @@ use Rattle.store_open.specs.Store.{StoreView}
 use Rattle.store_commands.specs.declared.error.Fault.{Fault}
 use Rattle.store_commands.specs.declared.error.Fault.TheVariants.{Output}
 use Rattle.store_commands.specs.Text.{version_line}
-use Rattle.store_commands.specs.Writing.{IsWrittenInPart}
+use Rattle.whole_writes.specs.Written.{IsWrittenInPart}
 use Rattle.store_commands.specs.Upgrading.{BecomesLatest, IsUpgraded, FailsToUpgrade}
 
 -- what reads gave opens to what the store tells

@@ -5,7 +5,7 @@ use Rattle.std.specs.Io.KnownBytes.{Appends}
 use Rattle.image_laws.specs.Layout.{Geometry}
 use Rattle.store_open.specs.declared.error.OpenError.TheVariants.{Device}
 use Rattle.store_commands.specs.Devices.{faults_after_fault}
-use Rattle.store_commands.specs.Writing.{IsWrittenInPart}
+use Rattle.whole_writes.specs.Written.{IsWrittenInPart}
 use Rattle.store_commands.specs.declared.error.Fault.{Fault}
 use Rattle.store_commands.specs.declared.error.Fault.TheVariants.{Format, Open, Checkpoint, File, Memory, Output}
 

@@ -5,7 +5,7 @@ use Rattle.sector_dev.specs.Disk.{Disk}
 use Rattle.image_laws.specs.Layout.{Geometry, image_sectors}
 use Rattle.store_open.specs.NewStore.{Formats}
 use Rattle.store_commands.specs.Text.{formatted_line}
-use Rattle.store_commands.specs.Writing.{IsWrittenInPart}
+use Rattle.whole_writes.specs.Written.{IsWrittenInPart}
 use Rattle.store_commands.specs.declared.error.Fault.{Fault}
 use Rattle.store_commands.specs.declared.error.Fault.TheVariants.{Format, Open, Checkpoint, File, Memory, Output}
 

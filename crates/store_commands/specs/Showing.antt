@@ -5,7 +5,7 @@ use Rattle.sector_dev.specs.Disk.{Disk, IsHonest, reads_of}
 use Rattle.path_rows.specs.Database.{RowView}
 use Rattle.store_open.specs.PathStores.{IsStoreOf}
 use Rattle.store_commands.specs.Text.{store_text}
-use Rattle.store_commands.specs.Writing.{IsWrittenInPart}
+use Rattle.whole_writes.specs.Written.{IsWrittenInPart}
 use Rattle.store_commands.specs.Devices.{IsNotOpened, WantsMemory}
 use Rattle.store_commands.specs.declared.error.Fault.{Fault}
 use Rattle.store_commands.specs.declared.error.Fault.TheVariants.{Format, Open, Checkpoint, File, Memory, Output}

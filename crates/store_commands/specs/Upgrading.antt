@@ -9,7 +9,7 @@ use Rattle.store_open.specs.Store.{StoreView, IsAtRest, Checkpoints}
 use Rattle.store_open.specs.declared.store_error.StoreError.{StoreError}
 use Rattle.store_open.specs.declared.store_error.StoreError.TheVariants as checkpoint
 use Rattle.store_commands.specs.Text.{version_line}
-use Rattle.store_commands.specs.Writing.{IsWrittenInPart}
+use Rattle.whole_writes.specs.Written.{IsWrittenInPart}
 use Rattle.store_commands.specs.Devices.{IsNotOpened, WantsMemory}
 use Rattle.store_commands.specs.declared.error.Fault.{Fault}
 use Rattle.store_commands.specs.declared.error.Fault.TheVariants.{Format, Open, Checkpoint, File, Memory, Output}

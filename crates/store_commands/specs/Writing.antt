@@ -1,15 +1,8 @@
 -- What is written where a write fails, or memory runs out.
-use Rattle.std.specs.Prelude.{◌≡◌, ℕ, List, ◌++◌, Option}
-use Rattle.std.specs.Io.KnownBytes.{Appends}
+use Rattle.std.specs.Prelude.{ℕ, List, Option}
+use Rattle.whole_writes.specs.Written.{IsWrittenInPart}
 use Rattle.store_commands.specs.declared.error.Fault.{Fault}
 use Rattle.store_commands.specs.declared.error.Fault.TheVariants.{Format, Open, Checkpoint, File, Memory, Output}
-
--- a front of the bytes was written
-pub record IsWrittenInPart (output output_left : Option (List ℕ)) (bytes : List ℕ) : Type 0 where
-  pub front : List ℕ
-  pub behind : List ℕ
-  pub begins : bytes ≡ front ++ behind
-  pub appended : Appends output output_left front
 
 -- a write failed, or memory ran out
 abbrev pub IsOfWriting : Fault → Type 0

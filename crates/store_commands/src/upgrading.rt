@@ -11,7 +11,7 @@ ghost use Rattle.store_commands.specs.Devices.{device_after, faults_left};
 ghost use Rattle.store_commands.specs.Stops.{KeepsItsStore};
 ghost use Rattle.store_commands.specs.Text.{version_line};
 ghost use Rattle.store_commands.specs.Upgrading.{IsUpgraded, FailsToUpgrade, BecomesLatest};
-ghost use Rattle.store_commands.specs.Writing.{IsWrittenInPart};
+ghost use Rattle.whole_writes.specs.Written.{IsWrittenInPart};
 
 use crate::error::Fault;
 use crate::writing::write_all;

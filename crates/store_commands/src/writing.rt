@@ -1,6 +1,6 @@
 //! Text on its way to a writer.
 
-ghost use Rattle.std.specs.Prelude.{◌≡◌, ◌≤◌, [], length, take, OnOk, IfOk, IfErr};
+ghost use Rattle.std.specs.Prelude.{◌≡◌, OnOk, IfErr};
 ghost use Rattle.std.specs.Io.KnownBytes.{Appends};
 ghost use Rattle.store_commands.specs.Text.{rows_text, place_line, store_text};
 ghost use Rattle.store_commands.specs.Writing.{FailsWithin};
@@ -10,6 +10,7 @@ use crate::text::{place_line, row_line};
 use path_db::{PathDb, Rows};
 use std::alloc::Global;
 use std::io::Write;
+use whole_writes::WriteFailed;
 
 /// Writes the lines of all rows, in the order of their keys, and that of a place. Where memory for a line runs out, those
 /// before it stand.
@@ -55,24 +56,8 @@ pub(crate) fn write_all<W: Write>(writer: &mut W, bytes: &[u8]) -> Result<(), Fa
     ensures err { IfErr result (FailsWithin (W.contents writer.old) (W.contents writer.new) bytes.now) }
     ensures output { IfErr result (λ e. e ≡ Fault.Output) }
 {
-    let mut rest = bytes;
-    while !rest.is_empty() {
-        let count = write_some(writer, rest)?;
-        rest = rest.split_at(count).1;
-    }
-    Ok(())
-}
-
-/// Writes a front of the bytes, of at least one.
-fn write_some<W: Write>(writer: &mut W, bytes: &[u8]) -> Result<usize, Fault>
-    ensures ok { IfOk result (λ n. Appends (W.contents writer.old) (W.contents writer.new) (take n bytes.now)) }
-    ensures some { IfOk result (λ n. 1 ≤ n) }
-    ensures within { IfOk result (λ n. n ≤ length bytes.now) }
-    ensures err { IfErr result (λ e. e ≡ Fault.Output) }
-    ensures nothing { IfErr result (λ _. Appends (W.contents writer.old) (W.contents writer.new) []) }
-{
-    match writer.write(bytes) {
-        Ok(0) | Err(_) => Err(Fault::Output),
-        Ok(count) => Ok(count),
+    match whole_writes::write_all(writer, bytes) {
+        Ok(()) => Ok(()),
+        Err(WriteFailed) => Err(Fault::Output),
     }
 }

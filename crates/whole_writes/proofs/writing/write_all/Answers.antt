@@ -1,5 +1,5 @@
-use Rattle.session_core.proofs.WriteLemmas.{HasWritten-more}
-use Rattle.session_core.proofs.writing.write_all.Goals as goal
+use Rattle.whole_writes.proofs.Fronts.{HasWritten-more}
+use Rattle.whole_writes.proofs.writing.write_all.Goals as goal
 
 pub loop-rest-preserved : goal.loop-rest-preserved
 loop-rest-preserved g c =

@@ -1,6 +1,6 @@
 use Rattle.std.proofs.Common.{length}
-use Rattle.store_commands.proofs.Fronts.{HasWritten}
-use Rattle.store_commands.proofs.writing.write_all.Given as goal
+use Rattle.whole_writes.proofs.Fronts.{HasWritten}
+use Rattle.whole_writes.proofs.writing.write_all.Given as goal
 
 abbrev pub invariant-loop-rest : goal.invariant-loop-rest
 invariant-loop-rest g l = HasWritten (g.W.Write.contents l.fn.writer) (g.W.Write.contents l.writer) l.fn.bytes l.rest
