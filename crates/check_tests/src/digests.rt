@@ -6,7 +6,7 @@ use seg_core::read_segment;
 use sha2::{Digest, Sha256};
 use std::test::Fail;
 
-// The id tells the path alone: another time and other peers keep it, and another egress does not.
+// The id depends on the path alone: another time and other peers keep it, and another egress does not.
 #[test]
 fn ids_tell_the_path(rt: HostRuntime) -> Result<(), Fail> {
     let same = "8adcea68dc57cbbe68da7142af88b68a9d27a590e1d5157c53c2bb2c762345ff";

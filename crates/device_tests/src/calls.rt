@@ -32,7 +32,7 @@ pub(crate) fn assert_answer<D: Device, C: Debug>(
     assert_same(rt, &answer.is_ok(), &is_ok, case);
 }
 
-/// Does so, and sees how many faults the device then tells.
+/// Does so, and sees how many faults the device then reports.
 pub(crate) fn assert_call<D: Device, C: Debug>(
     rt: &impl Abort,
     device: &mut D,

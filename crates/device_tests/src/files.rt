@@ -6,7 +6,7 @@ use std::alloc::Global;
 use std::process::Abort;
 use std::test::Fail;
 
-// A device over so many sevens, of which so many at most are moved at a time.
+// A device over this number of sevens, of which this number at most are moved at a time.
 fn device_of(alloc: Global, len: usize, at_most: usize) -> Result<FileDevice<MemFile>, Fail> {
     let bytes = vec![in alloc; 7; len]?;
     Ok(FileDevice::new(MemFile::new(bytes, at_most))?)

@@ -4,7 +4,7 @@ use sector_dev::{Device, FuseDevice, MemDevice, Tear};
 use std::process::Abort;
 use std::test::Fail;
 
-// Stands for the byte that fills what is torn off.
+// Represents the byte that fills what is torn off.
 const FILL: u8 = 0xFF;
 
 // After how many calls a fuse stops, how many bytes of a torn write it keeps, and what is then in sectors 1, 2 and 3:
@@ -42,7 +42,7 @@ fn torn((first, rest): (u8, u8), fill: u8) -> (u8, u8) {
     (filled(first, fill), filled(rest, fill))
 }
 
-// Makes the calls of a fuse of so many, and sees that the others fail, and what is then in sectors 1, 2 and 3.
+// Makes the calls of a fuse that passes this number, and sees that the others fail, and what is then in sectors 1, 2 and 3.
 fn assert_stop(rt: &impl Abort, mut fuse: FuseDevice, calls: u64, wanted: [(u8, u8); 4]) {
     for number in 0..CALLS {
         assert_answer(rt, &mut fuse, number, number < calls, &(calls, wanted));

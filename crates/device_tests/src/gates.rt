@@ -104,7 +104,7 @@ impl<'a> Gate for Witness<'a> {
     }
 }
 
-// Sees that a sync succeeds, and that so many were before it when the gate was passed.
+// Sees that a sync succeeds, and that this number of syncs was before it when the gate was passed.
 fn assert_sync<'a>(
     rt: &impl Abort,
     device: &mut HeldDevice<SyncCounter<'a, MemDevice>, Witness<'a>>,

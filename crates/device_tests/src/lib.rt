@@ -1,6 +1,6 @@
-//! Tests of `sector_dev` and `device_files`, a module for each subject. They see what no clause says: that calls succeed, the
-//! contents after a stop at every call against a table made by hand, real files and devices of the system, which of them are
-//! opened beside each other, and what comes first.
+//! Tests of `sector_dev` and `device_files`, and one of `byte_lists`, a module for each subject. They see what no clause says: that
+//! calls succeed, the contents after a stop at every call against a table made by hand, real files and devices of the system, which
+//! of them are opened beside each other, and what comes first.
 #![tactic(auto)]
 
 #[cfg(test)]
@@ -19,5 +19,7 @@ mod gates;
 mod openings;
 #[cfg(test)]
 mod same;
+#[cfg(test)]
+mod sectors;
 #[cfg(test)]
 mod system_files;

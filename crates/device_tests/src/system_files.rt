@@ -14,7 +14,7 @@ fn make_folder<R: Files + Alloc>(rt: &R, folder: &str) -> Result<(), Fail> {
     Ok(fs::create_dir(rt, folder)?)
 }
 
-// Makes a folder with one file of so many sevens.
+// Makes a folder with one file of this number of sevens.
 fn make_file<R: Files + Alloc>(rt: &R, folder: &str, path: &str, len: usize) -> Result<(), Fail> {
     make_folder(rt, folder)?;
     let sevens = vec![in rt.alloc(); 7; len]?;

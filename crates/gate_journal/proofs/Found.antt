@@ -110,7 +110,7 @@ none_appended : (before : List Command) (all : Option (List Command)) → append
 none_appended before None is = refl
 none_appended before (Some found) is = cc
 
--- what was found where commands stand in front of it
+-- what was found where commands are in front of it
 pub some_appended : (before new : List Command) (all : Option (List Command)) → appended before all ≡ Some new
     → (found : List Command) × (found_in_records all ≡ Ok found) × (new ≡ before ++ found)
 some_appended before new None is = cc

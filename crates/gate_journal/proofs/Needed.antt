@@ -19,7 +19,7 @@ use Rattle.gate_journal.specs.ScannerView.{ScannerView, IsInside}
 use Rattle.gate_journal.specs.Scanning.{first_of, count_of, first_wanted, count_wanted, IsKnown, IsReadUpTo, CountsForReading}
 use Rattle.gate_journal.proofs.Payloads.{payload_is, as_group, behind_header}
 
--- the reading behind commands
+-- the reading after commands
 record IsBehind (answer : Result (Reading Command) JournalRefusal) (reading : Reading Command) : Type 0 where
   inner : Reading Command
   answered : answer ≡ Ok inner
@@ -63,7 +63,7 @@ module _ (limits : Limits) (bytes : List ℕ) (steps gate place : ℕ) where
   behind : List Command → ℕ → Result (Reading Command) JournalRefusal
   behind commands size = scan_from steps command_format limits bytes (gate + 1 + payload_sectors size) (place + length commands)
 
-  -- where the gate is open, the sector behind it counts
+  -- where the gate is open, the sector after it counts
   header_counts : (payload : Result (Payload Command) JournalRefusal) (reading : Reading Command) → at_gate true payload behind gate place ≡ Ok reading → gate + 2 ≤ sectors_read reading
   unfolding behind
   header_counts (Err refusal) reading is = absurd cc

@@ -89,7 +89,7 @@ front_payload limits count size p =
     ∙ ap (λ (records : List ℕ). check (are_zeros (padding_of size p)) BadRecord (found_in_records (commands_in command_format limits count records)))
     (part_front 16 size k p (omega arith))
 
--- what stands behind a gate, by what the header and then a group's payload read as
+-- what is after a gate, by what the header and then a group's payload read as
 abbrev pub as_group : Result (List Command) JournalRefusal → ℕ → Result (Payload Command) JournalRefusal
 as_group (Ok commands) size = Ok (IsGroupOf commands size)
 as_group (Err refusal) size = Err refusal
@@ -128,7 +128,7 @@ module _ (limits : Limits) (p : List ℕ) (gate place sectors : ℕ) where
   by_header false true = of_seal (eqb (place_in p) place) (are_zeros (part 16 496 p))
   by_header false false = refl
 
--- what stands behind a gate is what its first sector leads to
+-- what is after a gate is what its first sector leads to
 pub payload_is : (limits : Limits) (bytes : List ℕ) (gate place : ℕ) → gate + 2 ≤ whole_sectors bytes
     → payload_at command_format limits bytes gate place
     ≡ behind_header (header_reading limits (sector_at (gate + 1) bytes) gate place (whole_sectors bytes)) limits (drop (512 * (gate + 1)) bytes)
@@ -138,7 +138,7 @@ payload_is limits bytes gate place room =
     ∙ by_header limits p gate place (whole_sectors bytes) (is_group_header limits p) (is_seal_header p)
     ∙ ap (λ (r : Result Header JournalRefusal). behind_header r limits p) (sym (front_reading limits p gate place (whole_sectors bytes)))
 
--- so many commands are found as are counted
+-- as many commands are found as are counted
 record HasFirst (more : Option (List Command)) (commands : List Command) : Type 0 where
   rest : List Command
   behind : more ≡ Some rest

@@ -24,7 +24,7 @@ use Rattle.gate_journal.specs.ScannerView.{ScannerView, IsInside}
 use Rattle.gate_journal.specs.Scanning.{reading_of, first_of, count_of, HasPiece, IsKnown, IsReadUpTo, MayWantMemory, MeansError, TakesPiece}
 use Rattle.gate_journal.proofs.Payloads.{payload_is, front_payload, as_group, behind_header, payload_counted}
 
--- the scan tells of the scanner's gate, with a seal there
+-- the scan reports the scanner's gate, with a seal there
 pub record EndsSealed (scanner : ScannerView) (scan : Scan) : Type 0 where
   pub commands : scan.commands.items ≡ scanner.commands
   pub tail : scan.tail ≡ scanner.gate
@@ -38,7 +38,7 @@ module _ (scanner : ScannerView) (bytes : List ℕ) (start : ℕ) (each : AreByt
   abbrev behind : Result (Payload Command) JournalRefusal
   behind = payload_at command_format limits bytes scanner.gate scanner.place
 
-  -- what stands behind the gate is refused
+  -- what is after the gate is refused
   refused_here : (refusal : JournalRefusal) → behind ≡ Err refusal → IsRefused command_format limits bytes start refusal
   refused_here refusal wrong = record {
     groups = is.groups;

@@ -40,7 +40,7 @@ abbrev pub found_in_records : {X : Type 0} → Option X → Result X JournalRefu
 found_in_records None = Err IsBadRecord
 found_in_records (Some x) = Ok x
 
--- The header in the first sector of the payload behind a gate, where this place is expected and the journal has so many
+-- The header in the first sector of the payload after a gate, where this place is expected and the journal has this number of
 -- sectors; of a seal its padding is judged too.
 abbrev pub header_reading : Limits → List ℕ → ℕ → ℕ → ℕ → Result Header JournalRefusal
 header_reading limits sector gate place sectors =
@@ -51,7 +51,7 @@ header_reading limits sector gate place sectors =
     check (place_in sector == place) (IsGap place) (check (are_zeros (part 16 496 sector)) IsBadRecord (Ok Seal))
     else Err IsBadHeader
 
--- what stands behind the records of a group's payload
+-- what is after the records of a group's payload
 abbrev pub padding_of : ℕ → List ℕ → List ℕ
 padding_of size payload = part (16 + size) (512 * payload_sectors size - (16 + size)) payload
 
@@ -67,7 +67,7 @@ pub record FirstWantsMemory (limits : Limits) (bytes : List ℕ) : Type 0 where
   pub size : 4 + record_size bytes ≤ length bytes
   pub command : IsSome (first_command command_format limits bytes) ⊎ WantsMemory (part 4 (record_size bytes) bytes)
 
--- To read the commands of a group's payload takes memory: zeros are behind its records, and the first record takes it.
+-- To read the commands of a group's payload takes memory: zeros are after its records, and the first record takes it.
 pub record PayloadWantsMemory (limits : Limits) (size : ℕ) (payload : List ℕ) : Type 0 where
   pub padding : are_zeros (padding_of size payload) ≡ true
   pub first : FirstWantsMemory limits (part 16 size payload)

@@ -15,7 +15,7 @@ pub record ScannerView : Type 0 where
   pub stage : Stage
   pub commands : List Command
 
--- what is read next stands in the journal, and so does all that the header promises
+-- what is read next is in the journal, and so is all that the header promises
 abbrev pub IsInside : Stage → ℕ → ℕ → ℕ → Type 0
 IsInside AtGate sectors gate place = gate + 1 ≤ sectors
 IsInside AtHeader sectors gate place = gate + 2 ≤ sectors

@@ -26,7 +26,7 @@ pub fn can_be_group(commands: &[Command], place: u64) -> bool
         && records_len(commands) <= MOST_RECORD_BYTES
 }
 
-/// The payload of a group whose first command has this place: a header, each command's record behind its length, and zeros up
+/// The payload of a group whose first command has this place: a header, each command's record after its length, and zeros up
 /// to a whole sector.
 pub fn encode_group(alloc: Global, commands: &[Command], place: u64) -> Result<Vec<u8>, AllocError>
     requires { IsWithinGroupLimits commands.now place }

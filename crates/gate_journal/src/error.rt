@@ -13,7 +13,7 @@ pub enum JournalError {
     /// Memory ran out. It says nothing of the bytes.
     #[error("out of memory")]
     NoMemory,
-    /// The header behind an open gate is none of a group and none of a seal.
+    /// The header after an open gate is none of a group and none of a seal.
     #[error("a payload has no header")]
     BadHeader,
     /// The records of a group are not just as many commands as its header says, in just as many bytes, or padding isn't zero.
@@ -22,7 +22,7 @@ pub enum JournalError {
     /// A payload has another place than this one, which is reached.
     #[error("place {} is missing", *.0)]
     Gap(u64),
-    /// A payload would begin behind the journal's end, or a group has no room.
+    /// A payload would begin after the journal's end, or a group has no room.
     #[error("a payload goes past the end")]
     PastEnd,
 }

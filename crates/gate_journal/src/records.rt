@@ -35,7 +35,7 @@ pub(crate) fn read_payload(
     read_records(alloc, count, &payload[HEADER..end], version, commands)
 }
 
-/// Reads so many records, which have to be all of the bytes, and appends their commands.
+/// Reads this number of records, which have to be all of the bytes, and appends their commands.
 fn read_records(
     alloc: Global,
     count: u8,
@@ -58,7 +58,7 @@ fn read_records(
     Ok(())
 }
 
-/// The command of the record at the front of bytes, and the bytes behind it.
+/// The command of the record at the front of bytes, and the bytes after it.
 fn read_record(alloc: Global, bytes: &[u8], version: u32) -> Result<(Command, &[u8]), JournalError>
     ensures first { Gives (λ read. read.0) result (found_in_records (first_command command_format (limits_of version) bytes.now)) }
     ensures behind { IfOk result (λ read. read.1.now ≡ drop (4 + record_size bytes.now) bytes.now) }

@@ -22,7 +22,7 @@ pub struct Scan {
     pub tail: u64,
     /// Whether it ends with a seal; else the gate is closed.
     pub sealed: bool,
-    /// The place reached: the one behind the last command.
+    /// The place reached: the one after the last command.
     pub place: u64,
 }
 
@@ -31,9 +31,9 @@ pub struct Scan {
 pub enum Stage {
     /// The gate.
     AtGate,
-    /// The first sector behind the gate, which is open.
+    /// The first sector after the gate, which is open.
     AtHeader,
-    /// The whole payload: of a group of so many commands, whose records have so many bytes.
+    /// The whole payload: of a group of this number of commands, whose records have this number of bytes.
     AtPayload(u8, u32),
 }
 
@@ -88,7 +88,7 @@ pub enum Progress {
 impl Scanner {
     ghost use Rattle.gate_journal.specs.declared.scanner.Stage.TheVariants.{AtGate, AtHeader, AtPayload};
 
-    /// The start of a journal of so many sectors, which is read by the version of its store. Its first command is to have this
+    /// The start of a journal of this number of sectors, which is read by the version of its store. Its first command is to have this
     /// place.
     pub fn new(alloc: Global, sectors: u64, place: u64, version: u32) -> Scanner
         requires { 1 ≤ sectors }
@@ -106,7 +106,7 @@ impl Scanner {
         }
     }
 
-    /// The piece that it reads next: a gate, the sector behind it, or a whole payload. It is one of those sectors that count for
+    /// The piece that it reads next: a gate, the sector after it, or a whole payload. It is one of those sectors that count for
     /// the reading.
     pub fn wanted(&self) -> Piece
         ensures first { result.first ≡ first_wanted self.now }

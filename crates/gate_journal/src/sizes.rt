@@ -13,7 +13,7 @@ use byte_lists::SECTOR;
 use path_db::{Command, ROW_HEAD};
 use seg_core::{MOST_REGISTERED, MOST_REGISTERED_BYTES, SegType, Segment, encoded_len};
 
-/// How many sectors a payload takes whose records have so many bytes: these and the header's 16, rounded up.
+/// How many sectors a payload takes whose records have this number of bytes: these and the header's 16, rounded up.
 pub fn payload_sectors(record_bytes: u64) -> u64
     ensures { result ≡ sectors_of_payload record_bytes }
 {
@@ -21,7 +21,7 @@ pub fn payload_sectors(record_bytes: u64) -> u64
     record_bytes / sector + (record_bytes % sector + HEADER as u64 + sector - 1) / sector
 }
 
-/// Whether a journal of so many sectors has room for a payload of so many behind a gate, and for two sectors behind it: the
+/// Whether a journal of this number of sectors has room for a payload of that many after a gate, and for two sectors after it: the
 /// next gate, and a seal's payload.
 pub fn fits(gate: u64, payload: u64, journal: u64) -> bool
     ensures { IsTrue result ↔ HasRoom gate payload journal }

@@ -1,4 +1,4 @@
--- What a state makes of what its device holds when commands come.
+-- What becomes of what a device holds for a state when commands come.
 use Rattle.std.proofs.Common.{◌≡◌, ℕ, zero, suc, ◌≤◌, List, [], ◌∷◌, ◌++◌, length, take, refl, sym, ap, subst, arith, length-append}
 use Rattle.image_laws.specs.Limits.{limits_of}
 use Rattle.image_laws.specs.Group.{CanBeGroup}
@@ -15,7 +15,7 @@ use Rattle.group_laws.specs.HeldCommands.{HeldWhenAccepted, HeldWhenGroupIsStage
 use Rattle.group_laws.proofs.Standings.{unsealed_may}
 use Rattle.group_laws.proofs.HeldTurns.{load_some}
 
--- a front of a list stays where the list grows behind it
+-- a front of a list stays where the list grows after it
 take_front : {A : Type 0} (n : ℕ) (front behind : List A) → n ≤ length front → take n (front ++ behind) ≡ take n front
 take_front zero front behind inside = refl
 take_front (suc n) [] behind inside = absurd (omega arith)

@@ -121,7 +121,7 @@ module _ {Db C : Type 0} (format : StoreFormat Db C) (latest : ℕ) (geometry : 
     };
   }
 
-  -- behind a seal
+  -- after a seal
   module _ (last : Reading C) (next : Checkpoint Db) where
     abbrev sealed : Opening Db C
     sealed = record { geometry = geometry; chosen = chosen; checkpoint = checkpoint; journal = journal; tail = Some last }

@@ -1,4 +1,4 @@
--- Both parts at once: what each call makes of a device that holds what a state stands for.
+-- Both parts at once: what each call leaves on a device that holds what a state represents.
 use Rattle.std.proofs.Common.{◌≡◌, inl, inr, ℕ, ◌+◌, refl, sym, ◌∙◌, ap, subst, Result, Ok, Err}
 use Rattle.sector_dev.specs.Disk.{Moment}
 use Rattle.sector_dev.specs.Calls.{WriteCall}

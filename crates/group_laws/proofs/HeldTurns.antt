@@ -1,4 +1,4 @@
--- What a state makes of what its device holds without a call.
+-- What becomes of what a device holds for a state without a call.
 use Rattle.std.proofs.Common.{◌≡◌, ℕ, zero, suc, ◌≤◌, false, List, [], ◌∷◌, ◌++◌, length, take, refl, sym, ◌∙◌, ap, subst, arith, length-append}
 use Rattle.image_laws.specs.Limits.{limits_of}
 use Rattle.image_laws.specs.Journal.{all_of}

@@ -130,14 +130,14 @@ module _ {C : Type 0} (format : CommandFormat C) (limits : Limits) (geometry : G
 -- what the tail's journal reads as, at a moment
 module _ {C : Type 0} (format : CommandFormat C) (limits : Limits) (geometry : Geometry) (tail : Tail C) (moment : Moment) (room : image_sectors geometry ≤ whole_sectors moment.reads)
     (has : HasGroups format limits geometry tail moment) where
-  -- behind a closed gate
+  -- after a closed gate
   pub reads_without : (IsOpenGate (sector_at tail.gate (tail_bytes geometry tail moment)) → ⊥) → ReadsAs format limits geometry tail moment.reads (without_load tail)
   reads_without closed = record { groups = tail.groups; chain = has.chain; commands = refl; place = refl; ends = closed }
 
   sectors : whole_sectors (tail_bytes geometry tail moment) ≡ geometry.journal
   sectors = omega (arith, journal_long geometry moment.reads room tail.half)
 
-  -- and behind an open one
+  -- and after an open one
   pub reads_with : (load : Load C) → CanBeLoad format limits geometry tail load → HasLoad format geometry tail load moment → HasOpenGate geometry tail moment
       → ReadsAs format limits geometry tail moment.reads (with_load format tail load)
   reads_with (Commands commands) can behind opened = record {

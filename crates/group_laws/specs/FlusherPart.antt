@@ -16,7 +16,7 @@ use Rattle.group_laws.specs.Tail.{Load, Commands, Seal, payload_of, load_sectors
 abbrev pub tail_bytes : {C : Type 0} → Geometry → Tail C → Moment → List ℕ
 tail_bytes geometry tail moment = journal_of geometry tail.half moment.reads
 
--- the groups that are committed are there and clean, and behind them there is room for a gate and a seal
+-- the groups that are committed are there and clean, and after them there is room for a gate and a seal
 pub record HasGroups {C : Type 0} (format : CommandFormat C) (limits : Limits) (geometry : Geometry) (tail : Tail C) (moment : Moment) : Type 0 where
   pub chain : IsChain format limits (tail_bytes geometry tail moment) 0 tail.start tail.groups tail.gate
   pub clean : AreCleanSectors geometry tail.half 0 tail.gate moment
@@ -30,12 +30,12 @@ pub record HasClosedGate {C : Type 0} (geometry : Geometry) (tail : Tail C) (mom
 abbrev pub HasOpenGate : {C : Type 0} → Geometry → Tail C → Moment → Type 0
 HasOpenGate geometry tail moment = IsOpenGate (sector_at tail.gate (tail_bytes geometry tail moment))
 
--- behind a group stands a closed gate
+-- after a group there is a closed gate
 abbrev pub NextIsClosed : {C : Type 0} → CommandFormat C → Load C → List ℕ → ℕ → Type 0
 NextIsClosed format (Commands commands) bytes gate = ¬ IsOpenGate (sector_at (gate_behind format gate commands) bytes)
 NextIsClosed format Seal bytes gate = Unit {0}
 
--- what is in flight stands behind the tail's gate
+-- what is in flight is after the tail's gate
 pub record HasLoad {C : Type 0} (format : CommandFormat C) (geometry : Geometry) (tail : Tail C) (load : Load C) (moment : Moment) : Type 0 where
   pub spelled : part (512 * (tail.gate + 1)) (512 * load_sectors format load) (tail_bytes geometry tail moment) ≡ payload_of format (place_of tail) load
   pub next : NextIsClosed format load (tail_bytes geometry tail moment) tail.gate

@@ -1,4 +1,4 @@
--- What a device holds of a store that was just opened, at rest or behind a seal. Each statement is the contract of a function.
+-- What a device holds of a store that was just opened, at rest or after a seal. Each statement is the contract of a function.
 use Rattle.std.specs.Prelude.{◌≡◌, ℕ, ◌<◌, [], Option, Some, None}
 use Rattle.sector_dev.specs.Disk.{Moment}
 use Rattle.image_laws.specs.Journal.{Reading}
@@ -17,7 +17,7 @@ use Rattle.group_laws.specs.Standing.{Standing, Behind, IsHeldBy}
 abbrev pub setting_of : {Db C : Type 0} → StoreFormat Db C → ℕ → Opening Db C → Setting Db C
 setting_of format latest opening = record { format = format; latest = latest; geometry = opening.geometry }
 
--- where the checkpointer is: behind a seal the chosen half awaits its checkpoint
+-- where the checkpointer is: after a seal the chosen half awaits its checkpoint
 abbrev pub check_of : {C : Type 0} → Option (Reading C) → Check
 check_of None = Ready
 check_of (Some behind) = Sealed
@@ -49,7 +49,7 @@ HeldAtRest Db C =
     → IsOpening format latest moment.reads opening → IsOtherReady opening moment.reads
     → IsHeldFrom format latest opening opening.checkpoint moment
 
--- behind a seal, with the checkpoint that folds the sealed journal, and the half that has that journal
+-- after a seal, with the checkpoint that folds the sealed journal, and the half that has that journal
 pub record IsHeldBehindSeal {Db C : Type 0} (format : StoreFormat Db C) (latest : ℕ) (opening : Opening Db C) (next : Checkpoint Db) (moment : Moment)
     : Type 0 where
   pub held : IsHeldFrom format latest opening next moment

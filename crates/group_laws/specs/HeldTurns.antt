@@ -1,4 +1,4 @@
--- What a state makes of what its device holds without a call: a group or a seal that is durable is published, a plan begins, and
+-- What becomes of what a device holds for a state without a call: a group or a seal that is durable is published, a plan begins, and
 -- the new half's version counts. Each statement is the contract of a function.
 use Rattle.std.specs.Prelude.{◌≡◌, ◌≤◌, [], ◌∷◌, ◌++◌, take, drop}
 use Rattle.sector_dev.specs.Disk.{Moment}
@@ -32,7 +32,7 @@ HeldWhenGroupIsPublished Db C =
     (setting : Setting Db C) (standing : Standing Db C) (behind : Behind Db C) (moment : Moment) → standing.flush ≡ Durable → 1 ≤ standing.taken
     → IsHeldBy setting standing behind moment → IsHeldBy setting (group_published setting standing) (behind_group standing behind) moment
 
--- behind a seal that is durable the tail goes on in the other half, and the sealed half awaits its checkpoint
+-- after a seal that is durable the tail continues in the other half, and the sealed half awaits its checkpoint
 abbrev pub seal_published : {Db C : Type 0} → Standing Db C → Standing Db C
 seal_published standing = record standing { flush = Resting; check = Sealed; half = other standing.half; gate = 0 }
 

@@ -16,7 +16,7 @@ use Rattle.group_laws.specs.Tail.{Load, Commands, Seal, Tail, place_of}
 use Rattle.group_laws.specs.FlusherPart.{FlusherPart}
 use Rattle.group_laws.specs.BasePart.{Base, BasePart, MayBeSealed}
 
--- What of a state counts for its device: what is committed; the commands that are pending behind that, and how many of the first
+-- What of a state counts for its device: what is committed; the commands that are pending after that, and how many of the first
 -- are in flight, where none of them is a seal; how far the two actors are; the half that has the tail, its gate, and the version
 -- under whose limits it is written; and how many sectors of the new checkpoint are written.
 pub record Standing (Db C : Type 0) : Type 0 where
@@ -52,7 +52,7 @@ seals Opened load = is_seal load
 seals Doubtful load = is_seal load
 seals Durable load = is_seal load
 
--- What stands behind a state, and no field of it holds: the groups of the tail's journal; the checkpoint of the half that has the
+-- What is on the device for a state, and in no field of it: the groups of the tail's journal; the checkpoint of the half that has the
 -- tail, there or to be there; and the other half's, with the groups of its journal and the gate of the seal that ends it.
 pub record Behind (Db C : Type 0) : Type 0 where
   pub groups : List (List C)
@@ -61,7 +61,7 @@ pub record Behind (Db C : Type 0) : Type 0 where
   pub old_groups : List (List C)
   pub old_gate : ℕ
 
--- the tail, and what stands before it
+-- the tail, and what is before it
 abbrev pub tail_of : {Db C : Type 0} → Standing Db C → Behind Db C → Tail C
 tail_of standing behind =
     record { half = standing.half; start = behind.new.head.place; groups = behind.groups; gate = standing.gate }
@@ -76,7 +76,7 @@ base_of standing behind = record {
   gate = behind.old_gate;
 }
 
--- The device holds what such a state stands for, with this behind it: the title, each actor's part, and what joins them.
+-- The device holds what such a state represents, with this on the device: the title, each actor's part, and what joins them.
 pub record IsHeldBy {Db C : Type 0} (setting : Setting Db C) (standing : Standing Db C) (behind : Behind Db C) (moment : Moment) : Type 0 where
   pub title : HasTitle setting.geometry moment
   pub taken : standing.taken ≤ length standing.pending
@@ -87,7 +87,7 @@ pub record IsHeldBy {Db C : Type 0} (setting : Setting Db C) (standing : Standin
   pub base : BasePart standing.check setting (base_of standing behind) standing.written moment
   pub seal : MayBeSealed standing.check (seals standing.flush (load_of standing))
 
--- or with something behind it
+-- or with some such
 pub record IsHeld {Db C : Type 0} (setting : Setting Db C) (standing : Standing Db C) (moment : Moment) : Type 0 where
   pub behind : Behind Db C
   pub by : IsHeldBy setting standing behind moment

@@ -1,4 +1,4 @@
-//! Laws of the calls on a device that holds what a state stands for, in any format of databases of type `Db` and commands of
+//! Laws of the calls on a device that holds what a state represents, in any format of databases of type `Db` and commands of
 //! type `C`. `T` and `E` are what a call answers.
 
 ghost use Rattle.group_laws.specs.declared.phases.Flush.TheVariants.{Written, Stable, Opened, Durable};
@@ -8,7 +8,7 @@ ghost use Rattle.group_laws.specs.HeldTurns.{HeldWhenGroupIsPublished, HeldWhenS
 ghost use Rattle.group_laws.specs.HeldCommands.{HeldWhenAccepted, HeldWhenGroupIsStaged, HeldWhenSealIsStaged};
 ghost use Rattle.group_laws.specs.HeldSteps.{HeldWhileLoadIsWritten, HeldWhileGateIsOpened, HeldWhileSynced, WritesLeaveFronts, SyncsLeaveFronts};
 
-/// Each call of the flusher leaves a device that holds what the state then stands for, in whatever phase the checkpointer is.
+/// Each call of the flusher leaves a device that holds what the state then represents, in whatever phase the checkpointer is.
 pub fn flusher_calls_are_held<T, E, Db, C>()
     ensures write { HeldWhileLoadIsWritten T E Db C }
     ensures sync { HeldWhileSynced Written Stable T E Db C }
@@ -16,7 +16,7 @@ pub fn flusher_calls_are_held<T, E, Db, C>()
     ensures gate_sync { HeldWhileSynced Opened Durable T E Db C }
 {}
 
-/// Each call of the checkpointer leaves a device that holds what the state then stands for, in whatever phase the flusher is.
+/// Each call of the checkpointer leaves a device that holds what the state then represents, in whatever phase the flusher is.
 pub fn checkpointer_calls_are_held<T, E, Db, C>()
     ensures chunk { HeldWhileChunkIsWritten T E Db C }
     ensures chunks_sync { HeldWhileChunksAreSynced T E Db C }
@@ -26,7 +26,7 @@ pub fn checkpointer_calls_are_held<T, E, Db, C>()
     ensures close_sync { HeldWhileHalfIsSynced Closing Ready T E Db C }
 {}
 
-/// Accepting a command, and staging a group or a seal, leave what the device holds as what the state then stands for.
+/// Accepting a command, and staging a group or a seal, leave what the device holds as what the state then represents.
 pub fn commands_are_held<Db, C>()
     ensures accepted { HeldWhenAccepted Db C }
     ensures group { HeldWhenGroupIsStaged Db C }
@@ -34,7 +34,7 @@ pub fn commands_are_held<Db, C>()
 {}
 
 /// Publishing a group or a seal that is durable, beginning a plan, and taking the new half's version leave what the device holds
-/// as what the state then stands for.
+/// as what the state then represents.
 pub fn turns_are_held<Db, C>()
     ensures group { HeldWhenGroupIsPublished Db C }
     ensures seal { HeldWhenSealIsPublished Db C }
@@ -42,7 +42,7 @@ pub fn turns_are_held<Db, C>()
     ensures version { HeldUnderTheNewVersion Db C }
 {}
 
-/// What a stop within a write leaves opens to a front that a stop before it or behind it may keep, and what one within a sync
+/// What a stop within a write leaves opens to a front that a stop before it or after it may keep, and what one within a sync
 /// leaves to one that a stop before it may keep.
 pub fn calls_leave_fronts<T, E, Db, C>()
     ensures write { WritesLeaveFronts T E Db C }

@@ -29,9 +29,9 @@
 pub enum Flush {
     /// Nothing is in flight.
     Resting,
-    /// What is to be written is made.
+    /// What has to be written is made.
     Staged,
-    /// It was written behind the tail's gate.
+    /// It was written after the tail's gate.
     Written,
     /// A sync after that succeeded.
     Stable,

@@ -11,7 +11,7 @@ use std::alloc::{AllocError, Global};
 use std::process::Abort;
 use worked_segments::ID;
 
-/// An event, and what it is to be answered.
+/// An event, and its expected answer.
 pub(crate) type Line = (Act, Said);
 
 /// An event.
@@ -19,7 +19,7 @@ pub(crate) type Line = (Act, Said);
 pub(crate) enum Act {
     /// Registers the segment left by this interface.
     Put(u8),
-    /// Registers eight large segments, left by the interfaces 41 to 48, made so many seconds after the first of their kind.
+    /// Registers eight large segments, left by the interfaces 41 to 48, made this number of seconds after the first of their kind.
     Large(u8),
     /// Registers a ninth one, left by interface 49.
     Ninth,
@@ -105,13 +105,13 @@ pub(crate) const EIGHT_NEW: Outcome = Outcome {
     ..NOTHING
 };
 
-/// What they do where earlier ones stand.
+/// What they do where earlier ones are.
 pub(crate) const EIGHT_NEWER: Outcome = Outcome {
     updated: 8,
     ..NOTHING
 };
 
-/// What they do where a later one stands.
+/// What they do where a later one is.
 pub(crate) const EIGHT_OLDER: Outcome = Outcome { kept: 8, ..NOTHING };
 
 /// The ids of segments by the interface by which they are left: SHA-256 over `0001ff0000000110 0000`, the interface, and
@@ -229,7 +229,7 @@ pub(crate) fn events_of(rt: &impl Abort, alloc: Global, lines: &[Line]) -> Vec<E
     events
 }
 
-/// A list with room for so many events. Where memory is refused, it is asked for once more.
+/// A list with room for this number of events. Where memory is refused, it is asked for once more.
 fn room_for(rt: &impl Abort, alloc: Global, count: usize) -> Vec<Event> {
     let room = match Vec::with_capacity(alloc, count) {
         Err(_) => Vec::with_capacity(alloc, count),

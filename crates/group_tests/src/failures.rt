@@ -23,7 +23,7 @@ pub(crate) trait Failure {
     /// One over this memory that fails at the call of this number, the first one being number 0.
     fn over(&self, memory: MemDevice, number: u64) -> Self::On;
 
-    /// How many calls were made of it behind the first that failed.
+    /// How many calls were made of it after the first that failed.
     fn late(&self, device: &Self::On) -> u64;
 
     /// What is there now.
@@ -40,7 +40,7 @@ fn restored(rt: &impl Abort, device: MemDevice, image: &[u8]) -> MemDevice {
     device
 }
 
-/// What is there behind a failure, behind which no call of the device was made.
+/// What is there after a failure, after which no call of the device was made.
 fn memory_of<F: Failure>(rt: &impl Abort, failure: &F, device: F::On) -> MemDevice {
     assert_eq!(rt; failure.late(&device), 0);
     failure.memory(device)
@@ -112,7 +112,7 @@ fn assert_none_calls(rt: &impl Abort, lines: &[Line], from: usize, to: usize) {
 }
 
 /// Sees that a failure is in the next event that calls the device, where the ones before it were before this event: the event
-/// behind it. Beginning a checkpoint makes several calls, and each other step one.
+/// after it. Beginning a checkpoint makes several calls, and each other step one.
 fn next_event(rt: &impl Abort, lines: &[Line], next: usize, ending: Ending) -> usize {
     match ending {
         Ending::Unopened => {
@@ -139,7 +139,7 @@ fn assert_next(rt: &impl Abort, lines: &[Line], next: usize, number: usize) {
     assert_same(rt, &is_next, &true, &(next, number));
 }
 
-/// Has a script's run fail at each call of the device in turn, and openings of what it leaves behind each `apart`-th one: how many
+/// Has a script's run fail at each call of the device in turn, and openings of what it leaves after each `apart`-th one: how many
 /// times each failed.
 pub(crate) fn failing_runs<F: Failure>(
     rt: &impl Abort,

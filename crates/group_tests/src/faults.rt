@@ -1,4 +1,4 @@
-//! Long runs on a device that fails once, at each of its calls in turn, and works again behind it.
+//! Long runs on a device that fails once, at each of its calls in turn, and works again after it.
 
 use crate::failures::{Failure, failing_runs};
 use crate::scripts::script_of;
@@ -7,10 +7,10 @@ use std::alloc::Global;
 use std::process::Abort;
 use std::test::Fail;
 
-/// Between the images whose openings fail too lie so many less one.
+/// Between the images whose openings fail too there are this number of calls less one.
 const APART: u64 = 16;
 
-/// A device, with how many calls were made of it behind its first fault.
+/// A device, with how many calls were made of it after its first fault.
 #[derive(Drop)]
 struct Watched<D> {
     device: D,

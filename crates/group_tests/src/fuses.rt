@@ -24,7 +24,7 @@ impl Failure for Tear {
     }
 }
 
-/// Stops the runs from a store of this version with each tear that lands so many bytes.
+/// Stops the runs from a store of this version with each tear that lands this number of bytes.
 fn assert_fronts(rt: &impl Abort, alloc: Global, version: u8, keep: usize) -> Result<(), Fail> {
     let script = script_of(rt, alloc, version)?;
     for tear in TEARS {

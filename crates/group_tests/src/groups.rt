@@ -16,7 +16,7 @@ const NOTHING: Outcome = Outcome {
     purged: 0,
 };
 
-/// A version, how many commands a group takes at most, and how the payloads of two groups begin: of so many purges, whose records
+/// A version, how many commands a group takes at most, and how the payloads of two groups begin: of this number of purges, whose records
 /// have 13 bytes each, and of one more.
 const VERSIONS: [(u32, usize, [u8; 16], [u8; 16]); 2] = [
     (
@@ -54,7 +54,7 @@ fn redeem_in_turn(rt: &impl Abort, work: &mut Work<MemDevice>, most: usize, newe
     }
 }
 
-/// Commits so many purges and one more, in two groups, and redeems their tickets.
+/// Commits this number of purges and one more, in two groups, and redeems their tickets.
 fn two_groups(
     rt: &impl Abort,
     work: Work<MemDevice>,
@@ -77,7 +77,7 @@ fn assert_begins(rt: &impl Abort, device: &mut MemDevice, at: u64, wanted: &[u8;
     assert!(rt; sector.starts_with(wanted), "{at}");
 }
 
-/// Sees that so many purges are in one group and one more is in another, and how their payloads begin.
+/// Sees that this number of purges is in one group and one more is in another, and how their payloads begin.
 fn assert_groups(
     rt: &impl Abort,
     alloc: Global,

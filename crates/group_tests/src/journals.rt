@@ -11,7 +11,7 @@ use std::test::Fail;
 /// How many groups of one purge a journal of 516 sectors has room for.
 const GROUPS: u64 = 257;
 
-/// The seal of the first half, behind these groups.
+/// The seal of the first half, after these groups.
 const SEAL: [u8; 16] = [2, 0, 0, 0, 0, 0, 0, 0, 0, 0, 0, 0, 0, 0, 1, 1];
 
 /// The checkpoint that is laid from it: epoch 2, place 257, no rows.
@@ -20,7 +20,7 @@ const AREA: [u8; 32] = [
     0, 0, 0, 0,
 ];
 
-/// The first group behind the seal: one purge at place 257.
+/// The first group after the seal: one purge at place 257.
 const BEHIND: [u8; 29] = [
     1, 1, 0, 0, 0, 0, 0, 13, 0, 0, 0, 0, 0, 0, 1, 1, 0, 0, 0, 9, 2, 0, 0, 0, 0, 0, 0, 0, 0,
 ];
@@ -36,7 +36,7 @@ fn commit_to<D: Device>(rt: &impl Abort, work: Work<D>, from: u64, to: u64) -> W
     work
 }
 
-/// Sees how a sector begins, and that zeros are behind that.
+/// Sees how a sector begins, and that zeros are after that.
 fn assert_sector(rt: &impl Abort, device: &mut MemDevice, at: u64, bytes: &[u8]) {
     let sector = read_sector(device, at);
     let is_so = sector.starts_with(bytes) && sector.iter().skip(bytes.len()).all(|byte| *byte == 0);
@@ -52,7 +52,7 @@ fn assert_begin(rt: &impl Abort, device: MemDevice, sectors: &[(u64, &[u8])]) ->
     device
 }
 
-/// What stands on the device where the first journal is sealed and the second one is full, with a checkpoint between them.
+/// What is on the device where the first journal is sealed and the second one is full, with a checkpoint between them.
 const FULL: [(u64, &[u8]); 8] = [
     (3, &[]),
     (4, &[]),
@@ -64,7 +64,7 @@ const FULL: [(u64, &[u8]); 8] = [
     (524, &BEHIND),
 ];
 
-/// What stands there once the second journal is sealed too.
+/// What is there once the second journal is sealed too.
 const SEALED: [(u64, &[u8]); 4] = [
     (3, &[]),
     (4, &[0xa7]),

@@ -1,5 +1,5 @@
 //! Tests of `group_core` and `group_runs`, a module for each subject. They see what no clause says: that calls succeed, the bytes that groups, seals
-//! and checkpoints leave on a device, what a stop or a fault at a call leaves, and what stands where memory is refused.
+//! and checkpoints leave on a device, what a stop or a fault at a call leaves, and what is left where memory is refused.
 #![tactic(auto)]
 
 #[cfg(test)]

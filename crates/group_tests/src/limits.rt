@@ -11,7 +11,7 @@ use std::alloc::Global;
 use std::process::Abort;
 use std::test::Fail;
 
-/// Where in a checkpoint's first sector the place stands.
+/// Where in a checkpoint's first sector the place is.
 const PLACE: usize = 16;
 
 /// A new store at work; of version 1 or 2, at this place.
@@ -107,7 +107,7 @@ type Case = (u8, u64, usize, bool, Kind, Result<u64, SubmitError>);
 /// The last place.
 const LAST: u64 = u64::MAX;
 
-/// One with room for 256 commands behind it, and one before that.
+/// One with room for 256 commands after it, and one before that.
 const NEAR: u64 = LAST - 256;
 
 const NEARER: u64 = LAST - 257;

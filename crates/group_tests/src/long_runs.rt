@@ -1,6 +1,6 @@
 //! Long runs, with each event's reply: groups, journals that fill, seals, and checkpoints of two chunks between the steps of groups.
 //! Checkpoint areas have 300 sectors and journals 516. A command of eight large segments takes 257 sectors of a journal, the ninth
-//! 33, and a group of small ones 1, each behind its gate.
+//! 33, and a group of small ones 1, each after its gate.
 
 use crate::acts::{Act, EIGHT_NEW, EIGHT_NEWER, GONE, GROUP, INSERTED, Line, NOTHING, Said};
 use group_core::{BeginError, StageError, SubmitError};
@@ -15,7 +15,7 @@ const NINE_GONE: Outcome = Outcome {
 /// The moment up to which large segments expire that were made two seconds after the first of their kind.
 const TWO_LATER: u64 = 3_400_042_948;
 
-/// A store of version 2: three seals, and the three checkpoints behind them.
+/// A store of version 2: three seals, and the three checkpoints after them.
 pub(crate) const NEW: [&[Line]; 23] = [
     &[
         (Act::Put(1), Said::Accepted(0)),
@@ -46,7 +46,7 @@ pub(crate) const NEW: [&[Line]; 23] = [
         (Act::Redeem(6), Said::Committed(6, INSERTED)),
         (Act::Large(1), Said::Accepted(7)),
     ],
-    // The gate is in sector 296 of the journal: a seal. Eleven rows stand before it, in 289 sectors.
+    // The gate is in sector 296 of the journal: a seal. Eleven rows are before it, in 289 sectors.
     &GROUP,
     &[
         (Act::Redeem(7), Said::Waiting(7)),
@@ -127,7 +127,7 @@ pub(crate) const NEW: [&[Line]; 23] = [
         (Act::SyncClose, Said::Done),
         (Act::Begin, Said::Begin(BeginError::NotSealed)),
     ],
-    // A seal. Three rows stand before it, in one sector.
+    // A seal. Three rows are before it, in one sector.
     &GROUP,
     &[
         (Act::Redeem(22), Said::Waiting(22)),

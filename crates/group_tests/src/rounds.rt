@@ -12,7 +12,7 @@ use std::test::Fail;
 use store_open::Store;
 use worked_segments::ID;
 
-/// Makes a whole round before this step of the flusher, or behind the last one.
+/// Makes a whole round before this step of the flusher, or after the last one.
 fn with_round(rt: &impl Abort, work: Work<MemDevice>, before: u64) -> Work<MemDevice> {
     let mut work = work;
     for step in 0..7 {
@@ -41,7 +41,7 @@ fn assert_round(rt: &impl Abort, alloc: Global, before: u64) {
 
 #[test]
 fn a_whole_round_between_two_steps(rt: HostRuntime) -> Result<(), Fail> {
-    // Before each step of the flusher, and behind the last one.
+    // Before each step of the flusher, and after the last one.
     for before in 0..7 {
         assert_round(&rt, rt.alloc(), before);
     }

@@ -16,7 +16,7 @@ use std::process::Abort;
 use std::test::Fail;
 use store_open::Store;
 
-/// What a state is told and answers whose store was sealed at place 1, behind the segment left by interface 1.
+/// What a state is given and answers whose store was sealed at place 1, after the segment left by interface 1.
 const TOLD: [&[Line]; 8] = [
     // Nothing is out. Then a group is staged and written.
     &[
@@ -140,7 +140,7 @@ const TOLD: [&[Line]; 8] = [
     ],
 ];
 
-/// For each number of events, and those above the one before it: the place to which the device opens behind them, and the interfaces
+/// For each number of events, and those above the one before it: the place to which the device opens after them, and the interfaces
 /// by which the segments of its rows are left, a bit for each.
 const PLACES: [(usize, u64, u64); 5] = [
     (24, 1, 0b10),
@@ -150,7 +150,7 @@ const PLACES: [(usize, u64, u64); 5] = [
     (105, 7, 0b1110),
 ];
 
-/// What the device opens to behind so many events.
+/// What the device opens to after this number of events.
 fn place_behind(count: usize) -> (u64, u64) {
     for (most, place, rows) in PLACES {
         if count <= most {
@@ -160,7 +160,7 @@ fn place_behind(count: usize) -> (u64, u64) {
     (0, 0)
 }
 
-/// What is told and answered.
+/// What is given and answered.
 fn told_lines(rt: &impl Abort, alloc: Global) -> Vec<Line> {
     joined(rt, alloc, &TOLD)
 }
@@ -233,7 +233,7 @@ fn device_bytes(rt: &impl Abort, alloc: Global, held: Run<MemDevice>) -> Vec<u8>
     bytes_of(rt, alloc, &mut device, SECTORS as usize)
 }
 
-/// Sees that replies are as told.
+/// Sees that replies are as the script says.
 fn assert_told(rt: &impl Abort, lines: &[Line], replies: &[Reply]) {
     assert_eq!(rt; replies.len(), lines.len());
     for (reply, (act, wanted)) in replies.iter().zip(lines) {
@@ -265,7 +265,7 @@ fn assert_done(
     held
 }
 
-/// Sees that events that are cut in two behind so many leave the same bytes.
+/// Sees that events that are cut in two after this number of events leave the same bytes.
 fn assert_cut(
     rt: &impl Abort,
     alloc: Global,
@@ -305,7 +305,7 @@ fn lists_may_be_cut_in_two(rt: HostRuntime) -> Result<(), Fail> {
     Ok(())
 }
 
-/// Sees to what the device of a run opens that ends behind these events.
+/// Sees to what the device of a run opens that ends after these events.
 fn assert_end(rt: &impl Abort, alloc: Global, front: &[Event]) -> Result<(), Fail> {
     let (held, _replies) = done(rt, alloc, sealed_run(rt, alloc), front);
     let (place, db) = rested(rt, alloc, held);

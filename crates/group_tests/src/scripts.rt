@@ -22,7 +22,7 @@ const WIDE: Geometry = Geometry {
 /// How many sectors such a store takes.
 pub(crate) const SECTORS: usize = 1635;
 
-/// A script, its events, the rows behind each of its accepted commands, and the image of the store that it starts from.
+/// A script, its events, the rows after each of its accepted commands, and the image of the store that it starts from.
 #[derive(Drop)]
 pub(crate) struct Script {
     pub(crate) lines: Vec<Line>,
@@ -52,14 +52,14 @@ pub(crate) struct Left {
     pub(crate) ending: Ending,
 }
 
-/// What stands of a script's run where no event was done yet.
+/// What is left of a script's run where no event was done yet.
 pub(crate) const NONE_LEFT: Left = Left {
     accepted: 0,
     acknowledged: 0,
     ending: Ending::Whole,
 };
 
-/// What a run has out, as its script tells.
+/// What a run has out, by its script.
 #[derive(Clone, Copy)]
 struct Out {
     /// A value of the flusher, and whether what it is for is durable.
@@ -67,7 +67,7 @@ struct Out {
     durable: bool,
     /// A value of the checkpointer.
     plan: bool,
-    /// The last publishing that the script tells of was done.
+    /// The last publishing that the script names was done.
     published: bool,
     /// The tickets that a stop made unknown: a bit for each.
     unknown: u64,
@@ -91,7 +91,7 @@ fn records(rt: &impl Abort, alloc: Global, db: &PathDb) -> Vec<u8> {
     records
 }
 
-/// The rows behind each of the commands that are told to be accepted.
+/// The rows after each of the commands that are said to be accepted.
 fn folds_of(
     rt: &impl Abort,
     alloc: Global,
@@ -118,7 +118,7 @@ fn push_fold(
     Ok(())
 }
 
-/// Applies a command that is told to be accepted, and appends the rows behind it.
+/// Applies a command that is said to be accepted, and appends the rows after it.
 fn fold_line(
     rt: &impl Abort,
     alloc: Global,
@@ -185,7 +185,7 @@ fn assert_between(rt: &impl Abort, place: u64, least: u64, most: u64) {
     assert!(rt; least <= place && place <= most, "{least} {place} {most}");
 }
 
-/// Sees that rows are the fold of so many of a script's commands.
+/// Sees that rows are the fold of this number of a script's commands.
 fn assert_fold(rt: &impl Abort, alloc: Global, script: &Script, db: &PathDb, place: u64) {
     let rows = records(rt, alloc, db);
     let Some(fold) = script.folds.get(place as usize) else {
@@ -238,7 +238,7 @@ fn bit_of(k: usize) -> u64 {
 }
 
 impl Out {
-    /// What is out behind an event that was answered as told.
+    /// What is out after an event that was answered as the script says.
     fn after(self, (act, wanted): Line) -> Out {
         if wanted != Said::Done {
             return self;
@@ -266,7 +266,7 @@ impl Out {
         }
     }
 
-    /// What is out behind an event in which the device failed, or which was told that the state had stopped: its value is spent.
+    /// What is out after an event in which the device failed, or which was answered that the state had stopped: its value is spent.
     fn without(self, act: Act) -> Out {
         if is_group_step(act) {
             return Out {
@@ -280,7 +280,7 @@ impl Out {
         }
     }
 
-    /// What an event is to be answered where the state has stopped before it, so many commands being accepted.
+    /// The expected answer of an event where the state has stopped before it, after this number of accepted commands.
     fn stopped(self, accepted: u64, (act, wanted): Line) -> (Out, Said) {
         match act {
             Act::Stage => (self, Said::Stage(StageError::Stopped)),
@@ -329,7 +329,7 @@ impl Out {
     }
 }
 
-/// What a step is to be answered where the state has stopped.
+/// The expected answer of a step where the state has stopped.
 fn value_answer(has_value: bool) -> Said {
     if has_value {
         return Said::Step(StepRefusal::Stopped);
@@ -338,7 +338,7 @@ fn value_answer(has_value: bool) -> Said {
 }
 
 impl Left {
-    /// What is left behind this answer.
+    /// What is left after this answer.
     fn with(self, got: Said) -> Left {
         match got {
             Said::Accepted(place) => Left {
@@ -354,7 +354,7 @@ impl Left {
     }
 }
 
-/// What is out behind an event that the device failed in, or that was answered as told: whether it failed.
+/// What is out after an event that the device failed in, or that was answered as the script says: whether it failed.
 fn seen_before(
     rt: &impl Abort,
     out: Out,
@@ -370,7 +370,7 @@ fn seen_before(
     (out.after((act, wanted)), false)
 }
 
-/// What is out behind an event that is answered as by a state that has stopped.
+/// What is out after an event that is answered as by a state that has stopped.
 fn seen_behind(
     rt: &impl Abort,
     out: Out,
@@ -384,7 +384,7 @@ fn seen_behind(
     out
 }
 
-/// Sees that replies are as told up to the event in which the device failed, and behind it as those of a state that has stopped.
+/// Sees that replies are as the script says up to the event in which the device failed, and after it as those of a state that has stopped.
 pub(crate) fn seen(rt: &impl Abort, lines: &[Line], replies: &[Reply]) -> Left {
     let mut left = NONE_LEFT;
     let mut out = NONE_OUT;

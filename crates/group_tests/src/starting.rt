@@ -36,7 +36,7 @@ fn upgraded(
     checkpointed(rt, store)
 }
 
-/// A store behind a checkpoint.
+/// A store after a checkpoint.
 fn checkpointed(rt: &impl Abort, store: Store<MemDevice>) -> Store<MemDevice> {
     let mut store = store;
     assert_eq!(rt; store.checkpoint(), Ok(()));
@@ -92,7 +92,7 @@ fn overfull_store(rt: &impl Abort, alloc: Global) -> MemDevice {
     device
 }
 
-/// A seal at place 1, and behind it a group that purges all rows.
+/// A seal at place 1, and after it a group that purges all rows.
 const SEAL: [u8; 16] = [2, 0, 0, 0, 0, 0, 0, 0, 0, 0, 0, 0, 0, 0, 0, 1];
 
 const PURGE: [u8; 29] = [
@@ -106,7 +106,7 @@ fn assert_larger(rt: &impl Abort, alloc: Global, device: MemDevice, pair: Pair) 
     assert_stopped(rt, work_of(rt, alloc, opened(rt, alloc, device)))
 }
 
-/// Purges all rows behind a seal.
+/// Purges all rows after a seal.
 fn purge_behind_a_seal(device: &mut MemDevice) {
     change(device, 526, 0, &SEAL);
     change(device, 525, 0, &[0xa7]);
@@ -125,7 +125,7 @@ fn assert_sealed(rt: &impl Abort, store: &Store<MemDevice>, len: u64) {
 fn fold_larger_than_area(rt: HostRuntime) -> Result<(), Fail> {
     let device = overfull_store(&rt, rt.alloc());
     let mut device = assert_larger(&rt, rt.alloc(), device, (11, 1023, 1));
-    // Behind a seal all rows are purged, but those up to the seal have no room.
+    // After a seal all rows are purged, but those up to the seal have no room.
     purge_behind_a_seal(&mut device);
     let store = opened(&rt, rt.alloc(), device);
     assert_sealed(&rt, &store, 1023);

@@ -48,7 +48,7 @@ fn flushed(rt: &impl Abort, work: Work<FuseDevice>) -> (Work<FuseDevice>, u64) {
     (work, made)
 }
 
-/// The place that a stop leaves within the step behind so many: the group counts once its gate is open.
+/// The place that a stop leaves within the step after this number of steps: the group counts once its gate is open.
 fn place_after(made: u64, tear: Tear) -> u64 {
     match made {
         0..=2 => 0,
@@ -57,7 +57,7 @@ fn place_after(made: u64, tear: Tear) -> u64 {
     }
 }
 
-/// Sees where a group's stop is with this tear, which lets so many calls pass: in the step behind how many.
+/// Sees where a group's stop is with this tear, which lets this number of calls pass: in the step after how many.
 fn stopped_group_at(rt: &impl Abort, alloc: Global, calls: u64, tear: Tear) -> Option<u64> {
     let fuse = FuseDevice::new(new_store(rt, alloc), calls, tear);
     let (made, device) = stopped_group(rt, alloc, fuse);
@@ -70,7 +70,7 @@ fn stopped_group_at(rt: &impl Abort, alloc: Global, calls: u64, tear: Tear) -> O
     made
 }
 
-/// Sees so for each number of calls: each stop is one step behind the one before.
+/// Sees so for each number of calls: each stop is one step after the one before.
 fn assert_group_stops(rt: &impl Abort, alloc: Global, tear: Tear) {
     let mut steps = 0u64;
     for calls in 0..MANY {
@@ -95,7 +95,7 @@ fn stop_within_group_writes(rt: HostRuntime) -> Result<(), Fail> {
     Ok(())
 }
 
-/// What the sealed store stands for with a group in the other journal for each of two segments.
+/// What the sealed store represents with a group in the other journal for each of two segments.
 const PAIR: Pair = (3, 279, 3);
 
 /// A sealed store with these groups.
@@ -151,7 +151,7 @@ fn is_made(rt: &impl Abort, step: Told) -> bool {
     false
 }
 
-/// The epoch that a stop leaves within the step behind so many: the new half counts once its gate is open.
+/// The epoch that a stop leaves within the step after this number of steps: the new half counts once its gate is open.
 fn epoch_after(made: u64, tear: Tear) -> u64 {
     match made {
         0..=2 => 1,
@@ -167,7 +167,7 @@ fn assert_opens(rt: &impl Abort, alloc: Global, device: MemDevice, epoch: u64) -
     opens_to(rt, alloc, store.into_device(), PAIR)
 }
 
-/// Sees where a round's stop is with this tear, which lets so many calls pass: in the step behind how many.
+/// Sees where a round's stop is with this tear, which lets this number of calls pass: in the step after how many.
 fn stopped_round_at(rt: &impl Abort, alloc: Global, calls: u64, tear: Tear) -> Option<u64> {
     let fuse = FuseDevice::new(with_two_groups(rt, alloc), calls, tear);
     let (made, device) = stopped_round(rt, alloc, fuse);
@@ -179,14 +179,14 @@ fn stopped_round_at(rt: &impl Abort, alloc: Global, calls: u64, tear: Tear) -> O
     made
 }
 
-/// Sees so for each number of calls: each stop is at most one step behind the one before.
+/// Sees so for each number of calls: each stop is at most one step after the one before.
 fn assert_round_stops(rt: &impl Abort, alloc: Global, tear: Tear) {
     let mut last = 0u64;
     for calls in 0..MANY {
         let Some(made) = stopped_round_at(rt, alloc, calls, tear) else {
             continue;
         };
-        // Each step behind the first makes one call of the device.
+        // Each step after the first makes one call of the device.
         assert!(rt; made <= last.saturating_add(1));
         last = made;
         if made == 7 {
@@ -204,7 +204,7 @@ fn stop_within_half_opening(rt: HostRuntime) -> Result<(), Fail> {
     Ok(())
 }
 
-/// How many calls are passed before the one of the step behind so many.
+/// How many calls are passed before the one of the step after this number of steps.
 fn calls_before(rt: &impl Abort, alloc: Global, steps: u64) -> u64 {
     for calls in 0..MANY {
         let fuse = FuseDevice::new(with_two_groups(rt, alloc), calls, TEARS[0]);
@@ -227,7 +227,7 @@ fn opened_or_not(rt: &impl Abort, alloc: Global, fuse: FuseDevice) -> (bool, Fus
     }
 }
 
-/// Stops a round where the old half is closed, and the opening behind so many calls: whether that was done.
+/// Stops a round where the old half is closed, and the opening after this number of calls: whether that was done.
 fn is_recovered(rt: &impl Abort, alloc: Global, closing: u64, calls: u64, tear: Tear) -> bool {
     let fuse = FuseDevice::new(with_two_groups(rt, alloc), closing, tear);
     let (made, torn) = stopped_round(rt, alloc, fuse);
@@ -272,7 +272,7 @@ fn failed(rt: &impl Abort, alloc: Global, number: u64) -> Option<(u64, Work<Faul
     Some(steps_made(rt, alloc, work_of(rt, alloc, store)))
 }
 
-/// Submits what is to be there before the step behind so many.
+/// Submits what is needed before the step after this number of steps.
 fn submit_before(rt: &impl Abort, alloc: Global, work: &mut Work<FaultDevice>, made: u64) {
     match made {
         0 => work.submits(rt, register(rt, alloc, 2, 1), Ok(1)),
@@ -281,7 +281,7 @@ fn submit_before(rt: &impl Abort, alloc: Global, work: &mut Work<FaultDevice>, m
     }
 }
 
-/// Makes the step behind so many.
+/// Makes the step after this number of steps.
 fn step_behind(rt: &impl Abort, work: Work<FaultDevice>, made: u64) -> (Work<FaultDevice>, Told) {
     match made {
         6..=12 => work.check(rt),
@@ -289,7 +289,7 @@ fn step_behind(rt: &impl Abort, work: Work<FaultDevice>, made: u64) -> (Work<Fau
     }
 }
 
-/// Whether the device failed in the step behind so many; it was made otherwise.
+/// Whether the device failed in the step after this number of steps; it was made otherwise.
 fn has_failed(rt: &impl Abort, made: u64, step: Told) -> bool {
     match (made, step) {
         (5 | 12 | 18, Told::Ended) | (_, Told::Done) => return false,
@@ -313,7 +313,7 @@ fn steps_made(rt: &impl Abort, alloc: Global, work: Work<FaultDevice>) -> (u64, 
     (STEPS, work)
 }
 
-/// Behind how many steps the next one is that makes a call of the device: staging and publishing make none.
+/// After how many steps the next one is that makes a call of the device: staging and publishing make none.
 fn next_call(made: u64) -> u64 {
     match made {
         4 => 6,
@@ -323,7 +323,7 @@ fn next_call(made: u64) -> u64 {
     }
 }
 
-/// Sees what is left of a run of which the step behind so many failed, or none: whether one did.
+/// Sees what is left of a run of which the step after this number of steps failed, or none: whether one did.
 fn assert_left(rt: &impl Abort, alloc: Global, made: u64, work: Work<FaultDevice>) -> bool {
     if made < STEPS {
         assert_failed(rt, alloc, made, work);
@@ -355,7 +355,7 @@ fn each_failed_call_stops(rt: HostRuntime) -> Result<(), Fail> {
     Ok(())
 }
 
-/// Sees which commands are known of a state that has stopped in the step behind so many.
+/// Sees which commands are known of a state that has stopped in the step after this number of steps.
 fn assert_known(rt: &impl Abort, work: &mut Work<FaultDevice>, made: u64) {
     if made < 6 {
         work.redeems(rt, 0, Paid::Unknown(1));
@@ -367,7 +367,7 @@ fn assert_known(rt: &impl Abort, work: &mut Work<FaultDevice>, made: u64) {
     }
 }
 
-/// Sees that a state has stopped in the step behind so many, and what is there then.
+/// Sees that a state has stopped in the step after this number of steps, and what is there then.
 fn assert_failed(rt: &impl Abort, alloc: Global, made: u64, work: Work<FaultDevice>) {
     let mut work = work;
     assert_known(rt, &mut work, made);

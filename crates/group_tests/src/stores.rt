@@ -18,7 +18,7 @@ pub(crate) const LEAST: Geometry = Geometry {
 /// How many sectors a store of these sizes takes.
 pub(crate) const SECTORS: u64 = 1039;
 
-/// A group of one command at place 0, which registers one segment as a down segment: what stands before the segment.
+/// A group of one command at place 0, which registers one segment as a down segment: what is before the segment.
 pub(crate) const REGISTERED: [u8; 27] = [
     1, 1, 0, 0, 0, 0, 0, 99, 0, 0, 0, 0, 0, 0, 0, 0, // the header
     0, 0, 0, 95, 1, 1, 2, 0, 0, 0, 88, // the record up to the segment
@@ -55,7 +55,7 @@ pub(crate) fn read_sector<D: Device>(device: &mut D, at: u64) -> [u8; 512] {
     sector
 }
 
-/// Has these bytes stand in a sector from an offset on.
+/// Puts these bytes into a sector from an offset on.
 pub(crate) fn change(device: &mut MemDevice, at: u64, from: usize, bytes: &[u8]) {
     let mut sector = read_sector(device, at);
     for (byte, wanted) in sector.iter_mut().skip(from).zip(bytes) {
@@ -114,7 +114,7 @@ const LENGTH: usize = 2;
 /// How many bytes of extensions make a segment as large as it may be: 16,384 bytes.
 const EXTENSIONS: usize = 16_292;
 
-/// That segment, but with extensions in its last entry, unless memory is refused. It was made so many seconds after the first of
+/// That segment, but with extensions in its last entry, unless memory is refused. It was made this number of seconds after the first of
 /// its kind, which was made 128 seconds before the other.
 fn large_bytes(alloc: Global, egress: u8, later: u8) -> Result<Vec<u8>, AllocError> {
     let mut message = segment(egress);
@@ -204,10 +204,10 @@ pub(crate) fn opened<D: Device>(rt: &impl Abort, alloc: Global, device: D) -> St
     }
 }
 
-/// What a store stands for: how many rows, their bytes, and the place.
+/// What a store represents: how many rows, their bytes, and the place.
 pub(crate) type Pair = (usize, u64, u64);
 
-/// What rows and a place are told as.
+/// What rows and a place are given as.
 pub(crate) fn pair_of(db: &PathDb, place: u64) -> Pair {
     (db.rows().count(), db.encoded_len(), place)
 }
@@ -219,7 +219,7 @@ pub(crate) fn told(rt: &impl Abort, alloc: Global, device: MemDevice) -> (Pair, 
     (pair, store.into_device())
 }
 
-/// Sees what rows and a place are told as.
+/// Sees what rows and a place are given as.
 pub(crate) fn assert_pair(rt: &impl Abort, pair: Pair, wanted: Pair) {
     assert_eq!(rt; pair, wanted);
 }
@@ -241,7 +241,7 @@ pub(crate) fn assert_half<D: Device>(rt: &impl Abort, store: &Store<D>, wanted: 
     assert_eq!(rt; (store.epoch(), store.is_sealed()), wanted);
 }
 
-/// The command that registers the segment as a down segment, its first AS being left by this interface, below 128: so many times.
+/// The command that registers the segment as a down segment, its first AS being left by this interface, below 128, this number of times.
 /// Where memory is refused, it is asked for once more.
 pub(crate) fn register(rt: &impl Abort, alloc: Global, egress: u8, times: usize) -> Command {
     let made = match registration(alloc, egress, times) {

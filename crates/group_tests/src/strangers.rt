@@ -215,7 +215,7 @@ fn one_of_each(rt: &impl Abort, work: Work<MemDevice>) -> Work<MemDevice> {
     work
 }
 
-/// Sees so where so many purges are pending.
+/// Sees so where this number of purges is pending.
 fn assert_one_of_each(rt: &impl Abort, alloc: Global, pending: usize) {
     let mut work = sealed_work(rt, alloc);
     stages_none(rt, &mut work, StageError::Empty);
@@ -231,14 +231,14 @@ fn assert_one_of_each(rt: &impl Abort, alloc: Global, pending: usize) {
 
 #[test]
 fn one_value_of_a_kind_is_out(rt: HostRuntime) -> Result<(), Fail> {
-    // The whole tail is in the group, or one command is behind it.
+    // The whole tail is in the group, or one command is after it.
     for pending in [1, 33] {
         assert_one_of_each(&rt, rt.alloc(), pending);
     }
     Ok(())
 }
 
-/// Makes so many steps of a group and of a round, whatever they are answered.
+/// Makes this number of steps of a group and of a round, whatever they are answered.
 fn steps_of_both(rt: &impl Abort, work: Work<MemDevice>, steps: usize) -> Work<MemDevice> {
     let mut work = work;
     for _step in 0..steps {
@@ -248,7 +248,7 @@ fn steps_of_both(rt: &impl Abort, work: Work<MemDevice>, steps: usize) -> Work<M
     work
 }
 
-/// Stops a state behind so many steps, and sees that nothing is staged or begun, and what is shown and stands then.
+/// Stops a state after this number of steps, and sees that nothing is staged or begun, and what is shown and left then.
 fn assert_halted(rt: &impl Abort, alloc: Global, steps: usize) {
     let mut work = sealed_work(rt, alloc);
     work.purge(rt, steps);

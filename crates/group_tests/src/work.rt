@@ -133,7 +133,7 @@ impl<D: Device> Work<D> {
         assert_eq!(rt; answer, wanted);
     }
 
-    /// Submits so many purges of what expires at moment 0, each of which is accepted.
+    /// Submits this number of purges of what expires at moment 0, each of which is accepted.
     pub(crate) fn purge(&mut self, rt: &impl Abort, times: usize) {
         for _each in 0..times {
             assert!(rt; self.submit(rt, Command::Purge(0)).is_ok());
@@ -177,7 +177,7 @@ impl<D: Device> Work<D> {
         );
     }
 
-    /// Redeems the oldest ticket as long as it is committed: so many are.
+    /// Redeems the oldest ticket as long as it is committed, which this number of tickets are.
     pub(crate) fn redeems_all(&mut self, rt: &impl Abort, wanted: u64) {
         let paid = self.redeem_all(rt);
         assert_eq!(rt; paid, wanted);

@@ -1,4 +1,4 @@
-//! The calls of a state, one after the other, each of which is to be made.
+//! The calls of a state, one after the other, each of which has to be made.
 
 use group_core::{Redeemed, StageError, StepError, SubmitError, Ticket};
 use path_db::{Command, Outcome};

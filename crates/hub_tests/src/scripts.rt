@@ -99,7 +99,7 @@ impl<D: Device, R: Wait + Clock + Abort> HubJob<D, R> for Plays<'_> {
     }
 }
 
-/// The same calls as events of a run, and what is to be seen of each.
+/// The same calls as events of a run, and what is expected of each.
 #[derive(Drop)]
 struct Script {
     events: Vec<Event>,
@@ -228,7 +228,7 @@ fn answered<D: Device>(
     }
 }
 
-/// Sees that what was seen of an event is what is to be seen.
+/// Sees that what was seen of an event is what is expected.
 fn assert_seen(rt: &impl Abort, number: usize, seen: Seen, wanted: Seen) {
     assert_eq!(rt; seen, wanted, "{number}");
 }

@@ -55,7 +55,7 @@ pub(crate) fn formatted(rt: &impl Abort, alloc: Global, geometry: Geometry) -> M
     device
 }
 
-/// Has these bytes stand in a sector from an offset on.
+/// Puts these bytes into a sector from an offset on.
 pub(crate) fn change(device: &mut MemDevice, at: u64, from: usize, bytes: &[u8]) {
     let mut sector = [0; SECTOR];
     if device.sectors() <= at || device.read(at, &mut sector).is_err() {

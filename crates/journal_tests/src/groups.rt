@@ -41,7 +41,7 @@ fn payloads_fit(rt: HostRuntime) {
     }
 }
 
-/// Sees that a payload is one sector that begins so, with zeros behind.
+/// Sees that a payload is one sector that begins so, with zeros after that.
 fn assert_sector(rt: &impl Abort, payload: &[u8], front: &[u8]) {
     assert_eq!(rt; payload.len(), 512);
     for (i, byte) in payload.iter().enumerate() {

@@ -33,7 +33,7 @@ fn assert_written(
 fn refused_memory_of_written_groups(rt: HostRuntime) -> Result<(), Fail> {
     let purges = purges(rt.alloc(), 32)?;
     assert_written(&rt, rt.alloc(), &purges, &drawn(rt.alloc(), 32, 0)?)?;
-    // The payload of a purge and a registration stands behind the gate of a journal.
+    // The payload of a purge and a registration is after the gate of a journal.
     let registration = register(rt.alloc(), SegType::Down, segment(rt.alloc())?)?;
     let whole = journal(rt.alloc())?;
     let payload = whole.get(512..1024).unwrap_or(&SEGMENT);

@@ -34,7 +34,7 @@ pub(crate) fn register(alloc: Global, kind: SegType, segment: Segment) -> Result
     Ok(Command::Register(Registration::new(rows)))
 }
 
-/// The command that registers so many segments of so many ids.
+/// The command that registers this number of segments of this number of ids.
 pub(crate) fn many(alloc: Global, count: u8) -> Result<Command, Fail> {
     let mut rows = Vec::new(alloc);
     for egress in 1..=count {
@@ -43,7 +43,7 @@ pub(crate) fn many(alloc: Global, count: u8) -> Result<Command, Fail> {
     Ok(Command::Register(Registration::new(rows)))
 }
 
-/// So many purges, at the moments from 0 on.
+/// This number of purges, at the moments from 0 on.
 pub(crate) fn purges(alloc: Global, count: u64) -> Result<Vec<Command>, Fail> {
     let mut commands = Vec::new(alloc);
     for moment in 0..count {
@@ -52,7 +52,7 @@ pub(crate) fn purges(alloc: Global, count: u64) -> Result<Vec<Command>, Fail> {
     Ok(commands)
 }
 
-/// The payload of a group of so many purges, as it is drawn, byte by byte.
+/// The payload of a group of this number of purges, as it is drawn, byte by byte.
 pub(crate) fn drawn(alloc: Global, count: u8, place: u64) -> Result<Vec<u8>, Fail> {
     let size = u32::from(count) * 13;
     let mut bytes = Vec::from_slice(alloc, &[1, count, 0, 0])?;
@@ -66,14 +66,14 @@ pub(crate) fn drawn(alloc: Global, count: u8, place: u64) -> Result<Vec<u8>, Fai
     Ok(bytes)
 }
 
-/// What stands in a journal.
+/// What is in a journal.
 #[derive(Clone, Copy)]
 pub(crate) enum Part {
     /// An open gate.
     Open,
     /// A closed gate.
     Closed,
-    /// The group of so many purges at this place.
+    /// The group of this number of purges at this place.
     Purges(u8, u64),
     /// The removal of a down segment, at place 0.
     Removal,

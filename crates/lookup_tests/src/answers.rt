@@ -69,7 +69,7 @@ const MOMENTS: [(u64, usize); 5] = [
     (u64::MAX, 0),
 ];
 
-/// Sees that a database shows so many segments at each of those moments.
+/// Sees that a database shows this number of segments at each of those moments.
 fn assert_moments(rt: &impl Abort, db: &PathDb, cores: &Roster) -> Result<(), Fail> {
     for (now, shown) in &MOMENTS {
         let lookup = ("1-ff00:0:110", "1-ff00:0:111", *now);

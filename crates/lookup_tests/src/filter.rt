@@ -10,7 +10,7 @@ use std::alloc::Global;
 use std::process::Abort;
 use std::test::Fail;
 
-/// Three ASes in each of two ISDs, as they stand in messages.
+/// Three ASes in each of two ISDs, as they are in messages.
 const ENDS: [[u8; 8]; 6] = [
     [0x90, 0x82, 0x80, 0x80, 0x80, 0xe0, 0xbf, 0x01], // 2-ff00:0:110
     [0x91, 0x82, 0x80, 0x80, 0x80, 0xe0, 0xbf, 0x01], // 2-ff00:0:111
@@ -113,7 +113,7 @@ fn rows(alloc: Global) -> Result<PathDb, Fail> {
     Ok(db)
 }
 
-/// Whether a side of a query stands for an AS: each of its parts is the AS's or 0.
+/// Whether a side of a query represents an AS: each of its parts is the AS's or 0.
 fn stands_for(side: IsdAs, ia: IsdAs) -> bool {
     (side.isd == 0 || side.isd == ia.isd) && (side.asn == 0 || side.asn == ia.asn)
 }

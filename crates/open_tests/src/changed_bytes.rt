@@ -50,7 +50,7 @@ const CHANGES: [Places; 51] = [
     (1, 8, 16, &[SAME]),
     (1, 16, 24, &[GAP]),
     (1, 24, 32, &[BAD_CHECKPOINT]),
-    // Its rows: of each the type and the length, and the segment, which may be another one; behind them.
+    // Its rows: of each the type and the length, and the segment, which may be another one; after them.
     (1, 32, 37, &[BAD_CHECKPOINT]),
     (1, 37, 125, &[BAD_CHECKPOINT, SAME]),
     (1, 125, 130, &[BAD_CHECKPOINT]),
@@ -74,7 +74,7 @@ const CHANGES: [Places; 51] = [
     (5, 25, 29, &[SAME]),
     (5, 29, 37, &[BAD_RECORD]),
     (5, 510, 512, &[BAD_RECORD]),
-    // The seal's gate, the seal, and what stands behind it.
+    // The seal's gate, the seal, and what is after it.
     (6, 0, 1, &[NO_TAIL]),
     (6, 1, 4, &[SAME]),
     (7, 0, 8, &[BAD_HEADER]),
@@ -98,12 +98,12 @@ const CHANGES: [Places; 51] = [
     (524, 23, 27, &[BAD_RECORD]),
     (524, 27, 115, &[BAD_RECORD, SAME]),
     (524, 115, 120, &[BAD_RECORD]),
-    // The gate at which it ends, and what stands behind it.
+    // The gate at which it ends, and what is after it.
     (525, 0, 1, &[BAD_HEADER, SAME]),
     (525, 1, 4, &[SAME]),
 ];
 
-/// Has a sector and all gates stand as they were.
+/// Restores a sector and all gates.
 fn put_right(device: &mut MemDevice, at: u64, sector: &[u8]) -> Result<(), Fail> {
     for gate in [3, 4, 6, 523] {
         put(device, gate, &[0xa7])?;

@@ -8,13 +8,13 @@ use sector_dev::{FaultDevice, FuseDevice, SECTOR, Tear};
 use std::test::Fail;
 use store_open::{StoreError, open};
 
-/// How many calls of the device a checkpoint makes: three writes, and a sync behind each.
+/// How many calls of the device a checkpoint makes: three writes, and a sync after each.
 const CALLS: u64 = 6;
 
 /// More calls than it takes to open a store and to make a checkpoint.
 const MANY: u64 = 200;
 
-/// What the worked store stands for: three rows in 279 bytes, at place 259.
+/// What the worked store represents: three rows in 279 bytes, at place 259.
 const PAIR: (usize, u64, u64) = (3, 279, 259);
 
 /// How the sectors of a new store that aren't zero begin after its first checkpoint.

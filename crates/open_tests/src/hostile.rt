@@ -8,7 +8,7 @@ use std::process::Abort;
 use std::test::Fail;
 use store_open::StoreError;
 
-/// Bytes that stand in a sector from an offset on.
+/// Bytes that are in a sector from an offset on.
 type Change = (u64, usize, &'static [u8]);
 
 /// A new store with some changes.
@@ -33,7 +33,7 @@ const CLOSED: &[u8] = &[0];
 
 const SEAL: &[u8] = &[2];
 
-/// Sector 1 is the first half's area, 3 its gate, 4 its journal's first gate, and 5 the payload behind that; 520, 522, 523 and
+/// Sector 1 is the first half's area, 3 its gate, 4 its journal's first gate, and 5 the payload after that; 520, 522, 523 and
 /// 524 are the same of the second half.
 const IMAGES: [Hostile; 18] = [
     Hostile {

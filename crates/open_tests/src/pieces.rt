@@ -14,13 +14,13 @@ const LARGE: Geometry = Geometry {
     journal: 516,
 };
 
-/// What the store stands for: 3,000 rows of 93 bytes each, at place 258.
+/// What the store represents: 3,000 rows of 93 bytes each, at place 258.
 const PAIR: (usize, u64, u64) = (3000, 279_000, 258);
 
 /// How many sectors such a checkpoint takes.
 const TAKEN: u64 = 545;
 
-/// What stands before the rows: PCKP, version 2, epoch 7, place 258, and 3,000 rows in 279,000 bytes.
+/// What is before the rows: PCKP, version 2, epoch 7, place 258, and 3,000 rows in 279,000 bytes.
 const FRONT: [u8; 32] = [
     0x50, 0x43, 0x4b, 0x50, 0, 0, 0, 2, // the magic, the version
     0, 0, 0, 0, 0, 0, 0, 7, // the epoch

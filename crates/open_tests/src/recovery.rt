@@ -35,7 +35,7 @@ const TEARS: [Tear; 6] = [
 #[derive(Clone, Copy)]
 struct Left {
     both_are_open: bool,
-    // A sync, sector 0, both half gates, and behind each that is open a head; the front and the rows of the chosen half; a
+    // A sync, sector 0, both half gates, and after each that is open a head; the front and the rows of the chosen half; a
     // gate, a header and a payload for each group, and for a seal a gate and a header; the gate at the end; a sync. Where both
     // halves are open, also the older one's gate, and the write that closes it.
     calls: u64,
@@ -44,7 +44,7 @@ struct Left {
     gate: u8,
 }
 
-/// The sealed half alone is open, and the tail stands in the other's journal.
+/// The sealed half alone is open, and the tail is in the other's journal.
 const SEALED: Left = Left {
     both_are_open: false,
     calls: 17,
@@ -69,7 +69,7 @@ fn left_again(mut device: MemDevice) -> Result<MemDevice, Fail> {
     Ok(device)
 }
 
-/// Opens a device that stops after so many calls: whether that succeeds, and what is there then.
+/// Opens a device that stops after this number of calls: whether that succeeds, and what is there then.
 fn stopped(
     rt: &impl Abort,
     alloc: Global,
@@ -89,7 +89,7 @@ fn stopped(
     }
 }
 
-/// Sees that a device opens to what is to be.
+/// Sees that a device opens to what is expected.
 fn assert_opens(
     rt: &impl Abort,
     alloc: Global,
@@ -108,7 +108,7 @@ fn assert_opens(
     Ok(device)
 }
 
-/// Stops the first opening after so many calls, and the second one at every call; the third one isn't stopped.
+/// Stops the first opening after this number of calls, and the second one at every call; the third one isn't stopped.
 fn assert_opens_after_two(
     rt: &impl Abort,
     alloc: Global,

@@ -5,7 +5,7 @@ use sector_dev::{Device, MemDevice, SECTOR};
 use std::alloc::Global;
 use std::test::Fail;
 
-/// What such a store stands for: four rows in 372 bytes, at place 260.
+/// What such a store represents: four rows in 372 bytes, at place 260.
 pub(crate) const PAIR: (usize, u64, u64) = (4, 372, 260);
 
 /// The header of a group at place 259 of one command, whose record has 99 bytes.

@@ -15,7 +15,7 @@ pub(crate) const LEAST: Geometry = Geometry {
 /// How many sectors a store of these sizes takes.
 pub(crate) const SECTORS: u64 = 1039;
 
-/// What stands before the rows: PCKP, version 2, epoch 7, place 258, and 3 rows in 279 bytes.
+/// What is before the rows: PCKP, version 2, epoch 7, place 258, and 3 rows in 279 bytes.
 const FRONT: [u8; 32] = [
     0x50, 0x43, 0x4b, 0x50, 0, 0, 0, 2, // the magic, the version
     0, 0, 0, 0, 0, 0, 0, 7, // the epoch
@@ -38,7 +38,7 @@ pub(crate) const REGISTER: [u8; 11] = [0, 0, 0, 95, 1, 1, 2, 0, 0, 0, 88];
 /// A seal at place 259.
 const SEAL: [u8; 16] = [2, 0, 0, 0, 0, 0, 0, 0, 0, 0, 0, 0, 0, 0, 1, 3];
 
-/// What stands in a store's first half besides its three rows: the head's version and epoch, and whether the journal is sealed,
+/// What is in a store's first half besides its three rows: the head's version and epoch, and whether the journal is sealed,
 /// or goes on with the registration of twelve segments more.
 #[derive(Clone, Copy)]
 pub(crate) struct Worked {
@@ -67,7 +67,7 @@ pub(crate) fn read_sector<D: Device>(device: &mut D, at: u64) -> Option<[u8; 512
     Some(sector)
 }
 
-/// Writes whole sectors that begin with these bytes, zeros behind them. It takes no memory.
+/// Writes whole sectors that begin with these bytes, zeros after them. It takes no memory.
 pub(crate) fn put(device: &mut MemDevice, at: u64, bytes: &[u8]) -> Result<(), Fail> {
     let mut at = at;
     for part in bytes.chunks(SECTOR) {
@@ -83,7 +83,7 @@ pub(crate) fn put(device: &mut MemDevice, at: u64, bytes: &[u8]) -> Result<(), F
     Ok(())
 }
 
-/// Has these bytes stand in a sector from an offset on. It takes no memory.
+/// Puts these bytes into a sector from an offset on. It takes no memory.
 pub(crate) fn change(
     device: &mut MemDevice,
     at: u64,
@@ -155,7 +155,7 @@ pub(crate) fn opened(alloc: Global, device: MemDevice) -> Result<Store<MemDevice
     }
 }
 
-/// What a store stands for: how many rows, their bytes, and the place.
+/// What a store represents: how many rows, their bytes, and the place.
 pub(crate) fn pair_of<D: Device>(store: &Store<D>) -> (usize, u64, u64) {
     let db = store.db();
     (db.rows().count(), db.encoded_len(), store.place())
@@ -171,7 +171,7 @@ pub(crate) fn state_of<D: Device>(store: &Store<D>) -> (u64, u32, bool, bool) {
     )
 }
 
-/// What opening answers: what the store stands for, or the numbers of the refusal.
+/// What opening answers: what the store represents, or the numbers of the refusal.
 pub(crate) type Answer = Result<(usize, u64, u64), (u8, u8)>;
 
 /// What opening a device answers, and the device.

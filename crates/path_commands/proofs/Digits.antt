@@ -38,7 +38,7 @@ digits_encode s test even is = (
     encoded_test s test is (Ok bytes) d ok = is ∙ all_same s ∙ list_all-from_AllPass is_hex_digit s (decode_of-ok s bytes d).1
     encoded_test s test is (Err e) d ok = cc ok
 
--- so many digits encode no key, or too long a one
+-- this number of digits encodes no key, or too long a one
 pub too_long : (s : List ℕ) → 2 * MOST_KEY < length s → IsErr (decode_of s) ⊎ IsTooLong s
 too_long s long = by_decoding (decode_of s) refl
   where

@@ -1,4 +1,4 @@
--- A session of a service is one of what the service stands for: for `once`, `answer_in_lines`.
+-- A session of a service is one of what the service represents: for `once`, `answer_in_lines`.
 use Rattle.std.proofs.Common.{◌≡◌, ℕ, List, [], ◌∷◌, Option, Result, ap, subst}
 use Rattle.session_core.specs.declared.error.FrameError.{FrameError}
 use Rattle.session_core.specs.Frames.{MessageView}

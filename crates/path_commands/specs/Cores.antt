@@ -8,7 +8,7 @@ use Rattle.isd_as.specs.Text.{IsIsdAsText, IsInGrammar, IsTooLargeText}
 use Rattle.path_commands.specs.declared.error.Fault.{Fault}
 use Rattle.path_commands.specs.declared.error.Fault.TheVariants as fault
 
--- what stands between the commas
+-- what is between the commas
 abbrev pub texts_of : List ℕ → List (List ℕ)
 texts_of list = slice_split (λ byte. byte == 0x2c) list
 

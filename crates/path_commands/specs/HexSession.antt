@@ -58,7 +58,7 @@ pub record IsReadText (start : Served) (text : List ℕ) (input_left output outp
   pub end : IsAtEnd input_left
   pub ended : IsNoText text output output_left result ⊎ IsAnsweredText start text output output_left result
 
--- What was read in at most so many reads, and what became of it.
+-- What was read in at most this number of reads, and what became of it.
 pub record IsHexSession {R : Type 0} (gives : R → List ℕ → R → Type 0) (turns : ℕ) (start : Served) (source source_left : R)
     (input_left output output_left : Option (List ℕ)) (result : Result ℕ Fault) : Type 0 where
   pub pieces : List (List ℕ)

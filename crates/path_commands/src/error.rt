@@ -6,7 +6,7 @@ use isd_as::IaError;
 use session_core::FrameError;
 use thiserror::Error;
 
-/// What ends the program. It prints these words behind `error: `.
+/// What ends the program. It prints these words after `error: `.
 #[derive(Clone, Copy, Debug, PartialEq, Eq, Error)]
 pub enum Fault {
     /// A text in the list of core ASes is no ISD-AS.

@@ -1,4 +1,4 @@
--- What a service over a hub keeps stands for.
+-- What the fields of a service over a hub represent.
 use Rattle.std.specs.Prelude.{ℕ}
 use Rattle.seg_check.specs.Signatures.{Verdicts}
 use Rattle.path_session.specs.declared.service.HubService.{HubService}

@@ -97,7 +97,7 @@ fn segments_expire(rt: HostRuntime) {
     assert_at(&rt, alloc, u64::MAX, &["00000002ff32", NONE_FOUND]);
 }
 
-/// Asserts what a registration is replied, and an empty one behind it, where signatures are checked by this key.
+/// Asserts what a registration is replied, and an empty one after it, where signatures are checked by this key.
 fn assert_keyed(rt: &impl Abort, alloc: Global, key: &str, first: &str, wanted: &[&str]) {
     let checker = key_of(alloc, key).expect(rt, "no key");
     let frames = [first, "0000000101"];
@@ -123,7 +123,7 @@ const REGISTER_CORE: &str =
      109082808080e07f1a0e0a0c1001183f220601010101010128c00b12210a1f0a1d121b0890828080\
      80e07f1a0e0a0c0802183f220602020202020228c00b";
 
-/// Asserts what a lookup is replied behind the registration of the core segment.
+/// Asserts what a lookup is replied after the registration of the core segment.
 fn assert_shown(rt: &impl Abort, alloc: Global, name: &str, lookup: &str, wanted: &[&str]) {
     let cores = roster(rt, alloc, "1-ff00:0:110,2-64512");
     let frames = [REGISTER_CORE, lookup];
@@ -131,7 +131,7 @@ fn assert_shown(rt: &impl Abort, alloc: Global, name: &str, lookup: &str, wanted
     assert_written(rt, alloc, name, output.as_slice(), wanted);
 }
 
-/// Lookups behind that registration, of which none shows the segment, and the replies.
+/// Lookups after that registration, of which none shows the segment, and the replies.
 const NOT_SHOWN: [(&str, &str, &str); 3] = [
     ("2-0 to 0-0", "0000000a02088080808080808001", NONE_FOUND),
     (

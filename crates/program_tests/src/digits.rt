@@ -30,7 +30,7 @@ fn assert_lines(rt: &impl Abort, alloc: Global, text: &str, ends: Result<u64, Fa
     assert_eq!(rt; output.as_slice(), lines.as_bytes(), "{text}");
 }
 
-/// The worked session's frames in upper case, with blanks and the ends of lines behind each digit.
+/// The worked session's frames in upper case, with blanks and the ends of lines after each digit.
 fn spaced(rt: &impl Abort, alloc: Global) -> String {
     let mut spaced = String::new(alloc);
     for digit in text_of(rt, alloc, &[REGISTER, LOOKUP]).chars() {

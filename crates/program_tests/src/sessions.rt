@@ -79,8 +79,8 @@ fn frame_faults(rt: HostRuntime) {
     }
 }
 
-/// Frames with a fault, the fault, the size of the pieces in which they come, and how many are read. The frame stands behind
-/// a lookup of 21 bytes, and its fault is seen once the four bytes of the length are there, or the kind behind them.
+/// Frames with a fault, the fault, the size of the pieces in which they come, and how many are read. The frame is after
+/// a lookup of 21 bytes, and its fault is seen once the four bytes of the length are there, or the kind after them.
 const LAST_READS: [(&str, FrameError, usize, u64); 8] = [
     ("00000000", FrameError::Length, 1, 25),
     ("00000000", FrameError::Length, 4, 7),
@@ -117,7 +117,7 @@ fn nothing_read_behind_a_fault(rt: HostRuntime) {
     }
 }
 
-/// Asserts what stands where the read of this number fails, of pieces of ten bytes.
+/// Asserts what is left where the read of this number fails, of pieces of ten bytes.
 fn assert_failing_read(rt: &impl Abort, alloc: Global, failing: u64, replies: &[&str]) {
     let input = joined(rt, alloc, &[REGISTER, LOOKUP]);
     let mut reader = Pieces {
@@ -144,7 +144,7 @@ fn failing_reads(rt: HostRuntime) {
     assert_failing_read(&rt, alloc, 13, &[INSERTED, FOUND]);
 }
 
-/// Asserts what a writer takes that has room for so many bytes.
+/// Asserts what a writer takes that has room for this number of bytes.
 fn assert_front(
     rt: &impl Abort,
     alloc: Global,
@@ -184,7 +184,7 @@ fn failing_writes(rt: HostRuntime) {
     }
 }
 
-/// Asserts what stands where the write of this number fails, and how many writes there are.
+/// Asserts what is left where the write of this number fails, and how many writes there are.
 fn assert_failing_write(
     rt: &impl Abort,
     alloc: Global,
@@ -233,7 +233,7 @@ fn one_failing_write(rt: HostRuntime) {
     assert_failing_write(&rt, alloc, all.len(), Ok(3), all.len(), all);
 }
 
-/// Asserts that both replies are flushed where this stands behind the worked session's frames.
+/// Asserts that both replies are flushed where this comes after the worked session's frames.
 fn assert_flushed(rt: &impl Abort, alloc: Global, last: &str, ends: Result<u64, FrameError>) {
     let input = joined(rt, alloc, &[REGISTER, LOOKUP, last]);
     let mut reader = input.as_slice();
@@ -285,7 +285,7 @@ fn flushed_before_the_next_read(rt: HostRuntime) {
     assert_failing_flush(&rt, alloc, 1, INSERTED, FOUND);
 }
 
-/// Asserts how a session of the worked frames, in 14 reads of at most ten bytes, ends after so many.
+/// Asserts how a session of the worked frames, in 14 reads of at most ten bytes, ends after this number of reads.
 fn assert_turns(rt: &impl Abort, alloc: Global, turns: u64, ends: Result<u64, FrameError>) {
     let input = joined(rt, alloc, &[REGISTER, LOOKUP]);
     let mut reader = in_pieces(input.as_slice(), 10);

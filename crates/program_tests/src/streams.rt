@@ -48,7 +48,7 @@ pub enum WhenFull {
     Fails,
 }
 
-/// Takes so many bytes, at most three at a time.
+/// Takes this number of bytes, at most three at a time.
 #[derive(Drop)]
 pub struct Narrow {
     pub taken: Vec<u8>,

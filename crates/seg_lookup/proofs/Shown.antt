@@ -79,7 +79,7 @@ taken_rise zero rows rising = tt
 taken_rise (suc n) [] rising = tt
 taken_rise (suc n) (row ∷ rows) rising = (all_taken (λ later. key_order row later ≡ Less) n rows rising.0, taken_rise n rows rising.1)
 
--- ---- a row of a rising list is among the first, or behind as many as these are
+-- ---- a row of a rising list is among the first, or after as many as these are
 
 taken_or_behind : (n : ℕ) (rows : List RowView) (row : RowView) → IsRising rows → Contains rows row → Contains (take n rows) row ⊎ IsFullBelow n row (take n rows)
 taken_or_behind zero rows row rising found = inr (record { full = refl; below = tt })

@@ -5,7 +5,7 @@ use Rattle.path_rows.specs.Answer.{answer_of}
 use Rattle.seg_lookup.specs.declared.answers.TheConstants.{ANSWER_LIMIT}
 use Rattle.seg_lookup.specs.Query.{QueryView}
 
--- the first rows by key, at most so many, that match the query and expire after this moment
+-- the first rows by key, at most that many, that match the query and expire after this moment
 abbrev pub answer_within : ℕ → List RowView → QueryView → ℕ → List RowView
 answer_within limit rows query now = answer_of limit rows query.kind query.start query.end now
 

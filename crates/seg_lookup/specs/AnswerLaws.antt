@@ -34,7 +34,7 @@ pub record IsFullBelow (limit : ℕ) (row : RowView) (answer : List RowView) : T
   pub full : length answer ≡ limit
   pub below : AllByRecursion (λ shown. key_order shown row ≡ Less) answer
 
--- Each row of the database that is wanted is in the answer, or comes behind as many as the limit.
+-- Each row of the database that is wanted is in the answer, or comes after as many as the limit.
 abbrev pub AnswersAreComplete : Type 0
 AnswersAreComplete =
     (limit : ℕ) (rows : List RowView) (query : QueryView) (now : ℕ) (row : RowView) → IsRising rows → Contains rows row → IsWanted query now row

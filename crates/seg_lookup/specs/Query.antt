@@ -14,7 +14,7 @@ pub record QueryView : Type 0 where
 abbrev pub query_view : Query → QueryView
 query_view query = record { kind = query.kind; start = number_of query.start; end = number_of query.end }
 
--- what a classification stands for
+-- what a classification represents
 abbrev pub query_result : Result Query LookupError → Result QueryView LookupError
 query_result (Ok query) = Ok (query_view query)
 query_result (Err e) = Err e

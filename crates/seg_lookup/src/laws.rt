@@ -1,4 +1,4 @@
-//! Laws of the definitions that the crate's contracts speak in. Each stands on a function that does nothing, so that it is
+//! Laws of the definitions that the crate's contracts speak in. Each is the contract of a function that does nothing, so that it is
 //! proved with the crate.
 
 ghost use Rattle.seg_lookup.specs.AnswerLaws.{AnswersAreShort, AnswersAreWanted, AnswersRise, AnswersAreComplete};
@@ -29,7 +29,7 @@ pub fn answers_rise()
     ensures { AnswersRise }
 {}
 
-/// Each row that matches and is valid is in the answer, or comes behind as many as the limit.
+/// Each row that matches and is valid is in the answer, or comes after as many as the limit.
 pub fn answers_are_complete()
     ensures { AnswersAreComplete }
 {}

@@ -11,7 +11,7 @@ use std::marker::Model;
 /// A set of core ASes. Members with a zero part are allowed, and count only where a side equals them.
 #[derive(Drop)]
 pub struct Roster {
-    /// In the order of their numbers; one may stand several times.
+    /// In the order of their numbers; one may occur several times.
     cores: Vec<IsdAs>,
 }
 

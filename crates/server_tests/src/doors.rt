@@ -21,7 +21,7 @@ pub(crate) fn nap(rt: &impl Clock) {
 pub(crate) enum Latch {
     /// They pass.
     Open,
-    /// The next one is to be held.
+    /// The next one will be held.
     Armed,
     /// One is held.
     Held,
@@ -79,7 +79,7 @@ impl Door {
         false
     }
 
-    /// Waits until a sync is held, where one is to be: whether one is.
+    /// Waits until a sync is held, where one is expected: whether one is.
     pub(crate) fn is_held_soon<R: Wait + Clock>(&self, rt: &R) -> bool {
         self.leaves(rt, Latch::Armed) && self.latch(rt) == Latch::Held
     }

@@ -1,4 +1,4 @@
-//! Purges and removals, over a service that tells what it was given.
+//! Purges and removals, over a service that reports what it was given.
 
 use crate::same::assert_same;
 use seg_core::{SegType, Segment};
@@ -42,12 +42,12 @@ impl Service for Counter {
         Err(Code(0x26))
     }
 
-    /// Tells the moment's lower half as what was purged.
+    /// Reports the moment's lower half as what was purged.
     fn purge(&mut self, moment: u64) -> Result<Ack, Code> {
         Ok(self.ack(0, (moment & 0xffff_ffff) as u32))
     }
 
-    /// Refuses a type that is none, and tells the last byte of the id as what was kept.
+    /// Refuses a type that is none, and reports the last byte of the id as what was kept.
     fn remove(&mut self, kind: u8, id: &[u8; 32]) -> Result<Ack, Code> {
         if kind < 1 || kind > 3 {
             return Err(Code(0x29));
@@ -96,7 +96,7 @@ const OUTPUT: [u8; 93] = [
     0x00, 0x00, 0x00, 0x00, 0x00, 0x00, 0x00, 0x00, // kept, purged
 ];
 
-/// Serves an input that comes in two parts, and tells how many replies were written.
+/// Serves an input that comes in two parts, and returns how many replies were written.
 fn served(
     alloc: Global,
     (front, rest): (&[u8], &[u8]),

@@ -23,7 +23,7 @@ impl Taker {
         }
     }
 
-    /// Takes a piece, and adds the messages that it completes. Gives the fault behind them.
+    /// Takes a piece, and adds the messages that it completes. Gives the fault after them.
     fn take(&mut self, piece: &[u8]) -> Result<Option<FrameError>, AllocError> {
         let fed = self.framer.feed(piece)?;
         for message in fed.messages {
@@ -33,7 +33,7 @@ impl Taker {
     }
 }
 
-/// Takes a piece in a case, and sees whether a fault is behind it.
+/// Takes a piece in a case, and sees whether a fault is after it.
 fn assert_taken<C: Debug>(
     rt: &impl Abort,
     taker: &mut Taker,
@@ -118,7 +118,7 @@ const FAULTS: [(&[u8], FrameError); 13] = [
     (b"\0\x02\0\x01\x04", FrameError::Length),
 ];
 
-/// Takes a frame byte by byte and two pieces more, and sees where the fault is told, and that there is no message.
+/// Takes a frame byte by byte and two pieces more, and sees where the fault is reported, and that there is no message.
 fn assert_fault(
     rt: &impl Abort,
     taker: &mut Taker,
@@ -139,7 +139,7 @@ fn assert_fault(
     Ok(())
 }
 
-// A fault is told at the byte that shows it, and again for each piece from then on, with no message.
+// A fault is reported at the byte that shows it, and again for each piece from then on, with no message.
 #[test]
 fn frame_faults(rt: HostRuntime) -> Result<(), Fail> {
     for (frame, fault) in &FAULTS {
@@ -149,7 +149,7 @@ fn frame_faults(rt: HostRuntime) -> Result<(), Fail> {
     Ok(())
 }
 
-/// The worked stream, this frame, and one more behind it.
+/// The worked stream, this frame, and one more after it.
 fn with_fault(alloc: Global, frame: &[u8]) -> Result<Vec<u8>, Fail> {
     let mut piece = Vec::from_slice(alloc, &stream())?;
     piece.extend_from_slice(frame)?;
@@ -168,7 +168,7 @@ fn assert_fed(rt: &impl Abort, fed: &Fed, wanted: &[Message], fault: FrameError,
     assert_same(rt, &fed.fault, &Some(fault), &frame);
 }
 
-// What is whole before a fault in one piece is given, and nothing behind it.
+// What is whole before a fault in one piece is given, and nothing after it.
 #[test]
 fn messages_before_a_fault(rt: HostRuntime) -> Result<(), Fail> {
     let wanted = both(rt.alloc())?;
@@ -201,7 +201,7 @@ fn assert_pieces(
     Ok(())
 }
 
-/// Sees that a lookup of what stands behind the frame's head is the only message.
+/// Sees that a lookup of what is after the frame's head is the only message.
 fn assert_lookup(rt: &impl Abort, alloc: Global, messages: &[Message]) -> Result<(), Fail> {
     assert_eq!(rt; messages.len(), 1);
     for message in messages {
@@ -240,7 +240,7 @@ fn fed_again(framer: &mut Framer, piece: &[u8]) -> Result<Fed, AllocError> {
     }
 }
 
-/// Sees that messages are those of the worked stream from this place on, and tells the place behind them.
+/// Sees that messages are those of the worked stream from this place on, and returns the place after them.
 fn assert_worked(rt: &impl Abort, messages: &[Message], from: u8) -> u8 {
     let mut place = from;
     for message in messages {

@@ -23,7 +23,7 @@ pub(crate) const LOOKUP: [u8; 21] = [
     0x10, 0x91, 0x82, 0x80, 0x80, 0x80, 0xe0, 0x7f, // to this AS
 ];
 
-/// Both frames, one behind the other.
+/// Both frames, one after the other.
 pub(crate) fn stream() -> [u8; 122] {
     let mut bytes = [0; 122];
     bytes[..101].copy_from_slice(&REGISTER);

@@ -7,7 +7,7 @@ use Rattle.gate_journal.specs.declared.error.JournalError.{JournalError}
 use Rattle.gate_journal.specs.Reading.{padding_of, FirstWantsMemory}
 use Rattle.gate_journal.proofs.records.read_payload.Goals as goal
 
--- all is well behind the records, where they are read
+-- all is well after the records, where they are read
 pub returns-clause-memory : goal.returns-clause-memory
 returns-clause-memory c =
     let padding : are_zeros (padding_of c.args.size c.args.payload.now) ≡ true = search rules in
