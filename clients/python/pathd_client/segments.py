@@ -1,0 +1,110 @@
+"""Segments: their hops, their ids, and how one is made and signed. Each byte is in docs/FORMATS.md."""
+from __future__ import annotations
+
+import hashlib
+import struct
+from collections.abc import Sequence
+from dataclasses import dataclass
+from enum import IntEnum
+from itertools import pairwise
+
+import segments_pb2 as pb
+
+from .isd_as import isd_as_text, parse_isd_as
+
+# Of the hop fields that are made here. A segment expires 64 times 337.5 seconds after its timestamp, and `pathd` judges
+# of a MAC that it has six bytes.
+EXP_TIME = 63
+MTU = 1472
+MAC = bytes(6)
+
+
+class SegmentType(IntEnum):
+    """The types of segments, which are the keys of the messages' maps."""
+
+    UP = pb.SEGMENT_TYPE_UP
+    DOWN = pb.SEGMENT_TYPE_DOWN
+    CORE = pb.SEGMENT_TYPE_CORE
+
+
+@dataclass(frozen=True)
+class Hop:
+    """An AS of a segment, and the interfaces by which a path comes in and goes out: 0 at the segment's ends."""
+
+    isd_as: int
+    ingress: int
+    egress: int
+
+
+def parse_path(text: str) -> list[Hop]:
+    """The hops of a text such as `1-ff00:0:110 1>2 1-ff00:0:111`, with egress and ingress between two ASes."""
+    words = text.split(" ")
+    links = [word.split(">") for word in words[1::2]]
+    egresses = [int(egress) for egress, _ in links] + [0]
+    ingresses = [0] + [int(ingress) for _, ingress in links]
+    return [Hop(parse_isd_as(word), *ends) for word, *ends in zip(words[::2], ingresses, egresses, strict=True)]
+
+
+def path_text(hops: Sequence[Hop]) -> str:
+    """The text that `parse_path` reads as these hops, of which there is one at least."""
+    words = [isd_as_text(hops[0].isd_as)]
+    for before, after in pairwise(hops):
+        words += [f"{before.egress}>{after.ingress}", isd_as_text(after.isd_as)]
+    return " ".join(words)
+
+
+def segment_id(hops: Sequence[Hop]) -> bytes:
+    """The id of the segment with these hops: SHA-256 over ISD-AS, ingress and egress of each, big-endian."""
+    return hashlib.sha256(b"".join(struct.pack(">QHH", hop.isd_as, hop.ingress, hop.egress) for hop in hops)).digest()
+
+
+def keyed_signature(key: bytes, signed: bytes, covered: Sequence[bytes]) -> bytes:
+    """The signature of the test profile, which is no standard's: SHA-256 over pieces, each behind its length."""
+    pieces = [key, signed, *covered]
+    return hashlib.sha256(b"".join(struct.pack(">Q", len(piece)) + piece for piece in pieces)).digest()
+
+
+def make_segment(hops: Sequence[Hop], timestamp: int, key: bytes | None = None) -> pb.PathSegment:
+    """The segment with these hops, made at `timestamp`, in seconds since 1970, and signed where there is a key."""
+    info = pb.SegmentInformation(timestamp=timestamp, segment_id=1).SerializeToString()
+    segment = pb.PathSegment(segment_info=info)
+    covered = [info]
+    followers = [hop.isd_as for hop in hops[1:]] + [0]
+    for hop, follower in zip(hops, followers, strict=True):
+        field = pb.HopField(ingress=hop.ingress, egress=hop.egress, exp_time=EXP_TIME, mac=MAC)
+        body = pb.ASEntrySignedBody(
+            isd_as=hop.isd_as, next_isd_as=follower, hop_entry=pb.HopEntry(hop_field=field), mtu=MTU
+        )
+        signed = pb.HeaderAndBody(body=body.SerializeToString()).SerializeToString()
+        signature = b"" if key is None else keyed_signature(key, signed, covered)
+        segment.as_entries.add(signed=pb.SignedMessage(header_and_body=signed, signature=signature))
+        covered += [signed, signature]
+    return segment
+
+
+def hops_of(segment: pb.PathSegment) -> list[Hop]:
+    """The hops of a segment, from the signed bytes of its entries."""
+    hops = []
+    for entry in segment.as_entries:
+        signed = pb.HeaderAndBody.FromString(entry.signed.header_and_body)
+        body = pb.ASEntrySignedBody.FromString(signed.body)
+        field = body.hop_entry.hop_field
+        hops.append(Hop(body.isd_as, field.ingress, field.egress))
+    return hops
+
+
+def timestamp_of(segment: pb.PathSegment) -> int:
+    """When a segment was made, in seconds since 1970."""
+    return pb.SegmentInformation.FromString(segment.segment_info).timestamp
+
+
+def expiry(segment: pb.PathSegment) -> int:
+    """When a segment expires, with the first of its hop entries: in half seconds since 1970."""
+    times = []
+    for entry in segment.as_entries:
+        signed = pb.HeaderAndBody.FromString(entry.signed.header_and_body)
+        times.append(pb.ASEntrySignedBody.FromString(signed.body).hop_entry.hop_field.exp_time)
+    return 2 * timestamp_of(segment) + 675 * (1 + min(times))
+
+
+Row = tuple[SegmentType, pb.PathSegment]
