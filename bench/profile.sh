@@ -3,11 +3,12 @@
 # of the worked segment's registration and its lookup; 1,000 registrations of one segment of 8 entries each, into 1,000
 # rows and into 10,000; as many lookups that show 1 or 64 such segments, of 1,000 rows. The instructions of the start and
 # of filling the database are taken off: of each session another is run without the part that is asked for, and the
-# difference is told. It needs Debian's valgrind, Python 3 and the program built.
+# difference is printed. It needs Debian's valgrind, Python 3 and the program built.
 #
 #     bench/profile.sh [PROGRAM]
 set -euo pipefail
 top=$(cd "$(dirname "${BASH_SOURCE[0]}")/.." && pwd)
+"$top/tools/need.sh" valgrind python3
 program=$(realpath "${1:-$top/crates/pathd/out/pathd}")
 work=$(mktemp -d)
 trap 'rm -rf "$work"' EXIT
@@ -25,27 +26,7 @@ profile() { # the name of its figures, and the frames
 tell() { # the title, the name of the figures of the whole, and of the base
   echo "== $1"
   for how in yes no; do
-    python3 - "$work/$2.$how" "$work/$3.$how" "$how" <<'PYTHON'
-import re
-import sys
-
-def counts(name):
-    found = {}
-    for line in open(name, errors="replace"):
-        it = re.match(r"\s*([\d,]+)\s+(?:PROGRAM TOTALS|\S*?:(.*?)(?: \[.*\])?$)", line)
-        if it:
-            what = (it[2] or "total").strip()
-            found[what] = found.get(what, 0) + int(it[1].replace(",", ""))
-    return found
-
-whole, base = counts(sys.argv[1]), counts(sys.argv[2])
-left = {it: whole[it] - base.get(it, 0) for it in whole}
-total = left.pop("total")
-print(f"{total / 1000:,.0f} instructions each, " + ("with callees:" if sys.argv[3] == "yes" else "without callees:"))
-below_main = [it for it in left if left[it] < 0.995 * total]
-for it in sorted(below_main, key=left.get, reverse=True)[:16]:
-    print(f"  {100 * left[it] / total:5.1f} %  {it[:110]}")
-PYTHON
+    python3 "$top/bench/instructions.py" "$work/$2.$how" "$work/$3.$how" "$how"
   done
 }
 

@@ -6,6 +6,7 @@
 #     bench/rows.sh [PROGRAM]
 set -euo pipefail
 top=$(cd "$(dirname "${BASH_SOURCE[0]}")/.." && pwd)
+"$top/tools/need.sh" python3
 program=$(realpath "${1:-$top/crates/pathd/out/pathd}")
 work=$(mktemp -d)
 trap 'rm -rf "$work"' EXIT

@@ -9,6 +9,7 @@
 # rounds.
 set -euo pipefail
 top=$(cd "$(dirname "${BASH_SOURCE[0]}")/.." && pwd)
+"$top/tools/need.sh" python3 g++ bc time protoc libprotobuf-dev
 program=$(realpath "${1:-$top/crates/pathd/out/pathd}")
 earlier=${2:+$(realpath "$2")}
 work=$(mktemp -d)

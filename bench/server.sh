@@ -16,6 +16,7 @@
 #     bench/server.sh [ROUNDS [PATHD ECHO]]
 set -euo pipefail
 root=$(cd "$(dirname "$0")/.." && pwd)
+"$root/tools/need.sh" python3 gcc g++ libleveldb-dev libsqlite3-dev
 rounds=${1:-5}
 work=$(mktemp -d)
 store=$(mktemp -d -p /dev/shm)

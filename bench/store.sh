@@ -8,6 +8,7 @@
 #     bench/store.sh [ROWS MORE]
 set -euo pipefail
 root=$(cd "$(dirname "$0")/.." && pwd)
+"$root/tools/need.sh" rt python3 gcc g++ bc libleveldb-dev libsqlite3-dev
 rows=${1:-20000}
 more=${2:-2000}
 work=$(mktemp -d)
@@ -18,47 +19,7 @@ for crate in isd_as byte_lists end_index pw_wire seg_core seg_check path_rows pa
   grep "^$crate:" "$root/crates.txt"
 done > "$work/crates.txt"
 echo 'stores: store_open sector_dev path_db' >> "$work/crates.txt"
-cat > "$work/crates/stores/src/main.rt" <<'SOURCE'
-#![tactic(auto)]
-
-use sector_dev::{FileDevice, SystemFile};
-use std::fs;
-use std::fs::OpenOptions;
-use std::io;
-use std::time::Instant;
-use store_open::open;
-
-// The line of the system that tells the most memory so far.
-fn tell_memory(rt: &HostRuntime) -> io::Result<()> {
-    let status = fs::read_to_string(rt, "/proc/self/status")?;
-    for line in status.lines() {
-        if line.starts_with("VmHWM:") {
-            println!(rt; "{line}")?;
-        }
-    }
-    Ok(())
-}
-
-fn main(rt: HostRuntime) -> io::Result<()> {
-    let start = Instant::now(&rt)?;
-    let file = OpenOptions::new().read(true).write(true).open(&rt, "store")?;
-    let device = FileDevice::new(SystemFile::new(file))?;
-    let Ok(mut store) = open(rt.alloc(), device) else {
-        return Ok(());
-    };
-    let opened = Instant::now(&rt);
-    let bytes = store.db().encoded_len();
-    let place = store.place();
-    let done = store.checkpoint().is_ok();
-    let ended = Instant::now(&rt);
-    let _device = store.into_device();
-    let opened = opened?;
-    let opening = opened.duration_since(start).as_secs_f64();
-    let checkpoint = ended?.duration_since(opened).as_secs_f64();
-    println!(rt; "{opening} {checkpoint} {bytes} {place} {done}")?;
-    tell_memory(&rt)
-}
-SOURCE
+cp "$root/bench/stores.rattle" "$work/crates/stores/src/main.rt"
 git init -q "$work"
 python3 "$root/bench/store_image.py" "$work/image" "$rows" "$more"
 g++ -O2 "$root/bench/store_rivals.cc" -o "$work/rivals" -lleveldb -lsqlite3
