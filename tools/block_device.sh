@@ -9,9 +9,9 @@
 # PROGRAM is crates/pathd/out/pathd if left out, which `rt run` builds.
 set -u
 top=$(cd "$(dirname "${BASH_SOURCE[0]}")/.." && pwd)
+"$top/tools/need.sh" root losetup || exit
 program=$(realpath "${1:-$top/crates/pathd/out/pathd}") || exit 2
 [ -x "$program" ] || { echo "no program: $program" >&2; exit 2; }
-[ "$(id -u)" = 0 ] || { echo "not root" >&2; exit 2; }
 work=$(mktemp -d) || exit 2
 device=
 end() {

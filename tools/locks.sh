@@ -9,9 +9,9 @@
 # PROGRAM is crates/pathd/out/pathd if left out, which `rt run` builds.
 set -u
 top=$(cd "$(dirname "${BASH_SOURCE[0]}")/.." && pwd)
+"$top/tools/need.sh" strace python3 || exit
 program=$(realpath "${1:-$top/crates/pathd/out/pathd}") || exit 2
 [ -x "$program" ] || { echo "no program: $program" >&2; exit 2; }
-command -v strace >/dev/null || { echo "no strace" >&2; exit 2; }
 work=$(mktemp -d) || exit 2
 trap 'rm -rf "$work"' EXIT
 store=$work/store

@@ -9,6 +9,7 @@
 # The sessions are the worked one, in hexadecimal text and in binary, and those named below of tools/cases.
 set -u
 top=$(cd "$(dirname "${BASH_SOURCE[0]}")/.." && pwd)
+"$top/tools/need.sh" gcc perl || exit
 program=$(realpath "${1:-$top/crates/pathd/out/pathd}") || exit 2
 cases="0005 0074 0134 0148"
 work=$(mktemp -d)

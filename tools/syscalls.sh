@@ -10,9 +10,9 @@
 # bytes. Reads in a row are one line. What differs is printed as diff does, the calls that were made with '+'.
 set -u
 top=$(cd "$(dirname "${BASH_SOURCE[0]}")/.." && pwd)
+"$top/tools/need.sh" strace perl || exit
 program=$(realpath "${1:-$top/crates/pathd/out/pathd}") || exit 2
 [ -x "$program" ] || { echo "no program: $program" >&2; exit 2; }
-command -v strace >/dev/null || { echo "no strace" >&2; exit 2; }
 work=$(mktemp -d) || exit 2
 trap 'rm -rf "$work"' EXIT
 store=$work/store
