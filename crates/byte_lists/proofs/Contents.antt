@@ -1,4 +1,4 @@
--- A content of which a part is overwritten. For this crate and those above it.
+-- A content of which a part is overwritten. For this crate and the crates above it.
 use Rattle.std.proofs.Common.{◌≡◌, inl, inr, ℕ, ◌+◌, ◌-◌, ◌<◌, ◌≤◌, List, length, get_or, drop, sym, ◌∙◌, ap, arith, rules, length-append, length-take, length-drop, get_or-take, get_or-drop}
 use Rattle.std.proofs.lemmas.List.{places, same_lists, get_or_past, get_or_default, take_all}
 use Rattle.std.proofs.lemmas.Bool.{cases_lt}
@@ -7,15 +7,15 @@ use Rattle.byte_lists.specs.Content.{part, overwrite, AreBytes, AreOverwritten}
 pub length-overwrite : (at : ℕ) (bytes content : List ℕ) → at + length bytes ≤ length content → length (overwrite at bytes content) ≡ length content
 length-overwrite at bytes content inside = simp (length-append, length-take, length-drop) (omega arith)
 
--- before the range it is as it was
+-- before the range the content is unchanged
 pub overwrite_before : (at : ℕ) (bytes content : List ℕ) (i : ℕ) → at ≤ length content → i < at → get_or (overwrite at bytes content) i 0 ≡ get_or content i 0
 overwrite_before at bytes content i inside before = search (rules, places)
 
--- in the range it is what was written
+-- in the range the content is what was written
 pub overwrite_within : (at : ℕ) (bytes content : List ℕ) (i : ℕ) → at ≤ length content → at ≤ i → i < at + length bytes → get_or (overwrite at bytes content) i 0 ≡ get_or bytes (i - at) 0
 overwrite_within at bytes content i inside from to = search (rules, places)
 
--- behind the range it is as it was
+-- after the range the content is unchanged
 pub overwrite_behind : (at : ℕ) (bytes content : List ℕ) (i : ℕ) → at + length bytes ≤ length content → at + length bytes ≤ i → get_or (overwrite at bytes content) i 0 ≡ get_or content i 0
 overwrite_behind at bytes content i inside behind = search (rules, places)
 
@@ -45,19 +45,19 @@ pub same_content : (xs ys : List ℕ) → length xs ≡ length ys → ((i : ℕ)
 same_content xs ys same agree =
     same_lists xs ys same (λ k d below. get_or_default xs k d 0 below ∙ agree k below ∙ sym (get_or_default ys k d 0 (omega arith)))
 
--- a part before what is overwritten
+-- a part before what is overwritten is unchanged
 pub part_below : (at : ℕ) (bytes content : List ℕ) (from n : ℕ) → at + length bytes ≤ length content → from + n ≤ at → part from n (overwrite at bytes content) ≡ part from n content
 part_below at bytes content from n inside below =
     same_part from n (overwrite at bytes content) content (length-overwrite at bytes content inside)
     (λ i low high. overwrite_before at bytes content i (omega arith) (omega arith))
 
--- a part behind it
+-- a part after what is overwritten is unchanged
 pub part_above : (at : ℕ) (bytes content : List ℕ) (from n : ℕ) → at + length bytes ≤ length content → at + length bytes ≤ from → part from n (overwrite at bytes content) ≡ part from n content
 part_above at bytes content from n inside above =
     same_part from n (overwrite at bytes content) content (length-overwrite at bytes content inside)
     (λ i low high. overwrite_behind at bytes content i inside (omega arith))
 
--- a part within it
+-- a part within what is overwritten is a part of what was written
 pub part_within : (at : ℕ) (bytes content : List ℕ) (from n : ℕ) → at + length bytes ≤ length content → at ≤ from → from + n ≤ at + length bytes → part from n (overwrite at bytes content) ≡ part (from - at) n bytes
 part_within at bytes content from n inside low high =
     let whole = overwrite at bytes content in
@@ -74,7 +74,7 @@ part_within at bytes content from n inside low high =
         ∙ ap (λ (j : ℕ). get_or bytes j 0) index
         ∙ sym (get_or-part (from - at) n bytes k below)
 
--- the whole of what was written
+-- the part at the range is the whole of what was written
 pub part_new : (at : ℕ) (bytes content : List ℕ) → at + length bytes ≤ length content → part at (length bytes) (overwrite at bytes content) ≡ bytes
 part_new at bytes content inside =
     let zero_on : at - at ≡ 0 = omega arith in
@@ -82,7 +82,7 @@ part_new at bytes content inside =
     ∙ ap (λ (k : ℕ). part k (length bytes) bytes) zero_on
     ∙ take_all (length bytes) bytes (omega arith)
 
--- what is there written again changes nothing
+-- to write again what is there changes nothing
 pub overwrite_same : (at n : ℕ) (content : List ℕ) → at + n ≤ length content → overwrite at (part at n content) content ≡ content
 overwrite_same at n content inside =
     let bytes = part at n content in
@@ -104,7 +104,7 @@ overwrite_same at n content inside =
       ]
     ]
 
--- of two writes of one range the last one counts
+-- of two writes to one range only the last has an effect
 pub overwrite_twice : (at : ℕ) (bytes last content : List ℕ) → at + length bytes ≤ length content → length last ≡ length bytes → overwrite at last (overwrite at bytes content) ≡ overwrite at last content
 overwrite_twice at bytes last content inside same =
     same_content (overwrite at last once) (overwrite at last content)
@@ -129,7 +129,7 @@ overwrite_twice at bytes last content inside same =
       ]
     ]
 
--- bytes written over bytes are bytes
+-- bytes that are written over bytes give bytes
 pub bytes_overwrite : (at : ℕ) (bytes content : List ℕ) → at + length bytes ≤ length content → AreBytes bytes → AreBytes content → AreBytes (overwrite at bytes content)
 bytes_overwrite at bytes content inside new old i = elim (cases_lt i at) [
   | inl before ↦ omega (arith, overwrite_before at bytes content i (omega arith) before, old i)
@@ -148,7 +148,7 @@ bytes-part at n content bytes i = elim (cases_lt i n) [
   | inl below ↦ omega (arith, get_or-part at n content i below, bytes (at + i))
 ]
 
--- all of these in one
+-- all of these facts in one record
 pub overwritten : (at : ℕ) (bytes content : List ℕ) → at + length bytes ≤ length content → AreOverwritten at bytes content
 overwritten at bytes content inside = record {
   size = length-overwrite at bytes content inside;

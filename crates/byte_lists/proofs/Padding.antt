@@ -10,7 +10,7 @@ length-padded bytes = omega (arith, length-append bytes (replicate (512 * sector
 pub least_room : (n : ℕ) → IsLeastRoom n
 least_room n = record { enough = omega arith; least = λ sectors enough. omega arith }
 
--- the test tells an open gate
+-- the test is true of an open gate
 pub open_true : (sector : List ℕ) → IsOpenGate sector → is_open_gate sector ≡ true
 open_true sector is = eq-eqb _ _ is
 

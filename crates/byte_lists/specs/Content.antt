@@ -1,4 +1,4 @@
--- What a content of bytes is, a part of it, and a part that is overwritten. Offsets and lengths count bytes.
+-- Contents: lists of bytes, their parts, and contents of which a part is overwritten. Offsets and lengths count bytes.
 use Rattle.std.specs.Prelude.{◌≡◌, ℕ, ◌+◌, ◌-◌, ◌<◌, ◌≤◌, List, ◌++◌, length, take, drop, slice_index}
 
 -- each number is a byte
@@ -9,11 +9,11 @@ AreBytes numbers = (i : ℕ) → slice_index numbers i < 256
 abbrev pub part : ℕ → ℕ → List ℕ → List ℕ
 part at n content = take n (drop at content)
 
--- the content with these bytes at an offset, instead of as many
+-- the content with these bytes written at an offset: the length does not change
 abbrev pub overwrite : ℕ → List ℕ → List ℕ → List ℕ
 overwrite at bytes content = take at content ++ bytes ++ drop (at + length bytes) content
 
--- what parts of an overwritten content are: before and behind what was written as they were, within it what was written
+-- the parts of an overwritten content: unchanged before and after the range, and within it what was written
 pub record AreOverwritten (at : ℕ) (bytes content : List ℕ) : Type 0 where
   pub size : length (overwrite at bytes content) ≡ length content
   pub before : (from n : ℕ) → from + n ≤ at → part from n (overwrite at bytes content) ≡ part from n content

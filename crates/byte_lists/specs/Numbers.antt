@@ -1,4 +1,4 @@
--- Big-endian numbers that stand at an offset.
+-- Big-endian numbers at an offset in bytes.
 use Rattle.std.specs.Prelude.{ℕ, List}
 use Rattle.std.specs.Int.{w32, w64, from_be_bytes}
 use Rattle.byte_lists.specs.Content.{part}

@@ -1,18 +1,18 @@
-//! Gates: how they are written, and the test of one.
+//! Gates: sectors whose first byte is 0xA7 when the gate is open. A closed gate is written as zeros.
 
 ghost use Rattle.std.specs.Prelude.{◌≡◌, ◌↔◌, ◌++◌, length, IsTrue};
 ghost use Rattle.byte_lists.specs.Sectors as laws;
 
 use crate::format::{OPEN, SECTOR};
 
-/// Whether this sector is an open gate: it goes by its first byte alone.
+/// Whether this sector is an open gate. The first byte alone decides.
 pub fn is_open(sector: &[u8]) -> bool
     ensures { IsTrue result ↔ laws.IsOpenGate sector.now }
 {
     sector.first() == Some(&OPEN)
 }
 
-/// A gate that is open: 0xA7, and zeros.
+/// The bytes of an open gate: 0xA7, and 511 zeros.
 pub fn open_gate() -> [u8; 512]
     ensures { result ≡ laws.open_gate }
 {
@@ -21,14 +21,14 @@ pub fn open_gate() -> [u8; 512]
     gate
 }
 
-/// A gate that is closed: zeros.
+/// The bytes of a closed gate: 512 zeros.
 pub fn closed_gate() -> [u8; 512]
     ensures { result ≡ laws.closed_gate }
 {
     [0; SECTOR]
 }
 
-/// Two gates that are closed, one after the other: zeros.
+/// The bytes of two closed gates, one after the other: 1,024 zeros.
 pub fn closed_gates() -> [u8; 1024]
     ensures same { result ≡ laws.closed_gate ++ laws.closed_gate }
     ensures size { length result ≡ 1024 }

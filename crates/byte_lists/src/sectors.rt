@@ -6,7 +6,7 @@ ghost use Rattle.byte_lists.specs.Sectors.{sectors_of, padded};
 use crate::format::SECTOR;
 use std::alloc::AllocError;
 
-/// How many sectors so many bytes take.
+/// The number of sectors that have room for this number of bytes: the quotient by 512, rounded up.
 pub fn sector_count(bytes: usize) -> usize
     ensures { result ≡ sectors_of bytes }
 {
@@ -18,7 +18,7 @@ pub fn sector_count(bytes: usize) -> usize
     }
 }
 
-/// Appends zeros up to a whole sector. An error leaves the bytes as they were.
+/// Appends zeros up to a whole number of sectors. Where memory is refused, the bytes are unchanged.
 pub fn pad(bytes: &mut Vec<u8>) -> Result<(), AllocError>
     requires { vec_len bytes.old + 512 < 2 ^ 64 }
     ensures ok { OnOk result (bytes.new.items ≡ padded bytes.old.items) }

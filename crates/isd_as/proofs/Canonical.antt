@@ -1,4 +1,4 @@
--- The canonical text of an ISD-AS is in the grammar, and says that ISD-AS.
+-- The canonical text of an ISD-AS is in the grammar, and denotes that ISD-AS.
 use Rattle.std.proofs.Common.{◌≡◌, ℕ, zero, suc, ◌+◌, ◌*◌, ◌/◌, ◌%◌, ◌^◌, ◌<◌, ◌≤◌, false, eqb, ltb, List, [], ◌∷◌, length, refl, arith}
 use Rattle.std.specs.Fmt.{decimal, digit_glyph, digits, digits_onto}
 use Rattle.std.proofs.lemmas.Bool.{cond_both, eqb-false, ltb-true}
@@ -27,7 +27,7 @@ length-hex n h = length-onto 3 63 n [] h (omega arith)
 group_says : (n : ℕ) → n < 2 ^ 16 → IsHexGroup (digits 16 false n) n
 group_says n h = let says = digits_is_IsNumeral 16 false (omega arith) (omega arith) n (omega arith) in record { numeral = says.0; short = length-hex n h; number_is = says.1 }
 
--- an AS of 48 bits is what its canonical text says
+-- the canonical text of an AS of 48 bits denotes that AS
 as_says : (n : ℕ) → n < 2 ^ 48 → (number : AsNumber) × IsAsText (as_text n) number × FitsAs number × (n ≡ as_number number)
 as_says n h =
     cond_both (ltb n (2 ^ 32)) _ _ (λ (text : List ℕ). (number : AsNumber) × IsAsText text number × FitsAs number × (n ≡ as_number number))

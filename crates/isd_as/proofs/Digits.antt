@@ -1,4 +1,4 @@
--- What the tests of digits decide, and what the std's reading of a number gives for digits alone.
+-- What the tests of digits decide, and what std's parsing of a number gives for digits alone.
 use Rattle.std.proofs.Common.{◌≡◌, ℕ, ◌<◌, ◌≤◌, ◌^◌, List, [], ◌∷◌, length, Decides, Result, Ok, Err, Option, IfNone, refl, sym, ap, ◌∙◌, subst, inl, inr, arith}
 use Rattle.std.specs.Char.{digit_value, is_ascii_digit, is_ascii_hexdigit}
 use Rattle.std.specs.List.{list_all}
@@ -26,11 +26,11 @@ pub hex_digits_decide : (cs : List ℕ) → Decides (list_all is_ascii_hexdigit 
 hex_digits_decide [] = (λ _. tt, λ _. refl)
 hex_digits_decide (c ∷ cs) = Decides-and _ _ (hex_digit_decides c) (hex_digits_decide cs)
 
--- digits have no plus in front
+-- digits have no plus sign in front
 no_plus : (radix : ℕ) (text : List ℕ) → radix ≤ 36 → IsNumeral radix text → without_leading_plus text ≡ text
 no_plus radix text low h = without_leading_plus_none text (digits_lack radix 43 text (omega arith) h.1 0 h.0)
 
--- a number that was read from digits alone is theirs, and fits
+-- a number that was parsed from digits alone is the number of those digits, and fits
 pub number_read : (k radix : ℕ) (text : List ℕ) (n : ℕ) → radix ≤ 36 → IsNumeral radix text → ParsesUnsigned {E = ℕ} k radix text (Ok n) → (digits_value radix text ≡ n) × (n < 2 ^ k)
 number_read k radix text n low h p =
     let same = no_plus radix text low h in
@@ -46,14 +46,14 @@ number_refused k radix text low h p =
       | inr large ↦ large
     ]
 
--- a group fits 16 bits
+-- a group of hexadecimal digits fits 16 bits
 pub hex_group_fits : (text : List ℕ) (n : ℕ) → IsHexGroup text n → n < 2 ^ 16
 hex_group_fits text n h =
     let value : digits_value 16 text < 16 ^ length text = digits_value-lt 16 text h.numeral.1 in
     let most : 16 ^ length text ≤ 16 ^ 4 = pow-le-pow_right (omega arith) h.short in
     omega (arith, h.number_is)
 
--- so each group is read
+-- so each group is parsed without an error
 pub hex_group_read : {E : Type 0} (text : List ℕ) (r : Result ℕ E) (o : Option ℕ) → ParsesUnsigned 16 16 text r → o ≡ result_ok r → IfNone o ((n : ℕ) → ¬ IsHexGroup text n)
 hex_group_read text (Ok x) o p e = subst (λ v. IfNone v ((n : ℕ) → ¬ IsHexGroup text n)) (sym e) tt
 hex_group_read text (Err x) o p e =

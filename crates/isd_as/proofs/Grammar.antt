@@ -1,4 +1,4 @@
--- A text of the grammar says one ISD and one AS, and the separators cut it at one place.
+-- A text of the grammar denotes one ISD and one AS, and its separators cut it at one place.
 use Rattle.std.proofs.Common.{◌≡◌, ℕ, ◌↔◌, List, [], ◌∷◌, ◌++◌, Option, None, Some, MatchOption, Result, Ok, Err, Bor, IsErrOf, refl, sym, ap, ◌∙◌, subst, inr, ⊎_elim, arith, append_assoc}
 use Rattle.std.specs.Str.Parse.{AllDigits, IsNumeral, digits_value}
 use Rattle.std.proofs.lemmas.Str.Pattern.{IsSplitOnceResult, split_after, split_parts}
@@ -27,7 +27,7 @@ groups_once text a b c x y z g k =
     let three : c ≡ z = sym g.third_says.number_is ∙ ap (digits_value 16) inner.1 ∙ k.third_says.number_is in
     cc
 
--- groups are no decimal number
+-- groups of hexadecimal digits are no decimal number
 groups_or_decimal : (text : List ℕ) (n x y z : ℕ) → IsDecimal text n → AreHexGroups text x y z → ⊥
 groups_or_decimal text n x y z d g = no_cut 10 58 g.first _ (omega arith) (subst (AllDigits 10) (groups_joined g) d.0.1)
 
@@ -37,7 +37,7 @@ as_once text (Decimal m) (Groups x y z) p q = absurd (groups_or_decimal text m x
 as_once text (Groups x y z) (Decimal m) p q = absurd (groups_or_decimal text m x y z q p)
 as_once text (Groups a b c) (Groups x y z) p q = groups_once text a b c x y z p q
 
--- a text says one ISD and one AS
+-- a text denotes one ISD and one AS
 pub says_once : (text : List ℕ) (i j : ℕ) (m n : AsNumber) → Says text i m → Says text j n → (i ≡ j) × (m ≡ n)
 says_once text i j m n s t =
     let cut = cut_once 10 45 s.front s.back t.front t.back (omega arith) s.front_says.0.1 t.front_says.0.1 (sym (says_joined s) ∙ says_joined t) in (
@@ -45,7 +45,7 @@ says_once text i j m n s t =
       as_once t.back m n (subst (λ (b : List ℕ). IsAsText b m) cut.1 s.back_says) t.back_says,
     )
 
--- where the first dash stands, both parts of a text of the grammar are
+-- a text of the grammar, cut at its first dash, is an ISD and an AS
 pub says_cut : (text : List ℕ) (isd : ℕ) (number : AsNumber) (r : Option (Bor (List ℕ) × Bor (List ℕ))) → IsSplitOnceResult 45 text r → Says text isd number → MatchOption r ⊥ (λ x. IsDecimal x.0.now isd × IsAsText x.1.now number)
 says_cut text isd number r h s =
     parts r (split_after 45 text s.front s.back r h (omega arith) (says_joined s) (digits_lack 10 45 s.front (omega arith) s.front_says.0.1))
@@ -62,7 +62,7 @@ pub record AreTwoGroups (text : List ℕ) (middle low : ℕ) : Type 0 where
   pub second_says : IsHexGroup second middle
   pub third_says : IsHexGroup third low
 
--- where the first colon stands, a group ends and two follow
+-- a text of groups, cut at its first colon, is one group and two groups
 pub groups_cut : (text : List ℕ) (high middle low : ℕ) (r : Option (Bor (List ℕ) × Bor (List ℕ))) → IsSplitOnceResult 58 text r → AreHexGroups text high middle low → MatchOption r ⊥ (λ x. IsHexGroup x.0.now high × AreTwoGroups x.1.now middle low)
 groups_cut text high middle low r h g =
     parts r (split_after 58 text g.first _ r h (omega arith) (groups_joined g) (digits_lack 16 58 g.first (omega arith) g.first_says.numeral.1))
@@ -82,11 +82,11 @@ two_groups_cut text middle low r h g =
     parts None p = p
     parts (Some x) p = (subst (λ (f : List ℕ). IsHexGroup f middle) (sym p.0) g.second_says, subst (λ (b : List ℕ). IsHexGroup b low) (sym p.1) g.third_says)
 
--- the parts round the first dash, put together again
+-- the parts before and after the first dash, put together again
 pub says_from : (text front back : List ℕ) (isd : ℕ) (number : AsNumber) → text ≡ front ++ 45 ∷ back → IsDecimal front isd → IsAsText back number → Says text isd number
 says_from text front back isd number e f b = record { front = front; back = back; joined = e ∙ sym (append_assoc front (45 ∷ []) back); front_says = f; back_says = b }
 
--- a text fails as its AS does, if its ISD is decimal
+-- a text whose ISD is decimal fails as its AS does
 pub as_fails : (text : List ℕ) (front back : Bor (List ℕ)) (e : IaError) → IsSplitOnceResult 45 text (Some (front, back)) → IsNumeral 10 front.now → ReadsAs back.now (Err e) → Reads text (Err e)
 as_fails text front back TooLarge h d r =
     record {
@@ -97,7 +97,7 @@ as_fails text front back TooLarge h d r =
     }
 as_fails text front back BadText h d r = λ g. r g.number (says_cut text g.isd g.number (Some (front, back)) h g.says).1
 
--- an answer is the only one
+-- a text is read as one ISD-AS at most
 pub reads_only : (text : List ℕ) (r : Result IsdAs IaError) (ia : IsdAs) → Reads text r → IsIsdAsText text ia → r ≡ Ok ia
 reads_only text (Ok found) ia h k =
     let once = says_once text found.isd ia.isd h.number k.number h.says k.says in

@@ -1,4 +1,4 @@
--- Two ISD-AS with the same parts, or the same 64 bits, are the same.
+-- Two ISD-AS numbers with the same parts, or with the same 64 bits, are the same.
 use Rattle.std.proofs.Common.{◌≡◌, ◌<◌, ◌^◌, arith}
 use Rattle.std.proofs.Props.{props}
 use mathlib.Core.HLevel.{is_prop→PathP}

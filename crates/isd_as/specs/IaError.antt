@@ -1,4 +1,4 @@
--- What is printed of each refusal.
+-- The message that is printed for each refusal.
 use Rattle.std.specs.Prelude.{ℕ, List, codes}
 use Rattle.isd_as.specs.declared.error.IaError.{IaError}
 use Rattle.isd_as.specs.declared.error.IaError.TheVariants.{BadText, TooLarge}

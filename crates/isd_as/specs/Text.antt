@@ -4,11 +4,11 @@ use Rattle.std.specs.Str.Parse.{IsNumeral, digits_value}
 use Rattle.std.specs.Fmt.{decimal, digits}
 use Rattle.isd_as.specs.declared.number.IsdAs.{IsdAs}
 
--- one or more decimal digits, and the number that they say, of any size
+-- one or more decimal digits, and their number, of any size
 abbrev pub IsDecimal : List ℕ → ℕ → Type 0
 IsDecimal text n = IsNumeral 10 text × (digits_value 10 text ≡ n)
 
--- 1 to 4 hexadecimal digits of either case, and the 16 bits that they say
+-- 1 to 4 hexadecimal digits of either case, and their number of 16 bits
 pub record IsHexGroup (text : List ℕ) (n : ℕ) : Type 0 where
   pub numeral : IsNumeral 16 text
   pub short : length text ≤ 4
@@ -24,7 +24,7 @@ pub record AreHexGroups (text : List ℕ) (high middle low : ℕ) : Type 0 where
   pub second_says : IsHexGroup second middle
   pub third_says : IsHexGroup third low
 
--- an AS as a text says it: a decimal number of any size, or three groups of 16 bits
+-- an AS as a text denotes it: a decimal number of any size, or three groups of 16 bits
 pub data AsNumber : Type 0 where
   Decimal : (n : ℕ) → AsNumber
   Groups : (high middle low : ℕ) → AsNumber
@@ -41,13 +41,13 @@ pub record Says (text : List ℕ) (isd : ℕ) (number : AsNumber) : Type 0 where
   pub front_says : IsDecimal front isd
   pub back_says : IsAsText back number
 
--- the text is in the grammar, whatever its numbers
+-- the text is in the grammar, for some numbers
 pub record IsInGrammar (text : List ℕ) : Type 0 where
   pub isd : ℕ
   pub number : AsNumber
   pub says : Says text isd number
 
--- the AS fits: a decimal one 32 bits, and groups always do
+-- the AS fits: a decimal AS has at most 32 bits, and groups always fit
 abbrev pub FitsAs : AsNumber → Type 0
 FitsAs (Decimal n) = n < 2 ^ 32
 FitsAs (Groups high middle low) = Unit {0}

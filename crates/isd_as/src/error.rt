@@ -4,7 +4,7 @@ ghost use Rattle.isd_as.specs.IaError.{message_of};
 use std::error::Error;
 use std::fmt;
 
-/// Why a text is no ISD-AS number.
+/// Why a text is not an ISD-AS number.
 #[derive(Clone, Copy, Debug, PartialEq, Eq)]
 pub enum IaError {
     /// The text is outside the grammar.

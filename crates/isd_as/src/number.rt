@@ -2,7 +2,7 @@ ghost use Rattle.std.specs.Prelude.{◌≡◌, ◌/◌, ◌%◌, ◌^◌, ◌<�
 
 /// The number of an AS in SCION: an isolation domain (ISD) and an autonomous system (AS) in it.
 ///
-/// Either part may be 0, which in a pattern stands for every ISD or every AS.
+/// Either part may be 0. In a pattern 0 is the wildcard, which matches every ISD or every AS.
 #[derive(Clone, Copy, Debug, PartialEq, Eq)]
 pub struct IsdAs {
     /// The isolation domain.

@@ -4,7 +4,7 @@ use crate::number::IsdAs;
 use std::fmt;
 
 /// Writes the canonical text: an AS below 2^32 in decimal, a larger one as three groups of 16 bits in
-/// lower-case hexadecimal without leading zeros. Options of the format, as a width, change nothing.
+/// lower-case hexadecimal without leading zeros. Options of the format, such as a width, are ignored.
 impl fmt::Display for IsdAs {
     ghost use Rattle.isd_as.specs.Text.{isd_as_text};
 

@@ -11,7 +11,7 @@ use Rattle.isd_as.proofs.reading.hex_group.Goals.{else-text-le4-via-then-text-le
 pub returns-then-all-clause-none : goal.returns-then-all-clause-none
 returns-then-all-clause-none c = hex_group_read c.args.text.now c.from_str_radix.result c.ok.result c.from_str_radix.ensures.value c.ok.ensures.value
 
--- text that is too long or has another byte is no group
+-- a text that is too long, or has a byte that is no digit, is no group
 pub returns-else-text-le4-clause-none : goal.returns-else-text-le4-clause-none
 returns-else-text-le4-clause-none c n h =
     let text = c.args.text.now in

@@ -1,4 +1,4 @@
--- Where a colon lacks, or a part is no group, the text is no groups.
+-- A text without a colon, or with a part that is no group, is not three groups.
 use Rattle.std.proofs.Common.{None, Some}
 use Rattle.isd_as.proofs.Grammar.{groups_cut, two_groups_cut}
 use Rattle.isd_as.proofs.reading.hex_groups.Goals as goal

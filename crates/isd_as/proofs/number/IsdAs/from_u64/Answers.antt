@@ -1,4 +1,4 @@
--- What has the same 64 bits is the same ISD-AS.
+-- An ISD-AS with the same 64 bits is the same ISD-AS.
 use Rattle.std.proofs.Common.{arith}
 use Rattle.std.proofs.lemmas.Nat.{and_mask}
 use Rattle.isd_as.proofs.SameNumber.{number_of_injective}
