@@ -1,4 +1,4 @@
--- Encoding a number from its low bits on: what was pushed so far, and what is left of the number. For `push_varint`, and
+-- Encoding a number from its low bits on: what was pushed until now, and what is left of the number. For `push_varint`, and
 -- for functions of other crates that count the bytes of an encoding.
 use Rattle.std.proofs.Common.{◌≡◌, ℕ, zero, suc, ◌+◌, ◌*◌, ◌/◌, ◌%◌, ◌-◌, ◌<◌, ◌≤◌, List, [], ◌∷◌, ◌++◌, length, refl, sym, ap, subst, ◌∙◌, append_assoc, arith, inl, inr}
 use Rattle.std.proofs.lemmas.Bool.{cases_lt, lt-ltb, le-ltb}

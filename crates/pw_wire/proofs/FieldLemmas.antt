@@ -1,4 +1,4 @@
--- A field is read as its number and value, and what is read is one: both ways, for the fault too. For the law
+-- A field is read as its number and value, and what is read is a field: both directions, for the fault too. For the law
 -- `field_or_fault`, and for `Messages` and `NextField`.
 use Rattle.std.proofs.Common.{◌≡◌, ◌≢◌, ℕ, zero, suc, ◌+◌, ◌*◌, ◌/◌, ◌%◌, ◌-◌, ◌^◌, ◌<◌, ◌≤◌, ◌⊎◌, Bool, true, false, cond, eqb, ltb, List, [], ◌++◌, length, take, drop, Result, Ok, Err, refl, sym, ap, subst, ◌∙◌, append_assoc, arith, inl, inr}
 use Rattle.std.specs.Int.{w32, w64, from_le_bytes}
@@ -17,7 +17,7 @@ use Rattle.pw_wire.proofs.Varints.{bind_ok, bind_err, ok_is, err_is, varint_agai
 rest_fits : (n : ℕ) (bytes : List ℕ) → IsBytes bytes → IsBytes (drop n bytes)
 rest_fits n bytes fits i = rw get_or-drop (fits (n + i))
 
--- a varint that was read stands at the front
+-- a varint that was read is at the front of the bytes
 pub record ReadVarint (bytes : List ℕ) (n k : ℕ) : Type 0 where
   pub begins : BeginsWithVarint bytes n (drop k bytes)
   pub is_front : IsVarint (take k bytes) n
@@ -30,7 +30,7 @@ read_varint_is bytes n k fits e =
     let is : IsVarint (take k bytes) n = record { encoded = took.encoded fits; short = omega (arith, length-take-le k bytes took.within, took.short); fits = took.fits fits } in
     record { begins = record { front = take k bytes; varint = is; parts = sym (take-append-drop k bytes) }; is_front = is; positive = took.positive; within = took.within }
 
--- bytes that begin with a varint are read so
+-- bytes that begin with a varint are read as that varint
 pub begins_again : (bytes : List ℕ) (n : ℕ) (rest : List ℕ) (begins : BeginsWithVarint bytes n rest) → (varint_at bytes ≡ Ok (n, length begins.front)) × (drop (length begins.front) bytes ≡ rest)
 begins_again bytes n rest begins =
     (ap varint_at begins.parts ∙ varint_again begins.front rest n begins.varint, ap (drop (length begins.front)) begins.parts ∙ drop_at begins.front rest (length begins.front) refl)
@@ -98,7 +98,7 @@ value_again (Fixed32 n) content rest is =
     let long : ltb (length (content ++ rest)) 4 ≡ false = le-ltb _ _ (omega (arith, length-append content rest, is.0)) in
     value-5 (content ++ rest) ∙ rw (long, take_at content rest 4 is.0, ← is.1, is.0) refl
 
--- a value that was read stands at the front
+-- a value that was read is at the front of the bytes
 pub record TookValue (kind : ℕ) (bytes : List ℕ) (value : FieldValue) (len : ℕ) : Type 0 where
   pub is : IsBytes bytes → IsValue (take len bytes) value
   pub kind_is : kind ≡ wire_type value
@@ -195,7 +195,7 @@ value_fault (suc (suc (suc (suc (suc (suc k)))))) bytes d fits e =
     let unknown : 6 ≤ suc (suc (suc (suc (suc (suc k))))) = omega arith in
     inr (inr (unknown, err_is (FieldValue × ℕ) d BadWire (sym e ∙ value-unknown (suc (suc (suc (suc (suc (suc k)))))) bytes unknown)))
 
--- a value's fault is found
+-- the fault of a value is found
 value_fails : (kind : ℕ) (bytes : List ℕ) (d : WireError) → IsValueFault kind bytes d → value_at kind bytes ≡ Err d
 unfolding number_at bytes_at
 value_fails kind bytes d (in_varint k h) =
@@ -245,12 +245,12 @@ wire_type_small (Fixed64 n) = omega arith
 wire_type_small (Bytes bytes) = omega arith
 wire_type_small (Fixed32 n) = omega arith
 
--- a tag that stands at the front is read
+-- a tag at the front of the bytes is read
 tagged : (bytes : List ℕ) (tag : ℕ) (rest : List ℕ) (begins : BeginsWithVarint bytes tag rest) → field_at bytes ≡ field_behind (tag, length begins.front) bytes
 unfolding field_at
 tagged bytes tag rest begins = ap (λ r. r >>= λ t. field_behind t bytes) (begins_again bytes tag rest begins).0
 
--- and then the value behind it
+-- and then the value after the tag is read
 tagged_well : (bytes : List ℕ) (tag : ℕ) (rest : List ℕ) (begins : BeginsWithVarint bytes tag rest) → HasNumber tag → field_at bytes ≡ (value_at (tag % 8) rest >>= field_of (tag, length begins.front))
 tagged_well bytes tag rest begins good =
     tagged bytes tag rest begins ∙ behind-good (tag, length begins.front) bytes good
@@ -290,7 +290,7 @@ made_field bytes tag k value m fits read good took =
       content_is = took.is (rest_fits k bytes fits);
     }
 
--- a field that was read stands at the front
+-- a field that was read is at the front of the bytes
 pub record TookField (bytes : List ℕ) (found : FieldView × ℕ) : Type 0 where
   pub is : IsBytes bytes → IsField bytes found.0.number found.0.value found.1
   pub positive : 1 ≤ found.1
@@ -328,7 +328,7 @@ kind_fault : (bytes : List ℕ) (tag : ℕ) (d : WireError) → HasNumber tag �
 kind_fault bytes tag d good (inl h) = subst (IsTagFault tag) (sym h.1) (good, h.0)
 kind_fault bytes tag d good (inr h) = subst (IsTagFault tag) (sym h.1) (good, h.0)
 
--- what was not read has a fault
+-- bytes that were refused have that fault
 pub fault_is : (bytes : List ℕ) (d : WireError) → IsBytes bytes → bytes ≢ [] → field_at bytes ≡ Err d → IsFieldFault bytes d
 unfolding field_at field_of
 fault_is bytes d fits some e =
@@ -350,7 +350,7 @@ fault_is bytes d fits some e =
           ]
     ]
 
--- and a fault is found
+-- and the fault of bytes is found
 pub fault_again : (bytes : List ℕ) (d : WireError) → IsFieldFault bytes d → field_at bytes ≡ Err d
 unfolding field_at
 fault_again bytes d (in_tag some h) = ap (λ r. r >>= λ tag. field_behind tag bytes) (varint_fault_again bytes d h)

@@ -14,17 +14,17 @@ use Rattle.pw_wire.proofs.FieldLemmas.{begins_again, field_again, field_took, fa
 
 -- ---- one step
 
--- no bytes have no fields
+-- empty bytes have no fields
 pub fields-nil : fields [] ≡ []
 unfolding fields fields_within
 fields-nil = refl
 
--- and no fault
+-- empty bytes have no fault
 pub fault-nil : fault [] ≡ None
 unfolding fault fault_within
 fault-nil = refl
 
--- no field stands in no bytes
+-- empty bytes are read as truncated
 pub nothing_read : field_at [] ≡ Err Truncated
 unfolding field_at
 nothing_read = ap (λ r. r >>= λ tag. field_behind tag []) (within-nil 9)
@@ -66,7 +66,7 @@ fault_enough (suc m) (suc k) (b ∷ bytes) le le' =
     same_fault (field_at (b ∷ bytes)) (λ n. fault_within m (drop n (b ∷ bytes))) (λ n. fault_within k (drop n (b ∷ bytes)))
     (λ x e. let positive = (field_took (b ∷ bytes) x e).positive in fault_enough m k (drop x.1 (b ∷ bytes)) (shorter b bytes x.1 m positive le) (shorter b bytes x.1 k positive le'))
 
--- bytes that begin with a field have it, and then the fields behind it
+-- bytes that begin with a field have this field, and then the fields after it
 pub fields-read : (bytes : List ℕ) (f : FieldView) (n : ℕ) → field_at bytes ≡ Ok (f, n) → fields bytes ≡ f ∷ fields (drop n bytes)
 unfolding fields fields_within
 fields-read [] f n e = absurd (let nil = nothing_read in cc)
@@ -81,7 +81,7 @@ fault-read (b ∷ bytes) f n e =
     ap (λ r. fault_from r (λ k. fault_within (length bytes) (drop k (b ∷ bytes)))) e
     ∙ fault_enough (length bytes) (length (drop n (b ∷ bytes))) (drop n (b ∷ bytes)) (shorter b bytes n (length bytes) (field_took (b ∷ bytes) (f, n) e).positive (omega arith)) (omega arith)
 
--- bytes whose first field fails have no fields, and its fault
+-- bytes whose first field fails have no fields, and have the fault of that field
 pub fields-failed : (bytes : List ℕ) (d : WireError) → bytes ≢ [] → field_at bytes ≡ Err d → fields bytes ≡ []
 unfolding fields fields_within
 fields-failed [] d some e = absurd (some refl)
@@ -109,7 +109,7 @@ reaches_more bytes f len fs (Some e) is more = record { len = len; field = is; o
 fields_of_nothing : AreFields [] (fields [])
 fields_of_nothing = subst (AreFields []) (sym fields-nil) refl
 
--- what one reading tells, when what is left is told
+-- what one reading shows of the bytes, given the same of the bytes that are left
 reaches_read : (most b : ℕ) (bytes : List ℕ) → length (b ∷ bytes) ≤ suc most → IsBytes (b ∷ bytes)
     → ((rest : List ℕ) → length rest ≤ most → IsBytes rest → Reaches rest (fields rest) (fault rest))
     → (r : Result (FieldView × ℕ) WireError) → field_at (b ∷ bytes) ≡ r → Reaches (b ∷ bytes) (fields (b ∷ bytes)) (fault (b ∷ bytes))
@@ -124,7 +124,7 @@ reaches_read most b bytes le fits later (Err d) e =
     subst (λ (o : Option WireError). Reaches (b ∷ bytes) (fields (b ∷ bytes)) o) (sym (fault-failed (b ∷ bytes) d some e))
     (subst (λ (fs : List FieldView). Reaches (b ∷ bytes) fs (Some d)) (sym (fields-failed (b ∷ bytes) d some e)) (fault_is (b ∷ bytes) d fits some e))
 
--- `fields` and `fault` tell what the bytes are
+-- `fields` and `fault` describe the bytes exactly
 reaches : (most : ℕ) (bytes : List ℕ) → length bytes ≤ most → IsBytes bytes → Reaches bytes (fields bytes) (fault bytes)
 reaches most [] le fits = subst (λ (o : Option WireError). Reaches [] (fields []) o) (sym fault-nil) fields_of_nothing
 reaches zero (b ∷ bytes) le fits = absurd (omega arith)
@@ -138,7 +138,7 @@ are_fields (f ∷ fs) bytes more =
     let others = are_fields fs (drop more.len bytes) more.others in
     (fault-read bytes f more.len read ∙ others.0, fields-read bytes f more.len read ∙ ap (λ gs. f ∷ gs) others.1)
 
--- no varint stands in no bytes
+-- empty bytes begin with no varint
 no_varint : (n : ℕ) (rest : List ℕ) → BeginsWithVarint [] n rest → ⊥
 no_varint n rest begins = let read = (begins_again [] n rest begins).0 in let none = within-nil 9 in cc
 
@@ -164,7 +164,7 @@ until bytes fs e fits =
 
 -- ---- encoded fields
 
--- an encoded field is one, whatever follows
+-- an encoded field is a field, whatever follows it
 varint_field_is : (field_number n : ℕ) (rest : List ℕ) → 1 ≤ field_number → field_number < 2 ^ 29 → n < 2 ^ 64 → IsField (varint_field_encoding field_number n ++ rest) field_number (Varint n) (length (varint_field_encoding field_number n))
 unfolding varint_field_encoding
 varint_field_is field_number n rest positive below fits = record {

@@ -19,7 +19,7 @@ Answers bytes (Ok None) = bytes ≡ []
 Answers bytes (Ok (Some next)) = field_at bytes ≡ Ok (field_view next.0, next.1)
 Answers bytes (Err e) = (bytes ≢ []) × (field_at bytes ≡ Err e)
 
--- what the test for no bytes tells
+-- the test for empty bytes is exact
 pub is_nothing : (bytes : List ℕ) (b : Bool) → b ≡ eqb (length bytes) 0 → b ≡ true → bytes ≡ []
 is_nothing bytes b e true_is = nil_from_length bytes (eqb-true (length bytes) 0 (sym e ∙ true_is))
 
@@ -31,7 +31,7 @@ pub answers_fault : (bytes : List ℕ) (r : Result (Option (Field × ℕ)) WireE
 answers_fault bytes r x d some given same failed =
     subst (Answers bytes) (sym given) (some, sym failed ∙ ap (λ (y : WireError). Err y) (sym same))
 
--- no field stands in no bytes
+-- empty bytes begin with no field
 no_field : (bytes : List ℕ) (number : ℕ) (value : FieldValue) (len : ℕ) → bytes ≡ [] → IsField bytes number value len → ⊥
 no_field bytes number value len none is =
     let read = field_again bytes number value len is in
@@ -63,7 +63,7 @@ fails bytes (Err d) fits failed e = (
   λ wrong. ap (λ (x : WireError). Err x) (err_is (FieldView × ℕ) d e (sym failed.1 ∙ fault_again bytes e wrong)),
 )
 
--- what a field that was read tells of the whole message
+-- what a field that was read shows of the whole message
 pub step : (bytes : List ℕ) (f : FieldView) (len : ℕ) → IsBytes bytes → field_at bytes ≡ Ok (f, len) → IsStep bytes f len
 step bytes f len fits read =
     let took = field_took bytes (f, len) read in

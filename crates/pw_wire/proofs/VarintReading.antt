@@ -10,7 +10,7 @@ use Rattle.pw_wire.specs.declared.error.WireError.TheVariants.{Truncated, LongVa
 use Rattle.pw_wire.specs.Decoding.{◌>>=◌}
 use Rattle.pw_wire.specs.Varint.{varint_within, varint_at}
 
--- a number and its length, with what was read before it
+-- a number and its length, combined with what was read before
 abbrev pub whole_varint : ℕ → ℕ → ℕ → Result (ℕ × ℕ) WireError → Result (ℕ × ℕ) WireError
 whole_varint i low shift (Ok high) = Ok (low + high.0 * 2 ^ shift, i + high.1)
 whole_varint i low shift (Err e) = Err e
@@ -87,7 +87,7 @@ digit_fits low digit shift small lt =
 pub shift-seven : (b shift i : ℕ) → b < 128 → shift ≡ 7 * i → i < 9 → (b * 2 ^ shift) % 2 ^ 64 ≡ b * 2 ^ shift
 shift-seven b shift i lt is less = shl_whole b 7 shift 64 lt (omega arith)
 
--- nor does the last bit
+-- the last bit is not lost either
 pub shift-last : (b shift : ℕ) → b < 2 → shift ≡ 7 * 9 → (b * 2 ^ shift) % 2 ^ 64 ≡ b * 2 ^ shift
 shift-last b shift lt is = shl_whole b 1 shift 64 lt (omega arith)
 

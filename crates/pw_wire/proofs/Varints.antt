@@ -1,5 +1,5 @@
--- A varint is read as its number, and what is read is one: both ways, for the fault too. For the law `encoded_varint`,
--- and for `FieldLemmas`.
+-- A varint is read as its number, and what is read is a varint: both directions, for the fault too. For the law
+-- `encoded_varint`, and for `FieldLemmas`.
 use Rattle.std.proofs.Common.{◌≡◌, ℕ, zero, suc, ◌+◌, ◌*◌, ◌/◌, ◌%◌, ◌-◌, ◌^◌, ◌<◌, ◌≤◌, ◌⊎◌, List, [], ◌∷◌, ◌++◌, length, take, get_or, Result, Ok, Err, refl, sym, ap, subst, ◌∙◌, arith, inl, inr}
 use Rattle.std.proofs.lemmas.Bool.{cases_lt}
 use Rattle.pw_wire.specs.declared.error.WireError.{WireError}
@@ -45,12 +45,12 @@ one_number (b ∷ c ∷ bytes) m n first second =
 
 -- ---- a varint is read
 
--- a byte that goes on is read with the bytes behind it
+-- a byte that goes on is read with the bytes after it
 goes_on_again : (left b : ℕ) (bytes : List ℕ) (n high k : ℕ) → 128 ≤ b → b - 128 + 128 * high ≡ n → varint_within left bytes ≡ Ok (high, k) → varint_within (suc left) (b ∷ bytes) ≡ Ok (n, suc k)
 goes_on_again left b bytes n high k large number read =
     within-goes_on left b bytes large ∙ ap (λ r. r >>= λ h. Ok (b - 128 + 128 * h.0, suc h.1)) read ∙ ap (λ (m : ℕ). Ok (m, suc k)) number
 
--- a number with its bytes is read, where so many bytes are allowed
+-- a number with its bytes is read, where this number of bytes is allowed
 pub within_again : (left : ℕ) (front rest : List ℕ) (n : ℕ) → EncodesNumber front n → length front ≤ suc left → n < limit left → varint_within left (front ++ rest) ≡ Ok (n, length front)
 within_again left [] rest n encoded short fits = absurd encoded
 within_again zero (b ∷ []) rest n encoded short fits = rw (encoded.1) (within-tenth b rest (omega arith))
@@ -119,7 +119,7 @@ within_took (suc left) (b ∷ bytes) found e =
 
 -- ---- the fault
 
--- why no varint of so many bytes before the last one stands at the front
+-- why the bytes begin with no varint that has at most this number of bytes before its last one
 abbrev FaultWithin : ℕ → List ℕ → WireError → Type 0
 FaultWithin left bytes Truncated = AllGoOn bytes × (length bytes < suc left)
 FaultWithin left bytes LongVarint = AllGoOn (take left bytes) × (1 < get_or bytes left 0)

@@ -6,7 +6,7 @@ use Rattle.pw_wire.specs.declared.error.WireError.{WireError}
 abbrev pub IsBytes : List ℕ → Type 0
 IsBytes bytes = (i : ℕ) → slice_index bytes i < 256
 
--- what was read goes into the next reading; the first fault stands
+-- the value that was read goes into the next reading; the first fault is the result
 infixl 10 ◌>>=◌
 abbrev pub ◌>>=◌ : {A B : Type 0} → Result A WireError → (A → Result B WireError) → Result B WireError
 (Ok x) >>= f = f x

@@ -27,14 +27,14 @@ bytes_field field_number bytes = record { number = field_number; value = Bytes b
 
 -- ---- what a field is
 
--- the number that a tag gives the kind of its value by
+-- the number by which a tag gives the kind of its value
 abbrev pub wire_type : FieldValue → ℕ
 wire_type (Varint n) = 0
 wire_type (Fixed64 n) = 1
 wire_type (Bytes bytes) = 2
 wire_type (Fixed32 n) = 5
 
--- the bytes of a value, behind its tag; fixed numbers have their lowest byte first
+-- the bytes of a value, after its tag; fixed numbers have their lowest byte first
 abbrev pub IsValue : List ℕ → FieldValue → Type 0
 IsValue encoding (Varint n) = IsVarint encoding n
 IsValue encoding (Fixed64 n) = (length encoding ≡ 8) × (n ≡ from_le_bytes w64 encoding)
@@ -54,14 +54,14 @@ pub record IsField (bytes : List ℕ) (field_number : ℕ) (value : FieldValue) 
   pub tag_is : IsVarint tag (field_number * 8 + wire_type value)
   pub content_is : IsValue content value
 
--- some field stands at the front
+-- the bytes begin with some field
 pub record BeginsWithField (bytes : List ℕ) : Type 0 where
   pub field_number : ℕ
   pub value : FieldValue
   pub len : ℕ
   pub field : IsField bytes field_number value len
 
--- ---- what is wrong where no field stands
+-- ---- what is wrong where there is no field
 
 -- a tag of at most 32 bits, whose number is not 0
 abbrev pub HasNumber : ℕ → Type 0
@@ -89,7 +89,7 @@ pub data IsFieldFault (bytes : List ℕ) (error : WireError) : Type 0 where
   at_tag : (tag : ℕ) (rest : List ℕ) → BeginsWithVarint bytes tag rest → IsTagFault tag error → IsFieldFault bytes error
   in_value : (tag : ℕ) (rest : List ℕ) → BeginsWithVarint bytes tag rest → HasNumber tag → IsValueFault (tag % 8) rest error → IsFieldFault bytes error
 
--- some check of a field fails at the front
+-- some check of the first field fails
 abbrev pub HasFieldFault : List ℕ → Type 0
 HasFieldFault bytes = (error : WireError) × IsFieldFault bytes error
 
@@ -103,7 +103,7 @@ fixed64_at bytes = if nat_lt (length bytes) 8 then Err Truncated else Ok (Fixed6
 abbrev pub fixed32_at : List ℕ → Result (FieldValue × ℕ) WireError
 fixed32_at bytes = if nat_lt (length bytes) 4 then Err Truncated else Ok (Fixed32 (from_le_bytes w32 (take 4 bytes)), 4)
 
--- a length, and that many bytes
+-- a length, and this number of bytes
 unfoldable pub bytes_at : List ℕ → Result (FieldValue × ℕ) WireError
 bytes_at bytes = do
   len ← varint_at bytes
@@ -125,7 +125,7 @@ value_at kind bytes =
     else if kind == 5 then fixed32_at bytes
     else Err BadWire
 
--- what stands behind a tag, and how many bytes both took
+-- the value after a tag, and how many bytes the tag and the value took
 unfoldable pub field_behind : ℕ × ℕ → List ℕ → Result (FieldView × ℕ) WireError
 field_behind tag bytes = if nat_lt tag.0 8 then Err BadField else if nat_lt tag.0 (2 ^ 32) then (do
   value ← value_at (tag.0 % 8) (drop tag.1 bytes)

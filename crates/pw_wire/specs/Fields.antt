@@ -1,34 +1,34 @@
--- A whole message: field after field, up to the end or to the first fault.
+-- A whole message: fields in order, up to the end or to the first fault.
 use Rattle.std.specs.Prelude.{◌≡◌, ℕ, zero, suc, List, [], ◌∷◌, ◌++◌, length, drop, Option, Some, None, Result, Ok, Err}
 use Rattle.pw_wire.specs.declared.error.WireError.{WireError}
 use Rattle.pw_wire.specs.Field.{FieldView, IsField, IsFieldFault, field_at}
 
 -- ---- what a message is
 
--- The bytes begin with this field, and the bytes behind it are what `Others` says.
+-- The bytes begin with this field, and the bytes after it are what `Others` says.
 pub record BeginsWith (f : FieldView) (Others : List ℕ → Type 0) (bytes : List ℕ) : Type 0 where
   pub len : ℕ
   pub field : IsField bytes f.number f.value len
   pub others : Others (drop len bytes)
 
--- the bytes are these fields, one after the other
+-- the bytes are exactly these fields, in this order
 abbrev pub AreFields : List ℕ → List FieldView → Type 0
 AreFields bytes [] = bytes ≡ []
 AreFields bytes (f ∷ fs) = BeginsWith f (λ rest. AreFields rest fs) bytes
 
--- the bytes begin with these fields, and behind them no field stands, for this fault
+-- the bytes begin with these fields, and the bytes after them begin with no field, for this fault
 abbrev pub AreFieldsUntil : List ℕ → List FieldView → WireError → Type 0
 AreFieldsUntil bytes [] error = IsFieldFault bytes error
 AreFieldsUntil bytes (f ∷ fs) error = BeginsWith f (λ rest. AreFieldsUntil rest fs error) bytes
 
 -- ---- reading one
 
--- the fields where this was read at the front: it, and the fields from a later byte on, or none
+-- the fields, given the result of reading the first one: this field, and the fields from a later byte on, or none
 abbrev pub fields_from : Result (FieldView × ℕ) WireError → (ℕ → List FieldView) → List FieldView
 fields_from (Ok next) others = next.0 ∷ others next.1
 fields_from (Err e) others = []
 
--- the fault where this was read at the front: its own, else that from a later byte on
+-- the fault, given the result of reading the first field: its own fault, else the fault from a later byte on
 abbrev pub fault_from : Result (FieldView × ℕ) WireError → (ℕ → Option WireError) → Option WireError
 fault_from (Ok next) later = later next.1
 fault_from (Err e) later = Some e
@@ -39,7 +39,7 @@ fields_within zero bytes = []
 fields_within (suc most) [] = []
 fields_within (suc most) (b ∷ bytes) = fields_from (field_at (b ∷ bytes)) (λ n. fields_within most (drop n (b ∷ bytes)))
 
--- and the fault behind at most so many
+-- the fault after at most this number of fields
 unfoldable pub fault_within : ℕ → List ℕ → Option WireError
 fault_within zero bytes = None
 fault_within (suc most) [] = None

@@ -1,4 +1,4 @@
--- Varints, as protobuf's encoding page has them: https://protobuf.dev/programming-guides/encoding/#varints
+-- Varints, as protobuf's encoding page defines them: https://protobuf.dev/programming-guides/encoding/#varints
 use Rattle.std.specs.Prelude.{◌≡◌, ℕ, zero, suc, ◌+◌, ◌*◌, ◌/◌, ◌%◌, ◌-◌, ◌^◌, ◌<◌, ◌≤◌, List, [], ◌∷◌, ◌++◌, length, take, slice_index, Result, Ok, Err, nat_lt, if◌then◌else◌}
 use Rattle.std.specs.List.{AllByRecursion}
 use Rattle.pw_wire.specs.declared.error.WireError.{WireError}
@@ -7,7 +7,7 @@ use Rattle.pw_wire.specs.Decoding.{◌>>=◌}
 
 -- ---- what a varint is
 
--- A byte that goes on is 128 and the low seven bits of the number; the bytes behind it encode the bits above.
+-- A continuation byte is 128 plus the low seven bits of the number; the bytes after it encode the bits above.
 pub record GoesOn (EncodesAbove : ℕ → Type 0) (byte n : ℕ) : Type 0 where
   pub low : ℕ
   pub high : ℕ
@@ -16,8 +16,8 @@ pub record GoesOn (EncodesAbove : ℕ → Type 0) (byte n : ℕ) : Type 0 where
   pub number_is : n ≡ low + 128 * high
   pub above : EncodesAbove high
 
--- Seven bits a byte, the lowest first: a byte below 128 is the last and stands for itself, and each one before it
--- goes on.
+-- Seven bits a byte, the lowest first: a byte below 128 is the last byte and has its own value, and each byte before it
+-- is a continuation byte.
 abbrev pub EncodesNumber : List ℕ → ℕ → Type 0
 EncodesNumber [] n = ⊥
 EncodesNumber (b ∷ []) n = (b < 128) × (n ≡ b)
@@ -29,11 +29,11 @@ pub record IsVarint (bytes : List ℕ) (n : ℕ) : Type 0 where
   pub short : length bytes ≤ 10
   pub fits : n < 2 ^ 64
 
--- each byte says that another one follows
+-- each byte is a continuation byte
 abbrev pub AllGoOn : List ℕ → Type 0
 AllGoOn bytes = AllByRecursion (λ b. 128 ≤ b) bytes
 
--- Why no varint stands at the front: the bytes end too early, or the tenth byte is above 1.
+-- Why the bytes begin with no varint: the bytes end too early, or the tenth byte is above 1.
 abbrev pub IsVarintFault : List ℕ → WireError → Type 0
 IsVarintFault bytes Truncated = AllGoOn bytes × (length bytes < 10)
 IsVarintFault bytes LongVarint = AllGoOn (take 9 bytes) × (1 < slice_index bytes 9)
@@ -41,7 +41,7 @@ IsVarintFault bytes BadField = ⊥
 IsVarintFault bytes GroupWire = ⊥
 IsVarintFault bytes BadWire = ⊥
 
--- bytes that begin with the varint of a number, and go on with the rest
+-- bytes that begin with the varint of a number, followed by the rest
 pub record BeginsWithVarint (bytes : List ℕ) (n : ℕ) (rest : List ℕ) : Type 0 where
   pub front : List ℕ
   pub varint : IsVarint front n

@@ -1,4 +1,4 @@
--- What the program's values stand for.
+-- The program's values as contracts see them.
 use Rattle.std.specs.Prelude.{◌≡◌, ℕ, ◌≤◌, List, [], ◌∷◌, length, drop, Option, Some, None, Result, Ok, Err}
 use Rattle.pw_wire.specs.declared.error.WireError.{WireError}
 use Rattle.pw_wire.specs.declared.field.Field.{Field}
@@ -7,7 +7,7 @@ use Rattle.pw_wire.specs.declared.field.Value.TheVariants as values
 use Rattle.pw_wire.specs.Field.{FieldValue, Varint, Fixed64, Bytes, Fixed32, FieldView}
 use Rattle.pw_wire.specs.Fields.{fields, fault}
 
--- a value, and a field, without where it lies in memory
+-- a value, and a field, without their location in memory
 abbrev pub value_view : Value → FieldValue
 value_view (values.Varint n) = Varint n
 value_view (values.Fixed64 n) = Fixed64 n
@@ -17,7 +17,7 @@ value_view (values.Fixed32 n) = Fixed32 n
 abbrev pub field_view : Field → FieldView
 field_view f = record { number = f.number; value = value_view f.value }
 
--- what a call read, in those terms
+-- what a call read, as these views
 abbrev pub value_read : Result (Value × ℕ) WireError → Result (FieldValue × ℕ) WireError
 value_read (Ok found) = Ok (value_view found.0, found.1)
 value_read (Err e) = Err e
@@ -44,14 +44,14 @@ pub record IsEnd (bytes : List ℕ) : Type 0 where
   pub no_fields : fields bytes ≡ []
   pub no_fault : fault bytes ≡ None
 
--- A field stands at the front, and then come the fields and the fault of what is behind it.
+-- The bytes begin with a field, and then come the fields and the fault of the bytes after it.
 pub record IsStep (bytes : List ℕ) (f : FieldView) (len : ℕ) : Type 0 where
   pub positive : 1 ≤ len
   pub within : len ≤ length bytes
   pub fields_are : fields bytes ≡ f ∷ fields (drop len bytes)
   pub fault_is : fault bytes ≡ fault (drop len bytes)
 
--- What one call tells of the whole message: its end, a step in it, or its fault.
+-- What the result of one call shows of the whole message: its end, its first field, or its fault.
 abbrev pub Steps : List ℕ → Result (Option (Field × ℕ)) WireError → Type 0
 Steps bytes (Ok None) = IsEnd bytes
 Steps bytes (Ok (Some next)) = IsStep bytes (field_view next.0) next.1

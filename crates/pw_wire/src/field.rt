@@ -1,12 +1,12 @@
-/// A field of a message: its number, from 1 to 2^29 - 1, and what it contains. A field says nothing of
-/// the type that the message's description gives it.
+/// A field of a message: its number, from 1 to 2^29 - 1, and its value. The wire format does not contain
+/// the type that the message's description gives the field.
 #[derive(Clone, Copy, Debug, PartialEq)]
 pub struct Field<'a> {
     pub number: u32,
     pub value: Value<'a>,
 }
 
-/// What a field contains, by its wire type.
+/// The value of a field, by its wire type.
 #[derive(Clone, Copy, Debug, PartialEq)]
 pub enum Value<'a> {
     /// Wire type 0: an integer, a `bool` or an enum.

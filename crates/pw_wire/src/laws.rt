@@ -1,5 +1,5 @@
-//! Laws of the definitions that the crate's contracts speak in. Each stands on a function that does
-//! nothing, so that it is proved with the crate.
+//! Laws of the definitions that the crate's contracts cite. Each law is the contract of a function that does
+//! nothing, so that the law is proved with the crate.
 
 ghost use Rattle.std.specs.Prelude.{◌≡◌, ◌≢◌, ◌↔◌, ◌⊎◌, ℕ, ◌^◌, ◌<◌, ◌≤◌, List, [], length, Some, None};
 ghost use Rattle.pw_wire.specs.declared.error.WireError.{WireError};
@@ -23,7 +23,7 @@ pub fn field_or_fault()
         → IsFieldFault bytes d → IsFieldFault bytes e → d ≡ e }
 {}
 
-/// `fields` and `fault` are what the bytes are: these fields up to the end, or these up to that fault.
+/// `fields` and `fault` are exact: the bytes are these fields up to the end, or these fields up to that fault.
 pub fn all_fields()
     ensures whole { (bytes : List ℕ) (fs : List FieldView) → IsBytes bytes
         → (AreFields bytes fs) ↔ ((fault bytes ≡ None) × (fields bytes ≡ fs)) }

@@ -5,7 +5,7 @@ ghost use Rattle.pw_wire.specs.Varint.{varint_at};
 
 use crate::error::WireError;
 
-/// The number at the front, and how many bytes it takes.
+/// The number of the varint at the front of the bytes, and how many bytes the varint takes.
 #[inline(always)]
 #[tactic(auto, unfolding(crate::specs::Varint::varint_within))]
 pub(crate) fn read_varint(bytes: &[u8]) -> Result<(u64, usize), WireError>
