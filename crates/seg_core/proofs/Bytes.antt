@@ -1,4 +1,4 @@
--- Lists of bytes: the pieces of a message of bytes are bytes, and its numbers have 64 bits.
+-- Lists of bytes: the parts of a message of bytes are bytes, and its numbers are below 2^64.
 use Rattle.std.proofs.Common.{◌≡◌, ℕ, zero, suc, ◌+◌, ◌*◌, ◌<◌, ◌^◌, Bool, true, false, List, [], ◌∷◌, ◌++◌, drop, length, Result, Ok, Option, Some, None, refl, subst, arith}
 use Rattle.std.specs.Prelude.{◌==◌, if◌then◌else◌, unwrap_or}
 use Rattle.std.specs.List.{AllByRecursion}
@@ -25,7 +25,7 @@ bytes-append [] ys left right i = right i
 bytes-append (x ∷ xs) ys left right zero = left 0
 bytes-append (x ∷ xs) ys left right (suc i) = bytes-append xs ys (λ i. left (suc i)) right i
 
--- and the parts of bytes
+-- the parts of a list of bytes are bytes
 bytes-left : (xs ys : List ℕ) → IsBytes (xs ++ ys) → IsBytes xs
 bytes-left [] ys are i = omega arith
 bytes-left (x ∷ xs) ys are zero = are 0
@@ -40,7 +40,7 @@ bytes-drop n xs are i = rw get_or-drop (are (n + i))
 
 -- ---- the fields of bytes
 
--- a number of 64 bits, or bytes
+-- a number below 2^64, or bytes
 abbrev pub ValueFits : FieldValue → Type 0
 ValueFits (Varint n) = n < 2 ^ 64
 ValueFits (Fixed64 n) = Unit {0}
@@ -85,7 +85,7 @@ pub message_fields-fit : {B : Type 0} (shape : List FieldKind) (bytes : List ℕ
     → IsBytes bytes → (message_fields shape bytes >>= f) ≡ Ok y → AllValuesFit (fields bytes)
 message_fields-fit shape bytes f y are e = fields_fit (fields bytes) bytes are (message_fields-are shape bytes f y are e)
 
--- ---- what stands under a number
+-- ---- the values under a number
 
 abbrev AllNumbers : List ℕ → Type 0
 AllNumbers ns = AllByRecursion (λ n. n < 2 ^ 64) ns

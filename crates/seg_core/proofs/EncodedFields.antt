@@ -1,4 +1,4 @@
--- The fields of messages that are encoded, and what stands under their numbers.
+-- The fields of encoded messages, and the values under their numbers.
 use Rattle.std.proofs.Common.{◌≡◌, ℕ, ◌+◌, ◌≤◌, ◌<◌, ◌^◌, List, [], ◌∷◌, ◌++◌, length, map, Ok, Option, Some, None, refl, ap, subst, ◌∙◌, arith, length-append}
 use Rattle.std.proofs.lemmas.List.Concat.{flat_map-cons}
 use Rattle.pw_wire.specs.Field.{FieldView, bytes_field, bytes_field_encoding}
@@ -26,7 +26,7 @@ optional_fields k (Some message) = bytes_field k message ∷ []
 abbrev pub entry_fields : List EntryView → List FieldView
 entry_fields es = map (λ e. bytes_field 2 (as_entry_encoding e)) es
 
--- a message that is made of these fields, and of nothing else
+-- a message that consists of exactly these fields
 pub record HasFields (message : List ℕ) (fs : List FieldView) : Type 0 where
   pub fields_are : fields message ≡ fs
   pub faultless : fault message ≡ None
@@ -35,7 +35,7 @@ pub record HasFields (message : List ℕ) (fs : List FieldView) : Type 0 where
 pub nothing : HasFields [] []
 nothing = record { fields_are = fields-nil; faultless = fault-nil }
 
--- one field more at the front
+-- one more field at the front
 pub field_before : (k : ℕ) (t rest : List ℕ) (fs : List FieldView) → 1 ≤ k → k < 2 ^ 29 → length t < 2 ^ 64 → HasFields rest fs → HasFields (bytes_field_encoding k t ++ rest) (bytes_field k t ∷ fs)
 field_before k t rest fs positive below fits has = record {
   fields_are = fields-bytes_field k t rest positive below fits ∙ ap (λ fs. bytes_field k t ∷ fs) has.fields_are;
@@ -46,7 +46,7 @@ bytes_before : (k : ℕ) (t rest : List ℕ) (fs : List FieldView) → 1 ≤ k �
 bytes_before k [] rest fs positive below fits has = has
 bytes_before k (b ∷ t) rest fs positive below fits has = field_before k (b ∷ t) rest fs positive below fits has
 
--- bytes with nothing behind them
+-- bytes with nothing after them
 append_nil : {A : Type 0} (xs : List A) → xs ++ [] ≡ xs
 append_nil [] = refl
 append_nil (x ∷ xs) = ap (λ ys. x ∷ ys) (append_nil xs)
@@ -129,7 +129,7 @@ pub segment-fit : (t : List ℕ) (es : List EntryView) → misfit_after path_seg
 segment-fit [] es = entries-fit [] es
 segment-fit (b ∷ t) es = entries-fit (bytes_field 1 (b ∷ t) ∷ []) es
 
--- ---- what stands under their numbers
+-- ---- what is under their numbers
 
 pub signed-there : (s t : List ℕ) → bytes_field_or_empty 1 (fields_of_bytes 1 s ++ fields_of_bytes 2 t) ≡ s
 signed-there [] [] = refl

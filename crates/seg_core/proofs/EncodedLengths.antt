@@ -1,4 +1,4 @@
--- How many bytes encodings take.
+-- The lengths of encodings in bytes.
 use Rattle.std.proofs.Common.{◌≡◌, ℕ, zero, suc, false, ◌+◌, ◌*◌, ◌/◌, ◌%◌, ◌^◌, ◌<◌, ◌≤◌, List, [], ◌∷◌, length, refl, sym, ap, ◌∙◌, arith, inl, inr, length-append}
 use Rattle.std.specs.Prelude.{◌==◌}
 use Rattle.std.proofs.lemmas.Bool.{cases_lt}
@@ -12,7 +12,7 @@ use Rattle.seg_core.proofs.EncodedFields.{bytes-within}
 
 -- ---- a varint
 
--- a small number needs no more room
+-- a small number has the same encoding where one more byte is allowed
 within_more : (left n : ℕ) → n < limit left → encoding_within (suc left) n ≡ encoding_within left n
 within_more zero n lt = encoding-last 1 n (omega arith) ∙ sym (encoding-last 0 n (omega arith))
 within_more (suc left) n lt = elim (cases_lt n 128) [
@@ -32,7 +32,7 @@ pub varint-last : (n : ℕ) → n < 128 → varint_encoding n ≡ n ∷ []
 unfolding varint_encoding
 varint-last n small = encoding-last 9 n small
 
--- seven bits less take one byte less
+-- a number with seven bits fewer has an encoding with one byte fewer
 pub varint-length-step : (n : ℕ) → 128 ≤ n → n < 2 ^ 64 → length (varint_encoding n) ≡ length (varint_encoding (n / 128)) + 1
 varint-length-step n large lt = omega (arith, ap length (varint-step n large lt))
 
@@ -70,7 +70,7 @@ entry-parts e = record {
   signature = bytes-within 2 e.signature;
 }
 
--- ---- what a test tells
+-- ---- what a test decides
 
 pub bytes-some : (k : ℕ) (bytes : List ℕ) → (length bytes == 0) ≡ false → bytes_encoding k bytes ≡ bytes_field_encoding k bytes
 bytes-some k [] differs = absurd cc

@@ -1,4 +1,4 @@
--- The first field that doesn't fit is found, and is what the relation says. It serves the law `first_misfit_is_exact`.
+-- The test finds the first field that doesn't fit, as the relation defines it. For the law `first_misfit_is_exact`.
 use Rattle.std.proofs.Common.{◌≡◌, ◌⊎◌, ⊎_elim, inl, inr, List, [], ◌∷◌, ◌++◌, Option, Some, None, refl, sym, ap, subst, ◌∙◌, append_assoc, append-nil}
 use Rattle.std.specs.Prelude.{◌↔◌}
 use Rattle.std.specs.Option.{option_or}
@@ -13,7 +13,7 @@ or_none : {A : Type 0} (a b : Option A) → option_or a b ≡ None → (a ≡ No
 or_none None b e = (refl, e)
 or_none (Some x) b e = absurd cc
 
--- one field more before the others
+-- one more field before the others
 shifted : {A : Type 0} (before p : List A) (g : A) → (before ++ g ∷ []) ++ p ≡ before ++ g ∷ p
 shifted before p g = append_assoc before (g ∷ []) p
 
@@ -49,7 +49,7 @@ misfit_after-append shape before (g ∷ p) q =
     ap (option_or (misfit_at shape before g)) (later ∙ ap (λ xs. option_or (misfit_after shape (before ++ g ∷ []) p) (misfit_after shape xs q)) (shifted before p g))
     ∙ or_assoc (misfit_at shape before g) (misfit_after shape (before ++ g ∷ []) p) (misfit_after shape (before ++ g ∷ p) q)
 
--- a field that doesn't fit behind fields that do
+-- a field that doesn't fit, after fields that fit
 record IsFound (shape : List FieldKind) (before fs : List FieldView) (refusal : SegError) : Type 0 where
   passed : List FieldView
   field : FieldView
@@ -71,7 +71,7 @@ found_later shape before fs f refusal fit later = record {
   misfit = subst (λ xs. misfit_at shape xs later.field ≡ Some refusal) (shifted before later.passed f) later.misfit;
 }
 
--- which of two options a value is
+-- the option that has the value
 or_some : {A : Type 0} (a b : Option A) (x : A) → option_or a b ≡ Some x → (a ≡ Some x) ⊎ ((a ≡ None) × (b ≡ Some x))
 or_some None b x e = inr (refl, e)
 or_some (Some y) b x e = inl e

@@ -1,4 +1,4 @@
--- What is read of a segment is kept: its encoding, and in it its information and the pieces of its entries.
+-- What is read of a segment is kept: its encoding, and in the encoding its information and the pieces of its entries.
 use Rattle.std.proofs.Common.{◌≡◌, ℕ, List, ◌++◌, Ok, sym, ap, ◌∙◌, subst}
 use Rattle.std.specs.Arc.{arc_value}
 use Rattle.pw_wire.specs.Decoding.{IsBytes}
@@ -14,7 +14,7 @@ use Rattle.seg_core.specs.Kept.{IsKept}
 use Rattle.seg_core.proofs.Whole.{decoding-IsSegment}
 use Rattle.seg_core.proofs.Places.{IsWithin-kept, piece-kept}
 
--- the segment of these parts, and of this information
+-- the segment with these parts and this information
 abbrev pub view_with : Parts → List ℕ → SegmentView
 view_with parts info = record { timestamp = parts.timestamp; segment_id = parts.segment_id; info = info; entries = entry_views parts.entries.items }
 

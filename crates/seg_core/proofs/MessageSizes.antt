@@ -1,5 +1,5 @@
--- A message of bytes, of any length, is no shorter than the shortest encodings of what stands under its field numbers 1
--- and 2. For the laws that what is read is whole.
+-- A message of bytes, of any length, is no shorter than the shortest encodings of the values under its field numbers 1
+-- and 2. For the laws that decoded messages are whole.
 use Rattle.std.proofs.Common.{◌≡◌, ℕ, ◌+◌, ◌<◌, ◌≤◌, List, [], ◌∷◌, ◌++◌, length, drop, ap, ◌∙◌, inl, inr, arith, length-append}
 use Rattle.std.specs.Prelude.{◌==◌, if◌then◌else◌}
 use Rattle.std.proofs.lemmas.Bool.{cases_Bool, eqb-true}
@@ -13,12 +13,12 @@ use Rattle.seg_core.specs.Message.{bytes_in, bytes_fields}
 use Rattle.seg_core.proofs.EncodedLengths.{field-length}
 use Rattle.seg_core.proofs.Sizes.{encoded_len, HasRoom}
 
--- a varint has a byte
+-- a varint has at least one byte
 some_byte : (bytes : List ℕ) (n : ℕ) → EncodesNumber bytes n → 1 ≤ length bytes
 some_byte [] n encodes = absurd encodes
 some_byte (b ∷ bytes) n encodes = omega arith
 
--- the shortest encoding of a field has at most a byte more than the value
+-- the shortest encoding of a field has at most one byte more than its value
 value_adds : (k : ℕ) (content : List ℕ) (value : FieldValue) → k < 15 → IsValue content value → encoded_len k (bytes_in value) ≤ 1 + length content
 value_adds k content (Varint n) lt is = omega arith
 value_adds k content (Fixed64 n) lt is = omega arith
@@ -27,7 +27,7 @@ value_adds k content (Bytes bytes) lt is =
     let one : encoded_len k (bytes ∷ []) ≡ length (bytes_field_encoding k bytes) + encoded_len k [] = sum_by-cons (λ bytes. length (bytes_field_encoding k bytes)) bytes [] in
     omega (arith, one, field-length k bytes lt, ap length is.parts, length-append is.front bytes, varint_encoding_shortest (length bytes) is.front is.varint)
 
--- a field adds under one of the two numbers, or none
+-- a field adds a value under one of the two numbers, or under neither
 field_adds : (f : FieldView) (content : List ℕ) → IsValue content f.value
     → encoded_len 1 (if f.number == 1 then bytes_in f.value else []) + encoded_len 2 (if f.number == 2 then bytes_in f.value else []) ≤ 1 + length content
 field_adds f content is = elim (cases_Bool (f.number == 1)) [

@@ -61,7 +61,7 @@ IsMidway-step shape message rest misfit found ns ns' ts ts' f used m these same 
 
 -- ---- a pass that has met no misfit
 
--- One number more, which fits.
+-- One more number, which fits.
 pub IsMidway-number : (shape : List FieldKind) (message rest ns : List ℕ) (ts : List (Option (Bor (List ℕ)))) (k n used : ℕ) → kind_at shape k ≡ kind.Number → k < 7 → length ns ≡ 7
     → IsStep rest (wire.varint_field k n) used
     → IsMidway shape message rest None ns ts → IsMidway shape message (drop used rest) None (slice_set ns k n) ts
@@ -70,7 +70,7 @@ IsMidway-number shape message rest ns ts k n used number small width step m =
     (λ before noted. rw number refl)
     (λ before noted. AreNoted-varint before (wire.varint_field k n) ns ts n refl small width noted)
 
--- Some bytes more, which fit.
+-- One more byte string, which fits.
 pub IsMidway-bytes : (shape : List FieldKind) (message rest ns : List ℕ) (ts : List (Option (Bor (List ℕ)))) (k used : ℕ) (s : Bor (List ℕ)) → TakesBytes shape k ns ts → k < 7
     → IsStep rest (wire.bytes_field k s.now) used
     → IsMidway shape message rest None ns ts → IsMidway shape message (drop used rest) None ns (slice_set ts k (Some s))
@@ -83,7 +83,7 @@ IsMidway-bytes shape message rest ns ts k used s fit small step m =
 pub IsMidway-start : (shape : List FieldKind) (message : List ℕ) (ns : List ℕ) (ts : List (Option (Bor (List ℕ)))) → AreNoted [] ns ts → IsMidway shape message message None ns ts
 IsMidway-start shape message ns ts noted = record { before = []; parts = refl; same_fault = refl; noted = noted; misfits = refl }
 
--- Behind the last one.
+-- After the last one.
 pub all_noted : (shape : List FieldKind) (message rest : List ℕ) (ns : List ℕ) (ts : List (Option (Bor (List ℕ)))) → IsMidway shape message rest None ns ts → rest ≡ [] → AreNoted (fields message) ns ts
 all_noted shape message rest ns ts m none =
     subst (λ fs. AreNoted fs ns ts) (sym (m.parts ∙ ap (λ bytes. m.before ++ fields bytes) none ∙ ap (λ fs. m.before ++ fs) fields-nil ∙ append-nil m.before)) m.noted

@@ -1,4 +1,4 @@
--- What one more field changes in what is noted of the fields before it.
+-- What one more field changes in the values that are noted of the fields before it.
 use Rattle.std.proofs.Common.{◌≡◌, ◌≢◌, ℕ, ◌<◌, ◌≤◌, Bool, true, false, cond, eqb, List, [], ◌∷◌, ◌++◌, length, Option, Some, None, unwrap_or, slice_index_or, slice_set, Bor, sym, ap, ◌∙◌, refl, ⊎_elim, append_assoc, append-nil, eq-eqb, ne_eqb, get_or-set_same, get_or-set_other, length-set, arith}
 use Rattle.std.specs.Option.{option_or, option_map}
 use Rattle.std.proofs.lemmas.Bool.{cases_eq}
@@ -20,7 +20,7 @@ bytes_fields-push k (g ∷ fs) f =
     ap (λ ts. cond (eqb g.number k) (bytes_in g.value) [] ++ ts) (bytes_fields-push k fs f)
     ∙ sym (append_assoc (cond (eqb g.number k) (bytes_in g.value) []) (bytes_fields k fs) (cond (eqb f.number k) (bytes_in f.value) []))
 
--- bytes that stand first
+-- the byte strings of a message whose first field is bytes
 pub bytes_fields-first : (k : ℕ) (fs others : List FieldView) (bytes : List ℕ) → fs ≡ (record { number = k; value = Bytes bytes }) ∷ others → bytes_fields k fs ≡ bytes ∷ bytes_fields k others
 bytes_fields-first k fs others bytes is = rw (is, eq-eqb k k refl) refl
 
@@ -28,9 +28,9 @@ last_of-push : {A : Type 0} → (xs : List A) (x : A) → last_of (xs ++ x ∷ [
 last_of-push [] x = refl
 last_of-push (y ∷ ys) x = ap (λ o. option_or o (Some y)) (last_of-push ys x)
 
--- ---- what is last under a number
+-- ---- the last value under a number
 
--- A field that adds nothing under this number leaves the last one.
+-- A field that adds no number under this field number leaves the last one.
 number_field-keeps : (k : ℕ) (fs : List FieldView) (f : FieldView) → cond (eqb f.number k) (varint_in f.value) [] ≡ [] → number_field k (fs ++ f ∷ []) ≡ number_field k fs
 number_field-keeps k fs f none =
     ap (λ ns. unwrap_or (last_of ns) 0) (number_fields-push k fs f ∙ ap (λ ns. number_fields k fs ++ ns) none ∙ append-nil (number_fields k fs))

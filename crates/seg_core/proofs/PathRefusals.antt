@@ -1,5 +1,5 @@
--- A segment is refused as no chain, or for a loop, just where its entries are read and are that. It serves the law
--- `path_refusals_are_exact`.
+-- A segment is refused as no chain, or for a loop, exactly when its entries are read and are no chain, or have a loop. For the
+-- law `path_refusals_are_exact`.
 use Rattle.std.proofs.Common.{◌≡◌, ℕ, Bool, true, false, List, Result, Ok, Err, refl, sym, ◌∙◌}
 use Rattle.std.specs.Prelude.{◌↔◌}
 use Rattle.std.proofs.lemmas.Bool.{false≢true}
@@ -15,12 +15,12 @@ use Rattle.seg_core.proofs.Paths.{chain-IsChain, chain-from, no_loop-HasNoLoop, 
 use Rattle.seg_core.proofs.Refusals.{FailsWithin, is_plain, each_within, plain_as_entry, plain_segment_outline}
 use Rattle.seg_core.proofs.RoundTrip.{goes_on}
 
--- the step behind one that fails plainly
+-- the step after a step whose failures are all plain
 later_err : {A B : Type 0} (r : Result A SegError) (f : A → Result B SegError) (e : SegError) → FailsWithin is_plain r → is_plain e ≡ false → (r >>= f) ≡ Err e → (x : A) × (r ≡ Ok x) × (f x ≡ Err e)
 later_err (Ok x) f e plain isnt is = (x, refl, is)
 later_err (Err d) f e plain isnt is = absurd (false≢true (sym isnt ∙ plain.passes e (cc)))
 
--- the tests of the path, and the segment behind them
+-- the tests of the path, and the segment that is the result after them
 abbrev path : List EntryView → SegmentView → Result SegmentView SegError
 path es s = check (is_chain es) Chain >>= λ _. check (has_no_loop es) Loop >>= λ _. Ok s
 
@@ -53,7 +53,7 @@ loop false b s is = absurd cc
 loop true true s is = absurd cc
 loop true false s is = (refl, refl)
 
--- a test that fails, and one that does not hold
+-- a test that is not true is false
 fails : (b : Bool) → (b ≡ true → ⊥) → b ≡ false
 fails true isnt = absurd (isnt refl)
 fails false isnt = refl

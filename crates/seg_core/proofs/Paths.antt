@@ -1,4 +1,4 @@
--- The tests of a path tell what they mean, both ways.
+-- The tests of a path decide the definitions, in both directions.
 use Rattle.std.proofs.Common.{◌≡◌, ◌≢◌, ℕ, suc, Bool, true, false, List, [], ◌∷◌, ◌++◌, length, map, refl, sym, ap, subst, inl, inr, arith}
 use Rattle.std.specs.Prelude.{◌==◌, ◌&&◌, not, nat_le, IsTrue, ◌↔◌}
 use Rattle.std.specs.List.{list_any, AllByRecursion}
@@ -17,7 +17,7 @@ both false b h = absurd cc
 from_both : (a b : Bool) → a ≡ true → b ≡ true → (a && b) ≡ true
 from_both a b h k = rw (h, k) refl
 
--- a number that is not another
+-- the test of two numbers that are not the same
 pub other : (m n : ℕ) → not (m == n) ≡ true → m ≢ n
 other m n h e = let same = eq-eqb m n e in cc
 
@@ -39,7 +39,7 @@ count-from es h = from_both (nat_le 1 (length es)) (nat_le (length es) 64) (le-l
 
 -- ---- a chain
 
--- what the test says of two neighbours
+-- what the test of two neighbouring entries decides
 leads : (e f : EntryView) → (e.next == f.ia && (not (e.egress == 0) && not (f.ingress == 0))) ≡ true → LeadsTo e f
 leads e f h =
     let next = both (e.next == f.ia) (not (e.egress == 0) && not (f.ingress == 0)) h in
@@ -57,7 +57,7 @@ ends e h = let each = both (e.next == 0) (e.egress == 0) h in (eqb-true e.next 0
 from_ends : (e : EntryView) → EndsAt e → (e.next == 0 && e.egress == 0) ≡ true
 from_ends e h = from_both (e.next == 0) (e.egress == 0) (eq-eqb e.next 0 h.0) (eq-eqb e.egress 0 h.1)
 
--- what is linked stays so without its first entry
+-- linked entries without the first one are linked
 linked_after : (e : EntryView) (es : List EntryView) → is_linked (e ∷ es) ≡ true → is_linked es ≡ true
 linked_after e [] h = refl
 linked_after e (f ∷ es) h = (both (e.next == f.ia && (not (e.egress == 0) && not (f.ingress == 0))) (is_linked (f ∷ es)) h).1
@@ -84,7 +84,7 @@ chain-IsChain es h = record {
   last = λ before e is. linked_last before e (subst (λ es. is_linked es ≡ true) is (chain_linked es h));
 }
 
--- each leads to the one after it, and the last one ends the path
+-- each entry leads to the one after it, and the last one ends the path
 record IsLinked (es : List EntryView) : Type 0 where
   joined : (before after : List EntryView) (e f : EntryView) → es ≡ before ++ e ∷ f ∷ after → LeadsTo e f
   last : (before : List EntryView) (e : EntryView) → es ≡ before ++ e ∷ [] → EndsAt e
@@ -118,7 +118,7 @@ not_true false h = refl
 abbrev ias : List EntryView → List ℕ
 ias es = map (λ e. e.ia) es
 
--- an AS that stands in no entry is none of theirs
+-- where the test finds an AS in no entry, no entry has that AS
 none_is : (n : ℕ) (es : List EntryView) → list_any (λ f. f.ia == n) es ≡ false → AllByRecursion (λ m. n ≢ m) (ias es)
 none_is n [] h = tt
 none_is n (e ∷ es) h = elim (cases_Bool (e.ia == n)) [
@@ -148,7 +148,7 @@ no_loop-from (e ∷ es) none =
     (rw (any_is e.ia es first) refl)
     (no_loop-from es (λ i j d lt within. none (suc i) (suc j) d (omega arith) (omega arith)))
 
--- ---- both ways
+-- ---- both directions
 
 pub count-iff : (es : List EntryView) → (IsTrue (is_entry_count (length es))) ↔ HasEntryCount es
 count-iff es = (count-HasEntryCount es, count-from es)

@@ -1,4 +1,4 @@
--- What stands in bytes stands there still when more is put behind them.
+-- A piece that is in some bytes is in the same place of these bytes with more bytes after them.
 use Rattle.std.proofs.Common.{◌≡◌, ℕ, ◌+◌, ◌-◌, ◌≤◌, List, [], ◌∷◌, ◌++◌, length, take, drop, Result, Ok, Err, Option, Some, None, refl, sym, ap, ◌∙◌, subst, arith, append_assoc, length-append, length-drop}
 use Rattle.std.specs.Prelude.{All}
 use Rattle.std.specs.Option.{option_map, ForSome}
@@ -55,7 +55,7 @@ AreWithin-kept bytes more spans are = record {
 
 -- ---- entries
 
--- the pieces of all of them
+-- the pieces of all entries are within the bytes
 abbrev pub AllWithin : List ℕ → List MarkedEntry → Type 0
 AllWithin bytes es = All (λ e. AreWithin bytes e.spans) es
 
@@ -69,9 +69,9 @@ views-kept bytes more (e ∷ es) are =
     ap (λ v. v ∷ marked_views (bytes ++ more) es) first
     ∙ ap (λ vs. marked_view bytes e ∷ vs) (views-kept bytes more es (All-tail (λ e. AreWithin bytes e.spans) e es are))
 
--- ---- one entry more, behind bytes that were put for those before it
+-- ---- one more entry, after the bytes that were put for the entries before it
 
--- an entry that was put behind these bytes
+-- an entry that was put after these bytes
 pub record IsPut (bytes more : List ℕ) (e : MarkedEntry) : Type 0 where
   pub put : more ≡ bytes ++ bytes_field_encoding 2 (as_entry_encoding (marked_view more e))
   pub within : AreWithin more e.spans

@@ -50,7 +50,7 @@ hop_entry_in_range message hop reading =
     let mtu = after_at_most (2 ^ 32 - 1) (number_field 2 fs) _ hop hop_field.2 in
     hop_field_in_range hop_field.0 hop mtu.1
 
--- two tests of which neither holds
+-- of two tests neither is true
 neither : (a b : Bool) → not (a || b) ≡ true → (not a ≡ true) × (not b ≡ true)
 neither true b h = absurd cc
 neither false b h = (refl, h)
@@ -75,7 +75,7 @@ body_in_range message body reading =
     subst IsBodyInRange (ok_is (record { ia = ia; next = number_field 2 fs; hop = hop.0 }) body peers.2)
     (record { isd = other (ia / 2 ^ 48) 0 parts.0; asn = other (ia % 2 ^ 48) 0 parts.1; hop = hop_entry_in_range hop_entry.0 hop.0 hop.1 })
 
--- the ISD-ASes that bytes say have 64 bits
+-- the ISD-AS numbers of a body are below 2^64
 pub record HasWidths (body : Body) : Type 0 where
   pub ia : body.ia < 2 ^ 64
   pub next : body.next < 2 ^ 64

@@ -1,4 +1,4 @@
--- What a reading that gave a value went through.
+-- The steps that a reading with a value went through.
 use Rattle.std.proofs.Common.{◌≡◌, ℕ, ◌≤◌, Bool, true, false, List, [], Result, Ok, Err, Option, Some, None, refl, sym, ap, subst}
 use Rattle.std.specs.Prelude.{nat_le, ok_or, if◌then◌else◌, IfOk}
 use Rattle.std.specs.Option.{option_map}
@@ -16,11 +16,11 @@ pub step_ok : {A B : Type 0} (r : Result A SegError) (f : A → Result B SegErro
 step_ok (Ok x) f y e = (x, refl, e)
 step_ok (Err d) f y e = absurd cc
 
--- two answers with one value
+-- two results with one value
 pub ok_is : {A : Type 0} (x y : A) → (let r : Result A SegError = Ok x in r) ≡ Ok y → x ≡ y
 ok_is x y e = cc
 
--- a test that let the reading go on
+-- a test after which the reading continued
 pub check_ok : (holds : Bool) (reason : SegError) (u : Unit {0}) → check holds reason ≡ Ok u → holds ≡ true
 check_ok true reason u e = refl
 check_ok false reason u e = absurd cc
@@ -38,7 +38,7 @@ passed None None gs fs e = sym (ok_is gs fs e)
 passed None (Some d) gs fs e = absurd cc
 passed (Some d) misfit gs fs e = absurd cc
 
--- the fields of a message that passed the checks
+-- the fields of a message that passed its checks
 pub message_fields_ok : (shape : List FieldKind) (bytes : List ℕ) (fs : List FieldView) → message_fields shape bytes ≡ Ok fs → fs ≡ fields bytes
 unfolding message_fields
 message_fields_ok shape bytes fs e = passed (option_map error.Wire (fault bytes)) (misfit_after shape [] (fields bytes)) (fields bytes) fs e
@@ -47,7 +47,7 @@ there_ok : (o : Option (List ℕ)) (t : List ℕ) → ok_or o error.MissingField
 there_ok (Some s) t e = ap (λ x. Some x) (ok_is s t e)
 there_ok None t e = absurd cc
 
--- a message that was there
+-- a required message that was present
 pub required_ok : (k : ℕ) (fs : List FieldView) (t : List ℕ) → required_message k fs ≡ Ok t → bytes_field k fs ≡ Some t
 required_ok k fs t e = there_ok (bytes_field k fs) t e
 
@@ -73,7 +73,7 @@ after_at_most limit n f y e =
     let is = at_most_ok limit n step.0 step.1 in
     (is.1, subst (λ m. f m ≡ Ok y) is.0 step.2)
 
--- what holds of all that a reading gives holds of what a call gives
+-- a property of each value that a reading gives holds for the value that a call gives
 pub Gives-IfOk : {X Y : Type 0} (view : X → Y) (P : Y → Type 0) (r : Result X SegError) (reading : Result Y SegError)
     → ((y : Y) → reading ≡ Ok y → P y) → Gives view r reading → IfOk r (λ x. P (view x))
 Gives-IfOk view P (Ok x) reading holds gives = holds (view x) gives

@@ -1,5 +1,5 @@
--- Which refusals the parts of a reading have: none is for want of memory, and up to its entries, and in them, none is
--- for the path that they form. It serves the readers of segments and registrations, and the laws on decodings.
+-- The refusals of the parts of a reading: no part is refused for want of memory, and the parts up to the entries, and the entries
+-- alone, are not refused for their path. For the readers of segments and registrations, and the laws on decodings.
 use Rattle.std.proofs.Common.{◌≡◌, ◌≢◌, ℕ, zero, suc, ◌+◌, Bool, true, false, List, [], ◌∷◌, ◌++◌, Result, Ok, Err, Option, Some, None, refl, sym, ap, ◌∙◌, arith}
 use Rattle.std.specs.Prelude.{nat_le, nat_lt, ok_or, if◌then◌else◌, not, ◌&&◌, is_some}
 use Rattle.std.proofs.lemmas.Bool.{false≢true, lt-ltb, ltb-true}
@@ -32,14 +32,14 @@ rank Entries = 2
 rank BadType = 2
 rank TooLarge = 2
 
--- neither for want of memory nor for a path
+-- a refusal neither for want of memory nor for a path
 abbrev pub is_plain : SegError → Bool
 is_plain e = nat_lt 1 (rank e)
 
 abbrev pub is_not_memory : SegError → Bool
 is_not_memory e = nat_lt 0 (rank e)
 
--- a reading whose refusals all pass a test
+-- a reading whose possible refusals all pass a test
 pub record FailsWithin {A : Type 0} (p : SegError → Bool) (r : Result A SegError) : Type 0 where
   pub passes : (e : SegError) → r ≡ Err e → p e ≡ true
 
@@ -142,7 +142,7 @@ pub plain_info : (message : List ℕ) → FailsWithin is_plain (info_decoding me
 unfolding info_decoding
 plain_info message = search (step, given, plain_message_fields, plain_at_most) depth 16
 
--- ---- what is judged before memory is taken
+-- ---- the parts that are checked before memory is taken
 
 pub plain_segment_outline : (message : List ℕ) → FailsWithin is_plain (segment_outline message)
 unfolding segment_outline

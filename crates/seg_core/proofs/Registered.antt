@@ -1,4 +1,4 @@
--- What a registration that is read holds. It serves the law `read_registrations_are_whole`.
+-- The segments of a registration that is read. For the law `read_registrations_are_whole`.
 use Rattle.std.proofs.Common.{◌≡◌, ℕ, ◌+◌, ◌≤◌, List, [], ◌∷◌, ◌++◌, length, Result, Ok, Err, refl, sym, subst, arith, length-append}
 use Rattle.std.specs.Prelude.{nat_lt, nat_le}
 use Rattle.std.specs.List.{AllByRecursion, sum_by}
@@ -28,11 +28,11 @@ use Rattle.seg_core.proofs.Rows.{entry_rows-push}
 abbrev Row : Type 0
 Row = SegType × SegmentView
 
--- what rows take as segments
+-- the length of the encodings of rows
 abbrev rows_len : List Row → ℕ
 rows_len rows = sum_by (λ row. length (segment_encoding row.1)) rows
 
--- rows behind so many others, of at most so many bytes
+-- rows that come after this number of others, whose encodings have at most this number of bytes
 record AreRegistered (count bytes : ℕ) (rows : List Row) : Type 0 where
   few : count + length rows ≤ 16
   whole : AllByRecursion (λ row. IsSegment row.1) rows
@@ -111,7 +111,7 @@ entry_read earlier message entry le are reading =
     subst (λ entry. AreRegistered count (length message) (rows_of entry.0 entry.1)) (ok_is (kind.0, segments.0) entry segments.2)
     (fewer count (encoded_len 1 messages) (length message) (rows_of kind.0 segments.0) within rows)
 
--- the entries of the map, behind earlier ones of at most so many bytes
+-- the entries of the map, after earlier entries of at most this number of bytes
 map_read : (earlier : List MapEntry) (bytes : ℕ) (messages : List (List ℕ)) (entries : List MapEntry) → AreRegistered 0 bytes (entry_rows earlier) → AllByRecursion IsBytes messages
     → map_decoding earlier messages ≡ Ok entries → AreRegistered 0 (bytes + encoded_len 1 messages) (entry_rows entries)
 unfolding map_decoding
@@ -146,12 +146,12 @@ outline_read message messages are reading =
     subst AreOutlined (ok_is (bytes_fields 1 fs) messages (after_message_fields map_shape message _ messages sized.1))
     (record { are_bytes = bytes_fields-IsBytes 1 fs fits; short = omega (arith, room.both) })
 
--- a reading seen in another way
+-- the value of a reading that is seen by another view
 mapped_ok : {A B : Type 0} (view : A → B) (r : Result A SegError) (y : B) → result_map view r ≡ Ok y → (x : A) × (r ≡ Ok x) × (view x ≡ y)
 mapped_ok view (Ok x) y e = (x, refl, ok_is (view x) y e)
 mapped_ok view (Err d) y e = absurd cc
 
--- what a registration holds
+-- the limits of a registration's rows
 pub record HoldsFew (rows : List Row) : Type 0 where
   pub few : length rows ≤ 16
   pub whole : AllByRecursion (λ row. IsSegment row.1) rows

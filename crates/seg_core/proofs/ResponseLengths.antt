@@ -1,4 +1,4 @@
--- How long a response is. It serves the law `responses_are_short`, and the crates above cite `short_response`.
+-- The length of a response. For the law `responses_are_short`; the crates above cite `short_response`.
 use Rattle.std.proofs.Common.{◌≡◌, ℕ, zero, suc, ◌+◌, ◌*◌, ◌/◌, ◌%◌, ◌<◌, ◌≤◌, Bool, true, false, List, [], ◌∷◌, ◌++◌, length, map, refl, ap, ◌∙◌, arith}
 use Rattle.std.specs.Prelude.{◌==◌, nat_lt, if◌then◌else◌}
 use Rattle.std.specs.List.{AllByRecursion, filter}
@@ -14,7 +14,7 @@ use Rattle.seg_core.specs.Encoding.{IsSegment, segment_encoding, segments_encodi
 
 -- ---- varints
 
--- numbers below the limit have at most so many bytes
+-- numbers below the limit have encodings of at most this number of bytes
 abbrev AreShort : ℕ → ℕ → Type 0
 AreShort limit count = (left n : ℕ) → n < limit → length (encoding_within left n) ≤ count
 

@@ -1,4 +1,4 @@
--- What is appended piece by piece is the encoding of a response.
+-- The pieces that are appended are together the encoding of a response.
 use Rattle.std.proofs.Common.{◌≡◌, ℕ, ◌+◌, ◌<◌, true, false, List, [], ◌∷◌, ◌++◌, length, drop, get_or, refl, sym, ap, ◌∙◌, arith, append_assoc, length-append, drop-cons, add-one}
 use Rattle.std.specs.Prelude.{◌==◌}
 use Rattle.std.proofs.lemmas.List.Concat.{flat_map-cons}
@@ -29,11 +29,11 @@ same-type Core Core = refl
 
 -- ---- the segments of a type
 
--- a segment of a type, behind a reference
+-- a reference to a segment, with its type
 abbrev Referring : Type 0
 Referring = SegType × Bor SegmentView
 
--- what is left of the rows has the next one first
+-- the rows that are left begin with the next one
 split_at : (rows : List Referring) (i : ℕ) (row : Referring) → i < length rows → row ≡ get_or rows i row → referred_rows (drop i rows) ≡ (row.0, row.1.now) ∷ referred_rows (drop (i + 1) rows)
 split_at rows i row lt is =
     let split : drop i rows ≡ get_or rows i row ∷ drop (i + 1) rows = rw add-one (drop-cons rows i row lt) in
@@ -79,7 +79,7 @@ some_bytes s ss none =
     let parts = length-append (bytes_field_encoding 1 (segment_encoding s)) (segments_encoding ss) in
     omega (arith, ap length (flat_map-cons (λ s. bytes_field_encoding 1 (segment_encoding s)) s ss), parts, field-length 1 (segment_encoding s) (omega arith))
 
--- no bytes are those of no segments
+-- no bytes are the encoding of no segments
 pub none-of : (kind : SegType) (ss : List SegmentView) → length (segments_encoding ss) ≡ 0 → map_entry_encoding kind ss ≡ []
 none-of kind [] none = refl
 none-of kind (s ∷ ss) none = absurd (some_bytes s ss none)

@@ -77,7 +77,7 @@ decoding-encoding s is =
     (goes_on _ _ tt (Ok s) (holds (is_chain s.entries) Chain (chain-from s.entries is.chain))
     (goes_on _ _ tt (Ok s) (holds (has_no_loop s.entries) Loop (no_loop-from s.entries is.no_loop)) refl)))
 
--- two whole segments of one encoding are one
+-- two whole segments with one encoding are the same
 pub encoding-injective : (s t : SegmentView) → IsSegment s → IsSegment t → segment_encoding s ≡ segment_encoding t → s ≡ t
 encoding-injective s t one other same = ok_is s t (sym (decoding-encoding s one) ∙ ap segment_decoding same ∙ decoding-encoding t other)
 

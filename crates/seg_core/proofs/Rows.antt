@@ -1,5 +1,5 @@
--- A pass over the entries of a map, which finds their segments with their types. It serves `read_map`,
--- and the way from a response back to its rows.
+-- A scan of the entries of a map, which finds their segments with their types. For `read_map`,
+-- and for reading a response back as its rows.
 use Rattle.std.proofs.Common.{◌≡◌, ◌≢◌, ℕ, List, [], ◌∷◌, ◌++◌, Result, Ok, Err, refl, sym, ap, subst, ◌∙◌, append-nil}
 use Rattle.std.proofs.lemmas.Grind.{flat_map-append}
 use Rattle.seg_core.specs.declared.error.SegError.{SegError}
@@ -15,11 +15,11 @@ use Rattle.seg_core.proofs.Types.{AreIn-with}
 abbrev Rows : Type 0
 Rows = List (SegType × SegmentView)
 
--- the type of an entry, and its rows behind those found before
+-- the type of an entry, and its rows after the rows found before
 abbrev behind : Rows → MapEntry → SegType × Rows
 behind found entry = (entry.0, found ++ rows_of entry.0 entry.1)
 
--- What was found are the rows of entries, and with these the messages that are left give what all of them give.
+-- What was found are the rows of entries, and with these the messages that are left give the rows of all entries.
 pub record Found (all left : List (List ℕ)) (found : Rows) (seen : Earlier) : Type 0 where
   pub entries : List MapEntry
   pub are_in : AreIn entries seen
@@ -31,7 +31,7 @@ unfolding map_decoding
 Found-end all left found seen f none =
     ap (result_map entry_rows) (f.gives ∙ ap (map_decoding f.entries) none) ∙ ap Ok f.rows
 
--- one entry more
+-- one more entry
 pub entry_rows-push : (entries : List MapEntry) (entry : MapEntry) → entry_rows (entries ++ entry ∷ []) ≡ entry_rows entries ++ rows_of entry.0 entry.1
 entry_rows-push entries entry =
     flat_map-append (λ entry. rows_of entry.0 entry.1) entries (entry ∷ []) ∙ ap (λ rows. entry_rows entries ++ rows) (append-nil (rows_of entry.0 entry.1))

@@ -1,4 +1,4 @@
--- The encoding of what was read of a message is no longer than the message. For the laws that what is read is whole.
+-- The encoding of what was read of a message is no longer than the message. For the laws that decoded messages are whole.
 use Rattle.std.proofs.Common.{◌≡◌, ℕ, ◌+◌, ◌≤◌, List, [], ◌∷◌, ◌++◌, length, Option, Some, None, arith, length-append}
 use Rattle.std.specs.Prelude.{unwrap_or}
 use Rattle.std.specs.List.{sum_by}
@@ -10,11 +10,11 @@ use Rattle.seg_core.specs.Message.{last_of, bytes_field, bytes_fields, bytes_fie
 use Rattle.seg_core.specs.Encoding.{bytes_encoding, optional_encoding}
 use Rattle.pw_wire.proofs.Exports.{varint_encoding-mono}
 
--- how many bytes the shortest encodings of these take, as fields of one number
+-- how many bytes the shortest encodings of these byte strings take, as fields of one number
 abbrev pub encoded_len : ℕ → List (List ℕ) → ℕ
 encoded_len k all = sum_by (λ bytes. length (bytes_field_encoding k bytes)) all
 
--- more bytes have no shorter field
+-- longer bytes have no shorter field
 pub bytes_field-mono : (k : ℕ) (s t : List ℕ) → length s ≤ length t → length (bytes_field_encoding k s) ≤ length (bytes_field_encoding k t)
 unfolding bytes_field_encoding
 bytes_field-mono k s t le = simp length-append (omega (arith, varint_encoding-mono (length s) (length t) le))
@@ -30,7 +30,7 @@ last_or : (k : ℕ) (o : Option (List ℕ)) (t : List ℕ) (n : ℕ) → length 
 last_or k (Some s) t n le = omega arith
 last_or k None t n le = omega arith
 
--- the last ones alone take no more than all
+-- the last byte string alone takes no more than all of them
 pub last-length : (k : ℕ) (ts : List (List ℕ)) → length (optional_encoding k (last_of ts)) ≤ encoded_len k ts
 last-length k [] = omega arith
 last-length k (t ∷ ts) = rw (sum_by-cons (λ t. length (bytes_field_encoding k t)) t ts) (last_or k (last_of ts) t (encoded_len k ts) (last-length k ts))
@@ -39,18 +39,18 @@ bytes-length : (k : ℕ) (t : List ℕ) → length (bytes_encoding k t) ≤ leng
 bytes-length k [] = omega arith
 bytes-length k (b ∷ t) = omega arith
 
--- nor do they where empty bytes are left out
+-- nor does the last one where empty bytes are left out
 pub or_empty-length : (k : ℕ) (o : Option (List ℕ)) → length (bytes_encoding k (unwrap_or o [])) ≤ length (optional_encoding k o)
 or_empty-length k (Some t) = bytes-length k t
 or_empty-length k None = omega arith
 
 -- ---- the parts of a message of two fields
 
--- The message is no shorter than the shortest encodings of what stands under its field numbers 1 and 2.
+-- The message is no shorter than the shortest encodings of the values under its field numbers 1 and 2.
 pub record HasRoom (message : List ℕ) : Type 0 where
   pub both : encoded_len 1 (bytes_fields 1 (fields message)) + encoded_len 2 (bytes_fields 2 (fields message)) ≤ length message
 
--- both left out where they are empty
+-- both fields, each left out where it is empty
 pub parts-length : (message : List ℕ) → HasRoom message
     → length (bytes_encoding 1 (bytes_field_or_empty 1 (fields message)) ++ bytes_encoding 2 (bytes_field_or_empty 2 (fields message))) ≤ length message
 parts-length message room =
@@ -58,7 +58,7 @@ parts-length message room =
     rw (length-append (bytes_encoding 1 (bytes_field_or_empty 1 fs)) (bytes_encoding 2 (bytes_field_or_empty 2 fs)))
     (omega (arith, room.both, or_empty-length 1 (bytes_field 1 fs), or_empty-length 2 (bytes_field 2 fs), last-length 1 (bytes_fields 1 fs), last-length 2 (bytes_fields 2 fs)))
 
--- the first one with a part that got no longer, the second as it is
+-- the first field with a part that did not grow, and the second unchanged
 pub entry-length : (message signed encoded : List ℕ) → HasRoom message → bytes_field 1 (fields message) ≡ Some signed → length encoded ≤ length signed
     → length (bytes_field_encoding 1 encoded ++ optional_encoding 2 (bytes_field 2 (fields message))) ≤ length message
 entry-length message signed encoded room is shorter =

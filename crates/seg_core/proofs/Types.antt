@@ -1,4 +1,4 @@
--- A type and its number, and whether it has had an entry. It serves `Earlier::new_type`, `read_map` and the law on types.
+-- A type and its number, and whether the type has had an entry. For `Earlier::new_type`, `read_map` and the law on types.
 use Rattle.std.proofs.Common.{◌≡◌, ℕ, zero, suc, Bool, true, false, not, List, [], ◌∷◌, ◌++◌, Ok, refl, sym, ap, ◌∙◌}
 use Rattle.std.specs.Prelude.{◌||◌, ◌==◌}
 use Rattle.std.proofs.Math.Bool.{or-false}
@@ -14,7 +14,7 @@ use Rattle.seg_core.specs.Earlier.{is_in, with_type, AreIn}
 
 -- ---- numbers
 
--- The number that gives a type is that type's.
+-- The number that gives a type is the number of that type.
 pub type_number-of : (n : ℕ) (kind : SegType) → type_of n ≡ Ok kind → type_number kind ≡ n
 type_number-of zero kind e = cc
 type_number-of (suc zero) Up e = refl
@@ -47,7 +47,7 @@ or_true : (b : Bool) → (b || true) ≡ true
 or_true true = refl
 or_true false = refl
 
--- a type among those of one entry more
+-- whether a type is among the types of one more entry
 has_type-push : (entries : List MapEntry) (of kind : SegType) (segments : List SegmentView) → has_type (entries ++ (of, segments) ∷ []) kind ≡ (has_type entries kind || type_number of == type_number kind)
 has_type-push entries of kind segments =
     list_any-append (λ entry. type_number entry.0 == type_number kind) entries ((of, segments) ∷ [])
@@ -64,7 +64,7 @@ is_in-with seen Core Up = sym (or-false seen.up)
 is_in-with seen Core Down = sym (or-false seen.down)
 is_in-with seen Core Core = sym (or_true seen.core)
 
--- An entry more has its type taken in.
+-- After one more entry its type is noted.
 pub AreIn-with : (entries : List MapEntry) (seen : Earlier) (of : SegType) (segments : List SegmentView) → AreIn entries seen → AreIn (entries ++ (of, segments) ∷ []) (with_type seen of)
 AreIn-with entries seen of segments noted kind =
     is_in-with seen of kind

@@ -99,7 +99,7 @@ segment_short message s room info entries =
     rw (info, length-append (bytes_encoding 1 (bytes_field_or_empty 1 fs)) (entries_encoding s.entries))
     (omega (arith, room.both, or_empty-length 1 (bytes_field 1 fs), last-length 1 (bytes_fields 1 fs)))
 
--- what the outline of a segment went through
+-- the checks that the outline of a segment has passed
 record IsOutlined (message : List ℕ) (outline : SegmentOutline) : Type 0 where
   le : length message ≤ 16384
   room : HasRoom message
@@ -130,7 +130,7 @@ outline_read message outline are reading =
       counted = counted.0;
     })
 
--- The encodings of its information and of its entries' messages are short, and so are those of its entries.
+-- The encodings of the segment's information and of its entries' messages are short, and so are those of its entries.
 pub outline-room : (message : List ℕ) (outline : SegmentOutline) → IsBytes message → segment_outline message ≡ Ok outline
     → length (bytes_encoding 1 outline.info) + encoded_len 2 outline.entries ≤ 16384
 outline-room message outline are reading =
@@ -140,7 +140,7 @@ outline-room message outline are reading =
     rw (outlined.info_is, outlined.entries_are)
     (omega (arith, outlined.room.both, or_empty-length 1 (bytes_field 1 fs), last-length 1 (bytes_fields 1 fs)))
 
--- what the reading of a segment tells of it
+-- what a decoded segment satisfies
 record IsRead (message : List ℕ) (s : SegmentView) : Type 0 where
   whole : IsSegment s
   short : length (segment_encoding s) ≤ length message
@@ -174,6 +174,6 @@ segment_read message s are reading =
 pub decoding-IsSegment : (message : List ℕ) (s : SegmentView) → IsBytes message → segment_decoding message ≡ Ok s → IsSegment s
 decoding-IsSegment message s are reading = (segment_read message s are reading).whole
 
--- no encoding of it is longer than the message
+-- the encoding of a decoded segment is no longer than the message
 pub decoding-length : (message : List ℕ) (s : SegmentView) → IsBytes message → segment_decoding message ≡ Ok s → length (segment_encoding s) ≤ length message
 decoding-length message s are reading = (segment_read message s are reading).short

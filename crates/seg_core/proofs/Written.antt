@@ -1,4 +1,4 @@
--- What is appended piece by piece is the encoding of the whole.
+-- The pieces that are appended are together the encoding of the whole.
 use Rattle.std.proofs.Common.{◌≡◌, ℕ, ◌+◌, ◌*◌, ◌<◌, List, [], ◌∷◌, ◌++◌, length, arith, refl, sym, ap, ◌∙◌, append_assoc, length-append}
 use Rattle.pw_wire.specs.Varint.{varint_encoding}
 use Rattle.pw_wire.specs.Field.{bytes_field_encoding}
@@ -6,7 +6,7 @@ use Rattle.seg_core.specs.SegmentView.{EntryView}
 use Rattle.seg_core.specs.Encoding.{head_encoding, optional_encoding, pieces_encoding, signed_encoding, as_entry_encoding}
 use Rattle.seg_core.proofs.EncodedLengths.{varint-last}
 
--- a field is its head, and the bytes
+-- a field is its head, followed by the bytes
 field-head : (k len : ℕ) (bytes : List ℕ) → len ≡ length bytes → bytes_field_encoding k bytes ≡ head_encoding k len ++ bytes
 unfolding bytes_field_encoding head_encoding
 field-head k len bytes same =
@@ -28,7 +28,7 @@ field-put k len bytes out headed done same head rest =
 pub both-put : (first second out between done : List ℕ) → between ≡ out ++ first → done ≡ between ++ second → done ≡ out ++ (first ++ second)
 both-put first second out between done one two = two ∙ ap (λ xs. xs ++ second) one ∙ append_assoc out first second
 
--- an entry is the head of its signed message, and its pieces
+-- an entry is the head of its signed message, followed by its pieces
 entry-head : (e : EntryView) (len : ℕ) → len ≡ length (signed_encoding e) → as_entry_encoding e ≡ head_encoding 1 len ++ pieces_encoding e
 entry-head e len same =
     ap (λ xs. xs ++ optional_encoding 2 e.unsigned) (field-head 1 len (signed_encoding e) same)

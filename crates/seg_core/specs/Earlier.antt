@@ -11,12 +11,12 @@ is_in seen Up = seen.up
 is_in seen Down = seen.down
 is_in seen Core = seen.core
 
--- these types, and this one
+-- these types and one more
 abbrev pub with_type : Earlier → SegType → Earlier
 with_type seen Up = record seen { up = true }
 with_type seen Down = record seen { down = true }
 with_type seen Core = record seen { core = true }
 
--- the types of these entries are those that have had one
+-- the types of these entries are exactly those that are noted
 abbrev pub AreIn : List MapEntry → Earlier → Type 0
 AreIn entries seen = (kind : SegType) → is_in seen kind ≡ has_type entries kind

@@ -1,5 +1,5 @@
 -- The one encoding of a segment and of a response: fields by number, numbers in the shortest varints, zero numbers
--- and empty bytes left out. What is kept of an entry is written as it came.
+-- and empty bytes left out. The pieces that are kept of an entry are written unchanged.
 use Rattle.std.specs.Prelude.{◌≡◌, ℕ, ◌+◌, ◌*◌, ◌<◌, ◌≤◌, ◌^◌, List, [], ◌∷◌, ◌++◌, length, map, filter, ◌==◌, Ok, Option, Some, None}
 use Rattle.std.specs.List.{flat_map, AllByRecursion}
 use Rattle.std.specs.Option.{ForSome}
@@ -17,7 +17,7 @@ use Rattle.seg_core.specs.Segment.{info_decoding}
 use Rattle.seg_core.specs.Registration.{type_number, rows_of}
 use Rattle.seg_core.specs.WellFormed.{HasEntryCount, IsChain, HasNoLoop}
 
--- what stands before the bytes of a field: its tag, and how many bytes it has
+-- the bytes before the content of a bytes field: its tag and its length
 unfoldable pub head_encoding : ℕ → ℕ → List ℕ
 head_encoding k len = varint_encoding (k * 8 + 2) ++ varint_encoding len
 
@@ -26,7 +26,7 @@ abbrev pub bytes_encoding : ℕ → List ℕ → List ℕ
 bytes_encoding k [] = []
 bytes_encoding k (b ∷ bytes) = bytes_field_encoding k (b ∷ bytes)
 
--- a message that may be missing, written where it is there, even when it is empty
+-- a message that may be missing: where it is present it is written, even when it is empty
 abbrev pub optional_encoding : ℕ → Option (List ℕ) → List ℕ
 optional_encoding k None = []
 optional_encoding k (Some message) = bytes_field_encoding k message
@@ -39,7 +39,7 @@ signed_encoding e = bytes_encoding 1 e.signed ++ bytes_encoding 2 e.signature
 abbrev pub as_entry_encoding : EntryView → List ℕ
 as_entry_encoding e = bytes_field_encoding 1 (signed_encoding e) ++ optional_encoding 2 e.unsigned
 
--- what stands in it behind the tag and the length of its signed message
+-- the content of an entry after the tag and the length of its signed message
 abbrev pub pieces_encoding : EntryView → List ℕ
 pieces_encoding e = signed_encoding e ++ optional_encoding 2 e.unsigned
 
@@ -49,12 +49,12 @@ entries_encoding es = flat_map (λ e. bytes_field_encoding 2 (as_entry_encoding 
 unfoldable pub segment_encoding : SegmentView → List ℕ
 segment_encoding s = bytes_encoding 1 s.info ++ entries_encoding s.entries
 
--- what the body of an entry says
+-- the numbers in the body of an entry
 abbrev pub body_of : EntryView → Body
 body_of e = record { ia = e.ia; next = e.next; hop = record { ingress = e.ingress; egress = e.egress; exp_time = e.exp_time } }
 
--- What every entry is: its numbers are those of its signed body, its two ISD-ASes have 64 bits, and the pieces that
--- are kept as they came are bytes.
+-- What holds for every entry: its numbers are those of its signed body, its two ISD-AS numbers are below 2^64, and the pieces
+-- that are kept unchanged are bytes.
 pub record IsEntry (e : EntryView) : Type 0 where
   pub says : header_and_body_decoding e.signed ≡ Ok (body_of e)
   pub ia : e.ia < 2 ^ 64
@@ -63,7 +63,7 @@ pub record IsEntry (e : EntryView) : Type 0 where
   pub signature : IsBytes e.signature
   pub unsigned : ForSome e.unsigned IsBytes
 
--- What every segment is: its information is bytes that say its numbers, its entries are 1 to 64 and one path without a
+-- What holds for every segment: its information is bytes with its numbers, its entries are 1 to 64 and one path without a
 -- loop, and its encoding has at most 16,384 bytes.
 pub record IsSegment (s : SegmentView) : Type 0 where
   pub info_says : info_decoding s.info ≡ Ok (record { timestamp = s.timestamp; segment_id = s.segment_id })
@@ -76,7 +76,7 @@ pub record IsSegment (s : SegmentView) : Type 0 where
 
 -- ---- a response
 
--- what stands behind references to segments
+-- rows of references as rows of the segments that they refer to
 abbrev pub referred_rows : List (SegType × Bor SegmentView) → List (SegType × SegmentView)
 referred_rows rows = map (λ row. (row.0, row.1.now)) rows
 

@@ -1,4 +1,4 @@
--- Reading the entry of one AS, from its hop field outwards.
+-- Reading the entry of one AS, beginning with its hop field.
 use Rattle.std.specs.Prelude.{ℕ, List, ◌==◌, not, length, Result, Ok, ◌^◌, ◌-◌}
 use Rattle.isd_as.specs.IsdAs.{has_zero_part}
 use Rattle.seg_core.specs.declared.error.SegError.{SegError}
@@ -10,7 +10,7 @@ use Rattle.seg_core.specs.Steps.{◌>>=◌, check, at_most, each}
 use Rattle.seg_core.specs.Message.{message_fields, required_message, number_field, bytes_field, bytes_fields, bytes_field_or_empty}
 use Rattle.seg_core.specs.SegmentView.{EntryView}
 
--- where a segment enters and leaves an AS, and for how long it may
+-- where a segment enters and leaves an AS, and how long the hop field is valid
 unfoldable pub hop_field_decoding : List ℕ → Result Hop SegError
 hop_field_decoding message = do
   fs ← message_fields hop_field_shape message
@@ -34,7 +34,7 @@ peer_entry_decoding message = do
   _ ← at_most (2 ^ 32 - 1) (number_field 3 fs)
   hop_field_decoding hop_field
 
--- what the signed body of an entry says
+-- the numbers in the signed body of an entry
 unfoldable pub body_decoding : List ℕ → Result Body SegError
 body_decoding message = do
   fs ← message_fields body_shape message
@@ -45,13 +45,13 @@ body_decoding message = do
   _ ← each peer_entry_decoding (bytes_fields 4 fs)
   Ok (record { ia = number_field 1 fs; next = number_field 2 fs; hop = hop })
 
--- a header, which is kept and not read, and a body
+-- a header, which is kept but not read, and a body
 unfoldable pub header_and_body_decoding : List ℕ → Result Body SegError
 header_and_body_decoding message = do
   fs ← message_fields header_and_body_shape message
   body_decoding (bytes_field_or_empty 2 fs)
 
--- a signed message, and extensions that are not signed, which are kept and not read
+-- a signed message, and extensions that are not signed, which are kept but not read
 unfoldable pub as_entry_decoding : List ℕ → Result EntryView SegError
 as_entry_decoding message = do
   fs ← message_fields as_entry_shape message

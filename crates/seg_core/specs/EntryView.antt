@@ -1,4 +1,4 @@
--- What an entry and a segment stand for.
+-- Entries and segments as contracts see them.
 use Rattle.std.specs.Prelude.{ℕ, List, map}
 use Rattle.std.specs.Arc.{arc_value}
 use Rattle.std.specs.Option.{option_map}
@@ -26,7 +26,7 @@ entry_view e = record {
 abbrev pub entry_views : List Entry → List EntryView
 entry_views entries = map entry_view entries
 
--- an entry of what its body says, and of its pieces
+-- the entry with the numbers of this body and with these pieces
 abbrev pub entry_of : Body → PiecesView → EntryView
 entry_of body pieces = record {
   ia = body.ia;
@@ -39,14 +39,14 @@ entry_of body pieces = record {
   unsigned = pieces.unsigned;
 }
 
--- the pieces of an entry as it came
+-- the pieces of an entry, unchanged
 abbrev pub borrowed_pieces : BorrowedEntry → PiecesView
 borrowed_pieces e = record { signed = e.signed.now; signature = e.signature.now; unsigned = option_map (λ s. s.now) e.unsigned }
 
 abbrev pub borrowed_view : BorrowedEntry → EntryView
 borrowed_view e = entry_of e.body (borrowed_pieces e)
 
--- an entry whose pieces stand in these bytes
+-- an entry whose pieces are in these bytes
 abbrev pub marked_view : List ℕ → MarkedEntry → EntryView
 marked_view bytes e = entry_of e.body (pieces_at bytes e.spans)
 

@@ -1,5 +1,5 @@
--- The tests of equality tell just whether two entries or segments are the same, by which they are symmetric and
--- transitive. The impl of `PartialEq` for `Segment` cites it.
+-- The tests of equality decide whether two entries or segments are the same, so that the tests are symmetric and
+-- transitive. The impl of `PartialEq` for `Segment` cites these laws.
 use Rattle.std.proofs.Common.{◌≡◌, ℕ, Bool, true, false, List, Option, Some, None, refl, sym, ap, ◌∙◌}
 use Rattle.std.specs.Prelude.{◌&&◌, IsTrue, ◌↔◌}
 use Rattle.std.specs.Bool.{Decides, one_answer}
@@ -68,7 +68,7 @@ segments_decide s t =
 pub same_segment-iff : (s t : SegmentView) → (IsTrue (same_segment s t)) ↔ (s ≡ t)
 same_segment-iff s t = segments_decide s t
 
--- the other way round it tells the same
+-- the test with its sides exchanged decides the same
 decides_back : (s t : SegmentView) → Decides (same_segment t s) (s ≡ t)
 decides_back s t = (λ h. sym ((segments_decide t s).0 h), λ same. (segments_decide t s).1 (sym same))
 

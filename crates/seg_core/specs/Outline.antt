@@ -1,4 +1,4 @@
--- What the outline of a segment stands for.
+-- The outline of a segment as contracts see it.
 use Rattle.pw_wire.specs.Fields.{fields}
 use Rattle.seg_core.specs.declared.outline.Outline.{Outline}
 use Rattle.seg_core.specs.Message.{bytes_fields}

@@ -6,7 +6,7 @@ use Rattle.seg_core.specs.Entry.{as_entry_decoding}
 use Rattle.seg_core.specs.Segment.{SegmentOutline, segment_outline}
 use Rattle.seg_core.specs.WellFormed.{IsChain, HasNoLoop}
 
--- a message whose outline stands, and whose entries are read as these
+-- a message whose outline is valid, and whose entries are read as these
 pub record HasEntries (message : List ℕ) (entries : List EntryView) : Type 0 where
   pub outline : SegmentOutline
   pub outline_is : segment_outline message ≡ Ok outline
@@ -18,7 +18,7 @@ pub record HasNoChain (message : List ℕ) : Type 0 where
   pub read : HasEntries message entries
   pub no_chain : ¬ IsChain entries
 
--- The entries are a chain, and an AS stands in it twice.
+-- The entries are a chain, and an AS occurs twice in it.
 pub record HasLoop (message : List ℕ) : Type 0 where
   pub entries : List EntryView
   pub read : HasEntries message entries

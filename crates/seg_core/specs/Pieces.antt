@@ -1,4 +1,4 @@
--- The pieces of an entry, by where they stand in an encoding: what is signed, its signature, and what is not signed, which
+-- The pieces of an entry, by their places in an encoding: what is signed, its signature, and what is not signed, which
 -- may be missing.
 use Rattle.std.specs.Prelude.{ℕ, List, length, ◌≤◌}
 use Rattle.std.specs.Arc.{arc_value}
@@ -9,16 +9,16 @@ use Rattle.seg_core.specs.declared.pieces.Span.{Span}
 use Rattle.seg_core.specs.declared.pieces.Spans.{Spans}
 use Rattle.seg_core.specs.declared.pieces.Pieces.TheInside.{Inside}
 
--- the bytes that stand there
+-- the bytes at this place
 abbrev pub piece_at : List ℕ → Span → List ℕ
 piece_at bytes span = between span.start span.end bytes
 
--- they are all there
+-- the place is within the bytes
 pub record IsWithin (bytes : List ℕ) (span : Span) : Type 0 where
   pub ordered : span.start ≤ span.end
   pub within : span.end ≤ length bytes
 
--- the pieces of an entry that stand there
+-- the pieces of an entry at these places
 abbrev pub pieces_at : List ℕ → Spans → PiecesView
 pieces_at bytes spans = record {
   signed = piece_at bytes spans.signed;
@@ -26,13 +26,13 @@ pieces_at bytes spans = record {
   unsigned = option_map (λ span. piece_at bytes span) spans.unsigned;
 }
 
--- they are all there
+-- all of these places are within the bytes
 pub record AreWithin (bytes : List ℕ) (spans : Spans) : Type 0 where
   pub signed : IsWithin bytes spans.signed
   pub signature : IsWithin bytes spans.signature
   pub unsigned : ForSome spans.unsigned (λ span. IsWithin bytes span)
 
--- the encoding that the pieces stand in
+-- the encoding that contains the pieces
 abbrev encoding_of : Inside → List ℕ
 encoding_of p = (arc_value p.encoding).items
 

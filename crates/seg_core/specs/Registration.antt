@@ -18,7 +18,7 @@ type_number Up = 1
 type_number Down = 2
 type_number Core = 3
 
--- the type of a number, judged whole
+-- the type with this number; the whole number is checked, not its low bits
 abbrev pub type_of : ℕ → Result SegType SegError
 type_of zero = Err BadType
 type_of (suc zero) = Ok Up
@@ -42,7 +42,7 @@ entry_rows entries = flat_map (λ entry. rows_of entry.0 entry.1) entries
 abbrev pub has_type : List MapEntry → SegType → Bool
 has_type entries kind = list_any (λ entry. type_number entry.0 == type_number kind) entries
 
--- The segments of one type, behind so many of the registration: the 17th is refused before it is read.
+-- The segments of one type, after this number of segments of the registration: the 17th is refused before it is read.
 unfoldable pub segments_decoding : ℕ → List (List ℕ) → Result (List SegmentView) SegError
 segments_decoding count [] = Ok []
 segments_decoding count (message ∷ messages) = do
@@ -51,14 +51,14 @@ segments_decoding count (message ∷ messages) = do
   others ← segments_decoding (count + 1) messages
   Ok (first ∷ others)
 
--- The type of an entry of the map, behind earlier ones: each type may have one.
+-- The type of an entry of the map, after earlier entries: each type may have one entry.
 unfoldable pub new_type : List MapEntry → ℕ → Result SegType SegError
 new_type earlier n = do
   kind ← type_of n
   _ ← check (not (has_type earlier kind)) RepeatedMessage
   Ok kind
 
--- One entry of the map, behind earlier ones. Without a value it has no segments.
+-- One entry of the map, after earlier entries. An entry without a value has no segments.
 unfoldable pub map_entry_decoding : List MapEntry → List ℕ → Result MapEntry SegError
 map_entry_decoding earlier message = do
   fs ← message_fields map_entry_shape message
@@ -67,14 +67,14 @@ map_entry_decoding earlier message = do
   segments ← segments_decoding (length (entry_rows earlier)) (bytes_fields 1 value)
   Ok (kind, segments)
 
--- all entries of the map: the earlier ones, and those of these messages
+-- all entries of the map: the earlier ones, and the entries of these messages
 unfoldable pub map_decoding : List MapEntry → List (List ℕ) → Result (List MapEntry) SegError
 map_decoding earlier [] = Ok earlier
 map_decoding earlier (message ∷ messages) = do
   entry ← map_entry_decoding earlier message
   map_decoding (earlier ++ entry ∷ []) messages
 
--- The messages of the map's entries. It takes no memory to judge its size, and the wire and the kinds of its message.
+-- The messages of the map's entries. Its size, its wire format and the kinds of its fields are checked without taking memory.
 unfoldable pub registration_outline : List ℕ → Result (List (List ℕ)) SegError
 registration_outline message = do
   _ ← check (nat_le (length message) MOST_REGISTERED_BYTES) TooLarge

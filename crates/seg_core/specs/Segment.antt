@@ -11,7 +11,7 @@ use Rattle.seg_core.specs.SegmentView.{SegmentView}
 use Rattle.seg_core.specs.Entry.{as_entry_decoding}
 use Rattle.seg_core.specs.WellFormed.{is_entry_count, is_chain, has_no_loop}
 
--- when the segment was made, and its id
+-- when the segment was made, in seconds since 1970, and its id
 unfoldable pub info_decoding : List ℕ → Result Info SegError
 info_decoding message = do
   fs ← message_fields segment_information_shape message
@@ -19,15 +19,15 @@ info_decoding message = do
   segment_id ← at_most (2 ^ 16 - 1) (number_field 2 fs)
   Ok (record { timestamp = timestamp; segment_id = segment_id })
 
--- A segment whose entries are not read: they are messages still.
+-- A segment whose entries are not read yet: the entries are messages.
 pub record SegmentOutline : Type 0 where
   pub timestamp : ℕ
   pub segment_id : ℕ
   pub info : List ℕ
   pub entries : List (List ℕ)
 
--- A segment up to its entries: its size, the wire and the kinds of its message, how many entries there are, and its
--- information. It takes no memory to judge that.
+-- A segment up to its entries: its size, its wire format and the kinds of its fields, how many entries there are, and its
+-- information. These are checked without taking memory.
 unfoldable pub segment_outline : List ℕ → Result SegmentOutline SegError
 segment_outline message = do
   _ ← check (nat_le (length message) MOST_SEGMENT_BYTES) TooLarge

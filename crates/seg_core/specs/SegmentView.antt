@@ -1,13 +1,13 @@
--- A path segment as contracts see it: what its bytes say, and the pieces that are kept as they came.
+-- A path segment as contracts see it: the numbers in its bytes, and the pieces that are kept unchanged.
 use Rattle.std.specs.Prelude.{ℕ, List, Option}
 
--- What is kept of an entry as it came: what the AS has signed, its signature, and what is not signed, which may be missing.
+-- The pieces of an entry that are kept unchanged: what the AS has signed, its signature, and what is not signed, which may be missing.
 pub record PiecesView : Type 0 where
   pub signed : List ℕ
   pub signature : List ℕ
   pub unsigned : Option (List ℕ)
 
--- The entry of one AS. An ISD-AS is its number of 64 bits.
+-- The entry of one AS. An ISD-AS is a number of 64 bits.
 pub record EntryView : Type 0 where
   pub ia : ℕ
   pub next : ℕ

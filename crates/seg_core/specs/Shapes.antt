@@ -1,5 +1,5 @@
--- The shapes of the messages: what stands under each of their field numbers. A shape is a list by field numbers, from 0
--- on, which is no field's number.
+-- The shapes of the messages: the kind of the value under each of their field numbers. A shape is a list by field numbers from 0
+-- on; no field has the number 0.
 use Rattle.std.specs.Prelude.{List, [], ◌∷◌}
 use Rattle.seg_core.specs.declared.shape.FieldKind.{FieldKind}
 use Rattle.seg_core.specs.declared.shape.FieldKind.TheVariants.{Unknown, Number, Bytes, Message, Messages}

@@ -14,7 +14,7 @@ pub record AreNoted (fs : List FieldView) (last_numbers : List ℕ) (last_bytes 
   pub bytes_are : (k : ℕ) → k < 7 → option_map (λ s. s.now) (slice_index_or last_bytes k None) ≡ bytes_field k fs
   pub width : length last_bytes ≡ 7
 
--- Behind some fields of a message they are noted, and so is the first misfit among them.
+-- After some fields of a message, their values are noted, and so is the first misfit among them.
 pub record IsMidway (shape : List FieldKind) (message rest : List ℕ) (misfit : Option SegError) (ns : List ℕ) (ts : List (Option (Bor (List ℕ)))) : Type 0 where
   pub before : List FieldView
   pub parts : fields message ≡ before ++ fields rest
@@ -22,6 +22,6 @@ pub record IsMidway (shape : List FieldKind) (message rest : List ℕ) (misfit :
   pub noted : AreNoted before ns ts
   pub misfits : misfit_after shape [] (fields message) ≡ option_or misfit (misfit_after shape before (fields rest))
 
--- whatever bytes come next under this field number fit
+-- any byte string that comes next under this field number fits
 abbrev pub TakesBytes : List FieldKind → ℕ → List ℕ → List (Option (Bor (List ℕ))) → Type 0
 TakesBytes shape k ns ts = (before : List FieldView) (bytes : List ℕ) → AreNoted before ns ts → misfit_at shape before (record { number = k; value = Bytes bytes }) ≡ None

@@ -1,19 +1,19 @@
--- A reading gives a value, or the refusal that is met first.
+-- A reading gives a value, or the first refusal.
 use Rattle.std.specs.Prelude.{◌≡◌, ◌≢◌, ℕ, List, [], ◌∷◌, Bool, nat_le, Option, Some, None, Result, Ok, Err, if◌then◌else◌}
 use Rattle.seg_core.specs.declared.error.SegError.{SegError}
 use Rattle.seg_core.specs.declared.error.SegError.TheVariants.{NoMemory, Range}
 
--- one step, and then the others with its value
+-- one step, and then the next steps with its value
 infixl 10 ◌>>=◌
 abbrev pub ◌>>=◌ : {A B : Type 0} → Result A SegError → (A → Result B SegError) → Result B SegError
 (Ok x) >>= rest = rest x
 (Err e) >>= rest = Err e
 
--- goes on where the test holds, and is refused for this reason where it doesn't
+-- continues where the test holds, and is refused for this reason where the test fails
 abbrev pub check : Bool → SegError → Result (Unit {0}) SegError
 check holds reason = if holds then Ok tt else Err reason
 
--- goes on where there is no refusal
+-- continues where there is no refusal
 abbrev pub unless : Option SegError → Result (Unit {0}) SegError
 unless None = Ok tt
 unless (Some refusal) = Err refusal
@@ -30,17 +30,17 @@ each read (x ∷ xs) = do
   others ← each read xs
   Ok (first ∷ others)
 
--- a reading whose value is seen in another way
+-- a reading whose value is seen by another view
 abbrev pub result_map : {A B : Type 0} → (A → B) → Result A SegError → Result B SegError
 result_map view (Ok x) = Ok (view x)
 result_map view (Err e) = Err e
 
--- A call that takes no memory answers just what the reading gives, seen by `view`.
+-- A call that takes no memory returns exactly what the reading gives, seen by `view`.
 abbrev pub Reads : {X Y : Type 0} → (X → Y) → Result X SegError → Result Y SegError → Type 0
 Reads view (Ok x) reading = reading ≡ Ok (view x)
 Reads view (Err e) reading = reading ≡ Err e
 
--- A call that takes memory does so too, unless it was refused memory.
+-- A call that takes memory returns the same, unless memory was refused.
 abbrev pub Gives : {X Y : Type 0} → (X → Y) → Result X SegError → Result Y SegError → Type 0
 Gives view (Ok x) reading = reading ≡ Ok (view x)
 Gives view (Err e) reading = e ≢ NoMemory → reading ≡ Err e

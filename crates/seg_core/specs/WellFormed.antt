@@ -1,33 +1,33 @@
--- When the entries of a segment are one path: each leads to the next, and no AS stands twice.
+-- When the entries of a segment are one path: each leads to the next, and no AS occurs twice.
 use Rattle.std.specs.Prelude.{◌≡◌, ◌≢◌, ℕ, ◌<◌, ◌≤◌, ◌^◌, ◌/◌, ◌%◌, List, [], ◌∷◌, ◌++◌, length, map, All, AllPairs, Bool, true, ◌==◌, ◌&&◌, not, nat_le}
 use Rattle.std.specs.List.{list_any}
 use Rattle.seg_core.specs.declared.format.TheConstants.{MOST_ENTRIES}
 use Rattle.seg_core.specs.SegmentView.{EntryView, SegmentView}
 
--- ---- what it means
+-- ---- the definitions
 
--- From an entry the path goes on to the one after it: that is its next AS, and the crossing has an interface, which
--- is not 0, on both sides.
+-- From an entry the path leads to the entry after it: the second entry's AS is the first entry's next AS, and neither the egress
+-- of the first nor the ingress of the second is 0.
 pub record LeadsTo (e f : EntryView) : Type 0 where
   pub next : e.next ≡ f.ia
   pub egress : e.egress ≢ 0
   pub ingress : f.ingress ≢ 0
 
--- From an entry the path goes nowhere: no next AS, and no egress.
+-- The path ends at an entry: it has no next AS, and no egress.
 abbrev pub EndsAt : EntryView → Type 0
 EndsAt e = (e.next ≡ 0) × (e.egress ≡ 0)
 
--- The first entry comes from nowhere, each leads to the one after it, and the last one ends the path.
+-- The first entry has no ingress, each leads to the one after it, and the last one ends the path.
 pub record IsChain (entries : List EntryView) : Type 0 where
   pub first : (e : EntryView) (after : List EntryView) → entries ≡ e ∷ after → e.ingress ≡ 0
   pub joined : (before after : List EntryView) (e f : EntryView) → entries ≡ before ++ e ∷ f ∷ after → LeadsTo e f
   pub last : (before : List EntryView) (e : EntryView) → entries ≡ before ++ e ∷ [] → EndsAt e
 
--- no number of the list stands in it twice
+-- no number occurs twice in the list
 abbrev pub HasNoRepeats : List ℕ → Type 0
 HasNoRepeats ns = AllPairs (λ m n. m ≢ n) ns
 
--- no AS stands twice
+-- no AS occurs twice
 abbrev pub HasNoLoop : List EntryView → Type 0
 HasNoLoop entries = HasNoRepeats (map (λ e. e.ia) entries)
 
@@ -58,7 +58,7 @@ pub record IsWellFormed (s : SegmentView) : Type 0 where
   pub no_loop : HasNoLoop s.entries
   pub in_range : IsInRange s
 
--- ---- the tests of it
+-- ---- the tests of these definitions
 
 -- 1 to 64
 abbrev pub is_entry_count : ℕ → Bool
@@ -70,12 +70,12 @@ is_linked [] = true
 is_linked (e ∷ []) = e.next == 0 && e.egress == 0
 is_linked (e ∷ f ∷ es) = (e.next == f.ia && (not (e.egress == 0) && not (f.ingress == 0))) && is_linked (f ∷ es)
 
--- and the first one comes from nowhere
+-- `is_linked`, and the first entry has no ingress
 abbrev pub is_chain : List EntryView → Bool
 is_chain [] = true
 is_chain (e ∷ es) = e.ingress == 0 && is_linked (e ∷ es)
 
--- no AS stands twice
+-- no AS occurs twice
 abbrev pub has_no_loop : List EntryView → Bool
 has_no_loop [] = true
 has_no_loop (e ∷ es) = not (list_any (λ f. f.ia == e.ia) es) && has_no_loop es

@@ -13,7 +13,7 @@ use crate::shape::{BODY, HEADER_AND_BODY};
 use crate::slots::{Slots, slots_of};
 use isd_as::IsdAs;
 
-/// What the signed body of an AS entry says. The ISD-AS numbers are of 64 bits.
+/// The numbers in the signed body of an AS entry. The ISD-AS numbers have 64 bits.
 #[derive(Clone, Copy)]
 pub(crate) struct Body {
     pub ia: u64,
@@ -21,7 +21,7 @@ pub(crate) struct Body {
     pub hop: Hop,
 }
 
-/// Reads peer entries, of which nothing is kept.
+/// Reads peer entries. Nothing of them is kept.
 fn check_peer_entries(peers: BytesFields<'_>) -> Result<(), SegError>
     ensures { Reads (λ u. u) result
         (result_map (λ _. tt) (each peer_entry_decoding (bytes_fields peers.entry.field_number (fields peers.entry.rest.now)))) }
@@ -32,7 +32,7 @@ fn check_peer_entries(peers: BytesFields<'_>) -> Result<(), SegError>
     Ok(())
 }
 
-/// Reads the peer entries of a body, of which there are seldom any.
+/// Reads the peer entries of a body. Most bodies have none.
 fn check_peers(slots: &Slots<'_>) -> Result<(), SegError>
     ensures { Reads (λ u. u) result
         (result_map (λ _. tt) (each peer_entry_decoding (bytes_fields 4 (fields slots.now.message.now)))) }
@@ -61,7 +61,7 @@ fn read_body(message: &[u8]) -> Result<Body, SegError>
     })
 }
 
-/// Reads a header, of which nothing is kept here, and a body.
+/// Reads a header, which is not kept here, and a body.
 #[tactic(auto, unfolding(crate::specs::Entry::header_and_body_decoding))]
 pub(crate) fn read_header_and_body(message: &[u8]) -> Result<Body, SegError>
     ensures { Reads (λ body. body) result (header_and_body_decoding message.now) }

@@ -7,7 +7,7 @@ ghost use Rattle.seg_core.specs.Message.{bytes_fields};
 
 use pw_wire::{Value, first_bytes, next_field};
 
-/// What is left of a message, of which the byte strings under one field number are taken.
+/// The rest of a message, and the field number whose byte strings are returned.
 #[derive(Clone, Copy)]
 pub(crate) struct BytesFields<'a> {
     pub field_number: u32,

@@ -1,5 +1,5 @@
-//! Laws of the definitions by which messages are read. Each stands on a function that does nothing, so that it is
-//! proved with the crate.
+//! Laws of the definitions by which messages are read. Each law is the contract of a function that does nothing, so that
+//! the law is proved with the crate.
 
 ghost use Rattle.std.specs.Prelude.{◌≡◌, ◌≢◌, ◌↔◌, ℕ, List, Some, None, Ok, Err};
 ghost use Rattle.pw_wire.specs.Field.{FieldView};
@@ -13,27 +13,27 @@ ghost use Rattle.seg_core.specs.Registration.{registration_decoding, type_number
 ghost use Rattle.seg_core.specs.Request.{request_decoding};
 ghost use Rattle.seg_core.specs.Segment.{segment_decoding};
 
-/// What the reading of a message finds wrong with its fields is what is wrong with the first that doesn't fit.
+/// `first_misfit` is exactly what is wrong with the first field that doesn't fit its shape.
 pub fn first_misfit_is_exact()
     ensures misfit { (shape : List FieldKind) (fs : List FieldView) (refusal : SegError)
         → (first_misfit shape fs ≡ Some refusal) ↔ HasFirstMisfit shape fs refusal }
     ensures none { (shape : List FieldKind) (fs : List FieldView) → (first_misfit shape fs ≡ None) ↔ AllFit shape fs }
 {}
 
-/// A type's number gives that type, and no other number does.
+/// A type's number gives that type, and no other number gives it.
 pub fn type_numbers_are_exact()
     ensures number { (kind : SegType) → type_of (type_number kind) ≡ Ok kind }
     ensures only { (n : ℕ) (kind : SegType) → type_of n ≡ Ok kind → n ≡ type_number kind }
 {}
 
-/// What a message says is never want of memory.
+/// No message is refused with `NoMemory` by the definitions: only a call that is refused memory returns that error.
 pub fn decodings_want_no_memory()
     ensures segment { (message : List ℕ) → segment_decoding message ≢ Err NoMemory }
     ensures registration { (message : List ℕ) → registration_decoding message ≢ Err NoMemory }
     ensures request { (message : List ℕ) → request_decoding message ≢ Err NoMemory }
 {}
 
-/// A segment is refused for its path just where its entries are read and are no chain, or are one with a loop.
+/// A segment is refused for its path exactly when its entries are read and are no chain, or are a chain with a loop.
 pub fn path_refusals_are_exact()
     ensures no_chain { (message : List ℕ) → (segment_decoding message ≡ Err Chain) ↔ HasNoChain message }
     ensures has_loop { (message : List ℕ) → (segment_decoding message ≡ Err Loop) ↔ HasLoop message }

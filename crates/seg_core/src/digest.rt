@@ -9,10 +9,10 @@ ghost use Rattle.seg_core.specs.Digest.{hop_bytes};
 use crate::entry::Entry;
 use sha2::{Digest, Sha256};
 
-/// The bytes of one hop in a digest.
+/// The number of bytes of one hop in a digest.
 const HOP_BYTES: usize = 12;
 
-/// SHA-256 (FIPS 180-4) over the hops of entries in order.
+/// SHA-256 (FIPS 180-4) over 12 bytes for each entry, in order.
 pub(crate) fn digest_of(entries: &[Entry]) -> [u8; 32]
     ensures { result ≡ sha256 (flat_map hop_bytes (entry_views entries.now)) }
 {
@@ -23,7 +23,7 @@ pub(crate) fn digest_of(entries: &[Entry]) -> [u8; 32]
     hasher.finalize()
 }
 
-/// The ISD-AS, the ingress and the egress of an entry, big-endian.
+/// The ISD-AS (8 bytes), the ingress (2) and the egress (2) of an entry, big-endian.
 fn hop_bytes(entry: &Entry) -> [u8; HOP_BYTES]
     ensures { result ≡ hop_bytes (entry_view entry.now) }
 {

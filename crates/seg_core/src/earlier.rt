@@ -40,7 +40,7 @@ impl Earlier {
         }
     }
 
-    /// The type of a number, which has had no entry.
+    /// The type of a number, or an error where the type has had an entry already.
     #[tactic(auto, unfolding(crate::specs::Registration::new_type))]
     pub(crate) fn new_type(self, number: u64) -> Result<SegType, SegError>
         ensures { (entries : List MapEntry) → AreIn entries self → Reads (λ kind. kind) result (new_type entries number) }
@@ -50,7 +50,7 @@ impl Earlier {
         Ok(kind)
     }
 
-    /// Takes in a type.
+    /// Notes that a type has had an entry.
     pub(crate) fn insert(&mut self, kind: SegType)
         ensures { self.new ≡ with_type self.old kind }
     {

@@ -18,24 +18,24 @@ use std::alloc::AllocError;
 use std::fmt;
 use std::sync::Arc;
 
-/// The entry of one AS, whose signature covers `signed`.
+/// The entry of one AS. The signature of the AS covers `signed`.
 #[derive(Drop)]
 pub struct Entry {
-    /// The AS.
+    /// The ISD-AS of the entry.
     pub ia: IsdAs,
-    /// The AS of the next entry, 0-0 in the last one.
+    /// The ISD-AS of the next entry, 0-0 in the last entry.
     pub next: IsdAs,
     /// The interface by which the segment enters the AS, 0 in the first entry.
     pub ingress: u16,
     /// The interface by which the segment leaves the AS, 0 in the last entry.
     pub egress: u16,
-    /// For how long the hop field is valid: one more than this, times 337.5 seconds.
+    /// How long the hop field is valid: `exp_time + 1` times 337.5 seconds.
     pub exp_time: u8,
     pieces: Pieces,
 }
 
 impl Entry {
-    /// The entry of which the pieces stand in this encoding.
+    /// The entry whose pieces are at these places of the encoding.
     pub(crate) fn new(encoding: &Arc<Vec<u8>>, marked: MarkedEntry) -> Result<Entry, AllocError>
         requires { AreWithin (arc_value encoding.now).items marked.spans }
         ensures { IfOk result (λ entry. entry_view entry ≡ marked_view (arc_value encoding.now).items marked) }
@@ -51,21 +51,21 @@ impl Entry {
         })
     }
 
-    /// Header and body as they came, which the AS has signed.
+    /// The header and the body as received, which the AS has signed.
     pub fn signed(&self) -> &[u8]
         ensures { result.now ≡ (entry_view self.now).signed }
     {
         self.pieces.signed()
     }
 
-    /// The signature as it came.
+    /// The signature as received.
     pub fn signature(&self) -> &[u8]
         ensures { result.now ≡ (entry_view self.now).signature }
     {
         self.pieces.signature()
     }
 
-    /// The extensions that are not signed, as they came.
+    /// The extensions that are not signed, as received. `None` where the message has none.
     pub fn unsigned(&self) -> Option<&[u8]>
         ensures { option_map (λ s. s.now) result ≡ (entry_view self.now).unsigned }
     {
@@ -82,7 +82,7 @@ impl fmt::Debug for Entry {
     }
 }
 
-/// An entry as it came: what its body says, and pieces of its message.
+/// An entry as received: the numbers of its body, and pieces of its message.
 #[derive(Clone, Copy)]
 pub(crate) struct BorrowedEntry<'a> {
     pub body: Body,
@@ -91,7 +91,7 @@ pub(crate) struct BorrowedEntry<'a> {
     pub unsigned: Option<&'a [u8]>,
 }
 
-/// An entry that was put: what its body says, and where its pieces stand.
+/// An entry that was put: the numbers of its body, and the places of its pieces.
 #[derive(Clone, Copy)]
 pub(crate) struct MarkedEntry {
     pub body: Body,

@@ -58,7 +58,7 @@ fn same_segment(one: &Segment, other: &Segment) -> bool
         && same_entries(one.entries(), other.entries())
 }
 
-/// Segments are equal where they have the same numbers and the same bytes.
+/// Segments are equal exactly when all their numbers and bytes are the same.
 impl PartialEq for Segment {
     ghost eq = { same_segment };
 

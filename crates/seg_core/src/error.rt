@@ -1,4 +1,4 @@
-//! Why bytes are no message, or no segment.
+//! Why bytes are not a message, or not a segment.
 
 ghost use Rattle.std.specs.Prelude.{◌≡◌};
 ghost use Rattle.seg_core.specs.declared.error.SegError.TheVariants.{NoMemory, Wire};
@@ -7,34 +7,34 @@ use pw_wire::WireError;
 use std::alloc::{AllocError, AllocFailed};
 use thiserror::Error;
 
-/// The first check that a message fails. Nothing is kept of a message that is refused.
+/// The first check that a message fails. Nothing of a refused message is kept.
 ///
-/// Numbered from 0 in this order. A reply's code is 0x20 and that number; of `Wire` 0x10 and the wire error's; of
-/// `NoMemory` 0x01.
+/// The variants are numbered from 0 in this order. A reply's code is 0x20 plus that number, except that the code of `Wire` is 0x10
+/// plus the number of the wire error, and the code of `NoMemory` is 0x01.
 #[derive(Clone, Copy, Debug, PartialEq, Eq, Error)]
 pub enum SegError {
-    /// Memory ran out. It says nothing of the message.
+    /// Memory was refused. The message may be valid or not.
     #[error("out of memory")]
     NoMemory,
-    /// The bytes are no fields.
+    /// The bytes are not fields of the protobuf wire format.
     #[error("{0}")]
     Wire(WireError),
     /// A known field has another wire type than its own.
     #[error("a field has another wire type than its own")]
     KindOfField,
-    /// A message that may stand once in another, or a key of a map, stands twice.
+    /// A message that may occur once in another, or a key of a map, occurs twice.
     #[error("a message stands twice")]
     RepeatedMessage,
-    /// A message that has to be there is missing.
+    /// A required message is missing.
     #[error("a message is missing")]
     MissingField,
-    /// A number is out of its range, an ISD-AS has a zero part, or a MAC has not 6 bytes.
+    /// A number is out of its range, an ISD-AS has a zero part, or a MAC does not have 6 bytes.
     #[error("a number is out of range")]
     Range,
-    /// Two neighbouring entries do not fit together.
+    /// Two neighbouring entries do not fit together, the first entry has an ingress, or the last entry does not end the path.
     #[error("the entries do not form a chain")]
     Chain,
-    /// An AS stands twice.
+    /// An AS occurs twice.
     #[error("an AS stands twice")]
     Loop,
     /// A segment has no entry, or more than 64.

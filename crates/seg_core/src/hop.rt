@@ -8,10 +8,10 @@ use crate::limits::{check, u8_of, u16_of, u32_of};
 use crate::shape::{HOP_ENTRY, HOP_FIELD, PEER_ENTRY};
 use crate::slots::slots_of;
 
-/// The bytes of a MAC.
+/// The length of a MAC in bytes.
 const MAC_LEN: usize = 6;
 
-/// Where a segment enters and leaves an AS, and for how long it may.
+/// Where a segment enters and leaves an AS, and how long the hop field is valid.
 #[derive(Clone, Copy)]
 pub(crate) struct Hop {
     pub ingress: u16,

@@ -8,7 +8,7 @@ use crate::limits::{u16_of, u32_of};
 use crate::shape::SEGMENT_INFORMATION;
 use crate::slots::slots_of;
 
-/// A segment's timestamp, in seconds since 1970, and its id, which the beaconing AS picks.
+/// A segment's timestamp, in seconds since 1970, and its id, which the beaconing AS chooses.
 #[derive(Clone, Copy)]
 pub(crate) struct Info {
     pub timestamp: u32,

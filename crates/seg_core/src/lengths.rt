@@ -1,4 +1,4 @@
-//! How many bytes encodings take, so that a message can be written behind its length.
+//! The lengths of encodings, so that a message can be written after its length.
 
 ghost use Rattle.std.specs.Prelude.{◌≡◌, ℕ, ◌+◌, ◌<◌, ◌≤◌, List, length};
 ghost use Rattle.pw_wire.specs.Varint.{varint_encoding};
@@ -9,7 +9,7 @@ ghost use Rattle.seg_core.specs.Encoding.{bytes_encoding, optional_encoding, sig
 
 use crate::entry::BorrowedEntry;
 
-/// The bytes of a number's shortest varint.
+/// The length of a number's shortest varint, in bytes.
 fn varint_len(n: u64) -> usize
     ensures { result ≡ length (varint_encoding n) }
 {
@@ -22,7 +22,7 @@ fn varint_len(n: u64) -> usize
     len
 }
 
-/// The bytes of the tag and the length of a field, under a number whose tag takes one byte.
+/// The length of the tag and the length prefix of a field whose tag takes one byte.
 pub(crate) fn head_len(len: usize) -> usize
     ensures exact { (k : ℕ) (bytes : List ℕ) → k < 15 → length bytes ≡ len → result + len ≡ length (bytes_field_encoding k bytes) }
     ensures most { result ≤ 11 }
@@ -30,7 +30,7 @@ pub(crate) fn head_len(len: usize) -> usize
     1 + varint_len(len as u64)
 }
 
-/// The bytes of a field of bytes, which is left out where they are empty.
+/// The length of a field of bytes, which is left out where the bytes are empty.
 fn bytes_len(bytes: &[u8]) -> usize
     requires { length bytes.now ≤ MOST_SEGMENT_BYTES }
     ensures { (k : ℕ) → k < 15 → result ≡ length (bytes_encoding k bytes.now) }
@@ -41,7 +41,7 @@ fn bytes_len(bytes: &[u8]) -> usize
     head_len(bytes.len()) + bytes.len()
 }
 
-/// The bytes of an entry's signed message.
+/// The length of an entry's signed message.
 pub(crate) fn signed_len(entry: &BorrowedEntry<'_>) -> usize
     requires { length (signed_encoding (borrowed_view entry.now)) ≤ MOST_SEGMENT_BYTES }
     ensures { result ≡ length (signed_encoding (borrowed_view entry.now)) }
@@ -49,7 +49,7 @@ pub(crate) fn signed_len(entry: &BorrowedEntry<'_>) -> usize
     bytes_len(entry.signed) + bytes_len(entry.signature)
 }
 
-/// The bytes of the field with what an entry has that is not signed, where it is there.
+/// The length of the field with the extensions that are not signed, 0 where the entry has none.
 fn unsigned_len(entry: &BorrowedEntry<'_>) -> usize
     requires { length (optional_encoding 2 (borrowed_view entry.now).unsigned) ≤ MOST_SEGMENT_BYTES }
     ensures { result ≡ length (optional_encoding 2 (borrowed_view entry.now).unsigned) }
@@ -60,7 +60,7 @@ fn unsigned_len(entry: &BorrowedEntry<'_>) -> usize
     }
 }
 
-/// The bytes of an entry, whose signed message takes so many.
+/// The length of an entry, given the length of its signed message.
 pub(crate) fn entry_len(entry: &BorrowedEntry<'_>, signed: usize) -> usize
     requires signed { signed ≡ length (signed_encoding (borrowed_view entry.now)) }
     requires short { length (as_entry_encoding (borrowed_view entry.now)) ≤ MOST_SEGMENT_BYTES }

@@ -1,7 +1,7 @@
-//! Path segments, and the messages by which they are registered, asked for and answered.
+//! Path segments, and the messages that register, request and return them.
 //!
-//! To the layer above, each reader answers exactly what the definition of its message gives, the first refusal
-//! included, and a `Segment` is always whole: its numbers are those of its bytes, its entries are one path without a
+//! To the layer above, each reader returns exactly what the definition of its message gives, including the first
+//! refusal. A `Segment` is always whole: its numbers are those of its bytes, its entries are one path without a
 //! loop, and its one encoding has at most 16,384 bytes and is read as that segment again.
 #![tactic(auto)]
 

@@ -1,11 +1,11 @@
-//! Tests of one number or fact, each with the refusal where it fails.
+//! Tests of one number or condition, each with its refusal.
 
 ghost use Rattle.std.specs.Prelude.{◌-◌, ◌^◌};
 ghost use Rattle.seg_core.specs.Steps.{Reads, at_most, check};
 
 use crate::error::SegError;
 
-/// A number of 8 bits.
+/// The number, where it has at most 8 bits.
 pub(crate) fn u8_of(n: u64) -> Result<u8, SegError>
     ensures { Reads (λ n. n) result (at_most (2 ^ 8 - 1) n) }
 {
@@ -15,7 +15,7 @@ pub(crate) fn u8_of(n: u64) -> Result<u8, SegError>
     Ok(n as u8)
 }
 
-/// A number of 16 bits.
+/// The number, where it has at most 16 bits.
 pub(crate) fn u16_of(n: u64) -> Result<u16, SegError>
     ensures { Reads (λ n. n) result (at_most (2 ^ 16 - 1) n) }
 {
@@ -25,7 +25,7 @@ pub(crate) fn u16_of(n: u64) -> Result<u16, SegError>
     Ok(n as u16)
 }
 
-/// A number of 32 bits.
+/// The number, where it has at most 32 bits.
 pub(crate) fn u32_of(n: u64) -> Result<u32, SegError>
     ensures { Reads (λ n. n) result (at_most (2 ^ 32 - 1) n) }
 {
@@ -35,7 +35,7 @@ pub(crate) fn u32_of(n: u64) -> Result<u32, SegError>
     Ok(n as u32)
 }
 
-/// Refuses for the reason, unless the test holds.
+/// An error with this reason, unless the condition holds.
 pub(crate) fn check(holds: bool, reason: SegError) -> Result<(), SegError>
     ensures { Reads (λ u. u) result (check holds reason) }
 {

@@ -1,4 +1,4 @@
-//! A segment up to its entries: what of it is judged before any memory is taken.
+//! A segment up to its entries: the parts that are checked before memory is taken.
 
 ghost use Rattle.std.specs.Prelude.{◌≡◌, ◌≢◌, length, IfErr};
 ghost use Rattle.pw_wire.specs.Fields.{fields};
@@ -17,11 +17,11 @@ use crate::limits::check;
 use crate::shape::PATH_SEGMENT;
 use crate::slots::slots_of;
 
-/// A segment whose entries are not read.
+/// A segment whose entries are not read yet.
 #[derive(Clone, Copy)]
 pub(crate) struct Outline<'a> {
     pub info: Info,
-    /// The segment's information as it came.
+    /// The segment's information as received.
     pub info_bytes: &'a [u8],
     /// The messages of the entries, 1 to 64.
     pub entries: BytesFields<'a>,
@@ -41,7 +41,7 @@ fn is_entry_count(messages: BytesFields<'_>) -> bool
     count > 0
 }
 
-/// Reads a `PathSegment` up to its entries. It is refused as too large before anything in it is read.
+/// Reads a `PathSegment` up to its entries. Its length is checked before anything in it is read.
 #[tactic(auto, unfolding(crate::specs::Segment::segment_outline))]
 pub(crate) fn read_outline(message: &[u8]) -> Result<Outline<'_>, SegError>
     ensures outline { Reads outline_view result (segment_outline message.now) }

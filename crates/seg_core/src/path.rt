@@ -1,4 +1,4 @@
-//! When entries are one path.
+//! Tests of whether entries are one path.
 
 ghost use Rattle.std.specs.Prelude.{◌≡◌, ◌==◌};
 ghost use Rattle.std.specs.List.{list_any};
@@ -9,7 +9,7 @@ ghost use Rattle.seg_core.specs.WellFormed.{is_linked, is_chain, has_no_loop};
 use crate::entry::Entry;
 use isd_as::IsdAs;
 
-/// Each entry leads to the one after it, and the last one nowhere.
+/// Whether each entry leads to the one after it, and the last one ends the path.
 fn is_linked(entries: &[Entry]) -> bool
     ensures { result ≡ is_linked (entry_views entries.now) }
 {
@@ -25,7 +25,7 @@ fn is_linked(entries: &[Entry]) -> bool
     }
 }
 
-/// The first entry comes from nowhere, and each leads to the one after it.
+/// Whether the first entry has no ingress, and the entries are linked.
 pub(crate) fn is_chain(entries: &[Entry]) -> bool
     ensures { result ≡ is_chain (entry_views entries.now) }
 {
@@ -42,14 +42,14 @@ pub(crate) fn is_same(one: IsdAs, other: IsdAs) -> bool
     one == other
 }
 
-/// Whether an AS stands in the entries.
+/// Whether one of the entries has this AS.
 fn stands_in(ia: IsdAs, entries: &[Entry]) -> bool
     ensures { result ≡ list_any (λ f. f.ia == number_of ia) (entry_views entries.now) }
 {
     entries.iter().any(|e| is_same(e.ia, ia))
 }
 
-/// No AS stands twice.
+/// Whether no AS occurs twice.
 pub(crate) fn has_no_loop(entries: &[Entry]) -> bool
     ensures { result ≡ has_no_loop (entry_views entries.now) }
 {

@@ -1,4 +1,4 @@
-//! The pieces that are kept of an entry as they came. They stand in the encoding of its segment.
+//! The pieces that are kept of an entry as received. They are parts of the encoding of the entry's segment.
 
 ghost use Rattle.std.specs.Prelude.{◌≡◌, ◌≤◌, length, IfOk};
 ghost use Rattle.std.specs.Arc.{arc_value};
@@ -9,7 +9,7 @@ use std::alloc::AllocError;
 use std::marker::Model;
 use std::sync::Arc;
 
-/// Where a piece stands in an encoding, which has at most 16,384 bytes.
+/// The place of a piece in an encoding, which has at most 16,384 bytes.
 #[derive(Clone, Copy)]
 pub(crate) struct Span {
     pub start: u16,
@@ -17,7 +17,7 @@ pub(crate) struct Span {
 }
 
 impl Span {
-    /// The bytes that stand there.
+    /// The bytes at this place.
     pub(crate) fn of(self, bytes: &[u8]) -> &[u8]
         requires { IsWithin bytes.now self }
         ensures { result.now ≡ piece_at bytes.now self }
@@ -26,7 +26,7 @@ impl Span {
     }
 }
 
-/// Where the pieces of an entry stand: what its AS has signed, its signature, and what is not signed, which may be missing.
+/// The places of an entry's pieces: what its AS has signed, its signature, and what is not signed, which may be missing.
 #[derive(Clone, Copy)]
 pub(crate) struct Spans {
     pub signed: Span,
@@ -34,7 +34,7 @@ pub(crate) struct Spans {
     pub unsigned: Option<Span>,
 }
 
-/// What an AS has signed, its signature, and what is not signed, in an encoding that others share.
+/// What an AS has signed, its signature, and what is not signed, in an encoding that other pieces share.
 #[derive(Drop)]
 pub struct Pieces {
     encoding: Arc<Vec<u8>>,
@@ -54,7 +54,7 @@ impl Model for Pieces {
 }
 
 impl Pieces {
-    /// The pieces that stand there in an encoding, of which they take a share. It is refused where 2^63 share it.
+    /// The pieces at these places of an encoding, whose reference count rises by one. An error means that the count is 2^63 already.
     pub(crate) fn new(encoding: &Arc<Vec<u8>>, spans: Spans) -> Result<Pieces, AllocError>
         requires { AreWithin (arc_value encoding.now).items spans }
         ensures { IfOk result (λ pieces. pieces ≡ pieces_at (arc_value encoding.now).items spans) }
@@ -77,7 +77,7 @@ impl Pieces {
         self.spans.signature.of(&self.encoding)
     }
 
-    /// What is not signed.
+    /// What is not signed. `None` where the entry has no such field.
     pub(crate) fn unsigned(&self) -> Option<&[u8]>
         ensures { option_map (λ s. s.now) result ≡ self.now.unsigned }
     {

@@ -1,4 +1,4 @@
-//! Putting an entry behind other bytes, in its one encoding. What is put tells where its pieces stand.
+//! Putting an entry after other bytes, in its one encoding. Each call returns the places of the pieces that it puts.
 
 ghost use Rattle.std.specs.Prelude.{◌≡◌, ◌+◌, ◌<◌, ◌≤◌, ◌++◌, length, IfOk, OnOk};
 ghost use Rattle.std.specs.Option.{option_map, ForSome};
@@ -15,10 +15,10 @@ use crate::pieces::{Span, Spans};
 use pw_wire::put_varint;
 use std::alloc::AllocError;
 
-/// Numbers below this take a byte as a varint.
+/// Numbers below this limit take one byte as a varint.
 const ONE_BYTE: usize = 128;
 
-/// Appends the tag of a field of bytes, and how many bytes it has.
+/// Appends the tag and the length of a field of bytes.
 #[tactic(auto, unfolding(crate::specs::Encoding::head_encoding))]
 pub(crate) fn put_head(out: &mut Vec<u8>, number: u32, len: usize) -> Result<(), AllocError>
     requires { number < 15 }
@@ -58,7 +58,7 @@ fn put_field(out: &mut Vec<u8>, number: u32, bytes: &[u8]) -> Result<Span, Alloc
     put_piece(out, bytes)
 }
 
-/// Appends a piece as a field, which is left out where it is empty.
+/// Appends a piece as a field. An empty piece is left out.
 pub(crate) fn put_bytes(out: &mut Vec<u8>, number: u32, bytes: &[u8]) -> Result<Span, AllocError>
     requires number { number < 15 }
     requires short { length out.old.items + length (bytes_encoding number bytes.now) ≤ MOST_SEGMENT_BYTES }
@@ -72,7 +72,7 @@ pub(crate) fn put_bytes(out: &mut Vec<u8>, number: u32, bytes: &[u8]) -> Result<
     put_field(out, number, bytes)
 }
 
-/// Appends what is not signed as a field, where it is there.
+/// Appends what is not signed as a field, where the entry has it.
 fn put_unsigned(out: &mut Vec<u8>, bytes: Option<&[u8]>) -> Result<Option<Span>, AllocError>
     requires { length out.old.items + length (optional_encoding 2 (option_map (λ s. s.now) bytes)) ≤ MOST_SEGMENT_BYTES }
     ensures put { IfOk result (λ _. out.new.items ≡ out.old.items ++ optional_encoding 2 (option_map (λ s. s.now) bytes.entry)) }
@@ -85,7 +85,7 @@ fn put_unsigned(out: &mut Vec<u8>, bytes: Option<&[u8]>) -> Result<Option<Span>,
     }
 }
 
-/// Appends the pieces of an entry: its signed message, of which the tag and the length stand there, and what is not signed.
+/// Appends the pieces of an entry, after the tag and the length of its signed message: the signed message, and what is not signed.
 fn put_pieces(out: &mut Vec<u8>, entry: &BorrowedEntry<'_>) -> Result<Spans, AllocError>
     requires { length out.old.items + length (pieces_encoding (borrowed_view entry.now)) ≤ MOST_SEGMENT_BYTES }
     ensures put { IfOk result (λ _. out.new.items ≡ out.old.items ++ pieces_encoding (borrowed_view entry.now)) }

@@ -23,7 +23,7 @@ use crate::shape::{MAP_ENTRY, SEGMENT_MAP, SEGMENTS};
 use crate::slots::slots_of;
 use std::alloc::Global;
 
-/// Appends the segments of one type to those that came before them.
+/// Appends the segments of one type to the segments before them.
 #[tactic(auto, unfolding(crate::specs::Registration::segments_decoding))]
 fn read_segments(
     alloc: Global,
@@ -42,7 +42,7 @@ fn read_segments(
     Ok(())
 }
 
-/// Appends the segments of one entry of the map, which is behind entries of other types.
+/// Appends the segments of one entry of the map, which comes after entries of other types.
 #[tactic(auto, unfolding(crate::specs::Registration::map_entry_decoding))]
 fn read_map_entry(
     alloc: Global,
@@ -86,9 +86,9 @@ fn read_outline(message: &[u8]) -> Result<BytesFields<'_>, SegError>
     Ok(slots.bytes_fields(1))
 }
 
-/// Reads a `SegmentsRegistrationRequest`, all of its bytes: its segments and their types, in the order of the message.
-/// It is refused as too large first of all, and at its 17th segment before that is read. Its outline is judged before
-/// any memory is taken.
+/// Reads a `SegmentsRegistrationRequest` from all of the bytes: its segments and their types, in the order of the message.
+/// A registration above 131,072 bytes is refused before it is read, and one with more than 16 segments before the 17th is read.
+/// The outline is checked before memory is taken.
 #[tactic(auto, unfolding(crate::specs::Registration::registration_decoding))]
 pub fn read_registration(alloc: Global, message: &[u8]) -> Result<Vec<(SegType, Segment)>, SegError>
     ensures decoding { Gives (λ v. v.items) result (registration_decoding message.now) }

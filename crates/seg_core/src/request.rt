@@ -9,7 +9,7 @@ use crate::shape::REQUEST;
 use crate::slots::slots_of;
 use isd_as::IsdAs;
 
-/// The source and the destination that a `SegmentsRequest` names, 0-0 where it names none. It takes no memory.
+/// The source and the destination of a `SegmentsRequest`, 0-0 where the message has none. The call takes no memory.
 #[tactic(auto, unfolding(crate::specs::Request::request_decoding))]
 pub fn read_request(message: &[u8]) -> Result<(IsdAs, IsdAs), SegError>
     ensures { Reads (λ ends. (number_of ends.0, number_of ends.1)) result (request_decoding message.now) }

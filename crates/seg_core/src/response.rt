@@ -12,19 +12,19 @@ use crate::writing::{encoded_len, put_segment};
 use pw_wire::put_varint_field;
 use std::alloc::{AllocError, Global};
 
-/// The room that the last bytes of a response are asked for, beyond what they take: two varints of ten bytes.
+/// The room that is reserved for the last bytes of a response, beyond their length: two varints of ten bytes.
 const SLACK: usize = 20;
-/// The bytes of the key of a map entry: a tag, and a type of one byte.
+/// The length of the key of a map entry: a tag, and a type of one byte.
 const KEY_LEN: usize = 2;
 
-/// A sum of lengths. No memory has as many bytes as one that does not fit.
+/// A sum of lengths. An error means that the sum has more than 64 bits.
 fn sum(a: usize, b: usize) -> Result<usize, AllocError>
     ensures { IfOk result (λ n. n ≡ a + b) }
 {
     a.checked_add(b).ok_or(AllocError)
 }
 
-/// The bytes of the segments of a type, each behind its tag and its length.
+/// The length of the segments of a type, each with its tag and its length prefix.
 fn segments_len(segments: &[(SegType, &Segment)], kind: SegType) -> Result<usize, AllocError>
     ensures { IfOk result (λ len. len ≡ length (segments_encoding (of_type kind (referred_rows segments.now)))) }
 {
@@ -38,7 +38,7 @@ fn segments_len(segments: &[(SegType, &Segment)], kind: SegType) -> Result<usize
     Ok(len)
 }
 
-/// Appends the segments of a type, each behind its tag and its length.
+/// Appends the segments of a type, each with its tag and its length prefix.
 fn put_segments(
     out: &mut Vec<u8>,
     segments: &[(SegType, &Segment)],
@@ -55,14 +55,14 @@ fn put_segments(
     Ok(())
 }
 
-/// The bytes of a map entry's key and value, where the value takes so many bytes.
+/// The length of a map entry's key and value, given the length of the value.
 fn content_len(value: usize) -> Result<usize, AllocError>
     ensures { (bytes : List ℕ) → length bytes ≡ value → IfOk result (λ n. n ≡ 2 + length (bytes_field_encoding 2 bytes)) }
 {
     sum(KEY_LEN + head_len(value), value)
 }
 
-/// The bytes of the map entry of a type, which is there where the type has segments.
+/// The length of the map entry of a type, 0 where the type has no segments.
 fn type_len(segments: &[(SegType, &Segment)], kind: SegType) -> Result<usize, AllocError>
     ensures { IfOk result (λ len. len ≡ length (map_entry_encoding kind (of_type kind (referred_rows segments.now)))) }
 {
@@ -92,7 +92,7 @@ fn put_type(
     put_segments(out, segments, kind)
 }
 
-/// The bytes of a response.
+/// The length of a response in bytes.
 #[tactic(auto, unfolding(crate::specs::Encoding::response_encoding))]
 fn response_len(segments: &[(SegType, &Segment)]) -> Result<usize, AllocError>
     ensures { IfOk result (λ len. len ≡ length (response_encoding (referred_rows segments.now))) }
@@ -103,7 +103,7 @@ fn response_len(segments: &[(SegType, &Segment)]) -> Result<usize, AllocError>
     sum(up, sum(down, core)?)
 }
 
-/// The bytes of a `SegmentsResponse`, as [`write_response`] gives them, of segments that the caller keeps elsewhere.
+/// The bytes of a `SegmentsResponse` of segments that the caller keeps elsewhere, the same bytes as of [`write_response`].
 #[tactic(auto, unfolding(crate::specs::Encoding::response_encoding))]
 pub fn write_response_of(
     alloc: Global,
@@ -122,8 +122,8 @@ pub fn write_response_of(
     Ok(out)
 }
 
-/// The bytes of a `SegmentsResponse`: for each type that has segments, these, in their order. No segments take no
-/// memory.
+/// The bytes of a `SegmentsResponse`: for each type that has segments, these segments in their order. An error means that
+/// memory was refused. A response without segments takes no memory.
 #[tactic(auto, unfolding(crate::specs::Encoding::response_encoding))]
 pub fn write_response(alloc: Global, segments: &[(SegType, Segment)]) -> Result<Vec<u8>, AllocError>
     ensures exact { IfOk result (λ v. v.items ≡ response_encoding segments.now) }

@@ -31,7 +31,7 @@ use std::fmt;
 use std::marker::Model;
 use std::sync::Arc;
 
-/// What a segment has, which its copies share. Its information and the pieces of its entries stand in its encoding.
+/// The fields of a segment, which its copies share. Its information and the pieces of its entries are in its encoding.
 #[derive(Drop)]
 struct Parts {
     timestamp: u32,
@@ -42,7 +42,7 @@ struct Parts {
     entries: Vec<Entry>,
 }
 
-/// A path segment: 1 to 64 entries that are one path without a loop, and pieces of the message that it came in.
+/// A path segment: 1 to 64 entries that are one path without a loop, and pieces of the message from which it was read.
 #[derive(Drop)]
 pub struct Segment {
     shared: Arc<Parts>,
@@ -69,29 +69,29 @@ impl Segment {
         self.shared.timestamp
     }
 
-    /// The id that the AS has picked which made the segment.
+    /// The id that the AS which made the segment has chosen.
     pub fn segment_id(&self) -> u16
         ensures { result ≡ self.now.segment_id }
     {
         self.shared.segment_id
     }
 
-    /// SHA-256 (FIPS 180-4) over 12 bytes for each entry in order, its ISD-AS, ingress and egress, big-endian. It was computed when
-    /// the segment was read.
+    /// SHA-256 (FIPS 180-4) over 12 bytes for each entry in order: its ISD-AS, ingress and egress, big-endian. The digest was computed
+    /// when the segment was read.
     pub fn digest(&self) -> &[u8; 32]
         ensures { result.now ≡ segment_digest self.now }
     {
         &self.shared.digest
     }
 
-    /// The segment's information as it came.
+    /// The segment's information as received.
     pub fn segment_info(&self) -> &[u8]
         ensures { result.now ≡ self.now.info }
     {
         self.shared.info.of(&self.shared.encoding)
     }
 
-    /// The segment's one encoding.
+    /// The segment's one encoding, at most 16,384 bytes.
     pub fn encoding(&self) -> &[u8]
         ensures same { result.now ≡ segment_encoding self.now }
         ensures whole { IsSegment self.now }
@@ -107,7 +107,7 @@ impl Segment {
         &self.shared.entries
     }
 
-    /// An equal segment, which shares what this one has: it takes no memory. It is refused where 2^63 share it.
+    /// An equal segment that shares the memory of this one. The call takes no memory. An error means that 2^63 segments share it already.
     pub fn try_clone(&self) -> Result<Segment, AllocError>
         ensures same { IfOk result (λ copy. copy ≡ self.now) }
         ensures whole { IsSegment self.now }
@@ -162,7 +162,7 @@ fn read_entries(
     Ok(marked)
 }
 
-/// The entries of which the pieces stand in this encoding. Their marks are let go.
+/// The entries whose pieces are in this encoding. The marked entries are consumed.
 fn entries_in(
     alloc: Global,
     encoding: &Arc<Vec<u8>>,
@@ -178,7 +178,7 @@ fn entries_in(
     Ok(entries)
 }
 
-/// Reads a `PathSegment`, all of its bytes. Its outline is judged before any memory is taken.
+/// Reads a `PathSegment` from all of the bytes. Its outline is checked before memory is taken.
 #[tactic(auto, unfolding(crate::specs::Segment::segment_decoding))]
 pub fn read_segment(alloc: Global, message: &[u8]) -> Result<Segment, SegError>
     ensures decoding { Gives (λ s. s) result (segment_decoding message.now) }

@@ -1,17 +1,17 @@
-//! The shapes of the messages: what stands under each of their field numbers.
+//! The shapes of the messages: the kind of the value under each of their field numbers.
 
-/// What stands under a field number of a message.
+/// The kind of the value under a field number of a message.
 #[derive(Clone, Copy)]
 pub(crate) enum FieldKind {
-    /// The message has no such field. It counts for nothing.
+    /// The message has no such field. A field of this number is ignored.
     Unknown,
-    /// An integer: the last occurrence counts, and 0 where there is none.
+    /// An integer: the last occurrence is the value, and 0 where there is none.
     Number,
-    /// Bytes: the last occurrence counts, and no bytes where there is none.
+    /// Bytes: the last occurrence is the value, and empty bytes where there is none.
     Bytes,
-    /// A message that may stand once.
+    /// A message that may occur once.
     Message,
-    /// A message that may stand any number of times.
+    /// A message that may occur any number of times.
     Messages,
 }
 
@@ -20,7 +20,7 @@ use FieldKind::{Bytes, Message, Messages, Number, Unknown};
 /// One more than the largest field number that a message knows.
 pub(crate) const WIDTH: usize = 7;
 
-// Each shape is a list by field numbers. There is no field number 0.
+// Each shape is a list by field numbers. No field has the number 0.
 
 /// `SegmentsRequest`: source and destination.
 pub(crate) const REQUEST: [FieldKind; 3] = [Unknown, Number, Number];

@@ -33,7 +33,7 @@ impl<'a> Noted<'a> {
         }
     }
 
-    /// Takes in the next field.
+    /// Notes the next field.
     #[inline(always)]
     fn note(&mut self, field: &Field<'a>)
         ensures { (before : List FieldView) → AreNoted before self.old.numbers self.old.bytes
@@ -50,7 +50,7 @@ impl<'a> Noted<'a> {
         }
     }
 
-    /// Whether bytes stand under a field number.
+    /// Whether the message has bytes under a field number.
     #[inline(always)]
     fn has_bytes(&self, field_number: u32) -> bool
         requires { field_number < 7 }
@@ -61,7 +61,7 @@ impl<'a> Noted<'a> {
     }
 }
 
-/// The kind of the fields of a number.
+/// The kind of the fields with this number.
 #[inline(always)]
 fn kind_at(shape: &[FieldKind], field_number: u32) -> FieldKind
     ensures { result ≡ kind_at shape.now field_number }
@@ -85,14 +85,14 @@ fn suits(kind: FieldKind, value: &Value<'_>) -> bool
     }
 }
 
-/// Whether a field of this kind may stand once.
+/// Whether a field of this kind may occur at most once.
 fn is_single(kind: FieldKind) -> bool
     ensures { result ≡ is_single kind }
 {
     matches!(kind, FieldKind::Message)
 }
 
-/// What is wrong with a field behind those that are noted.
+/// What is wrong with a field after the fields that are noted.
 #[inline(always)]
 fn misfit_of(shape: &[FieldKind], noted: &Noted<'_>, field: &Field<'_>) -> Option<SegError>
     requires { length shape.now ≤ 7 }
@@ -109,7 +109,7 @@ fn misfit_of(shape: &[FieldKind], noted: &Noted<'_>, field: &Field<'_>) -> Optio
     None
 }
 
-/// A message that has passed the checks that all messages share, and what stands under its field numbers.
+/// A message that has passed the checks that all messages share, and the values under its field numbers.
 #[derive(Clone, Copy)]
 pub(crate) struct Slots<'a> {
     message: &'a [u8],
@@ -139,7 +139,7 @@ fn slots_in_any_order<'a>(shape: &[FieldKind], message: &'a [u8]) -> Result<Slot
     }
 }
 
-/// Notes a number that the bytes begin with under this field number, and gives the bytes after it; all of them where there is none.
+/// Notes the number under this field number that the bytes begin with, and returns the bytes after it; all bytes where there is none.
 #[inline(always)]
 fn take_number<'a>(field_number: u8, noted: &mut Noted<'a>, rest: &'a [u8]) -> &'a [u8]
     requires positive { 1 ≤ field_number }
@@ -157,7 +157,7 @@ fn take_number<'a>(field_number: u8, noted: &mut Noted<'a>, rest: &'a [u8]) -> &
     }
 }
 
-/// Notes bytes that the message goes on with under this field number, which fit, and gives what follows.
+/// Notes the bytes under this field number that come next, where they fit, and returns the rest.
 #[inline(always)]
 fn take_bytes<'a>(field_number: u8, noted: &mut Noted<'a>, rest: &'a [u8]) -> &'a [u8]
     requires positive { 1 ≤ field_number }
@@ -176,7 +176,7 @@ fn take_bytes<'a>(field_number: u8, noted: &mut Noted<'a>, rest: &'a [u8]) -> &'
     }
 }
 
-/// Notes the messages that come next under this field number, of which there may be any number, and gives what follows.
+/// Notes the messages under this field number that come next, of which there may be any number, and returns the rest.
 #[inline(always)]
 fn take_messages<'a>(field_number: u8, noted: &mut Noted<'a>, rest: &'a [u8]) -> &'a [u8]
     requires positive { 1 ≤ field_number }
@@ -195,7 +195,7 @@ fn take_messages<'a>(field_number: u8, noted: &mut Noted<'a>, rest: &'a [u8]) ->
     }
 }
 
-/// Notes what comes next under a field number, as far as it fits, and gives what follows.
+/// Notes what comes next under a field number, where it fits, and returns the rest.
 #[inline(always)]
 fn take_under<'a>(
     shape: &[FieldKind],
@@ -223,7 +223,7 @@ fn take_under<'a>(
 }
 
 /// The fields of a message whose tags take one byte, which fit, and which come in the order of their numbers, as an encoder writes
-/// them. `None` says nothing of the message.
+/// them. `None` means that the message has to be read in another way.
 #[inline]
 fn slots_in_order<'a, const SHAPE: u8>(shape: &[FieldKind], message: &'a [u8]) -> Option<Slots<'a>>
     requires { length shape.now ≤ 7 }
@@ -243,7 +243,7 @@ fn slots_in_order<'a, const SHAPE: u8>(shape: &[FieldKind], message: &'a [u8]) -
     None
 }
 
-/// The result of the scan goes through this function, so that a message in order reserves no memory for it.
+/// The result of the scan is returned by this function, so that a message in order reserves no memory for it.
 #[inline(always)]
 fn slots_by_scan<'a>(shape: &[FieldKind], message: &'a [u8]) -> Result<Slots<'a>, SegError>
     requires { length shape.now ≤ 7 }
@@ -256,8 +256,8 @@ fn slots_by_scan<'a>(shape: &[FieldKind], message: &'a [u8]) -> Result<Slots<'a>
     }
 }
 
-/// Reads the fields of a message: first its wire, to its last byte, then kinds and repetitions, in the order of the
-/// fields. `SHAPE` differs from shape to shape, so that the compiler makes code for each one's fields in the order of their numbers.
+/// Reads the fields of a message: first its wire format, to its last byte, then kinds and repetitions, in the order of the
+/// fields. `SHAPE` differs from shape to shape, so that the compiler generates code for the order of each shape's field numbers.
 #[inline(always)]
 pub(crate) fn slots_of<'a, const SHAPE: u8>(
     shape: &[FieldKind],
@@ -290,7 +290,7 @@ impl<'a> Slots<'a> {
         self.noted.bytes[field_number]
     }
 
-    /// The last bytes under a field number, and none where there are none.
+    /// The last bytes under a field number, and empty bytes where there are none.
     pub(crate) fn bytes_field_or_empty(&self, field_number: usize) -> &'a [u8]
         requires { field_number < 7 }
         ensures { result.now ≡ bytes_field_or_empty field_number (fields self.now.message.now) }
@@ -298,7 +298,7 @@ impl<'a> Slots<'a> {
         self.bytes_field(field_number).unwrap_or(&[])
     }
 
-    /// The message under a field number, which has to be there.
+    /// The message under a field number. An error means that the message is missing.
     pub(crate) fn required_message(&self, field_number: usize) -> Result<&'a [u8], SegError>
         requires { field_number < 7 }
         ensures { Reads (λ s. s.now) result (required_message field_number (fields self.now.message.now)) }

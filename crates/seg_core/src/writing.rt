@@ -1,4 +1,4 @@
-//! The one encoding of a segment, which it keeps.
+//! The one encoding of a segment, which the segment keeps.
 
 ghost use Rattle.std.specs.Prelude.{◌≡◌, ◌↔◌, ◌+◌, ◌≤◌, ◌++◌, length, IfOk, IsOk, OnOk, OnErr, IsTrue};
 ghost use Rattle.std.specs.Vec.{vec_len, vec_capacity};
@@ -9,7 +9,7 @@ use crate::format::MOST_SEGMENT_BYTES;
 use crate::segment::Segment;
 use std::alloc::{AllocError, Global};
 
-/// How many bytes a `PathSegment` takes in its one encoding, at most 16,384.
+/// The length of a `PathSegment` in its one encoding, at most 16,384 bytes.
 pub fn encoded_len(segment: &Segment) -> usize
     ensures exact { result ≡ length (segment_encoding segment.now) }
     ensures most { result ≤ MOST_SEGMENT_BYTES }
@@ -18,7 +18,7 @@ pub fn encoded_len(segment: &Segment) -> usize
     segment.encoding().len()
 }
 
-/// Whether the bytes are the segment's one encoding. It takes no memory.
+/// Whether the bytes are the segment's one encoding. The call takes no memory.
 pub fn is_encoding_of(bytes: &[u8], segment: &Segment) -> bool
     ensures exact { IsTrue result ↔ (bytes.now ≡ segment_encoding segment.now) }
     ensures whole { IsSegment segment.now }
@@ -26,8 +26,8 @@ pub fn is_encoding_of(bytes: &[u8], segment: &Segment) -> bool
     bytes == segment.encoding()
 }
 
-/// Appends the bytes of a `PathSegment`, in its one encoding. Where memory is refused, the vector has the items that it
-/// had. It takes none where the vector has room.
+/// Appends the bytes of a `PathSegment`, in its one encoding. Where memory is refused, the vector keeps its
+/// items. The call takes no memory where the vector has room.
 pub fn put_segment(segment: &Segment, out: &mut Vec<u8>) -> Result<(), AllocError>
     ensures ok { OnOk result (out.new.items ≡ out.old.items ++ segment_encoding segment.now) }
     ensures err { OnErr result (out.new.items ≡ out.old.items) }
@@ -37,7 +37,8 @@ pub fn put_segment(segment: &Segment, out: &mut Vec<u8>) -> Result<(), AllocErro
     out.extend_from_slice(segment.encoding())
 }
 
-/// The bytes of a `PathSegment`, in its one encoding, which `read_segment` reads as that segment again.
+/// The bytes of a `PathSegment`, in its one encoding, which `read_segment` reads as that segment again. An error means that
+/// memory was refused.
 pub fn write_segment(alloc: Global, segment: &Segment) -> Result<Vec<u8>, AllocError>
     ensures exact { IfOk result (λ v. v.items ≡ segment_encoding segment.now) }
     ensures whole { IsSegment segment.now }

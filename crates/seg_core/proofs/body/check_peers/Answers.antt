@@ -1,4 +1,4 @@
--- Where no bytes stand under the number, there is nothing to read.
+-- Where there are no bytes under the number, there is nothing to read.
 use Rattle.std.proofs.Common.{◌≡◌, ℕ, true, List, [], ◌∷◌, Option, Some, None, refl, sym, ap}
 use Rattle.std.specs.Prelude.{Bool, false, is_some, not}
 use Rattle.std.specs.Option.{option_map, option_or}

@@ -9,7 +9,7 @@ use Rattle.seg_core.specs.EntryView.{entry_view}
 use Rattle.seg_core.specs.Digest.{hop_bytes}
 use Rattle.seg_core.proofs.digest.digest_of.Goals as goal
 
--- one hop more
+-- one more hop
 pub loop-entry-preserved : goal.loop-entry-preserved
 loop-entry-preserved c =
     let hops = λ (e : Entry). hop_bytes (entry_view e) in

@@ -7,7 +7,7 @@ use Rattle.seg_core.specs.declared.entry.Entry.{Entry}
 use Rattle.seg_core.specs.EntryView.{entry_view}
 use Rattle.seg_core.proofs.path.stands_in.Goals as goal
 
--- A test of images is a test of what they come from.
+-- A test of mapped values is a test of the values before the map.
 list_any-map : {A B : Type 0} (p : B → Bool) (f : A → B) (xs : List A) → list_any p (map f xs) ≡ list_any (λ x. p (f x)) xs
 list_any-map p f [] = refl
 list_any-map p f (x ∷ xs) = ap (λ b. p (f x) || b) (list_any-map p f xs)

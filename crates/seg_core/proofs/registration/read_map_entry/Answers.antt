@@ -1,4 +1,4 @@
--- As many segments were found as the entries have.
+-- The number of segments that were found is the number that the entries have.
 use Rattle.std.proofs.Common.{length, ap, rules}
 use Rattle.seg_core.specs.Registration.{map_entry_decoding}
 use Rattle.seg_core.proofs.registration.read_map_entry.Goals as goal

@@ -5,7 +5,7 @@ use Rattle.seg_core.specs.Message.{bytes_fields}
 use Rattle.seg_core.specs.Registration.{segments_decoding, rows_of}
 use Rattle.seg_core.proofs.registration.read_segments.Given as goal
 
--- What is left, behind what was found so far, gives what all of them give.
+-- The messages that are left, after the segments found before, give the result of all messages.
 abbrev pub invariant-loop-message : goal.invariant-loop-message
 invariant-loop-message l =
     result_map (λ segments. l.initial.found.items ++ rows_of l.kind segments)

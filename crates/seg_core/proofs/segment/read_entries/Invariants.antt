@@ -11,7 +11,7 @@ use Rattle.seg_core.specs.Encoding.{entries_encoding}
 use Rattle.seg_core.proofs.Places.{AllWithin}
 use Rattle.seg_core.proofs.segment.read_entries.Given as goal
 
--- What was read and what is left are all of them; what was read was put, and for what is left there is room.
+-- The messages that were read and those that are left are all of them; the entries read were put, and there is room for the others.
 abbrev pub invariant-loop-message : goal.invariant-loop-message
 invariant-loop-message l = record {
   decoding :

@@ -21,7 +21,7 @@ read_entries-requires c =
     let put : c.put_bytes.new.out.items ≡ bytes_encoding 1 c.in_ok-outline.outline.info_bytes.now = rw c.in_ok-bytes.ensures.items at c.in_ok-info.ensures.put in
     omega (arith, ap length put)
 
--- what was read is kept
+-- the segment that was read is kept
 kept : (c : goal.In_ok-shared) → IsKept (arc_value c.in_ok-shared.shared)
 unfolding segment_decoding segment_digest
 kept c =

@@ -5,7 +5,7 @@ use Rattle.seg_core.specs.Message.{kind_at}
 use Rattle.seg_core.specs.Slots.{IsMidway}
 use Rattle.seg_core.proofs.slots.take_messages.Given as goal
 
--- What was midway before is midway now.
+-- `IsMidway` holds before each field that is left.
 abbrev pub invariant-loop-left : goal.invariant-loop-left
 invariant-loop-left l = (shape : List FieldKind) (message : List ℕ) → kind_at shape l.field_number ≡ Messages → IsMidway shape message l.rest None l.initial.noted.numbers l.initial.noted.bytes → IsMidway shape message l.left None l.noted.numbers l.noted.bytes
 

@@ -1,4 +1,4 @@
--- Bytes that stand in front are the next ones.
+-- The bytes of the first field are the next item.
 use Rattle.std.proofs.Common.{rules, ◌∷◌, length, ◌<◌, sym, ap, ◌∙◌, arith}
 use Rattle.pw_wire.specs.Fields.{fields}
 use Rattle.seg_core.specs.Message.{bytes_fields}

@@ -3,7 +3,7 @@ use Rattle.pw_wire.specs.Fields.{fields}
 use Rattle.seg_core.specs.Message.{bytes_fields}
 use Rattle.seg_core.proofs.bytes_fields.BytesFieldsIterator.next.Given as goal
 
--- The fields that were passed have none of the byte strings.
+-- None of the fields that were skipped has this number and bytes.
 abbrev pub invariant-loop-field : goal.invariant-loop-field
 invariant-loop-field l = record {
   number : l.self.field_number ≡ l.initial.self.field_number;

@@ -1,4 +1,4 @@
--- The field is past the field numbers that are noted, a number, bytes, or of a fixed width.
+-- The field has a number that is not noted, or its value is a number, bytes, or of a fixed width.
 use Rattle.std.proofs.Common.{ap, ⊎_elim, arith}
 use Rattle.pw_wire.specs.View.{field_view, value_view}
 use Rattle.seg_core.specs.Message.{varint_in, bytes_in}
