@@ -1,4 +1,4 @@
--- The first refusal of a segment is what `IsAccepted`, `HasFirstBad` and `HasExpired` say.
+-- The first refusal of a segment is exactly what `IsAccepted`, `HasFirstBad` and `HasExpired` define.
 use Rattle.std.proofs.Common.{◌≡◌, ℕ, ◌<◌, Bool, true, false, List, [], ◌∷◌, ◌++◌, length, refl, sym, ap, subst, ◌∙◌, inl, inr, append_assoc, append-nil, drop, arith}
 use Rattle.std.specs.Prelude.{IsTrue, nat_le, Option, Some, None}
 use Rattle.std.proofs.lemmas.Bool.{cases_Bool, leb-true, le-leb}
@@ -9,14 +9,14 @@ use Rattle.seg_check.specs.Expiry.{expiry_of}
 use Rattle.seg_check.specs.Signatures.{Verdicts, is_verified, AllVerified}
 use Rattle.seg_check.specs.Checking.{IsAccepted, HasFirstBad, HasExpired, first_bad_behind, first_bad, refusal_of, check_refusal}
 
--- ---- entries behind earlier ones
+-- ---- entries after earlier ones
 
--- the signature of each entry is good, where these stand before them
+-- the signature of each entry is good, where these entries come before
 abbrev AllBehind : List EntryView → Verdicts → List ℕ → List EntryView → Type 0
 AllBehind earlier verifies info entries =
     (before later : List EntryView) (e : EntryView) → entries ≡ before ++ e ∷ later → IsTrue (is_verified verifies info (earlier ++ before) e)
 
--- the first of a list, or this
+-- the first of a list, or this entry where the list is empty
 abbrev head_or : EntryView → List EntryView → EntryView
 head_or d [] = d
 head_or d (x ∷ xs) = x
@@ -24,7 +24,7 @@ head_or d (x ∷ xs) = x
 some_is : (m n : ℕ) → Some m ≡ Some n → m ≡ n
 some_is m n is = cc
 
--- a list is not empty around an element
+-- the empty list has no element
 no_middle : {X : Type 0} (before later : List X) (x : X) → [] ≡ before ++ x ∷ later → ⊥
 no_middle [] later x is = cc
 no_middle (b ∷ before) later x is = cc
@@ -42,7 +42,7 @@ all_more earlier verifies info x xs good others (b ∷ before) later e is =
     let moved : (earlier ++ x ∷ []) ++ before ≡ earlier ++ b ∷ before = append_assoc earlier (x ∷ []) before ∙ ap (λ y. earlier ++ y ∷ before) same in
     subst (λ l. IsTrue (is_verified verifies info l e)) moved (others before later e (ap (drop 1) is))
 
--- and the parts of that
+-- the same of the parts of a list of entries
 all_first : (earlier : List EntryView) (verifies : Verdicts) (info : List ℕ) (x : EntryView) (xs : List EntryView)
     → AllBehind earlier verifies info (x ∷ xs) → is_verified verifies info earlier x ≡ true
 all_first earlier verifies info x xs all = subst (λ l. is_verified verifies info l x ≡ true) (append-nil earlier) (all [] xs x refl)
@@ -66,7 +66,7 @@ all_none earlier verifies info [] all = refl
 all_none earlier verifies info (x ∷ xs) all =
     rw (all_first earlier verifies info x xs all) (all_none (earlier ++ x ∷ []) verifies info xs (all_others earlier verifies info x xs all))
 
--- a first entry whose signature is not good, behind earlier ones
+-- a first entry whose signature is not good, after earlier ones
 record FoundBehind (earlier : List EntryView) (verifies : Verdicts) (info : List ℕ) (entries : List EntryView) (at : ℕ) : Type 0 where
   before : List EntryView
   entry : EntryView

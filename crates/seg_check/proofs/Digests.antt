@@ -1,4 +1,4 @@
--- How long hops and ids are.
+-- The lengths of hops and of ids.
 use Rattle.std.proofs.Common.{◌≡◌, ℕ, zero, suc, ◌*◌, List, length, refl, ◌∙◌, arith, length-append}
 use Rattle.std.specs.Prelude.{slice_index}
 use Rattle.std.specs.Int.{w32, to_be_bytes}
@@ -38,7 +38,7 @@ pub sha256-IsBytes : (message : List ℕ) → IsBytes (sha256 message)
 unfolding sha256
 sha256-IsBytes message = digest_bytes-IsBytes _ 8
 
--- and so has the id of a segment
+-- the id of a segment has 32 bytes
 pub digest-length : (s : SegmentView) → length (segment_digest s) ≡ 32
 unfolding segment_digest
 digest-length s = sha256-length _

@@ -29,11 +29,11 @@ least-below n [] k d lt = absurd (omega arith)
 least-below n (e ∷ entries) zero d lt = omega (arith, least-below_first (min n e.exp_time) (exp_times entries), min-le_right n e.exp_time)
 least-below n (e ∷ entries) (suc k) d lt = least-below (min n e.exp_time) entries k d (omega arith)
 
--- a fact of one of the entries holds of one of more
+-- a property of one of the entries holds for one of more entries
 one_of_more : (P : EntryView → Type 0) (e : EntryView) (entries : List EntryView) → Any P entries → Any P (e ∷ entries)
 one_of_more P e entries (k, x, lt, is, holds) = (suc k, x, omega arith, is, holds)
 
--- the least of the two, and what it is
+-- the least of two numbers is one of them
 min-either : (m n : ℕ) → (min m n ≡ m) ⊎ (min m n ≡ n)
 min-either m n = grind arith
 
@@ -49,13 +49,13 @@ least-reached n (e ∷ entries) =
       | inr others ↦ inr (one_of_more (λ f. f.exp_time ≡ least) e entries others)
     ]
 
--- the least of the entries' exp_times: none is lower
+-- no entry has an exp_time below the least
 least-le_all : (entries : List EntryView) (k : ℕ) (d : EntryView) → k < length entries → least_exp_time entries ≤ (slice_index_or entries k d).exp_time
 least-le_all [] k d lt = absurd (omega arith)
 least-le_all (e ∷ entries) zero d lt = least-below_first e.exp_time (exp_times entries)
 least-le_all (e ∷ entries) (suc k) d lt = least-below e.exp_time entries k d (omega arith)
 
--- and one entry has it
+-- and one entry has the least
 least-of_one : (entries : List EntryView) → 1 ≤ length entries → Any (λ e. e.exp_time ≡ least_exp_time entries) entries
 least-of_one [] some = absurd (omega arith)
 least-of_one (e ∷ entries) some =
@@ -72,14 +72,14 @@ pub expiry-le_hops : (s : SegmentView) → All (λ e. expiry_of s ≤ hop_expiry
 unfolding expiry_of
 expiry-le_hops s k d lt = omega (arith, least-le_all s.entries k d lt)
 
--- one of them expires with it
+-- one of the hop entries expires with the segment
 pub expiry-of_hop : (s : SegmentView) → 1 ≤ length s.entries → Any (λ e. hop_expiry s.timestamp e ≡ expiry_of s) s.entries
 unfolding expiry_of
 expiry-of_hop s some =
     let one = least-of_one s.entries some in
     (one.0, one.1, one.2, one.3, ap (λ n. 2 * s.timestamp + 675 * (1 + n)) one.4)
 
--- a whole segment's expiry has 34 bits
+-- the expiry of a whole segment has at most 34 bits
 pub expiry-fits : (s : SegmentView) → IsSegment s → expiry_of s < 2 ^ 34
 unfolding expiry_of
 expiry-fits s whole =

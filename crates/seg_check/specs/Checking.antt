@@ -1,4 +1,4 @@
--- When a segment is accepted, and which refusal is met first.
+-- When a segment is accepted, and the first refusal of a segment that is not.
 use Rattle.std.specs.Prelude.{◌≡◌, ℕ, ◌<◌, ◌≤◌, List, [], ◌∷◌, ◌++◌, length, Bool, IsTrue, nat_le, if◌then◌else◌, Option, Some, None}
 use Rattle.seg_core.specs.SegmentView.{EntryView, SegmentView}
 use Rattle.seg_core.specs.Encoding.{IsSegment}
@@ -7,9 +7,9 @@ use Rattle.seg_check.specs.declared.error.CheckError.TheVariants.{BadSignature, 
 use Rattle.seg_check.specs.Expiry.{expiry_of}
 use Rattle.seg_check.specs.Signatures.{Verdicts, is_verified, AllVerified}
 
--- ---- what it means
+-- ---- the definitions
 
--- A segment is accepted where it is whole, the signature of each entry is good, and it expires later than now.
+-- A segment is accepted where it is whole, the signature of each entry is good, and the segment expires later than now.
 pub record IsAccepted (verifies : Verdicts) (now : ℕ) (s : SegmentView) : Type 0 where
   pub whole : IsSegment s
   pub verified : AllVerified verifies s.info s.entries
@@ -30,9 +30,9 @@ pub record HasExpired (verifies : Verdicts) (now : ℕ) (s : SegmentView) : Type
   pub verified : AllVerified verifies s.info s.entries
   pub over : expiry_of s ≤ now
 
--- ---- the test of it
+-- ---- the test of these definitions
 
--- the place of the first of the entries whose signature is not good; the earlier ones stand before them
+-- the place of the first of the entries whose signature is not good; the earlier entries come before them
 abbrev pub first_bad_behind : List EntryView → Verdicts → List ℕ → List EntryView → Option ℕ
 first_bad_behind earlier verifies info [] = None
 first_bad_behind earlier verifies info (e ∷ entries) =
@@ -41,7 +41,7 @@ first_bad_behind earlier verifies info (e ∷ entries) =
 abbrev pub first_bad : Verdicts → List ℕ → List EntryView → Option ℕ
 first_bad = first_bad_behind []
 
--- a bad signature, or else the expiry
+-- a bad signature is the refusal, else the expiry
 abbrev pub refusal_of : Option ℕ → Bool → Option CheckError
 refusal_of (Some at) expired = Some (BadSignature at)
 refusal_of None expired = if expired then Some Expired else None

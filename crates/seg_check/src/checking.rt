@@ -10,11 +10,11 @@ use crate::expiring::expiry;
 use crate::verifier::Verifier;
 use seg_core::Segment;
 
-/// How many pieces a signature covers at most: the segment's information, and two for each of 63 earlier entries.
+/// The most pieces that a signature covers: the segment's information, and two for each of 63 earlier entries.
 const MOST_PIECES: usize = 127;
 
 /// Checks that the signature of each entry is good and that the segment expires later than `now`, which is in half seconds
-/// since 1970. It takes no memory.
+/// since 1970. The error is the first check that fails, entry by entry and then the expiry. The call takes no memory.
 #[tactic(auto, unfolding(crate::specs::Checking::check_refusal))]
 pub fn check<V: Verifier>(segment: &Segment, verifier: &V, now: u64) -> Result<(), CheckError>
     ensures refusal { result_err result ≡ check_refusal (V.verifies verifier.now) now segment.now }
@@ -29,7 +29,7 @@ pub fn check<V: Verifier>(segment: &Segment, verifier: &V, now: u64) -> Result<(
     Ok(())
 }
 
-/// The place of the first entry whose signature is not good.
+/// The place of the first entry whose signature is not good, counted from 0.
 fn first_bad<V: Verifier>(segment: &Segment, verifier: &V) -> Option<usize>
     ensures first { result ≡ first_bad (V.verifies verifier.now) segment.now.info segment.now.entries }
     ensures whole { IsSegment segment.now }

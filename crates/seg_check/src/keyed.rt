@@ -1,4 +1,4 @@
-//! A test profile of signatures, which is no standard's: whoever checks them can make them.
+//! A test profile of signatures, which is part of no standard. The key that checks a signature also makes it.
 
 ghost use Rattle.std.specs.Prelude.{◌≡◌, ◌↔◌, ◌≤◌, ◌++◌, ℕ, List, length, IsTrue};
 ghost use Rattle.seg_check.specs.Signatures.{referred_pieces};
@@ -10,11 +10,11 @@ use isd_as::IsdAs;
 use sha2::{Digest, Sha256};
 use std::marker::Model;
 
-/// The most bytes that a key of the test profile has.
+/// The most bytes of a key of the test profile.
 pub const MOST_KEY: usize = 64;
 
-/// Holds just those signatures good that `keyed_signature` makes with its key, whatever the ISD-AS. It is a test profile, no
-/// standard's.
+/// A verifier by which a signature is good exactly when `keyed_signature` makes it with this key, for any ISD-AS. The test profile
+/// is part of no standard.
 #[derive(Drop)]
 pub struct Keyed {
     key: Vec<u8>,
@@ -40,7 +40,7 @@ impl Keyed {
         Keyed { key }
     }
 
-    /// Whether bytes may be a key: these are 0 to 64.
+    /// Whether the bytes can be a key: a key has 0 to 64 bytes.
     pub fn takes(key: &[u8]) -> bool
         ensures { IsTrue result ↔ (length key.now ≤ MOST_KEY) }
     {
@@ -59,7 +59,7 @@ impl Verifier for Keyed {
 }
 
 /// The signature of the test profile by a key: SHA-256 (FIPS 180-4) over the key, the signed bytes and the associated pieces
-/// in order, each behind its length, 8 bytes, big-endian. It takes no memory. It is no standard's signature.
+/// in order, each after its length, 8 bytes, big-endian. The call takes no memory. The signature is part of no standard.
 #[tactic(auto, unfolding(crate::specs::Keyed::keyed_signature))]
 pub fn keyed_signature(key: &[u8], signed: &[u8], associated: &[&[u8]]) -> [u8; 32]
     ensures { result ≡ keyed_signature key.now signed.now (referred_pieces associated.now) }
@@ -73,7 +73,7 @@ pub fn keyed_signature(key: &[u8], signed: &[u8], associated: &[&[u8]]) -> [u8; 
     hasher.finalize()
 }
 
-/// Adds a piece behind its length.
+/// Adds a piece after its length of 8 bytes, big-endian.
 fn add_piece(hasher: &mut Sha256, piece: &[u8])
     ensures { (m : List ℕ) → Holds256 hasher.old m → Holds256 hasher.new (m ++ piece_encoding piece.now) }
 {

@@ -1,7 +1,7 @@
 //! The id and the expiry of a path segment, and the check that it is accepted.
 //!
-//! To the layer above, id and expiry are functions of the segment alone, and a check answers exactly the first refusal.
-//! Whose signature is good is for a `Verifier` to say, which is handed in.
+//! To the layer above, the id and the expiry are functions of the segment alone, and a check returns exactly the first refusal.
+//! The caller supplies a `Verifier`, which decides whether a signature is good.
 #![tactic(auto)]
 
 mod checking;
