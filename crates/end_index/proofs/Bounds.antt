@@ -1,4 +1,4 @@
--- What lies between the bounds of a type and an ISD-AS: for `keys_at`.
+-- The index keys between the bounds of a type and an ISD-AS: for `keys_at`.
 use Rattle.std.proofs.Common.{◌≡◌, ◌≢◌, ◌⊎◌, inl, inr, ℕ, zero, suc, ◌+◌, ◌<◌, true, false, not, ◌&&◌, ◌==◌, List, [], ◌∷◌, length, refl, sym, ap, ◌∙◌, arith}
 use Rattle.std.specs.Ordering.{nat_cmp, is_eq, is_le, ordering_then, MatchOrdering}
 use Rattle.std.specs.Cmp.{ranks}
@@ -21,14 +21,14 @@ from_zero Less later b says e = refl
 from_zero Equal later b says e = e
 from_zero Greater later b says e = absurd (omega (arith, says))
 
--- no id of the length is below zeros
+-- no id of this length is below the id of zeros
 pub zeros_first : (n : ℕ) (id : List ℕ) → length id ≡ n → is_le (slice_cmp nat_cmp (zeros n) id) ≡ true
 zeros_first zero [] e = refl
 zeros_first zero (b ∷ id) e = absurd (omega (arith, e))
 zeros_first (suc n) [] e = absurd (omega (arith, e))
 zeros_first (suc n) (b ∷ id) e = from_zero (nat_cmp 0 b) (slice_cmp nat_cmp (zeros n) id) b (ranks 0 b) (zeros_first n id (omega (arith, e)))
 
--- how the next number stands to one that a number stands to so
+-- the order of two numbers, and the order of the first number's successor and the second
 abbrev pub IsNext : Ordering → Ordering → Type 0
 IsNext o p = MatchOrdering o (is_le p ≡ true) (is_le p ≡ false) (Unit {0})
 
@@ -41,7 +41,7 @@ next_rank Equal Equal a b one other = absurd (omega (arith, one, other))
 next_rank Equal Greater a b one other = refl
 next_rank Greater p a b one other = tt
 
--- by how a type, an ISD-AS and the next one stand to those of an index key, and how the least id does
+-- the cases by the orders of the type, of the ISD-AS, of its successor, and of the least id
 table : (o p r later : Ordering) → is_le later ≡ true → IsNext p r → (is_le (ordering_then o (ordering_then p later)) && not (is_le (ordering_then o (ordering_then r later)))) ≡ (is_eq o && is_eq p)
 table Less p r later e next = refl
 table Greater p r later e next = refl
@@ -53,7 +53,7 @@ table Equal Equal Less later e next = absurd (false≢true (sym next))
 table Equal Equal Equal later e next = absurd (false≢true (sym next))
 table Equal Greater r later e next = refl
 
--- a number stands to itself alone as equal
+-- a number compares as equal to itself alone
 pub same_number : (o : Ordering) (a b : ℕ) → MatchOrdering o (a < b) (a ≡ b) (b < a) → ((eqb b a ≡ true) × (b ≡ a)) ⊎ ((eqb b a ≡ false) × (b ≢ a)) → is_eq o ≡ (b == a)
 same_number Less a b says (inl same) = absurd (omega (arith, says, same.1))
 same_number Less a b says (inr other) = sym other.0
@@ -62,7 +62,7 @@ same_number Equal a b says (inr other) = absurd (other.1 (sym says))
 same_number Greater a b says (inl same) = absurd (omega (arith, says, same.1))
 same_number Greater a b says (inr other) = sym other.0
 
--- what lies between the least index keys of an ISD-AS and of the next
+-- the index keys between the least index key of an ISD-AS and that of the next one
 pub between : (low high index_key : IndexKey) (n : ℕ) → low.id ≡ zeros n → high.id ≡ zeros n → high.kind ≡ low.kind → high.isd_as ≡ low.isd_as + 1 → length index_key.id ≡ n
     → (is_le (index_key_cmp low index_key) && not (is_le (index_key_cmp high index_key))) ≡ stands_at low.kind low.isd_as index_key
 between low high index_key n low_id high_id kind next long =

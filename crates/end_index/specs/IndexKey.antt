@@ -1,4 +1,4 @@
--- Index keys in an index, and how they stand to each other.
+-- Index keys in an index, and their order.
 use Rattle.std.specs.Prelude.{ℕ, List, Bool, ◌==◌, ◌&&◌}
 use Rattle.std.specs.List.{list_any}
 use Rattle.std.specs.Ordering.{nat_cmp, is_eq, ordering_then}
@@ -14,7 +14,7 @@ index_key_cmp p q = ordering_then (nat_cmp p.kind q.kind) (ordering_then (nat_cm
 abbrev pub is_same : IndexKey → IndexKey → Bool
 is_same p q = is_eq (index_key_cmp p q)
 
--- an index key is among these
+-- an index key is in this list
 abbrev pub has : List IndexKey → IndexKey → Bool
 has index_keys q = list_any (is_same q) index_keys
 

@@ -1,4 +1,4 @@
-//! The index.
+//! The index: a set of index keys, in their order.
 
 ghost use Rattle.std.specs.Prelude.{◌≡◌, ◌+◌, ◌^◌, ◌<◌, [], ◌&&◌, ◌||◌, not, IfOk, OnOk, OnErr, filter};
 ghost use Rattle.std.specs.Fn.{CalledAt};
@@ -13,7 +13,7 @@ use std::collections::BTreeSet;
 use std::collections::btree_set::Range;
 use std::marker::Model;
 
-/// The index keys of rows, in their order.
+/// A set of index keys, in their order.
 #[derive(Drop)]
 pub struct EndIndex {
     index_keys: BTreeSet<IndexKey>,
@@ -28,11 +28,11 @@ impl Model for EndIndex {
     ghost view = { λ s. s.index_keys.keys };
 }
 
-/// The index keys that are left, in their order.
+/// An iterator over index keys, in their order.
 pub type IndexKeys<'a> = Range<'a, IndexKey>;
 
 impl EndIndex {
-    /// No index keys.
+    /// An index without index keys.
     pub fn new(alloc: Global) -> EndIndex
         ensures { result ≡ [] }
     {
@@ -41,7 +41,7 @@ impl EndIndex {
         }
     }
 
-    /// Adds an index key. Where memory is refused, the index is as it was.
+    /// Adds an index key. Where memory is refused, the index is unchanged.
     pub fn add(&mut self, index_key: IndexKey) -> Result<(), AllocError>
         ensures ok { OnOk result ((q : IndexKey) → has self.new q ≡ (is_same q index_key || has self.old q)) }
         ensures err { OnErr result (self.new ≡ self.old) }
@@ -50,14 +50,14 @@ impl EndIndex {
         Ok(())
     }
 
-    /// Takes out an index key. That takes no memory.
+    /// Removes an index key, where the index has it. This takes no memory.
     pub fn remove(&mut self, index_key: &IndexKey)
         ensures { (q : IndexKey) → has self.new q ≡ (not (is_same q index_key.now) && has self.old q) }
     {
         self.index_keys.remove(index_key);
     }
 
-    /// Keeps the index keys that pass. That takes no memory.
+    /// Removes the index keys for which the function returns `false`. This takes no memory.
     pub fn retain<F: FnMut(&IndexKey) -> bool>(&mut self, keep: F)
         requires { F.IsAlwaysCallable keep }
         ensures { IsFiltered (CalledAt F.FnMut) keep self.old self.new }
@@ -65,7 +65,7 @@ impl EndIndex {
         self.index_keys.retain(keep);
     }
 
-    /// An equal index.
+    /// An equal index. An error means that memory was refused.
     pub fn try_clone(&self) -> Result<EndIndex, AllocError>
         ensures { IfOk result (λ copy. copy ≡ self.now) }
     {
@@ -74,7 +74,7 @@ impl EndIndex {
         })
     }
 
-    /// The index keys of a type and an ISD-AS, by rising id.
+    /// The index keys of a type and an ISD-AS, by rising id. No others are visited.
     pub fn keys_at(&self, kind: u8, isd_as: u64) -> IndexKeys<'_>
         requires { isd_as + 1 < 2 ^ 64 }
         ensures same { result ≡ filter (stands_at kind isd_as) self.now }

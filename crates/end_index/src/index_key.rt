@@ -2,8 +2,8 @@
 
 ghost use Rattle.std.specs.Prelude.{◌≡◌, length};
 
-/// Where a row stands in an index: the number of its type, the ISD-AS at one of its ends as 64 bits, and its id. Index keys
-/// are in the order of these.
+/// The place of a row in an index: the number of its type, the ISD-AS at one of its ends as 64 bits, and its id of 32 bytes.
+/// Index keys are ordered by the type, then by the ISD-AS, then by the bytes of the id.
 #[derive(Clone, Copy, PartialEq, Eq, PartialOrd, Ord)]
 pub struct IndexKey {
     pub kind: u8,

@@ -1,4 +1,4 @@
--- Rising rows are one list by what stands under each key: for `command_laws`.
+-- Rows whose keys rise are determined by the row under each key: for `command_laws`.
 use Rattle.std.proofs.Common.{◌≡◌, ℕ, Bool, true, false, List, [], ◌∷◌, Some, None, refl, sym, ap, ◌∙◌}
 use Rattle.std.specs.Ordering.{is_eq}
 use Rattle.std.specs.declared.cmp.Ordering.{Ordering}
@@ -12,11 +12,11 @@ use Rattle.path_rows.proofs.Keys.{under_first, none_behind}
 abbrev SameUnderAll : List RowView → List RowView → Type 0
 SameUnderAll rows others = (k : List ℕ) → row_under k rows ≡ row_under k others
 
--- the first of rows stands under its key
+-- the first of the rows is under its own key
 first_stands : (row : RowView) (rows : List RowView) → row_under (key_of row) (row ∷ rows) ≡ Some row
 first_stands row rows = under_first (key_of row) row rows true (under_itself row)
 
--- a row below the first of rising rows has no row under its key there
+-- rows whose keys rise have no row under a key below the first one
 pub none_above : (low row : RowView) (rows : List RowView) → key_order low row ≡ Less → IsRising (row ∷ rows) → row_under (key_of low) (row ∷ rows) ≡ None
 none_above low row rows below rising = none_under (key_of low) (row ∷ rows) (others_above low (row ∷ rows) (below, above_less low row rows below rising.0))
 

@@ -1,4 +1,4 @@
--- What the counts of an outcome say: for `outcome_laws`.
+-- The counts of an outcome: for `outcome_laws`.
 use Rattle.std.proofs.Common.{◌≡◌, ℕ, ◌+◌, Bool, true, false, not, cond, List, [], ◌∷◌, length, if◌then◌else◌, Option, Some, refl, ap, arith}
 use Rattle.std.specs.List.{count_by}
 use Rattle.std.specs.Option.{is_some}

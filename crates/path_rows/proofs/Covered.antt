@@ -15,12 +15,12 @@ use Rattle.path_rows.proofs.Rising.{database_puts}
 use Rattle.path_rows.proofs.Restored.{stood_under}
 use Rattle.path_rows.proofs.IndexKeys.{EndOf, both_from, second_from}
 
--- it is seen to each row that is new, and to what stood under its key
+-- the index keys of each new row, and of the row that was under its key, are touched or the same
 abbrev AreSeenIn : EndOf → List RowView → List IndexKey → List RowView → Type 0
 AreSeenIn end old touched new = AllByRecursion (λ row. IsSeenTo end touched row (row_under (key_of row) old)) new
 
 module _ (end : EndOf) (old : List RowView) (touched : List IndexKey) where
-  -- a new row stands there, to which it is seen
+  -- a row is under this key, whose index keys are touched or the same
   abbrev IsPut : List ℕ → Option RowView → Type 0
   IsPut k found = (new : RowView) × (found ≡ Some new) × IsSeenTo end touched new (row_under k old)
 
@@ -47,13 +47,13 @@ module _ (end : EndOf) (old : List RowView) (touched : List IndexKey) where
     ]
   ]
 
--- ---- an index key at which a row stands
+-- ---- an index key that has a row
 
 pub stands_by : (end : EndOf) (number : ℕ) (found : Option RowView) → ends_at end number found ≡ true → (r : RowView) × (found ≡ Some r) × (is_of (end r.1.entries) number ≡ true)
 stands_by end number None e = absurd (false≢true e)
 stands_by end number (Some r) e = (r, refl, e)
 
--- a row that is found at an index key has it
+-- a row that is found at an index key has this index key
 pub has_index_key : (end : EndOf) (rows : List RowView) (q : IndexKey) (r : RowView) → row_under (indexed_key q) rows ≡ Some r → is_of (end r.1.entries) q.isd_as ≡ true → is_index_key end q r ≡ true
 has_index_key end rows q r found of = both_from (is_under (indexed_key q) r) (is_of (end r.1.entries) q.isd_as) (found_is_under (indexed_key q) rows r found) of
 
@@ -99,7 +99,7 @@ module _ (end : EndOf) (old new : List RowView) (rising : IsRising old) (touched
   pub covers_puts : IsCovered end (database_after_puts old new) touched after
   covers_puts = record { kept = covers_kept; within = covers_within }
 
--- where no index key is touched, the index stays
+-- where no index key is touched, the index is unchanged
 covered_index : (end : EndOf) (rows : List RowView) (index_keys : List IndexKey) → IsCovered end rows [] index_keys → IsIndex end rows index_keys
 covered_index end rows index_keys covered q = both (has index_keys q) (stands end rows q) (covered.within q) (covered.kept q)
   where

@@ -1,4 +1,4 @@
--- What a test leaves of rows, and how many it drops: for `purge`, `remove` and `outcome_laws`.
+-- The rows that a test keeps, and how many rows it drops: for `purge`, `remove` and `outcome_laws`.
 use Rattle.std.proofs.Common.{◌≡◌, ◌≤◌, ℕ, ◌+◌, ◌-◌, Bool, true, false, not, cond, List, [], ◌∷◌, length, refl, ap, ◌∙◌, arith}
 use Rattle.std.specs.List.{filter, count_by}
 use Rattle.std.proofs.lemmas.List.Sums.{sum_by-cons}
@@ -10,7 +10,7 @@ views_tested : (row : Row) (rows : List Row) (b : Bool) → row_views (cond b (r
 views_tested row rows true = refl
 views_tested row rows false = refl
 
--- rows that are tested by what they stand for
+-- rows that are tested by their views
 pub filter_views : (p : RowView → Bool) (rows : List Row) → row_views (filter (λ row. p (row_view row)) rows) ≡ filter p (row_views rows)
 filter_views p [] = refl
 filter_views p (row ∷ rows) =
@@ -21,7 +21,7 @@ counts_tested : (row : RowView) (left : List RowView) (b : Bool) (dropped droppe
 counts_tested row left true dropped dropped_more all more so = omega (arith, more, so)
 counts_tested row left false dropped dropped_more all more so = omega (arith, more, so)
 
--- what is left and what is dropped are all
+-- the rows that are kept and those that are dropped are all rows
 pub left_and_dropped : (p : RowView → Bool) (rows : List RowView) → length (filter p rows) + count_by (λ row. not (p row)) rows ≡ length rows
 left_and_dropped p [] = refl
 left_and_dropped p (row ∷ rows) =
@@ -34,7 +34,7 @@ dropped_count p rows = omega (arith, left_and_dropped p rows)
 pub fewer_left : (p : RowView → Bool) (rows : List RowView) → length (filter p rows) ≤ length rows
 fewer_left p rows = omega (arith, left_and_dropped p rows)
 
--- what is left has no more bytes
+-- the rows that are kept have no more bytes
 bytes_tested : (row : RowView) (left rows : List RowView) (b : Bool) → rows_len left ≤ rows_len rows → rows_len (cond b (row ∷ left) left) ≤ rows_len (row ∷ rows)
 bytes_tested row left rows true so = omega (arith, so, sum_by-cons row_len row left, sum_by-cons row_len row rows)
 bytes_tested row left rows false so = omega (arith, so, sum_by-cons row_len row rows)

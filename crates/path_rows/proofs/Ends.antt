@@ -9,7 +9,7 @@ use Rattle.seg_core.specs.EntryView.{entry_view, entry_views}
 use Rattle.seg_core.specs.Message.{last_of}
 use Rattle.path_rows.specs.Answer.{covers_entry, first_of}
 
--- what is behind a reference, as entries are seen
+-- the view of the entry that a reference refers to
 abbrev pub seen : Option (Bor Entry) → Option EntryView
 seen found = option_map (λ e. entry_view e.now) found
 
@@ -24,7 +24,7 @@ begins_first ia (e ∷ entries) = refl
 pub begins_is : (ia : ℕ) (entries : List Entry) (found : Option (Bor Entry)) → option_copied found ≡ slice_get entries 0 → covers_entry ia (seen found) ≡ covers_entry ia (first_of (entry_views entries))
 begins_is ia entries found e = ap (covers_entry ia) (seen_copied found (slice_get entries 0) e) ∙ begins_first ia entries
 
--- the last of a list is the element before its end
+-- the last element of a list is the element before its end
 last_get : {X : Type 0} (x : X) (xs : List X) → last_of (x ∷ xs) ≡ slice_get (x ∷ xs) (length xs)
 last_get x [] = refl
 last_get x (y ∷ xs) = ap (λ o. option_or o (Some x)) (last_get y xs) ∙ some_stays x y xs
@@ -42,7 +42,7 @@ last_of-map : {X Y : Type 0} (view : X → Y) (x : X) (xs : List X) → last_of 
 last_of-map view x [] = refl
 last_of-map view x (y ∷ xs) = ap (λ o. option_or o (Some (view x))) (last_of-map view y xs) ∙ or_map view (last_of (y ∷ xs)) x
 
--- the last of a list, as its elements are seen
+-- the last element of a list of views is the view of the last element
 pub last_seen : {X Y : Type 0} (view : X → Y) (xs : List X) → option_map view (slice_get xs (length xs - 1)) ≡ last_of (map view xs)
 last_seen view [] = refl
 last_seen view (x ∷ xs) = ap (λ n. option_map view (slice_get (x ∷ xs) n)) (omega arith) ∙ sym (last_of-map view x xs ∙ ap (option_map view) (last_get x xs))

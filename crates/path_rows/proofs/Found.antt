@@ -1,4 +1,4 @@
--- What stands under a key that a search found or did not find, and what a removal leaves: for `get` and `remove`.
+-- The row under a key that a search found or did not find, and the rows after a removal: for `get` and `remove`.
 use Rattle.std.proofs.Common.{◌≡◌, ℕ, zero, suc, ◌<◌, true, false, not, cond, List, [], ◌∷◌, length, get_or, Some, None, if◌then◌else◌, refl, sym, ap, ◌∙◌, subst, arith}
 use Rattle.std.specs.List.{AllByRecursion, remove}
 use Rattle.std.specs.Ordering.{nat_cmp, is_eq, ordering_reverse}
@@ -31,7 +31,7 @@ none_removed k (row ∷ rows) others =
     ap (λ b. cond (not b) (row ∷ database_after_removal rows k) (database_after_removal rows k)) others.0
     ∙ ap (λ l. row ∷ l) (none_removed k rows others.1)
 
--- rows above one have other keys
+-- rows above this row have other keys
 pub others_above : (row : RowView) (rows : List RowView) → AllAbove row rows → AreOthers (key_of row) rows
 others_above row [] above = tt
 others_above row (r ∷ rows) above = (ap is_eq above.0, others_above row rows above.1)
@@ -81,7 +81,7 @@ removed_at (row ∷ rows) rising (suc i) d lt =
     ap (λ b. cond (not b) (row ∷ database_after_removal rows k) (database_after_removal rows k)) (first_below row rows rising i d (omega arith))
     ∙ ap (λ l. row ∷ l) (removed_at rows rising.1 i d (omega arith))
 
--- the row that a search found, by what the rows stand for
+-- the row that a search found, by the views of the rows
 module _ (rows : List Row) (rising : IsRising (row_views rows)) (k : List ℕ) (at : ℕ) (index : IsIndex rows k at) (d : Row) where
   in_views : at < length (row_views rows)
   in_views = rw (length-map rows row_view) index.0

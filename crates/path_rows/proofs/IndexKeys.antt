@@ -31,7 +31,7 @@ use Rattle.path_rows.proofs.Found.{under_itself}
 use Rattle.path_rows.proofs.Keys.{its_key, equal_from}
 use Rattle.path_rows.proofs.Ends.{last_seen}
 
--- what the type of an end is
+-- the type of an end: the entry at the end of a list of entries
 abbrev pub EndOf : Type 0
 EndOf = List EntryView → Option EntryView
 
@@ -54,7 +54,7 @@ either_from false b e = inr e
 
 -- ---- one index key
 
--- the index key that is made of a row is its index key
+-- the index key that is made from a row is the row's index key
 pub index_key_is : (end : EndOf) (kind number : ℕ) (id : List ℕ) (row : Row) → kind ≡ type_number row.kind → id ≡ row.id → is_of (end row.segment.entries) number ≡ true
     → (is_under (kind ∷ id) (row_view row) && is_of (end row.segment.entries) number) ≡ true
 unfolding key_of
@@ -62,7 +62,7 @@ index_key_is end kind number id row kinds ids says =
     let same : kind ∷ id ≡ key_of (row_view row) = ap (λ n. n ∷ id) kinds ∙ ap (λ l. type_number row.kind ∷ l) (ids ∙ row.identified) in
     both_from (is_under (kind ∷ id) (row_view row)) (is_of (end row.segment.entries) number) (subst (λ k. is_under k (row_view row) ≡ true) (sym same) (under_itself (row_view row))) says
 
--- what is the same of two index keys
+-- the parts of two index keys that are the same
 pub record AreSame (p q : IndexKey) : Type 0 where
   pub kind : p.kind ≡ q.kind
   pub isd_as : p.isd_as ≡ q.isd_as
@@ -131,7 +131,7 @@ one_index_key end p q row e f =
     let number = same_entry (end row.1.entries) p.isd_as q.isd_as (second_from (is_under (indexed_key p) row) (is_of (end row.1.entries) p.isd_as) e) (second_from (is_under (indexed_key q) row) (is_of (end row.1.entries) q.isd_as) f) in
     record { kind = cc; isd_as = number; id = cc }
 
--- more index keys have what some have
+-- a longer list has the index keys of a shorter one
 has_more : (q p : IndexKey) (index_keys : List IndexKey) → has index_keys q ≡ true → has (index_keys ++ p ∷ []) q ≡ true
 has_more q p index_keys e = list_any-append (is_same q) index_keys (p ∷ []) ∙ ap (λ b. b || has (p ∷ []) q) e
 
@@ -235,12 +235,12 @@ module _ (end : EndOf) (rows : List RowView) (now index_keys : List IndexKey) (i
     within = λ q there. within_less after q (is_same q p) (taken q) refl there;
   }
 
--- ---- rows that are new, and what stood under their keys
+-- ---- rows that are new, and what was under their keys
 
 index_key_same : (end : EndOf) (p q : IndexKey) (row : RowView) → AreSame p q → is_index_key end p row ≡ is_index_key end q row
 index_key_same end p q row same = rw (same.kind, same.isd_as, same.id) refl
 
--- whoever is at an index key is also at one that is the same
+-- a row with one of two equal index keys has the other too
 moved : (end : EndOf) (p other q : IndexKey) (new old : RowView) → AreSame p other → is_index_key end p new ≡ true → is_index_key end other old ≡ true → is_index_key end q new ≡ true → is_index_key end q old ≡ true
 moved end p other q new old same its others e =
     let first = one_index_key end q p new e its in
@@ -285,7 +285,7 @@ module _ (end : EndOf) where
   pub seen_alike : (index_keys : List IndexKey) (new old : RowView) (found : Option RowView) → found ≡ Some old → key_of new ≡ key_of old → EndAlike end new old → IsSeenTo end index_keys new found
   seen_alike index_keys new old found is keys ends = inr (old, is, ((λ q e. alike q new old keys ends e), (λ q e. alike q old new (sym keys) (ends.0, ends.2, ends.1) e)))
 
--- more index keys do as well
+-- a longer list of index keys has the same property
 module _ (end : EndOf) (index_keys more : List IndexKey) (kept : (q : IndexKey) → has index_keys q ≡ true → has more q ≡ true) where
   seen_kept : (new : RowView) (stood : Option RowView) → IsSeenTo end index_keys new stood → IsSeenTo end more new stood
   seen_kept new stood (inl touched) = inl ((λ q e. kept q (touched.0 q e)), (λ r e q so. kept q (touched.1 r e q so)))
@@ -303,7 +303,7 @@ seen_push end index_keys [] (s ∷ saved) row stood all one = absurd all
 seen_push end index_keys (r ∷ rows) [] row stood all one = absurd all
 seen_push end index_keys (r ∷ rows) (s ∷ saved) row stood all one = (all.0, seen_push end index_keys rows saved row stood all.1 one)
 
--- ---- index keys that stand
+-- ---- index keys that have rows
 
 pub standing_alike : (rows : List RowView) (q p : IndexKey) → is_same q p ≡ true → is_some (row_under (indexed_key p) rows) ≡ is_some (row_under (indexed_key q) rows)
 standing_alike rows q p e = let same = same_from q p e in rw (same.kind, same.id) refl

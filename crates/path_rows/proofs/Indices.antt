@@ -1,4 +1,4 @@
--- Where a search among rising rows ends, and what a put there does: for `index_of` and `put`.
+-- The index at which a search among rising rows ends, and the rows after a put at that index: for `index_of` and `put`.
 use Rattle.std.proofs.Common.{◌≡◌, ℕ, zero, suc, ◌<◌, ◌≤◌, List, [], ◌∷◌, length, get_or, set, if◌then◌else◌, Result, Ok, Err, IfOk, IfErr, refl, sym, ap, ◌∙◌, subst, arith}
 use Rattle.std.specs.List.{insert}
 use Rattle.std.specs.List.Sorted.{IsSearchInRange, IsBinarySearchResult, IsNonDecreasingBy}
@@ -32,7 +32,7 @@ lower_index a b k Greater e below = at_most_two (key_cmp a k)
     at_most_two Equal = omega arith
     at_most_two Greater = omega arith
 
--- the comparisons with a key rise along the rows, as a binary search asks
+-- the comparisons with a key rise along the rows, as a binary search requires
 comparisons_rise : (rows : List Row) → IsRising (row_views rows) → (k : List ℕ) → IsNonDecreasingBy (λ row. ordering_index (key_cmp (key_of (row_view row)) k)) rows
 comparisons_rise [] rising k i j d le lt = absurd (omega arith)
 comparisons_rise (x ∷ rows) rising k zero zero d le lt = omega arith
@@ -45,12 +45,12 @@ comparisons_rise (x ∷ rows) rising k zero (suc j) d le lt =
     let lower : key_cmp (key_of (row_view x)) (key_of (row_view later)) ≡ Less = rw (get_or-map row_view rows j d (row_view d) in_range) at above in
     lower_index (key_of (row_view x)) (key_of (row_view later)) k (key_cmp (key_of (row_view later)) k) refl lower
 
--- a binary search by key ends at the key, or at the gap for it
+-- a binary search by key ends at the key, or at the gap where the key would be
 pub searched : (rows : List Row) → IsRising (row_views rows) → (k : List ℕ) (r : Result ℕ ℕ) → IsSearchInRange r (length rows) → IsBinarySearchResult (λ row. key_cmp (key_of (row_view row)) k) rows r → record { found : IfOk r (IsIndex rows k); absent : IfErr r (IsGap rows k) }
 searched rows rising k (Ok at) in_range equal = record { found = (in_range, equal); absent = tt }
 searched rows rising k (Err at) in_range parted = record { found = tt; absent = (in_range, parted (comparisons_rise rows rising k)) }
 
--- the key by which a row is sought is its own
+-- the key by which a row is searched is its own
 pub key_is : (row : Row) → key row.kind row.id ≡ key_of (row_view row)
 unfolding key_of
 key_is row = ap (λ id. key row.kind id) row.identified
@@ -58,7 +58,7 @@ key_is row = ap (λ id. key row.kind id) row.identified
 -- ---- a put at the index
 
 module _ (rows : List Row) (rising : IsRising (row_views rows)) (row : Row) (at : ℕ) (there : IsIndex rows (key_of (row_view row)) at) where
-  -- the row that stands there
+  -- the row at the index
   abbrev old_row : Row
   old_row = get_or rows at row
 

@@ -1,4 +1,4 @@
--- Which rows a purge and a removal leave: for `command_laws`.
+-- The rows after a purge and after a removal: for `command_laws`.
 use Rattle.std.proofs.Common.{◌≡◌, zero, suc, Bool, true, false, not, cond, List, [], ◌∷◌, refl, sym, ap, ◌∙◌, subst, arith}
 use Rattle.std.specs.List.{Contains, filter}
 use Rattle.std.proofs.lemmas.Bool.{ltb-true, lt-ltb, false≢true}

@@ -1,4 +1,4 @@
--- What a map of rows holds under its keys: for the calls of `RowMap`.
+-- The rows of a map under its keys: for the calls of `RowMap`.
 use Rattle.std.proofs.Common.{◌≡◌, ℕ, ◌+◌, arith, Bool, true, false, not, cond, List, [], ◌∷◌, if◌then◌else◌, Option, Some, None, refl, sym, ap, ◌∙◌, subst}
 use Rattle.std.specs.List.{AllByRecursion, filter, sum_by}
 use Rattle.std.specs.List.Sorted.{IsStrictlySortedBy}
@@ -138,13 +138,13 @@ module _ (q : RowKey) (row : Row) (its : bytes_of q ≡ key_of (row_view row)) w
   own_set [] own = (its, tt)
   own_set (e ∷ es) own = own_match (key_cmp q e.0) e es (insert_entry key_cmp es q row) refl own.0 own.1 (own_set es own.1)
 
--- ---- as the calls give them
+-- ---- in the terms of the calls
 
 pub copied_view : (found : Option (Bor Row)) → option_map (λ row. row_view row.now) found ≡ option_map row_view (option_copied found)
 copied_view None = refl
 copied_view (Some row) = refl
 
--- the key that a row's type and id make is the row's
+-- the key of a row's type and id is the row's key
 pub its_bytes : (q : RowKey) (row : Row) → bytes_of q ≡ key row.kind row.id → bytes_of q ≡ key_of (row_view row)
 unfolding key_of
 its_bytes q row e = e ∙ ap (key row.kind) row.identified
@@ -187,7 +187,7 @@ pub sum_views : (rows : List Row) → sum_by (λ row. row_len (row_view row)) ro
 sum_views [] = refl
 sum_views (row ∷ rows) = sum_by-cons (λ row. row_len (row_view row)) row rows ∙ ap (λ n. row_len (row_view row) + n) (sum_views rows) ∙ sym (sum_by-cons row_len (row_view row) (row_views rows))
 
--- ---- a value that takes another's place
+-- ---- a value that replaces another
 
 placed_first : (o : Ordering) (q : RowKey) (row old : Row) (e : RowKey × Row) (es later after : List (RowKey × Row)) (found : Option Row) → (o ≡ Less → found ≡ None)
     → cond (is_eq o) (Some e.1) found ≡ Some old → (found ≡ Some old → later ≡ after)
@@ -196,7 +196,7 @@ placed_first Less q row old e es later after found none is more = absurd (false�
 placed_first Equal q row old e es later after found none is more = refl
 placed_first Greater q row old e es later after found none is more = ap (λ rest. e ∷ rest) (more is)
 
--- where a row stands under the key, to set its value is to insert it
+-- where a row is under the key, to set its value is to insert it
 pub placed_is_set : (q : RowKey) (row old : Row) (es : List (RowKey × Row)) → IsStrictlySortedBy key_cmp (keys_of es) → lookup (is_at (key_cmp q)) es ≡ Some old
     → set_value (is_at (key_cmp q)) es row ≡ insert_entry key_cmp es q row
 placed_is_set q row old [] sorted is = absurd (false≢true (ap is_some is))
@@ -210,12 +210,12 @@ same_first : (b : Bool) (old : Row) (e : RowKey × Row) (es later : List (RowKey
 same_first true old e es later found is more = let one : e.1 ≡ old = cc in ap (λ row. (e.0, row) ∷ es) (sym one)
 same_first false old e es later found is more = ap (λ rest. e ∷ rest) (more is)
 
--- to set the value that stands there changes nothing
+-- to set the value that is there already changes nothing
 pub placed_same : (q : RowKey) (old : Row) (es : List (RowKey × Row)) → lookup (is_at (key_cmp q)) es ≡ Some old → set_value (is_at (key_cmp q)) es old ≡ es
 placed_same q old [] is = refl
 placed_same q old (e ∷ es) is = same_first (is_at (key_cmp q) e.0) old e es (set_value (is_at (key_cmp q)) es old) (lookup (is_at (key_cmp q)) es) is (placed_same q old es)
 
--- what stands under the key of a row
+-- the row under the key of a row
 pub found_at : (q : RowKey) (row old : Row) (es : List (RowKey × Row)) → bytes_of q ≡ key_of (row_view row) → AreUnderTheirKeys es → lookup (is_at (key_cmp q)) es ≡ Some old
     → row_under (key_of (row_view row)) (views_of es) ≡ Some (row_view old)
 found_at q row old es its own is = ap (λ k. row_under k (views_of es)) (sym its) ∙ sym (found_by q es own) ∙ ap (option_map row_view) is

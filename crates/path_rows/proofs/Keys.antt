@@ -1,4 +1,4 @@
--- What commands leave under a key: for `command_laws`.
+-- The row under a key after commands: for `command_laws`.
 use Rattle.std.proofs.Common.{◌≡◌, ◌≢◌, ℕ, Bool, true, false, not, cond, List, [], ◌∷◌, if◌then◌else◌, Some, None, refl, sym, ap, ◌∙◌, subst}
 use Rattle.std.specs.List.{filter}
 use Rattle.std.specs.Ordering.{nat_cmp, is_eq}
@@ -28,7 +28,7 @@ equal_from Greater e = absurd (false≢true e)
 pub its_key : (k : List ℕ) (row : RowView) → is_under k row ≡ true → k ≡ key_of row
 its_key k row under = exact_bytes k (key_of row) (equal_from (slice_cmp nat_cmp k (key_of row)) under)
 
--- a row that is not under a key has another
+-- a row that is not under a key has another key
 pub another_key : (k : List ℕ) (row : RowView) → is_under k row ≡ false → k ≢ key_of row
 another_key k row other same = false≢true (sym other ∙ subst (λ l. is_under l row ≡ true) (sym same) (under_itself row))
 
@@ -37,14 +37,14 @@ pub under_other : (k : List ℕ) (row : RowView) (b : Bool) → is_under k row �
 under_other k row true e other = absurd (other (its_key k row e))
 under_other k row false e other = e
 
--- above a row under a key none is
+-- after a row under a key there is none under the same key
 pub others_behind : (k : List ℕ) (row : RowView) (rows : List RowView) → is_under k row ≡ true → AllAbove row rows → AreOthers k rows
 others_behind k row rows under above = subst (λ l. AreOthers l rows) (sym (its_key k row under)) (others_above row rows above)
 
 pub none_behind : (k : List ℕ) (row : RowView) (rows : List RowView) → is_under k row ≡ true → AllAbove row rows → row_under k rows ≡ None
 none_behind k row rows under above = none_under k rows (others_behind k row rows under above)
 
--- the first row decides as it is under the key
+-- the first row is the result if it is under the key
 pub under_first : (k : List ℕ) (row : RowView) (rows : List RowView) (b : Bool) → is_under k row ≡ b → row_under k (row ∷ rows) ≡ (if b then Some row else row_under k rows)
 under_first k row rows b e = ap (λ b. if b then Some row else row_under k rows) e
 
@@ -62,7 +62,7 @@ either_passed : (k : List ℕ) (row old : RowView) (others : List RowView) (newe
 either_passed k row old others true new_other old_other = under_first k row others false new_other
 either_passed k row old others false new_other old_other = under_first k old others false old_other
 
--- a row below or above one under a key is not under it
+-- a row below or above a row under a key is not under that key
 pub not_under : (k : List ℕ) (row old : RowView) (o : Ordering) → key_order row old ≡ o → is_eq o ≡ false → is_under k row ≡ true → is_under k old ≡ false
 not_under k row old o e other under = subst (λ l. is_eq (slice_cmp nat_cmp l (key_of old)) ≡ false) (sym (its_key k row under)) (ap is_eq e ∙ other)
 

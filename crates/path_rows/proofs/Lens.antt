@@ -7,16 +7,16 @@ use Rattle.path_rows.specs.declared.row.Row.{Row}
 use Rattle.path_rows.specs.Database.{row_len, rows_len}
 use Rattle.path_rows.specs.Row.{row_view, row_views}
 
--- the bytes of rows are few
+-- the bytes of rows are bounded by their number
 pub rows_short : (rows : List Row) → rows_len (row_views rows) ≤ 16389 * length rows
 rows_short [] = omega arith
 rows_short (row ∷ rows) = omega (arith, row.short, sum_by-cons row_len (row_view row) (row_views rows), rows_short rows)
 
--- a row is inserted among what the rows stand for
+-- a row is inserted among the views of the rows
 pub insert_views : (rows : List Row) (at : ℕ) (new : Row) → row_views (insert rows at new) ≡ insert (row_views rows) at (row_view new)
 insert_views rows at new = rw (map-append, take-map, drop-map)
 
--- the row at an index is counted
+-- the row at an index counts in the bytes of all rows
 pub row_counted : (rows : List Row) (at : ℕ) (d : Row) → at < length rows → row_len (row_view (get_or rows at d)) ≤ rows_len (row_views rows)
 row_counted rows at d lt =
     let in_views : at < length (row_views rows) = rw (length-map rows row_view) lt in

@@ -1,4 +1,4 @@
--- What several puts leave under a key is the newest of its candidates: for `command_laws`.
+-- The row under a key after several puts is the newest of its candidates: for `command_laws`.
 use Rattle.std.proofs.Common.{◌≡◌, ℕ, ◌<◌, ◌≤◌, Bool, true, false, cond, List, [], ◌∷◌, ◌++◌, if◌then◌else◌, Option, Some, None, MatchOption, refl, sym, ap, subst, arith}
 use Rattle.std.specs.List.{AllByRecursion, filter}
 use Rattle.std.specs.Option.{option_to_list}
@@ -19,7 +19,7 @@ first_at_most first newest rows [] after split older =
 first_at_most first newest rows (b ∷ before) after split older =
     let one : first ≡ b = cc in omega (arith, ap (λ (row : RowView). row.1.timestamp) one, older.0)
 
--- the newest behind a strictly older row
+-- the newest row after a strictly older row
 behind_older : (old row : RowView) (rows : List RowView) (newest : RowView) → is_newer row old ≡ true → IsNewest (row ∷ rows) newest → IsNewest (old ∷ row ∷ rows) newest
 behind_older old row rows newest newer all =
     let strictly : old.1.timestamp < row.1.timestamp = ltb-true _ _ newer in
@@ -31,7 +31,7 @@ behind_older old row rows newest newer all =
       no_newer = all.no_newer;
     }
 
--- the newest of rows with one more, which is not newer than the first
+-- the newest of rows with one more row, which is not newer than the first
 behind_first : (old row newest : RowView) (rows before after : List RowView) → row.1.timestamp ≤ old.1.timestamp → old ∷ rows ≡ before ++ newest ∷ after → AreOlder newest before → AllByRecursion (λ other. other.1.timestamp ≤ newest.1.timestamp) after → IsNewest (old ∷ row ∷ rows) newest
 behind_first old row newest rows [] after most split older no_newer =
     let one : old ≡ newest = cc in
@@ -56,7 +56,7 @@ behind_newest : (old row : RowView) (rows : List RowView) (newest : RowView) →
 behind_newest old row rows newest older all =
     behind_first old row newest rows all.before all.after (ltb-false _ _ older) all.split all.older all.no_newer
 
--- nothing stands, and there are no rows, or the newest of them stands
+-- there is no row and no candidate, or the row is the newest of the candidates
 abbrev IsNewestOf : List RowView → Option RowView → Type 0
 IsNewestOf rows found = MatchOption found (rows ≡ []) (λ row. IsNewest rows row)
 

@@ -1,4 +1,4 @@
--- The order of keys, and what is under a key in rising rows: for the puts and their laws.
+-- The order of keys, and the row under a key in rising rows: for the puts and their laws.
 use Rattle.std.proofs.Common.{◌≡◌, ℕ, zero, suc, ◌<◌, ◌≤◌, List, [], ◌∷◌, length, get_or, set, if◌then◌else◌, refl, ap, ◌∙◌, arith}
 use Rattle.std.specs.List.{AllByRecursion, insert}
 use Rattle.std.specs.Ordering.{ordering_reverse}
@@ -18,14 +18,14 @@ row_order = on_total key_of nat_list_cmp_total
 abbrev pub AllAbove : RowView → List RowView → Type 0
 AllAbove row rows = AllByRecursion (λ later. key_order row later ≡ Less) rows
 
--- the other way round
+-- the order with its sides exchanged
 pub turned_less : (a b : RowView) → key_order a b ≡ Less → key_order b a ≡ Greater
 turned_less a b e = row_order.antisymm b a ∙ ap ordering_reverse e
 
 pub turned_greater : (a b : RowView) → key_order a b ≡ Greater → key_order b a ≡ Less
 turned_greater a b e = row_order.antisymm b a ∙ ap ordering_reverse e
 
--- what is below a row is below all above that
+-- a row below another is below all rows above the other
 pub above_less : (a b : RowView) (rows : List RowView) → key_order a b ≡ Less → AllAbove b rows → AllAbove a rows
 above_less a b [] e all = tt
 above_less a b (r ∷ rows) e all = (row_order.trans a b r e all.0, above_less a b rows e all.1)
@@ -35,7 +35,7 @@ pub above_same : (a b : RowView) (rows : List RowView) → key_order a b ≡ Equ
 above_same a b [] e all = tt
 above_same a b (r ∷ rows) e all = (row_order.congr a b r e ∙ all.0, above_same a b rows e all.1)
 
--- a row below one of a key is below the other of that key
+-- a row below one of two rows with the same key is below the other
 greater_before : (old row later : RowView) → key_order old later ≡ Less → key_order row later ≡ Equal → key_order row old ≡ Greater
 greater_before old row later below same = turned_less old row (alike_right row_order row later old same ∙ below)
 
@@ -61,7 +61,7 @@ change_at (old ∷ others) rising row (suc i) d lt same =
 
 -- ---- a put in the gap for its key
 
--- the rows before the index are below the row, and those from it on above
+-- the rows before the index are below the row, and the rows from the index on are above
 pub record IsGapFor (rows : List RowView) (row : RowView) (at : ℕ) : Type 0 where
   pub in_range : at ≤ length rows
   pub before : (j : ℕ) (d : RowView) → j < at → key_order (get_or rows j d) row ≡ Less

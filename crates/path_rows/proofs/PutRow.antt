@@ -1,4 +1,4 @@
--- A put by what stands under its key: for `row_puts`.
+-- A put by the row under its key: for `row_puts`.
 use Rattle.std.proofs.Common.{◌≡◌, ℕ, Bool, true, false, not, ◌||◌, List, [], ◌∷◌, ◌++◌, length, arith, if◌then◌else◌, Option, Some, None, IsSome, Result, Ok, Err, refl, sym, ap, ◌∙◌, subst}
 use Rattle.std.specs.Prelude.{IfOk, OnErr}
 use Rattle.std.specs.List.{AllByRecursion}
@@ -34,7 +34,7 @@ new_winner : (row : RowView) (found : Option RowView) → wins row found ≡ tru
 new_winner row None e = refl
 new_winner row (Some old) e = ap (λ b. Some (if b then row else old)) (sym e)
 
--- what stands under a key that is a row's stands under the row's own
+-- the row under a key that is a row's key is the row under the row's own key
 at_its_key : (k : List ℕ) (row : RowView) (rows : List RowView) (P : Option RowView → Type 0) → is_under k row ≡ true → P (row_under (key_of row) rows) → P (row_under k rows)
 at_its_key k row rows P under so = subst (λ l. P (row_under l rows)) (sym (its_key k row under)) so
 
@@ -92,7 +92,7 @@ inserted_change rows row rising found = ap (change_found row) found ∙ sym (cha
 
 -- ---- what is put back
 
--- a row that is found under a key is under it
+-- a row that is found under a key has that key
 first_found : (k : List ℕ) (row r : RowView) (later : Option RowView) (b : Bool) → is_under k row ≡ b → (if b then Some row else later) ≡ Some r → (later ≡ Some r → is_under k r ≡ true) → is_under k r ≡ true
 first_found k row r later true under e more = let one : row ≡ r = cc in subst (λ x. is_under k x ≡ true) one under
 first_found k row r later false under e more = more e
@@ -136,7 +136,7 @@ stood_first : (orig : List RowView) (saved : List Stood) (s : Stood) → AreStoo
 stood_first orig [] s all = (tt, all.0)
 stood_first orig (x ∷ saved) s all = ((all.0, (stood_first orig saved s all.1).0), (stood_first orig saved s all.1).1)
 
--- after the last is put back
+-- what is left to put back after the last was put back
 module _ (orig now after : List RowView) (saved : List Stood) (s : Stood) (left : IsLeft orig (saved ++ s ∷ []) now) (back : PutsBack s now after) where
   its : s.1 ≡ row_under s.0 orig
   its = (stood_first orig saved s left.stood).1

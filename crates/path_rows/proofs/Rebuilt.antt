@@ -1,4 +1,4 @@
--- Rows whose keys rise, put into no rows, are these rows: for `of_rows`.
+-- Rows whose keys rise, put into an empty database, are the database: for `of_rows`.
 use Rattle.std.proofs.Common.{◌≡◌, ℕ, Bool, true, false, List, [], ◌∷◌, if◌then◌else◌, Option, Some, None, refl, sym, ap, ◌∙◌}
 use Rattle.path_rows.specs.Database.{RowView, IsRising, is_under, row_under}
 use Rattle.path_rows.specs.Put.{database_after_puts}

@@ -78,7 +78,7 @@ module _ (end : EndOf) (rows : List RowView) (rising : IsRising rows) (l : List 
       removed_index_key q (is_key (indexed_key q) l) (is_of (end row.1.entries) q.isd_as) before after refl refl index (taken q)
       ∙ sym (ap (λ rows. stands end rows q) is ∙ ap (ends_at end q.isd_as) (removal_leaves (indexed_key q) l rows rising))
 
--- where no row stands under a key, a removal keeps all index keys
+-- where no row is under a key, a removal keeps all index keys
 pub kept_index : (end : EndOf) (rows left : List RowView) (index_keys : List IndexKey) → left ≡ rows → IsIndex end rows index_keys → IsIndex end left index_keys
 kept_index end rows left index_keys same index q = index q ∙ ap (λ rows. stands end rows q) (sym same)
 
@@ -88,7 +88,7 @@ purged_now end rows now moment before after left rising index kept =
     subst (λ l. IsIndex end l after) (sym left)
     (purged_index end rows moment before after rising index (λ q. kept q ∙ ap (λ l. is_some (row_under (indexed_key q) l) && has before q) left))
 
--- a removal under a key with no row keeps all
+-- a removal under a key without a row changes nothing
 pub none_to_remove : (l : List ℕ) (rows : List RowView) → IsRising rows → row_under l rows ≡ None → database_after_removal rows l ≡ rows
 none_to_remove l rows rising none =
     database_is_canonical (database_after_removal rows l) rows (rising_filtered (λ row. not (is_under l row)) rows rising) rising

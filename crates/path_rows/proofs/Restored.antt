@@ -1,4 +1,4 @@
--- What the first puts of several leave to put back: for `put_all`.
+-- What is left to put back after the first of several puts: for `put_all`.
 use Rattle.std.proofs.Common.{◌≡◌, ℕ, Bool, true, false, ◌||◌, List, [], ◌∷◌, ◌++◌, map, if◌then◌else◌, Option, Some, IsSome, refl, sym, ap, ◌∙◌, subst}
 use Rattle.std.specs.List.{AllByRecursion}
 use Rattle.std.proofs.lemmas.Bool.{false≢true}
@@ -7,7 +7,7 @@ use Rattle.path_rows.specs.CommandLaws.{winner, left_by_put, left_by_puts}
 use Rattle.path_rows.specs.Saved.{Stood, is_saved, AreFirstPut, IsLeft}
 use Rattle.path_rows.proofs.Keys.{puts_leave}
 
--- what stands under the key of a row
+-- the row under the key of a row
 abbrev pub stood_under : List RowView → RowView → Stood
 stood_under rows row = (key_of row, row_under (key_of row) rows)
 

@@ -1,4 +1,4 @@
--- What a walk has shown, by what is left of it: for `first_shown`.
+-- The segments that a scan has found, by the rows that are left: for `first_shown`.
 use Rattle.std.proofs.Common.{◌≡◌, ℕ, zero, suc, ◌<◌, ◌≤◌, Bool, true, false, cond, List, [], ◌∷◌, ◌++◌, length, take, refl, sym, ap, ◌∙◌, arith}
 use Rattle.std.proofs.lemmas.List.{append_assoc, length-append}
 use Rattle.std.specs.List.{filter}
@@ -8,7 +8,7 @@ use Rattle.seg_core.specs.SegmentView.{SegmentView}
 use Rattle.path_rows.specs.Database.{RowView}
 use Rattle.path_rows.specs.Answer.{segments_of}
 
--- the segments so far, and those that are left to show, are all that are shown
+-- the segments until now, and those that are left to find, are all segments that are shown
 abbrev pub ShowsAll : (RowView → Bool) → List RowView → List SegmentView → List RowView → Type 0
 ShowsAll w rows found left = segments_of (filter w rows) ≡ found ++ segments_of (filter w left)
 

@@ -1,4 +1,4 @@
--- One more put behind others: for `put_all`.
+-- One more put after other puts: for `put_all`.
 use Rattle.std.proofs.Common.{◌≡◌, ℕ, Bool, true, false, if◌then◌else◌, ◌+◌, List, [], ◌∷◌, ◌++◌, refl, ap, arith}
 use Rattle.std.specs.List.{count_by}
 use Rattle.std.proofs.lemmas.List.Sums.{sum_by-append}
@@ -34,7 +34,7 @@ count_no p changes change so =
     let none = rw so at more in
     omega (arith, none)
 
--- an outcome is its counts
+-- outcomes with the same counts are the same
 outcomes_equal : (a b c d e f : ℕ) → a ≡ d → b ≡ e → c ≡ f → outcome_by a b c ≡ outcome_by d e f
 outcomes_equal a b c d e f p q r = λ i. outcome_by (p i) (q i) (r i)
 

@@ -18,7 +18,7 @@ use Rattle.path_rows.specs.Row.{row_view}
 use Rattle.path_rows.specs.RowMap.{bytes_of, views_of, AreUnderTheirKeys}
 use Rattle.path_rows.proofs.Keyed.{key_cmp, passed_first}
 
--- by how a type and the next one stand to that of a key, and how the least id does
+-- the cases by the orders of a type, of the next type, and of the least id
 table : (o p later : Ordering) → is_le later ≡ true → IsNext o p → (is_le (ordering_then o later) && not (is_le (ordering_then p later))) ≡ is_eq o
 table Less Less later e next = refl
 table Less Equal later e next = ap not e
@@ -28,7 +28,7 @@ table Equal Equal later e next = absurd (false≢true (sym next))
 table Equal Greater later e next = ap (λ b. b && true) e
 table Greater p later e next = refl
 
--- what lies between the least keys of a type and of the next
+-- the keys between the least keys of a type and of the next type
 pub between : (low high k : RowKey) → low.id ≡ zeros 32 → high.id ≡ zeros 32 → high.kind ≡ low.kind + 1 → (is_le (key_cmp low k) && not (is_le (key_cmp high k))) ≡ (k.kind == low.kind)
 between low high k low_id high_id next =
     rw (low_id, high_id, next)
@@ -49,7 +49,7 @@ typed_by n (e ∷ es) own =
     passed_first (e.0.kind == n) e (filter (λ (e : RowKey × Row). e.0.kind == n) es) left (typed_by n es own.1)
     ∙ ap (λ m. cond (m == n) (row_view e.1 ∷ left) left) (own_kind e.0 e.1 own.0)
 
--- the entries between the least keys of a type and of the next are its rows
+-- the entries between the least keys of a type and of the next type are the rows of that type
 pub rows_typed : (low high : RowKey) (es : List (RowKey × Row)) → low.id ≡ zeros 32 → high.id ≡ zeros 32 → high.kind ≡ low.kind + 1 → AreUnderTheirKeys es
     → views_of (filter (λ (e : RowKey × Row). is_le (key_cmp low e.0) && not (is_le (key_cmp high e.0))) es) ≡ filter (λ row. type_number row.0 == low.kind) (views_of es)
 rows_typed low high es low_id high_id next own =

@@ -91,9 +91,9 @@ module _ (rows : List RowView) (kind number : ℕ) where
   rising_at (q ∷ index_keys) sorted =
       rising_tested q (stands_at kind number q) (filter (stands_at kind number) index_keys) refl (λ at_q row its. above_at q row index_keys its at_q sorted.0) (rising_at index_keys sorted.1)
 
--- ---- what stands under a key
+-- ---- the row under a key
 
--- a key is that of one of the index keys
+-- one of the index keys has this key
 abbrev has_key : List ℕ → List IndexKey → Bool
 has_key k index_keys = list_any (λ q. is_key k (indexed_key q)) index_keys
 
@@ -122,19 +122,19 @@ module _ (rows : List RowView) (k : List ℕ) where
   under_at [] = refl
   under_at (q ∷ index_keys) = under_found q (row_under (indexed_key q) rows) (rows_at rows index_keys) (is_key k (indexed_key q)) (has_key k index_keys) refl refl (under_at index_keys)
 
--- ---- the rows that are walked
+-- ---- the rows at the index keys
 
 index_key_total : IsTotalOrder index_key_cmp
 index_key_total = then_total (on_total (λ (p : IndexKey). p.kind) nat_cmp_total) (then_total (on_total (λ (p : IndexKey). p.isd_as) nat_cmp_total) (on_total (λ (p : IndexKey). p.id) nat_list_cmp_total))
 
--- each of the index keys is among them
+-- each of the index keys is in the list
 all_there : (index_keys : List IndexKey) → AllByRecursion (λ x. has index_keys x ≡ true) index_keys
 all_there index_keys =
     let set : BTreeSet IndexKey = record { keys = index_keys } in
     recursion_from_All (λ x. has index_keys x ≡ true) index_keys (All-set_contains index_key_total set)
 
 module _ (end : EndOf) (rows : List RowView) (index_keys : List IndexKey) (kind number : ℕ) (index : IsIndex end rows index_keys) where
-  -- a row of the type, and of the ISD-AS at its end
+  -- a row of the type, with this ISD-AS at its end
   abbrev is_there : RowView → Bool
   is_there row = (type_number row.0 == kind) && is_of (end row.1.entries) number
 
@@ -209,7 +209,7 @@ module _ (end : EndOf) (rows : List RowView) (index_keys : List IndexKey) (kind 
       database_is_canonical (rows_at rows (filter (stands_at kind number) index_keys)) (filter is_there rows) (rising_at rows kind number index_keys sorted) (rising_filtered is_there rows rising)
       (λ k. under_at rows k (filter (stands_at kind number) index_keys) ∙ kept_at k (row_under k rows) refl ∙ sym (test_leaves k is_there rows rising))
 
--- ---- what a lookup wants of them
+-- ---- the rows among them that a lookup asks for
 
 part_exact : (p n : ℕ) (b : Bool) → (p == 0) ≡ b → b ≡ false → part_covers p n ≡ true → p ≡ n
 part_exact p n true e none covers = absurd (false≢true (sym none))
@@ -223,7 +223,7 @@ or_false_second : (a b : Bool) → (a || b) ≡ false → b ≡ false
 or_false_second true b e = absurd (false≢true (sym e))
 or_false_second false b e = e
 
--- an exact pattern covers itself alone
+-- an exact pattern covers one number alone
 exact_number : (pattern number : ℕ) → IsExact pattern → covers_number pattern number ≡ true → number ≡ pattern
 exact_number pattern number exact covers =
     let high = part_exact (pattern / 2 ^ 48) (number / 2 ^ 48) (pattern / 2 ^ 48 == 0) refl (or_false_first (pattern / 2 ^ 48 == 0) (pattern % 2 ^ 48 == 0) exact.parts) (first_from (part_covers (pattern / 2 ^ 48) (number / 2 ^ 48)) (part_covers (pattern % 2 ^ 48) (number % 2 ^ 48)) covers) in
@@ -252,7 +252,7 @@ module _ (kind : SegType) (start end now : ℕ) (row : RowView) (shown : is_show
   first_shown exact = both_from (type_number row.0 == type_number kind) (is_of (first_of row.1.entries) start) typed
       (exact_entry start (first_of row.1.entries) exact (first_from (covers_entry start (first_of row.1.entries)) (covers_entry end (last_of row.1.entries)) covered))
 
--- a test that another implies keeps all that the other keeps
+-- a test that implies another selects the same rows after the other
 module _ (w p : RowView → Bool) (implied : (row : RowView) → w row ≡ true → p row ≡ true) where
   implied_tested : (row : RowView) (b c : Bool) (left all : List RowView) → p row ≡ b → w row ≡ c → filter w left ≡ filter w all → filter w (cond b (row ∷ left) left) ≡ cond c (row ∷ filter w all) (filter w all)
   implied_tested row true c left all e f same = ap (λ b. cond b (row ∷ filter w left) (filter w left)) f ∙ ap (λ l. cond c (row ∷ l) l) same

@@ -1,4 +1,4 @@
--- Which rows a lookup shows.
+-- The rows that a lookup shows.
 use Rattle.std.specs.Prelude.{ℕ, List, [], ◌∷◌, Bool, false, ◌==◌, ◌&&◌, take, filter, map, Option, Some, None}
 use Rattle.isd_as.specs.IsdAs.{covers_number}
 use Rattle.seg_core.specs.declared.seg_type.SegType.{SegType}
@@ -8,7 +8,7 @@ use Rattle.seg_core.specs.Registration.{type_number}
 use Rattle.path_rows.specs.Database.{RowView}
 use Rattle.path_rows.specs.Command.{is_valid_beyond}
 
--- an entry is there, and its ISD-AS is covered
+-- there is an entry, and its ISD-AS is covered
 abbrev pub covers_entry : ℕ → Option EntryView → Bool
 covers_entry pattern None = false
 covers_entry pattern (Some e) = covers_number pattern e.ia
@@ -17,7 +17,7 @@ abbrev pub first_of : List EntryView → Option EntryView
 first_of [] = None
 first_of (e ∷ es) = Some e
 
--- a row is of this type
+-- the row is of this type
 abbrev pub is_of_type : SegType → RowView → Bool
 is_of_type kind row = type_number row.0 == type_number kind
 
@@ -26,11 +26,11 @@ abbrev pub matches : SegType → ℕ → ℕ → RowView → Bool
 matches kind start end row =
     (type_number row.0 == type_number kind) && (covers_entry start (first_of row.1.entries) && covers_entry end (last_of row.1.entries))
 
--- a row that matches and expires after this moment
+-- a row that matches and expires after this moment, in half seconds since 1970
 abbrev pub is_shown : SegType → ℕ → ℕ → ℕ → RowView → Bool
 is_shown kind start end now row = matches kind start end row && is_valid_beyond now row
 
--- the first rows by key that match and are valid, at most so many
+-- the first rows by key that match and are valid, at most this number
 unfoldable pub answer_of : ℕ → List RowView → SegType → ℕ → ℕ → ℕ → List RowView
 answer_of limit rows kind start end now = take limit (filter (is_shown kind start end now) rows)
 

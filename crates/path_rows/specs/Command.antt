@@ -9,15 +9,15 @@ use Rattle.path_rows.specs.Database.{RowView, key, is_under, row_under, AreWhole
 use Rattle.path_rows.specs.Put.{database_after_puts, changes_of}
 use Rattle.path_rows.specs.Outcome.{outcome_of_puts, outcome_of_drops}
 
--- A row is valid beyond a moment: it expires after it.
+-- A row is valid beyond a moment if it expires after it. Moments are in half seconds since 1970.
 abbrev pub is_valid_beyond : ℕ → RowView → Bool
 is_valid_beyond moment row = nat_lt moment (expiry_of row.1)
 
--- a purge keeps just the rows that are valid beyond its moment
+-- a purge keeps exactly the rows that are valid beyond its moment
 abbrev pub database_after_purge : List RowView → ℕ → List RowView
 database_after_purge rows moment = filter (is_valid_beyond moment) rows
 
--- a removal keeps just the rows that are not under its key
+-- a removal keeps exactly the rows that are not under its key
 abbrev pub database_after_removal : List RowView → List ℕ → List RowView
 database_after_removal rows k = filter (λ row. not (is_under k row)) rows
 
@@ -32,13 +32,13 @@ unfoldable pub database_after_all : List RowView → List Command → List RowVi
 database_after_all rows [] = rows
 database_after_all rows (command ∷ commands) = database_after_all (database_after rows command) commands
 
--- What a command does: how many of its puts add, replace and keep, and how many rows it drops.
+-- The outcome of a command: how many of its puts add, replace and keep a row, and how many rows the command drops.
 unfoldable pub outcome_of : List RowView → Command → Outcome
 outcome_of rows (Register new) = outcome_of_puts (changes_of rows new)
 outcome_of rows (Purge moment) = outcome_of_drops (count_by (λ row. not (is_valid_beyond moment row)) rows)
 outcome_of rows (Remove kind id) = outcome_of_drops (if is_some (row_under (key kind id) rows) then 1 else 0)
 
--- a registration of at least one segment, which alone takes memory
+-- a registration of at least one segment; no other command takes memory
 abbrev pub TakesMemory : Command → Type 0
 TakesMemory (Register []) = ⊥
 TakesMemory (Register (row ∷ new)) = Unit {0}

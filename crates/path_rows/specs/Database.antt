@@ -1,4 +1,4 @@
--- The database: a finite map from keys to rows, as the one list of its rows in the order of their keys.
+-- The database: a finite map from keys to rows, as the list of its rows in the order of their keys.
 use Rattle.std.specs.Prelude.{◌≡◌, ℕ, ◌+◌, List, [], ◌∷◌, length, Bool, if◌then◌else◌, Option, Some, None}
 use Rattle.std.specs.List.{AllByRecursion, sum_by}
 use Rattle.std.specs.Ordering.{nat_cmp, is_eq}
@@ -23,11 +23,11 @@ key kind id = type_number kind ∷ id
 unfoldable pub key_of : RowView → List ℕ
 key_of row = key row.0 (segment_digest row.1)
 
--- how the key of a row stands to that of another
+-- the order of two rows' keys
 abbrev pub key_order : RowView → RowView → Ordering
 key_order row other = slice_cmp nat_cmp (key_of row) (key_of other)
 
--- the keys rise, so no key stands twice
+-- the keys rise, so no key occurs twice
 abbrev pub IsRising : List RowView → Type 0
 IsRising [] = Unit {0}
 IsRising (row ∷ rows) = AllByRecursion (λ later. key_order row later ≡ Less) rows × IsRising rows
@@ -36,7 +36,7 @@ IsRising (row ∷ rows) = AllByRecursion (λ later. key_order row later ≡ Less
 abbrev pub AreWhole : List RowView → Type 0
 AreWhole rows = AllByRecursion (λ row. IsSegment row.1) rows
 
--- What every database is.
+-- What holds for every database.
 pub record IsDatabase (rows : List RowView) : Type 0 where
   pub rising : IsRising rows
   pub whole : AreWhole rows
@@ -45,15 +45,15 @@ pub record IsDatabase (rows : List RowView) : Type 0 where
 abbrev pub is_under : List ℕ → RowView → Bool
 is_under k row = is_eq (slice_cmp nat_cmp k (key_of row))
 
--- the row under a key
+-- the row under a key, if there is one
 abbrev pub row_under : List ℕ → List RowView → Option RowView
 row_under k [] = None
 row_under k (row ∷ rows) = if is_under k row then Some row else row_under k rows
 
--- the bytes of a row: a type in one, a length in four, and the segment's encoding
+-- the bytes of a row's record: the type (1), the length (4), and the segment's encoding
 abbrev pub row_len : RowView → ℕ
 row_len row = 5 + length (segment_encoding row.1)
 
--- the bytes of all rows
+-- the bytes of the records of all rows
 abbrev pub rows_len : List RowView → ℕ
 rows_len rows = sum_by row_len rows

@@ -16,7 +16,7 @@ abbrev pub end_of : End → List EntryView → Option EntryView
 end_of First entries = first_of entries
 end_of Last entries = last_of entries
 
--- an entry is there, and is of this ISD-AS
+-- there is an entry, and it is of this ISD-AS
 abbrev pub is_of : Option EntryView → ℕ → Bool
 is_of None number = false
 is_of (Some e) number = e.ia == number
@@ -25,16 +25,16 @@ is_of (Some e) number = e.ia == number
 abbrev pub is_index_key : (List EntryView → Option EntryView) → IndexKey → RowView → Bool
 is_index_key end index_key row = is_under (indexed_key index_key) row && is_of (end row.1.entries) index_key.isd_as
 
--- a row is there, and is of this ISD-AS at its end
+-- there is a row, and it has this ISD-AS at its end
 abbrev pub ends_at : (List EntryView → Option EntryView) → ℕ → Option RowView → Bool
 ends_at end number None = false
 ends_at end number (Some row) = is_of (end row.1.entries) number
 
--- a row stands at the index key
+-- the index key is the index key of one of the rows
 abbrev pub stands : (List EntryView → Option EntryView) → List RowView → IndexKey → Bool
 stands end rows index_key = ends_at end index_key.isd_as (row_under (indexed_key index_key) rows)
 
--- the index keys of a row are among these
+-- the index keys of a row are in this list
 abbrev pub IsTouched : (List EntryView → Option EntryView) → List IndexKey → RowView → Type 0
 IsTouched end index_keys row = (q : IndexKey) → is_index_key end q row ≡ true → has index_keys q ≡ true
 
@@ -47,33 +47,33 @@ HaveOneIndexKey end new old =
 abbrev pub EndAlike : (List EntryView → Option EntryView) → RowView → RowView → Type 0
 EndAlike end new old = (number : ℕ) × (is_of (end new.1.entries) number ≡ true) × (is_of (end old.1.entries) number ≡ true)
 
--- Of a row that is new and what stood under its key: the index keys of both are among these, or they have the same index key.
+-- A new row and the row that was under its key: the index keys of both are in the list, or both have the same index key.
 abbrev pub IsSeenTo : (List EntryView → Option EntryView) → List IndexKey → RowView → Option RowView → Type 0
 IsSeenTo end index_keys new stood =
     (IsTouched end index_keys new × ((r : RowView) → stood ≡ Some r → IsTouched end index_keys r))
     ⊎ ((r : RowView) × (stood ≡ Some r) × HaveOneIndexKey end new r)
 
--- so it is of each of the rows
+-- the same for each new row and the row that was under its key
 abbrev pub AreSeenTo : (List EntryView → Option EntryView) → List IndexKey → List RowView → List Stood → Type 0
 AreSeenTo end index_keys [] [] = Unit {0}
 AreSeenTo end index_keys (row ∷ rows) (stood ∷ saved) = IsSeenTo end index_keys row stood.1 × AreSeenTo end index_keys rows saved
 AreSeenTo end index_keys [] (stood ∷ saved) = ⊥
 AreSeenTo end index_keys (row ∷ rows) [] = ⊥
 
--- the index keys are just those of the rows
+-- the index keys are exactly those of the rows
 abbrev pub IsIndex : (List EntryView → Option EntryView) → List RowView → List IndexKey → Type 0
 IsIndex end rows index_keys = (q : IndexKey) → has index_keys q ≡ stands end rows q
 
--- The index keys are those of the rows, and perhaps some of these.
+-- The index keys are those of the rows, and perhaps some of the touched ones.
 pub record IsCovered (end : List EntryView → Option EntryView) (rows : List RowView) (touched index_keys : List IndexKey) : Type 0 where
   pub kept : (q : IndexKey) → stands end rows q ≡ true → has index_keys q ≡ true
   pub within : (q : IndexKey) → has index_keys q ≡ true → (stands end rows q ≡ true) ⊎ (has touched q ≡ true)
 
--- Index keys have grown by some of these.
+-- The index keys after are those before, and perhaps some of the touched ones.
 pub record IsGrown (touched before after : List IndexKey) : Type 0 where
   pub kept : (q : IndexKey) → has before q ≡ true → has after q ≡ true
   pub within : (q : IndexKey) → has after q ≡ true → (has before q ≡ true) ⊎ (has touched q ≡ true)
 
--- all of these are among the index keys
+-- all of the touched ones are among the index keys
 abbrev pub HasAll : List IndexKey → List IndexKey → Type 0
 HasAll touched index_keys = (q : IndexKey) → has touched q ≡ true → has index_keys q ≡ true

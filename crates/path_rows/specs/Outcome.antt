@@ -1,10 +1,10 @@
--- Counting what a command did.
+-- The counts of an outcome.
 use Rattle.std.specs.Prelude.{ℕ, ◌+◌, ◌-◌, ◌^◌, min, List, count_by, Bool, true, false}
 use Rattle.path_rows.specs.declared.change.Change.{Change}
 use Rattle.path_rows.specs.declared.change.Change.TheVariants.{Inserted, Updated, Kept}
 use Rattle.path_rows.specs.declared.outcome.Outcome.{Outcome}
 
--- a count; a greater one than 2^32 - 1 is told as that
+-- a count; 2^32 - 1 for a greater one
 abbrev pub capped : ℕ → ℕ
 capped n = min n (2 ^ 32 - 1)
 
@@ -23,7 +23,7 @@ is_kept Inserted = false
 is_kept Updated = false
 is_kept Kept = true
 
--- the outcome of puts
+-- the outcome of several puts, by what each did
 abbrev pub outcome_of_puts : List Change → Outcome
 outcome_of_puts changes = record {
   inserted = capped (count_by is_inserted changes);
@@ -32,11 +32,11 @@ outcome_of_puts changes = record {
   purged = 0;
 }
 
--- the outcome of dropping so many rows
+-- the outcome of dropping this number of rows
 abbrev pub outcome_of_drops : ℕ → Outcome
 outcome_of_drops n = record { inserted = 0; updated = 0; kept = 0; purged = capped n }
 
--- an outcome with one more put that did this
+-- the outcome with one more put
 abbrev pub outcome_after : Change → Outcome → Outcome
 outcome_after Inserted outcome = record outcome { inserted = capped (outcome.inserted + 1) }
 outcome_after Updated outcome = record outcome { updated = capped (outcome.updated + 1) }

@@ -1,4 +1,4 @@
--- What an outcome's counts say of a command.
+-- How an outcome's counts relate to its command.
 use Rattle.std.specs.Prelude.{◌≡◌, ◌+◌, ◌^◌, ◌<◌, List, length}
 use Rattle.path_rows.specs.declared.command.Command.{Command}
 use Rattle.path_rows.specs.declared.command.Command.TheVariants.{Register, Purge, Remove}
@@ -11,13 +11,13 @@ RegistersFew (Register new) = length new < 2 ^ 32
 RegistersFew (Purge moment) = Unit {0}
 RegistersFew (Remove kind id) = Unit {0}
 
--- Each segment that is registered is inserted, updates a row or keeps one: these counts are the number of segments.
+-- Each segment that is registered inserts a row, updates a row or keeps one: these three counts add up to the number of segments.
 abbrev pub EachPutIsCounted : Type 0
 EachPutIsCounted =
     (rows new : List RowView) → length new < 2 ^ 32
     → let outcome = outcome_of rows (Register new) in (outcome.inserted + outcome.updated) + outcome.kept ≡ length new
 
--- The rows before a command and those that it inserted are those after it and those that it purged.
+-- The number of rows before a command and those inserted is the number of rows after it and those dropped.
 abbrev pub RowsAreCounted : Type 0
 RowsAreCounted =
     (rows : List RowView) (command : Command) → IsRising rows → length rows < 2 ^ 32 → RegistersFew command

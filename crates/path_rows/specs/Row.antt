@@ -1,4 +1,4 @@
--- What a kept row stands for.
+-- Rows as contracts see them.
 use Rattle.std.specs.Prelude.{◌≡◌, ℕ, ◌<◌, ◌≤◌, List, length, map}
 use Rattle.std.specs.List.{HoldsAt}
 use Rattle.std.specs.List.Sorted.{IsPartitionPoint}
@@ -18,7 +18,7 @@ row_views rows = map row_view rows
 abbrev pub IsIndex : List Row → List ℕ → ℕ → Type 0
 IsIndex rows k at = (at < length rows) × HoldsAt (λ row. slice_cmp nat_cmp (key_of (row_view row)) k ≡ Equal) rows at
 
--- the key would go to this index: the keys before it are lower, those from it on are greater
+-- the index where the key would be inserted: the keys before the index are lower, the keys from it on are greater
 abbrev pub IsGap : List Row → List ℕ → ℕ → Type 0
 IsGap rows k at =
     (at ≤ length rows)

@@ -12,20 +12,20 @@ use Rattle.path_rows.specs.Row.{row_view, row_views}
 abbrev pub bytes_of : RowKey → List ℕ
 bytes_of k = k.kind ∷ k.id
 
--- the rows that the entries of a map hold
+-- the rows of the entries of a map
 abbrev pub views_of : List (RowKey × Row) → List RowView
 views_of entries = row_views (values_of entries)
 
--- each row stands under its own key
+-- each row is under its own key
 abbrev pub AreUnderTheirKeys : List (RowKey × Row) → Type 0
 AreUnderTheirKeys entries = AllByRecursion (λ entry. bytes_of entry.0 ≡ key_of (row_view entry.1)) entries
 
--- Each row stands under its own key, and the keys rise.
+-- Each row is under its own key, and the keys rise.
 pub record AreKeyed (entries : List (RowKey × Row)) : Type 0 where
   pub own : AreUnderTheirKeys entries
   pub rising : IsRising (views_of entries)
 
--- after it the row stands under its key, and under each other key what stood there
+-- the row is under its key, and under each other key is the row that was there before
 abbrev pub Holds : List RowView → RowView → List RowView → Type 0
 Holds old row new = (k : List ℕ) → row_under k new ≡ (if is_under k row then Some row else row_under k old)
 
@@ -33,7 +33,7 @@ Holds old row new = (k : List ℕ) → row_under k new ≡ (if is_under k row th
 abbrev pub indexed_key : IndexKey → List ℕ
 indexed_key index_key = index_key.kind ∷ index_key.id
 
--- the bytes of a row, if there is one
+-- the bytes of a row, 0 where there is none
 abbrev pub len_if_any : Option RowView → ℕ
 len_if_any None = 0
 len_if_any (Some row) = row_len row

@@ -1,4 +1,4 @@
--- What stood under keys before puts, and what puts it back.
+-- The rows under keys before puts, and how they are put back.
 use Rattle.std.specs.Prelude.{◌≡◌, ℕ, List, ◌++◌, Bool, true, false, Option, Some, None, IsSome, if◌then◌else◌}
 use Rattle.std.specs.List.{AllByRecursion, list_any}
 use Rattle.std.specs.Option.{option_map}
@@ -9,19 +9,19 @@ use Rattle.path_rows.specs.Database.{RowView, key, IsRising, row_under}
 use Rattle.path_rows.specs.Put.{is_newer, database_after_puts}
 use Rattle.path_rows.specs.Row.{row_view}
 
--- a key, and what stood under it
+-- a key, and the row that was under it
 abbrev pub Stood : Type 0
 Stood = List ℕ × Option RowView
 
 abbrev pub saved_view : Saved → Stood
 saved_view saved = (key saved.kind saved.id, option_map row_view saved.row)
 
--- no row is there, or an older one
+-- there is no row, or an older one
 abbrev pub wins : RowView → Option RowView → Bool
 wins row None = true
 wins row (Some old) = is_newer row old
 
--- some first ones of the rows were put
+-- the first ones of the rows were put
 pub record AreFirstPut (old new now : List RowView) : Type 0 where
   pub part : List RowView
   pub rest : List RowView
@@ -32,27 +32,27 @@ pub record AreFirstPut (old new now : List RowView) : Type 0 where
 abbrev pub is_key : List ℕ → List ℕ → Bool
 is_key k l = is_eq (slice_cmp nat_cmp k l)
 
--- What stood under a key stands there again, if it is a row only where one stands there still. All else is as it was.
+-- The row under the key is what it was, given that a row is there now if one was there before. All other rows are unchanged.
 abbrev pub PutsBack : Stood → List RowView → List RowView → Type 0
 PutsBack stood old new =
     (orig : List RowView) → stood.1 ≡ row_under stood.0 orig → (IsSome stood.1 → IsSome (row_under stood.0 old))
     → (k : List ℕ) → row_under k new ≡ (if is_key k stood.0 then stood.1 else row_under k old)
 
--- the key is among these
+-- the key is one of these
 abbrev pub is_saved : List Stood → List ℕ → Bool
 is_saved saved k = list_any (λ stood. is_key k stood.0) saved
 
--- What is left to put back of rows that these were: each key that is not among it has what stood there, and each of
--- the rows has a row under its key still.
+-- What is left to put back: the row under each other key is the original one, and each original row has a row under its key
+-- now.
 pub record IsLeft (orig : List RowView) (saved : List Stood) (now : List RowView) : Type 0 where
   pub stood : AllByRecursion (λ stood. stood.1 ≡ row_under stood.0 orig) saved
   pub others : (k : List ℕ) → is_saved saved k ≡ false → row_under k now ≡ row_under k orig
   pub there : (k : List ℕ) → IsSome (row_under k orig) → IsSome (row_under k now)
 
--- what was left of any rows before is left of them now
+-- from what was left to put back before, this is left now
 abbrev pub IsRestoring : List Stood → List RowView → List Stood → List RowView → Type 0
 IsRestoring saved old left now = (orig : List RowView) → IsLeft orig saved old → IsLeft orig left now
 
--- what is saved of rows puts them back, where the keys rise
+-- putting back what is saved gives the original rows, where the keys rise
 abbrev pub RestoresFrom : List Stood → List RowView → List RowView → Type 0
 RestoresFrom saved now after = (orig : List RowView) → IsRising orig → IsRising now → IsLeft orig saved now → after ≡ orig

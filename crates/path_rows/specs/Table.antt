@@ -1,4 +1,4 @@
--- What the fields of a database are.
+-- The relations between the fields of a database.
 use Rattle.std.specs.Prelude.{◌≡◌, List}
 use Rattle.path_rows.specs.declared.database.PathDb.TheInside.{Inside}
 use Rattle.path_rows.specs.declared.end.End.TheVariants.{First, Last}
@@ -8,7 +8,7 @@ use Rattle.path_rows.specs.EndKeys.{end_of, IsIndex}
 abbrev pub rows_of_table : Inside → List RowView
 rows_of_table s = s.rows
 
--- The rows are a database, their bytes are counted, and both indexes are what the rows give.
+-- The rows are a database, their bytes are counted, and both indexes have exactly the index keys of the rows.
 pub record IsTable (s : Inside) : Type 0 where
   pub database : IsDatabase s.rows
   pub counted : s.bytes ≡ rows_len s.rows

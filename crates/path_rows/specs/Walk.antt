@@ -1,4 +1,4 @@
--- The rows that are walked by their index keys.
+-- The rows at a list of index keys.
 use Rattle.std.specs.Prelude.{◌≡◌, ℕ, ◌+◌, ◌^◌, ◌<◌, List, [], ◌∷◌, ◌++◌, false, Option}
 use Rattle.std.specs.Borrow.{Bor}
 use Rattle.std.specs.Option.{option_map, option_to_list}
@@ -9,17 +9,17 @@ use Rattle.path_rows.specs.Database.{RowView, row_under}
 use Rattle.path_rows.specs.Row.{row_view}
 use Rattle.path_rows.specs.RowMap.{indexed_key}
 
--- no part of a pattern is 0, and another number is behind it
+-- no part of the pattern is 0, and the pattern is not the greatest number of 64 bits
 pub record IsExact (pattern : ℕ) : Type 0 where
   pub parts : has_zero_part pattern ≡ false
   pub next : pattern + 1 < 2 ^ 64
 
--- the rows at index keys, in their order
+-- the rows at these index keys, in their order
 abbrev pub rows_at : List RowView → List IndexKey → List RowView
 rows_at rows [] = []
 rows_at rows (index_key ∷ index_keys) = option_to_list (row_under (indexed_key index_key) rows) ++ rows_at rows index_keys
 
--- those of rows that are there
+-- the rows of the references that are present
 abbrev pub rows_there : List (Option (Bor Row)) → List RowView
 rows_there [] = []
 rows_there (row ∷ rows) = option_to_list (option_map (λ r. row_view r.now) row) ++ rows_there rows

@@ -1,11 +1,11 @@
--- The answer to what is wanted.
+-- The rows that a lookup asks for.
 use Rattle.std.specs.Prelude.{ℕ, List, Bool}
 use Rattle.isd_as.specs.IsdAs.{number_of}
 use Rattle.path_rows.specs.declared.answers.Wanted.{Wanted}
 use Rattle.path_rows.specs.Database.{RowView}
 use Rattle.path_rows.specs.Answer.{answer_of, is_shown}
 
--- the first rows by key that are wanted, at most so many
+-- the first rows by key that the lookup asks for, at most this number
 abbrev pub answer_to : ℕ → List RowView → Wanted → List RowView
 answer_to limit rows wanted = answer_of limit rows wanted.kind (number_of wanted.start) (number_of wanted.end) wanted.moment
 

@@ -1,4 +1,4 @@
-//! What a lookup shows of a database.
+//! The rows of a database that a lookup shows.
 
 ghost use Rattle.std.specs.Prelude.{◌≡◌, ◌<◌, ◌≤◌, ◌∷◌, ◌++◌, [], length, take, filter, IfOk, OnOk, OnErr, IsTrue};
 ghost use Rattle.std.specs.List.{AllByRecursion};
@@ -21,7 +21,7 @@ use seg_check::expiry;
 use seg_core::{Entry, SegType, Segment};
 use std::alloc::{AllocError, Global};
 
-/// What rows have to be: of a type, with a first and a last entry that are covered, and valid beyond a moment.
+/// The rows that a lookup asks for: of a type, with a first and a last entry that are covered, and valid beyond a moment.
 #[derive(Clone, Copy)]
 pub(crate) struct Wanted {
     pub kind: SegType,
@@ -32,14 +32,14 @@ pub(crate) struct Wanted {
 }
 
 impl Wanted {
-    /// Whether the row is all that.
+    /// Whether the lookup asks for this row.
     fn is_shown(&self, row: &Row) -> bool
         ensures { result ≡ is_shown self.now.kind (number_of self.now.start) (number_of self.now.end) self.now.moment (row_view row.now) }
     {
         self.matches(row) && self.moment < expiry(&row.segment)
     }
 
-    /// The row, where there is one that is all that.
+    /// The row, where there is one and the lookup asks for it.
     fn shown<'a>(&self, row: Option<&'a Row>) -> Option<&'a Row>
         ensures { rows_there (result ∷ []) ≡ filter (is_wanted self.now) (rows_there (row.entry ∷ [])) }
     {
@@ -84,14 +84,15 @@ fn covers_entry(pattern: IsdAs, entry: Option<&Entry>) -> bool
     }
 }
 
-/// Whether the index keys of an ISD-AS are walked for a pattern: none of its parts is 0, and it isn't the greatest of 64 bits.
+/// Whether the rows for a pattern are found by the index keys of its ISD-AS: no part of the pattern is 0, and the pattern isn't
+/// 2^64 - 1.
 pub(crate) fn is_indexed(pattern: IsdAs) -> bool
     ensures { IsTrue result → IsExact (number_of pattern) }
 {
     pattern.isd != 0 && pattern.asn != 0 && pattern.to_u64() < u64::MAX
 }
 
-/// The segments of the first rows that are wanted, at most so many.
+/// The segments of the first rows that the lookup asks for, at most `limit`.
 pub(crate) fn first_shown(
     alloc: Global,
     rows: RowRange<'_>,
@@ -115,7 +116,7 @@ pub(crate) fn first_shown(
     Ok(found)
 }
 
-/// The row at the next index key, where there is one.
+/// The row at the next index key. `None` where no index key is left, or no row is at it.
 fn next_row<'a>(rows: &'a RowMap, index_keys: &mut IndexKeys<'_>) -> Option<&'a Row>
     ensures row { rows_at rows.now index_keys.old ≡ rows_there (result ∷ []) ++ rows_at rows.now index_keys.new }
     ensures fewer { length index_keys.new ≤ length index_keys.old }
@@ -126,8 +127,8 @@ fn next_row<'a>(rows: &'a RowMap, index_keys: &mut IndexKeys<'_>) -> Option<&'a 
     }
 }
 
-/// Those that are wanted of the rows at an index key and the next three. They are looked at together, before any is shared: so the
-/// memory of each is waited for beside that of the others.
+/// The rows at an index key and the next three that the lookup asks for. All four are read before any is shared, so that the
+/// processor waits for their memory at the same time.
 fn next_shown<'a>(
     rows: &'a RowMap,
     index_key: &IndexKey,
@@ -150,7 +151,7 @@ fn next_shown<'a>(
     ]
 }
 
-/// Appends the segments of rows, up to so many in all.
+/// Appends the segments of rows, up to `limit` segments in all.
 fn append_shown(
     found: &mut Vec<Segment>,
     rows: &[Option<&Row>],
@@ -171,7 +172,7 @@ fn append_shown(
     }
 }
 
-/// Appends the segment of a row, where there is one and not so many stand already.
+/// Appends the segment of a row, where there is one and fewer than `limit` segments are there.
 fn append_if_shown(
     found: &mut Vec<Segment>,
     row: Option<&Row>,
@@ -191,7 +192,7 @@ fn append_if_shown(
     Ok(())
 }
 
-/// The segments of the first rows at index keys that are wanted, at most so many.
+/// The segments of the first rows at index keys that the lookup asks for, at most `limit`.
 pub(crate) fn shown_at(
     alloc: Global,
     rows: &RowMap,

@@ -1,4 +1,4 @@
-//! What a put does.
+//! The effect of a put.
 
 /// What a put did to the rows.
 #[derive(Clone, Copy)]
@@ -7,6 +7,6 @@ pub(crate) enum Change {
     Inserted,
     /// The segment is newer than the one under its key, and replaced it.
     Updated,
-    /// The segment is not newer than the one under its key, which stayed.
+    /// The segment is not newer than the one under its key, which was kept.
     Kept,
 }

@@ -30,14 +30,14 @@ impl Registration {
         Registration { rows }
     }
 
-    /// Its segments, in their order.
+    /// The segments, in their order.
     pub fn as_slice(&self) -> &[(SegType, Segment)]
         ensures { result.now ≡ self.now }
     {
         &self.rows
     }
 
-    /// Its segments, in their order.
+    /// The segments, in their order.
     pub fn into_vec(self) -> Vec<(SegType, Segment)>
         ensures { result.items ≡ self }
     {
@@ -48,16 +48,17 @@ impl Registration {
 /// A command to a database.
 #[derive(Drop)]
 pub enum Command {
-    /// Puts segments one after the other: under one key only a strictly newer timestamp replaces.
+    /// Puts segments one after the other. The row under a key is replaced only by one with a strictly greater timestamp.
     Register(Registration),
-    /// Drops every row that expires at this moment or before, in half seconds since 1970.
+    /// Drops every row that expires at this moment or before. The moment is in half seconds since 1970.
     Purge(u64),
     /// Drops the row of this type and id, where there is one.
     Remove(SegType, [u8; 32]),
 }
 
 impl Command {
-    /// An equal command, which shares its segments. Only a registration of segments takes memory.
+    /// An equal command, which shares the segments. Only a registration of at least one segment takes memory; an error means that
+    /// memory was refused.
     pub fn try_clone(&self, alloc: Global) -> Result<Command, AllocError>
         ensures same { IfOk result (λ copy. copy ≡ self.now) }
         ensures memory { OnErr result (TakesMemory self.now) }

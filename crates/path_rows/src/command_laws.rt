@@ -1,41 +1,41 @@
-//! Laws of what commands leave: the functions do nothing, and their contracts say them. Nothing is assumed of the hash: ids
-//! that agree with different segments are allowed for.
+//! Laws of the database after commands. Each law is the contract of a function that does nothing. Nothing is assumed of the hash:
+//! different segments may have the same id.
 
 ghost use Rattle.path_rows.specs.CommandLaws.{KeysAreSeparate, CommandsAppend, NoRowsAreDatabase, CommandsKeepDatabase, DatabaseIsCanonical, RegisterLeavesNewest, PurgeLeavesValid, RemoveLeavesOthers};
 
-/// What commands leave under a key depends on what stood under that key, and on nothing else.
+/// The row under a key after commands depends on the row under that key before, and on no other row.
 pub fn keys_are_separate()
     ensures { KeysAreSeparate }
 {}
 
-/// Commands in two parts are all of them, one after the other.
+/// The database after two lists of commands is the database after the first list and then the second.
 pub fn commands_append()
     ensures { CommandsAppend }
 {}
 
-/// No rows are a database, and after a command whose segments are whole a database is one.
+/// The empty list of rows is a database, and after a command whose segments are whole a database is one again.
 pub fn commands_keep_database()
     ensures empty { NoRowsAreDatabase }
     ensures kept { CommandsKeepDatabase }
 {}
 
-/// Two databases with the same row under every key are one list.
+/// Two databases with the same row under every key are the same list.
 pub fn database_is_canonical()
     ensures { DatabaseIsCanonical }
 {}
 
-/// After a registration the newest, by timestamp, of what stood under a key and of what was registered under it stands there,
-/// the earlier one where timestamps are equal.
+/// After a registration, the row under a key is the newest, by timestamp, of the row before and the segments registered under the
+/// key. Where timestamps are equal, the earlier one is kept.
 pub fn register_leaves_newest()
     ensures { RegisterLeavesNewest }
 {}
 
-/// A purge leaves just the rows that expire after its moment.
+/// The rows after a purge are exactly those that expire after its moment.
 pub fn purge_leaves_valid()
     ensures { PurgeLeavesValid }
 {}
 
-/// A removal leaves just the rows of other keys.
+/// The rows after a removal are exactly those of other keys.
 pub fn remove_leaves_others()
     ensures { RemoveLeavesOthers }
 {}

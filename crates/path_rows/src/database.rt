@@ -30,8 +30,8 @@ use seg_core::{SegType, Segment};
 use std::alloc::{AllocError, Global};
 use std::marker::Model;
 
-/// A finite map from keys to segments. A key is a type and an id, and keys are in the order of the type's number and then
-/// of the id's bytes. It keeps the allocator that it was made with.
+/// A finite map from keys to segments. A key is a type and an id, and keys are ordered by the type's number and then
+/// by the id's bytes. The database keeps the allocator with which it was made.
 #[derive(Drop)]
 pub struct PathDb {
     alloc: Global,
@@ -54,7 +54,7 @@ impl Model for PathDb {
 }
 
 impl PathDb {
-    /// No rows.
+    /// An empty database.
     pub fn new(alloc: Global) -> PathDb
         ensures { result ≡ [] }
     {
@@ -67,7 +67,7 @@ impl PathDb {
         }
     }
 
-    /// The database of these rows. No rows take no memory.
+    /// The database of these rows, whose keys rise. An error means that memory was refused. An empty list takes no memory.
     pub fn of_rows(alloc: Global, rows: Vec<Row>) -> Result<PathDb, AllocError>
         requires { IsDatabase (row_views rows.items) }
         ensures same { IfOk result (λ db. db ≡ row_views rows.items) }
@@ -80,8 +80,8 @@ impl PathDb {
         }
     }
 
-    /// Applies a command, whole or, where memory runs out, not at all. A purge, a removal and a registration of nothing take
-    /// no memory. A segment that is registered is shared with its row.
+    /// Applies a command, or changes nothing where memory is refused. A purge, a removal and a registration of no segments take
+    /// no memory. A registered segment is shared with its row.
     pub fn apply(&mut self, command: &Command) -> Result<Outcome, AllocError>
         ensures database { OnOk result (self.new ≡ database_after self.old command.now) }
         ensures outcome { IfOk result (λ outcome. outcome ≡ outcome_of self.old command.now) }
@@ -95,8 +95,8 @@ impl PathDb {
         }
     }
 
-    /// Applies a command whole, or not at all where memory runs out or the rows would take more than `most` bytes as records. A
-    /// purge and a removal never take more than there was, and are applied whatever the limit, as is a registration of nothing.
+    /// Applies a command, or changes nothing where memory is refused or the rows would take more than `most` bytes as records. A
+    /// purge, a removal and a registration of no segments never add bytes, and are applied whatever the limit.
     pub fn apply_within(&mut self, command: &Command, most: u64) -> Result<Outcome, ApplyError>
         ensures database { OnOk result (self.new ≡ database_after self.old command.now) }
         ensures outcome { IfOk result (λ outcome. outcome ≡ outcome_of self.old command.now) }
@@ -110,7 +110,7 @@ impl PathDb {
         self.apply_up_to(command, u128::from(most))
     }
 
-    /// Applies a command whole, or not at all.
+    /// Applies a command, or changes nothing. `most` counts bytes.
     #[tactic(auto, unfolding(crate::specs::Command::database_after, crate::specs::Command::outcome_of))]
     fn apply_up_to(&mut self, command: &Command, most: u128) -> Result<Outcome, ApplyError>
         ensures database { OnOk result (self.new ≡ database_after self.old command.now) }
@@ -149,8 +149,8 @@ impl PathDb {
         self.put(new, most)
     }
 
-    /// Puts a segment, where a row stands under its key and at its ends, and with its own all rows have no more than `most` bytes.
-    /// Else nothing changes.
+    /// Puts a segment, where there is a row under its key with the same ends, and all rows with the new one have at most `most` bytes.
+    /// Otherwise nothing changes.
     fn renew(&mut self, new: &(SegType, Segment), most: u128) -> Option<Outcome>
         ensures database { ForSome result (λ _. self.new ≡ database_after_puts self.old (new.now ∷ [])) }
         ensures outcome { ForSome result (λ outcome. outcome ≡ outcome_of_puts (changes_of self.old (new.now ∷ []))) }
@@ -171,7 +171,7 @@ impl PathDb {
         Some(outcome)
     }
 
-    /// Puts rows one after the other, or none of them where memory runs out or the rows would take more than `most` bytes.
+    /// Puts rows one after the other, or none of them where memory is refused or the rows would take more than `most` bytes.
     fn put(&mut self, new: Vec<Row>, most: u128) -> Result<Outcome, ApplyError>
         requires { AreWhole (row_views new.items) }
         ensures database { OnOk result (self.new ≡ database_after_puts self.old (row_views new.items)) }
@@ -196,7 +196,7 @@ impl PathDb {
         put
     }
 
-    /// Drops every row that expires at the moment or before.
+    /// Drops every row that expires at the moment or before. The moment is in half seconds since 1970.
     fn purge(&mut self, moment: u64) -> Outcome
         ensures database { self.new ≡ database_after_purge self.old moment }
         ensures fewer { rows_len self.new ≤ rows_len self.old }
@@ -227,7 +227,7 @@ impl PathDb {
         Outcome::dropped(1)
     }
 
-    /// The segment of a type and an id.
+    /// The segment of the row with this type and id. `None` where there is no such row.
     pub fn get(&self, kind: SegType, id: &[u8; 32]) -> Option<&Segment>
         ensures same { option_copied result ≡ option_map (λ row. row.1) (row_under (key kind id.now) self.now) }
         ensures whole { IsDatabase self.now }
@@ -247,8 +247,8 @@ impl PathDb {
     }
 
     /// The segments of the first rows by key, at most `limit`, that are of this type, whose first entry `start` covers and
-    /// whose last `end` covers (a part that is 0 covers all), and that expire after `now`, in half seconds since 1970. The
-    /// segments are shared, not copied. An answer of none takes no memory.
+    /// whose last entry `end` covers (a part that is 0 covers all), and that expire after `now`, in half seconds since 1970. The
+    /// segments are shared, not copied. An error means that memory was refused. An answer without segments takes no memory.
     pub fn matching(
         &self,
         kind: SegType,
@@ -279,7 +279,7 @@ impl PathDb {
         first_shown(self.alloc, self.rows.of_type(kind), wanted, limit)
     }
 
-    /// How many rows there are. It costs nothing.
+    /// The number of rows. The call takes constant time.
     pub fn len(&self) -> usize
         ensures count { result ≡ length self.now }
         ensures whole { IsDatabase self.now }
@@ -287,15 +287,16 @@ impl PathDb {
         self.rows.len()
     }
 
-    /// The bytes of all rows as records: for each a type in one, a length in four, and the segment's encoding. A greater
-    /// count is told as 2^64 - 1. It costs nothing, as it is kept up to date.
+    /// The bytes of all rows as records: for each the type (1), the length (4), and the segment's encoding. The result is 2^64 - 1 for
+    /// a greater count. The call takes constant time, as the count is kept up to date.
     pub fn encoded_len(&self) -> u64
         ensures { result ≡ min (rows_len self.now) (2 ^ 64 - 1) }
     {
         u64::try_from(self.bytes).unwrap_or(u64::MAX)
     }
 
-    /// An equal database, which shares the segments. A copy of no rows takes no memory.
+    /// An equal database, which shares the segments. An error means that memory was refused. A copy of an empty database takes no
+    /// memory.
     pub fn try_clone(&self) -> Result<PathDb, AllocError>
         ensures same { IfOk result (λ copy. copy ≡ self.now) }
         ensures memory { OnErr result (0 < length self.now) }

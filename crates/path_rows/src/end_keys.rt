@@ -41,7 +41,7 @@ fn isd_as_at(end: End, row: &Row) -> u64
     }
 }
 
-/// The index keys of rows that are new and of those that stood under their keys, but for those that take each other's place.
+/// The index keys of new rows and of the rows that were under their keys, except for pairs with the same index key.
 pub(crate) fn touched_keys(
     alloc: Global,
     end: End,
@@ -59,7 +59,7 @@ pub(crate) fn touched_keys(
     Ok(index_keys)
 }
 
-/// Appends the index keys of a row that is new and of what stood under its key, unless they are the same.
+/// Appends the index keys of a new row and of the row that was under its key, unless both have the same.
 fn touch(
     index_keys: &mut Vec<IndexKey>,
     end: End,
@@ -81,7 +81,7 @@ fn touch(
     Ok(())
 }
 
-/// Whether two rows have the same ISD-ASes at both ends.
+/// Whether two rows have the same ISD-AS numbers at both ends.
 pub(crate) fn keeps_keys(new: &Row, old: &Row) -> bool
     ensures first { result ≡ true → EndAlike (end_of First) (row_view new.now) (row_view old.now) }
     ensures last { result ≡ true → EndAlike (end_of Last) (row_view new.now) (row_view old.now) }
@@ -96,7 +96,7 @@ fn ends_alike(end: End, new: &Row, old: &Row) -> bool
     isd_as_at(end, new) == isd_as_at(end, old)
 }
 
-/// Adds index keys. Where memory is refused, some of them stand.
+/// Adds index keys. Where memory is refused, some of them are added.
 pub(crate) fn add_keys(index: &mut EndIndex, index_keys: &[IndexKey]) -> Result<(), AllocError>
     ensures kept { (q : IndexKey) → has index.old q ≡ true → has index.new q ≡ true }
     ensures within { (q : IndexKey) → has index.new q ≡ true → (has index.old q ≡ true) ⊎ (has index_keys.now q ≡ true) }
@@ -109,7 +109,7 @@ pub(crate) fn add_keys(index: &mut EndIndex, index_keys: &[IndexKey]) -> Result<
     Ok(())
 }
 
-/// Adds index keys to two indexes. Where memory is refused, some of them stand.
+/// Adds index keys to two indexes. Where memory is refused, some of them are added.
 pub(crate) fn add_both(
     by_first: &mut EndIndex,
     firsts: &[IndexKey],
@@ -126,14 +126,14 @@ pub(crate) fn add_both(
     add_keys(by_last, lasts)
 }
 
-/// Keeps the index keys at which a row stands still. That takes no memory.
+/// Removes the index keys without a row. This takes no memory.
 pub(crate) fn keep_standing(index: &mut EndIndex, rows: &RowMap)
     ensures { (q : IndexKey) → has index.new q ≡ (is_some (row_under (indexed_key q) rows.now) && has index.old q) }
 {
     index.retain(|index_key| rows.at(index_key).is_some());
 }
 
-/// Takes out those of the index keys at which no row stands. That takes no memory.
+/// Removes those of the touched index keys that have no row. This takes no memory.
 pub(crate) fn sweep(end: End, index: &mut EndIndex, rows: &RowMap, index_keys: &[IndexKey])
     requires { IsCovered (end_of end) rows.now index_keys.now index.old }
     ensures { IsIndex (end_of end) rows.now index.new }
@@ -145,7 +145,7 @@ pub(crate) fn sweep(end: End, index: &mut EndIndex, rows: &RowMap, index_keys: &
     }
 }
 
-/// Whether a row stands at an index key.
+/// Whether an index key has a row.
 fn is_standing(end: End, rows: &RowMap, index_key: &IndexKey) -> bool
     ensures { result ≡ stands (end_of end) rows.now index_key.now }
 {

@@ -6,13 +6,13 @@ ghost use Rattle.path_rows.specs.declared.error.ApplyError.TheVariants.{NoMemory
 use std::alloc::AllocError;
 use thiserror::Error;
 
-/// Why a command isn't applied. They are numbered from 0 in this order.
+/// Why a command isn't applied. The variants are numbered from 0 in this order.
 #[derive(Clone, Copy, Debug, PartialEq, Eq, Error)]
 pub enum ApplyError {
-    /// Memory ran out. It says nothing of the command.
+    /// Memory was refused. The command may be applied later.
     #[error("out of memory")]
     NoMemory,
-    /// The rows would take more bytes than they may.
+    /// The rows would take more bytes than the limit.
     #[error("the rows would take too many bytes")]
     Full,
 }

@@ -1,14 +1,14 @@
-//! What a row begins with as bytes, in its record and in a key.
+//! The bytes that a row's record and its key begin with.
 
 ghost use Rattle.std.specs.Prelude.{◌≡◌};
 ghost use Rattle.seg_core.specs.Registration.{type_number};
 
 use seg_core::SegType;
 
-/// The bytes of a row's record before its segment: a type in one, a length in four.
+/// The length of a row's record before its segment, in bytes: the type (1) and the length (4).
 pub const ROW_HEAD: usize = 5;
 
-/// The number of a type in one byte.
+/// The number of a type as one byte: 1, 2 or 3.
 pub fn type_byte(kind: SegType) -> u8
     ensures { result ≡ type_number kind }
 {

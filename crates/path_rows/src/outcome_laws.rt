@@ -1,13 +1,13 @@
-//! Laws of outcomes: the functions do nothing, and their contracts say them.
+//! Laws of outcomes. Each law is the contract of a function that does nothing.
 
 ghost use Rattle.path_rows.specs.OutcomeLaws.{EachPutIsCounted, RowsAreCounted};
 
-/// Each segment that is registered is inserted, updates a row or keeps one, and is counted once.
+/// Each segment that is registered inserts a row, updates a row or keeps one, and is counted once.
 pub fn each_put_is_counted()
     ensures { EachPutIsCounted }
 {}
 
-/// The rows before a command and those that it inserted are those after it and those that it purged.
+/// The number of rows before a command and those inserted is the number of rows after it and those dropped.
 pub fn rows_are_counted()
     ensures { RowsAreCounted }
 {}

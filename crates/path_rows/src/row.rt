@@ -17,7 +17,7 @@ use std::cmp::Ordering;
 #[derive(Drop)]
 pub struct Row {
     pub kind: SegType,
-    /// SHA-256 over the hops of the segment.
+    /// SHA-256 over the hops of the segment, 32 bytes.
     pub id: [u8; 32],
     pub segment: Segment,
     pub ghost identified: { id ≡ segment_digest segment },
@@ -27,7 +27,7 @@ pub struct Row {
 impl Row {
     ghost use Rattle.path_rows.specs.Row.{row_view};
 
-    /// The row of a segment.
+    /// The row of a segment. Its id is the segment's digest.
     pub fn new(kind: SegType, segment: Segment) -> Row
         ensures { row_view result ≡ (kind, segment) }
     {
@@ -35,7 +35,7 @@ impl Row {
         Row { kind, id, segment }
     }
 
-    /// An equal row, which shares the segment. It takes no memory, and is refused where 2^63 share the segment.
+    /// An equal row, which shares the segment. The call takes no memory. An error means that 2^63 rows share the segment already.
     pub fn try_clone(&self) -> Result<Row, AllocError>
         ensures view { IfOk result (λ copy. row_view copy ≡ row_view self.now) }
         ensures same { IfOk result (λ copy. copy ≡ self.now) }
@@ -47,7 +47,7 @@ impl Row {
         })
     }
 
-    /// How the row's key stands to that of a type and an id.
+    /// The order of the row's key and the key of a type and an id.
     #[tactic(auto, unfolding(crate::specs::Database::key_of))]
     pub fn cmp_key(&self, kind: SegType, id: &[u8; 32]) -> Ordering
         ensures { result ≡ slice_cmp nat_cmp (key_of (row_view self.now)) (key kind id.now) }
@@ -58,7 +58,7 @@ impl Row {
         }
     }
 
-    /// The bytes of the row.
+    /// The length of the row's record in bytes.
     pub(crate) fn len(&self) -> u64
         ensures same { result ≡ row_len (row_view self.now) }
         ensures short { result ≤ 16389 }

@@ -1,4 +1,4 @@
-//! The rows of a database, one after the other.
+//! An iterator over the rows of a database.
 
 ghost use Rattle.std.specs.Prelude.{◌≡◌, length};
 ghost use Rattle.std.specs.Iterator.{YieldsFirstBy, at_most};
@@ -26,7 +26,7 @@ impl<'a> Model for Rows<'a> {
 }
 
 impl<'a> Rows<'a> {
-    /// All of these.
+    /// An iterator over these rows.
     pub(crate) fn of(rows: Values<'a, RowKey, Row>) -> Rows<'a>
         ensures { result ≡ row_views rows.entry }
     {

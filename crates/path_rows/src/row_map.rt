@@ -45,7 +45,7 @@ impl Model for RowMap {
 }
 
 impl RowMap {
-    /// No rows.
+    /// A map without rows.
     pub(crate) fn new(alloc: Global) -> RowMap
         ensures { result ≡ [] }
     {
@@ -54,7 +54,7 @@ impl RowMap {
         }
     }
 
-    /// How many rows there are.
+    /// The number of rows.
     pub(crate) fn len(&self) -> usize
         ensures same { result ≡ length self.now }
         ensures few { result < 2 ^ 63 }
@@ -71,7 +71,7 @@ impl RowMap {
         Rows::of(self.rows.values())
     }
 
-    /// The rows of a type, in the order of their keys. No others are walked.
+    /// The rows of a type, in the order of their keys. No others are visited.
     pub(crate) fn of_type(&self, kind: SegType) -> RowRange<'_>
         ensures { result ≡ filter (is_of_type kind) self.now }
     {
@@ -100,7 +100,7 @@ impl RowMap {
         })
     }
 
-    /// The bytes of all rows.
+    /// The bytes of the records of all rows.
     pub(crate) fn bytes(&self) -> u128
         ensures { result ≡ rows_len self.now }
     {
@@ -127,7 +127,7 @@ impl RowMap {
         self.rows.get(&key)
     }
 
-    /// Puts a row under its key, and gives back the one that stood there, in whose place it takes no memory.
+    /// Puts a row under its key, and returns the row that was there. Replacing a row takes no memory.
     pub(crate) fn set(&mut self, row: Row) -> Result<Option<Row>, AllocError>
         ensures ok { IfOk result (λ old. Holds self.old (row_view row) self.new) }
         ensures old { IfOk result (λ old. option_map row_view old ≡ row_under (key_of (row_view row)) self.old) }
@@ -141,8 +141,8 @@ impl RowMap {
         Ok(old)
     }
 
-    /// Puts a row in the place of an older one under its key that stands at the same ends, or keeps one that is as new, and tells
-    /// which. It takes no memory. Where no such row stands there, nothing changes. `bytes` counts the bytes of all rows.
+    /// Replaces an older row under the same key and with the same ends, or keeps one that is as new, and returns which of both was done.
+    /// This takes no memory. `None` means that there is no such row and nothing changed. `bytes` counts the bytes of all rows.
     pub(crate) fn renew(&mut self, bytes: &mut u128, row: Row) -> Option<Change>
         requires { bytes.old ≡ rows_len self.old }
         ensures rows { ForSome result (λ _. self.new ≡ database_after_put self.old (row_view row)) }
@@ -168,7 +168,7 @@ impl RowMap {
         Some(Change::Updated)
     }
 
-    /// Takes out the row of a type and an id. That takes no memory.
+    /// Removes the row of a type and an id, and returns it. This takes no memory.
     pub(crate) fn remove(&mut self, kind: SegType, id: &[u8; 32]) -> Option<Row>
         ensures left { self.new ≡ database_after_removal self.old (key kind id.now) }
         ensures old { option_map row_view result ≡ row_under (key kind id.now) self.old }
@@ -180,7 +180,7 @@ impl RowMap {
         self.rows.remove(&key)
     }
 
-    /// Keeps the rows that expire after a moment. That takes no memory.
+    /// Keeps the rows that expire after a moment, in half seconds since 1970. This takes no memory.
     pub(crate) fn purge(&mut self, moment: u64)
         ensures left { self.new ≡ database_after_purge self.old moment }
         ensures rising { IsRising self.new }

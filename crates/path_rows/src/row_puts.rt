@@ -17,7 +17,7 @@ use crate::row_map::RowMap;
 use seg_core::{SegType, Segment};
 use std::alloc::{AllocError, Global};
 
-/// The rows of these segments, in their order, which share them.
+/// The rows of these segments, in their order. The segments are shared.
 pub(crate) fn rows_of(alloc: Global, new: &[(SegType, Segment)]) -> Result<Vec<Row>, AllocError>
     ensures same { IfOk result (λ rows. row_views rows.items ≡ new.now) }
     ensures whole { IfOk result (λ rows. AreWhole (row_views rows.items)) }
@@ -30,7 +30,7 @@ pub(crate) fn rows_of(alloc: Global, new: &[(SegType, Segment)]) -> Result<Vec<R
     Ok(rows)
 }
 
-/// What stood under a key.
+/// A key, and the row that was under it.
 #[derive(Drop)]
 pub(crate) struct Saved {
     pub kind: SegType,
@@ -38,7 +38,7 @@ pub(crate) struct Saved {
     pub row: Option<Row>,
 }
 
-/// What stands under the keys of rows, in their order.
+/// The rows under the keys of new rows, in their order.
 pub(crate) fn saved_rows(
     alloc: Global,
     rows: &RowMap,
@@ -58,7 +58,7 @@ pub(crate) fn saved_rows(
     Ok(saved)
 }
 
-/// A copy of what stands under the key of a row.
+/// A copy of the row under the key of a row. `None` where there is none.
 fn copy_of(rows: &RowMap, row: &Row) -> Result<Option<Row>, AllocError>
     ensures { IfOk result (λ old. option_map row_view old ≡ row_under (key_of (row_view row.now)) rows.now) }
 {
@@ -68,7 +68,7 @@ fn copy_of(rows: &RowMap, row: &Row) -> Result<Option<Row>, AllocError>
     }
 }
 
-/// Puts back what stood under keys. That takes no memory where rows stand under all of them that had one.
+/// Puts back the rows that were under keys. This takes no memory, since a row is there now under each key that had one.
 pub(crate) fn restore(rows: &mut RowMap, saved: Vec<Saved>)
     ensures { RestoresFrom (map saved_view saved.items) rows.old rows.new }
 {
@@ -78,7 +78,7 @@ pub(crate) fn restore(rows: &mut RowMap, saved: Vec<Saved>)
     }
 }
 
-/// Puts back what stood under one key.
+/// Puts back the row that was under one key.
 fn put_back(rows: &mut RowMap, old: Saved)
     ensures back { PutsBack (saved_view old) rows.old rows.new }
     ensures rising { IsRising rows.new }
@@ -93,7 +93,7 @@ fn put_back(rows: &mut RowMap, old: Saved)
     }
 }
 
-/// Puts rows where their index keys were added and they fit, or none of them.
+/// Puts rows where their index keys were added and they fit, or none of them. `most` counts bytes.
 pub(crate) fn put_after(
     added: Result<(), AllocError>,
     rows: &mut RowMap,
@@ -119,7 +119,7 @@ pub(crate) fn put_after(
 }
 
 /// Puts rows one after the other, or none of them where memory is refused or all rows would take more than `most` bytes. `saved`
-/// is what stands under their keys, and `bytes` counts the bytes of all rows.
+/// has the rows under their keys, and `bytes` counts the bytes of all rows.
 pub(crate) fn put_all(
     rows: &mut RowMap,
     bytes: &mut u128,
@@ -149,7 +149,7 @@ pub(crate) fn put_all(
     }
 }
 
-/// Puts rows one after the other. Where memory is refused, or all rows take more than `most` bytes, some first ones are put.
+/// Puts rows one after the other. Where memory is refused, or all rows take more than `most` bytes, only the first ones are put.
 /// `bytes` counts the bytes of all rows.
 pub(crate) fn put_rows(
     rows: &mut RowMap,
@@ -202,7 +202,7 @@ pub(crate) fn put_row(rows: &mut RowMap, bytes: &mut u128, row: Row) -> Result<C
     }
 }
 
-/// Whether no row stands under the key of this one, or an older one.
+/// Whether there is no row under the key of this one, or an older one.
 fn wins(rows: &RowMap, row: &Row) -> bool
     ensures same { result ≡ wins (row_view row.now) (row_under (key_of (row_view row.now)) rows.now) }
     ensures rising { IsRising rows.now }

@@ -1,4 +1,4 @@
-//! Some rows of a database, one after the other.
+//! An iterator over a range of the rows of a database.
 
 ghost use Rattle.std.specs.Prelude.{◌≡◌, length};
 ghost use Rattle.std.specs.Iterator.{YieldsFirstBy, at_most};
@@ -27,7 +27,7 @@ impl<'a> Model for RowRange<'a> {
 }
 
 impl<'a> RowRange<'a> {
-    /// All of these.
+    /// An iterator over these rows.
     pub(crate) fn of(rows: Range<'a, RowKey, Row>) -> RowRange<'a>
         ensures { result ≡ views_of rows.entry }
     {

@@ -16,7 +16,7 @@ loop-row-init c = record {
   told = c.nothing-outcome.ensures ∙ none_counted c.args.rows.now;
 }
 
--- the rows so far were put
+-- the rows before this one were put
 pub returns-in_err-put_row-clause-some : goal.returns-in_err-put_row-clause-some
 returns-in_err-put_row-clause-some c =
     let all = YieldsList-from_vec {s = c.into_iter-row-iterator.result} c.args.new.items c.into_iter-row-iterator.ensures.into_iter_gives.0 (c.into_iter-row-iterator.ensures.into_iter_gives.1 ∙ c.args.new.ok.0) in
