@@ -23,7 +23,7 @@ use Rattle.path_db.proofs.RowPieces.{row_by, row_is, part_longer}
 use Rattle.path_db.proofs.RowsRead.{row_refused}
 use Rattle.path_db.proofs.Refused.{behind_database}
 
--- a message of more bytes than a segment has is none
+-- a message with more bytes than any segment is no segment
 too_large : (message : List ℕ) → 16384 < length message → segment_decoding message ≡ Err TooLarge
 unfolding segment_decoding segment_outline
 too_large message long = rw (lt-leb (length message) 16384 long) refl
@@ -37,7 +37,7 @@ of_type : (kind : Result SegType SegError) (message : List ℕ) → spelled_segm
 of_type (Ok kind) message none = ap (λ s. s >>= λ segment. let r : Result RowView DbError = Ok (kind, segment) in r) none
 of_type (Err e) message none = refl
 
--- a row of such a message is none
+-- a row with such a message is refused
 by_room : (there : Bool) (first : ℕ) (message : List ℕ) → (there ≡ true → spelled_segment message ≡ Err BadRecord) → row_by there first message ≡ Err BadRecord
 unfolding row_by
 by_room false first message none = refl
@@ -57,7 +57,7 @@ module _ (rows : List RowView) (left fed : List ℕ) (is : IsDatabase rows) (sam
   long_on : (behind : List ℕ) → 16384 < four_at 1 (left ++ behind)
   long_on behind = omega (arith, long.long, ap (from_be_bytes w32) (part_longer 1 4 left behind long.there))
 
-  -- it is refused whatever comes next
+  -- the row is refused whatever bytes come next
   pub long_refused : AreRefused fed BadRecord
   long_refused behind =
       ap rows_decoding (apart behind)

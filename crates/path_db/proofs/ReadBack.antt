@@ -55,7 +55,7 @@ read_by bytes kind s there number content is =
     ∙ ap (λ m. spelled_segment m >>= λ segment. Ok (kind, segment)) content
     ∙ ap (λ r. r >>= λ segment. Ok (kind, segment)) (spelled_read s is)
 
--- a row at the front is read, and behind it is what follows
+-- the row at the front is read, and the bytes after it are left
 row_read : (first : ℕ) (encoding after : List ℕ) → length encoding ≤ 16384
     → record {
       there : has_row ((first ∷ (to_be_bytes w32 (length encoding) ++ encoding)) ++ after) ≡ true;

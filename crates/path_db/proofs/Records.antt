@@ -22,13 +22,13 @@ pub outlined : (message : List ℕ) (s : SegmentView) → segment_decoding messa
 unfolding segment_decoding
 outlined message s read = bound_ok (segment_outline message) _ s read
 
--- ---- so many rows
+-- ---- this number of rows
 
--- what is left, behind what was read so far
+-- the result of reading the bytes that are left, after these rows
 abbrev pub items_behind : List RowView → ℕ → List ℕ → Result (List RowView) DbError
 items_behind so_far count bytes = items_decoding count bytes >>= λ others. Ok (so_far ++ others)
 
--- a row more in front of the others, or behind what was read so far
+-- one more row in front of the others, or after the rows read before
 pub one_more : (so_far : List RowView) (row : RowView) (r : Result (List RowView) DbError)
     → ((r >>= λ rows. Ok (row ∷ rows)) >>= λ others. Ok (so_far ++ others)) ≡ (r >>= λ others. Ok ((so_far ++ row ∷ []) ++ others))
 one_more so_far row (Ok others) = ap (λ l. Ok l) (sym (append_assoc so_far (row ∷ []) others))
@@ -60,7 +60,7 @@ unfolding items_decoding
 item_refused whole so_far e zero rest some read so = absurd (omega (arith, some))
 item_refused whole so_far e (suc n) rest some read so = so ∙ refused_of so_far (row_decoding rest) e n (drop (row_size rest) rest) read
 
--- all rows were read, and nothing is left
+-- all rows were read, and no bytes are left
 pub items_done : (whole : Result (List RowView) DbError) (so_far : List RowView) (n : ℕ) (rest : List ℕ) → n ≡ 0 → length rest ≡ 0
     → whole ≡ items_behind so_far n rest → whole ≡ Ok so_far
 unfolding items_decoding
@@ -81,7 +81,7 @@ pub whole_more : (rows : List RowView) (row : RowView) → AreWhole rows → IsS
 whole_more [] row whole is = (is, tt)
 whole_more (first ∷ rows) row whole is = (whole.0, whole_more rows row whole.1 is)
 
--- what holds of the bytes of the first row holds of it later too
+-- a property of the bytes of the first row also holds later
 pub first_or : (P : List ℕ → Type 0) (n : ℕ) (rest bytes : List ℕ) → (n ≡ 0 → rest ≡ bytes) → (0 < n → P bytes) → P rest → P bytes
 first_or P zero rest bytes first later here = subst P (first refl) here
 first_or P (suc n) rest bytes first later here = later (omega arith)

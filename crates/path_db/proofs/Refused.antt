@@ -24,7 +24,7 @@ use Rattle.path_db.proofs.ReadBack.{row_back, record_len}
 use Rattle.path_db.proofs.RowsBack.{Rises, rises, rising}
 use Rattle.path_db.proofs.RowsRead.{last_behind, rows_behind, rows_begun, row_next, row_refused, row_falls}
 
--- ---- a row is refused as BadRecord alone
+-- ---- a row is refused with BadRecord alone
 
 pub bad_step : {A B : Type 0} (r : Result A DbError) (rest : A → Result B DbError) (e : DbError) → ((x : DbError) → r ≡ Err x → x ≡ BadRecord)
     → ((a : A) (x : DbError) → rest a ≡ Err x → x ≡ BadRecord) → (r >>= rest) ≡ Err e → e ≡ BadRecord
@@ -56,16 +56,16 @@ bad_row bytes x read =
     (λ _ y later. bad_step (record_of (type_of (slice_index bytes 0))) _ y (bad_record (type_of (slice_index bytes 0)))
     (λ kind z last. bad_step (spelled_segment message) (λ segment. Ok (kind, segment)) z (bad_spelling message) (λ segment w ends. bad_end (kind, segment) w ends) last) later) read
 
--- ---- where a reading stops
+-- ---- the bytes at which a reading ends with an error
 
--- a row that isn't above the one before
+-- a row whose key isn't above the key of the row before
 record Lower (before : Option RowView) (bytes : List ℕ) (e : DbError) : Type 0 where
   row : RowView
   read : row_decoding bytes ≡ Ok row
   lower : is_above before row ≡ false
   reason : e ≡ Order
 
--- behind rows in order there are bytes that are refused as a row, or a row that isn't above the last
+-- after rows in order there are bytes that are refused as a row, or a row whose key isn't above the last one's
 record Stops (before : Option RowView) (bytes : List ℕ) (e : DbError) : Type 0 where
   rows : List RowView
   rest : List ℕ
@@ -134,7 +134,7 @@ or_none : (last : Option RowView) → option_or last None ≡ last
 or_none None = refl
 or_none (Some x) = refl
 
--- ---- behind rows in order
+-- ---- after rows in order
 
 behind_more : (whole : Result (List RowView) DbError) (so_far others : List RowView) (rest : List ℕ) → Rises (last_of so_far) others → AreWhole others
     → whole ≡ rows_behind so_far (rows_encoding others ++ rest) → whole ≡ rows_behind (so_far ++ others) rest

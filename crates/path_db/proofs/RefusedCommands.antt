@@ -18,7 +18,7 @@ use Rattle.path_db.proofs.Refused.{bad_step, bad_end, bad_check, bad_record, bad
 use Rattle.path_db.proofs.Spelled.{command_spelled}
 use Rattle.path_db.proofs.Writable.{command_can}
 
--- ---- a command is refused as BadRecord alone
+-- ---- a command is refused with BadRecord alone
 
 bad_items : (count : ℕ) (bytes : List ℕ) (x : DbError) → items_decoding count bytes ≡ Err x → x ≡ BadRecord
 unfolding items_decoding
@@ -64,7 +64,7 @@ unfolding command_decoding
 one_refusal removals [] x read = let same : BadRecord ≡ x = cc in sym same
 one_refusal removals (kind ∷ body) x read = bad_kind (kind == 1) (kind == 2) (kind == 3) removals body x read
 
--- ---- just where bytes are no record
+-- ---- exactly where the bytes are not the record of a command
 
 not_both : (command : Command) (e : DbError) (r : Result Command DbError) → r ≡ Ok command → r ≡ Err e → ⊥
 not_both command e (Ok x) a b = absurd cc

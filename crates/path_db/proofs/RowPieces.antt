@@ -1,4 +1,4 @@
--- Rows read by pieces: for `rows_reader`.
+-- Rows that are read from pieces: for `rows_reader`.
 use Rattle.std.proofs.Common.{◌≡◌, ℕ, ◌+◌, ◌-◌, ◌<◌, ◌≤◌, Bool, true, false, List, [], ◌∷◌, ◌++◌, length, take, drop, refl, sym, ap, subst, ◌∙◌, arith, append_assoc, append-nil, leb-true, le-leb, Ok, Err, Some, None}
 use Rattle.std.specs.Prelude.{Result, Option, IsOk, slice_index, if◌then◌else◌, nat_le}
 use Rattle.std.specs.Option.{option_or}
@@ -23,7 +23,7 @@ use Rattle.path_db.proofs.RowsRead.{row_refused, row_falls, rows_done}
 use Rattle.path_db.proofs.ReadBack.{encoding_len}
 use Rattle.path_db.proofs.Refused.{behind_database}
 
--- ---- one row more
+-- ---- one more row
 
 either : (last : Option RowView) (row : RowView) (before : Option RowView) → option_or (option_or last (Some row)) before ≡ option_or last (Some row)
 either None row before = refl
@@ -45,7 +45,7 @@ database_more rows row is segment above = record {
   whole = whole_more rows row is.whole segment;
 }
 
--- the row that is read next stands behind the others
+-- the row that is read next comes after the rows before
 pub encoded_more : (rows : List RowView) (row : RowView) (left : List ℕ) → AreBytes left → row_decoding left ≡ Ok row
     → rows_encoding (rows ++ row ∷ []) ++ drop (row_size left) left ≡ rows_encoding rows ++ left
 encoded_more rows row left each read =
@@ -54,9 +54,9 @@ encoded_more rows row left each read =
     ∙ append_assoc (rows_encoding rows) (row_record row) behind
     ∙ ap (λ (t : List ℕ). rows_encoding rows ++ t) (row_spelled left row each read)
 
--- ---- a whole row is read as it is, whatever stands behind it
+-- ---- a whole row is read in the same way whatever bytes come after it
 
--- a row by whether it is there, its first byte and its message
+-- the row by whether it is whole, by its first byte and by its message
 unfoldable pub row_by : Bool → ℕ → List ℕ → Result RowView DbError
 row_by there first message =
     check there BadRecord >>= λ _. record_of (type_of first) >>= λ kind. spelled_segment message >>= λ segment. Ok (kind, segment)
@@ -100,7 +100,7 @@ module _ (bytes behind : List ℕ) (there : has_row bytes ≡ true) where
       ∙ ap (λ (l : List ℕ). row_by (has_row bytes) (slice_index bytes 0) l) (part_longer 5 (four_at 1 bytes) bytes behind (has_room bytes there))
       ∙ sym (row_is bytes)
 
--- ---- what is refused
+-- ---- bytes that are refused
 
 module _ (rows : List RowView) (left fed : List ℕ) (is : IsDatabase rows) (same : rows_encoding rows ++ left ≡ fed) (there : has_row left ≡ true) where
   some : (behind : List ℕ) → 0 < length (left ++ behind)
@@ -133,7 +133,7 @@ cut_off rows rest is long none =
     (row_is rest ∙ ap (λ (b : Bool). row_by b (slice_index rest 0) (part 5 (four_at 1 rest) rest)) none)
     (behind_database rows rest is)
 
--- ---- how many bytes were taken
+-- ---- how many bytes were read
 
 pub left_more : (bytes left : List ℕ) (n : ℕ) → left ≡ drop (length bytes - length left) bytes → n ≤ length left → length left ≤ length bytes
     → drop n left ≡ drop (length bytes - length (drop n left)) bytes
@@ -141,7 +141,7 @@ left_more bytes left n is inside within =
     ap (drop n) is ∙ drop-drop n (length bytes - length left) bytes
     ∙ ap (λ (k : ℕ). drop k bytes) (omega (arith, inside, within, length-drop n left))
 
--- where rows were read there are bytes
+-- where rows were read, there were bytes
 pub wanted_at : (rows : List RowView) (rest : List ℕ) → rows_decoding (rows_encoding rows ++ rest) ≡ Ok rows → 0 < length rows
     → IsOk (rows_decoding (rows_encoding rows ++ rest)) × (0 < length (rows_encoding rows ++ rest))
 wanted_at rows rest read some =

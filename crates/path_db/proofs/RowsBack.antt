@@ -1,4 +1,4 @@
--- Rows there and back, with rising keys: for `record_laws` and `read_rows`.
+-- Rows that are written and read again, with rising keys: for `record_laws` and `read_rows`.
 use Rattle.std.proofs.Common.{◌≡◌, ℕ, zero, suc, ◌≤◌, Bool, true, false, List, [], ◌∷◌, ◌++◌, length, drop, refl, ap, subst, ◌∙◌, arith, Ok, Some, None}
 use Rattle.std.specs.Prelude.{Result, Option}
 use Rattle.std.specs.Ordering.{is_lt}
@@ -57,7 +57,7 @@ in_order : {B : Type 0} (holds : Bool) (rest : Result B DbError) (b : B) → (ch
 in_order true rest b e = (refl, e)
 in_order false rest b e = absurd cc
 
--- a row that is read takes the bytes that are told of it
+-- a row that is read has the length that `row_size` gives
 pub row_takes : (bytes : List ℕ) (row : RowView) → row_decoding bytes ≡ Ok row → (row_size bytes ≡ row_len row) × (row_size bytes ≤ length bytes)
 row_takes bytes row read =
     let so = row_steps bytes row read in
@@ -87,7 +87,7 @@ within_read (suc n) before (b ∷ tail) rows le read =
     let counted : rows_len (a.value ∷ r.value) ≡ length bytes = omega (arith, sum, takes.0, takes.1, fewer, later.1) in
     subst (λ (l : List RowView). Rises before l × (rows_len l ≡ length bytes)) same ((o.0, later.0), counted)
 
--- rows that are read rise, and take all of the bytes
+-- rows that are read have rising keys, and their records are all of the bytes
 pub rows_read : (bytes : List ℕ) (rows : List RowView) → rows_decoding bytes ≡ Ok rows → IsRising rows × (rows_len rows ≡ length bytes)
 unfolding rows_decoding
 rows_read bytes rows read =
@@ -114,7 +114,7 @@ within_back (suc n) before (row ∷ rows) le all whole =
     ∙ ap (λ (t : List ℕ). rows_within n (Some row) t >>= λ others. Ok (row ∷ others)) one.1
     ∙ ap (λ r. r >>= λ others. Ok (row ∷ others)) (within_back n (Some row) rows short all.1 whole.1)
 
--- the records of rows have the bytes that are counted of them
+-- the records of rows have the length that is counted for them
 pub rows_counted : WrittenRowsAreCounted
 rows_counted [] = refl
 rows_counted (row ∷ rows) =

@@ -28,7 +28,7 @@ last_behind (first ∷ rows) row = ap (λ (o : Option RowView). option_or o (Som
 
 -- ---- row by row
 
--- one row less, or none: the others are read alike
+-- two limits that read the rows after the first alike read all rows alike
 alike : (n m : ℕ) (before : Option RowView) (behind : List ℕ) (r : Result RowView DbError)
     → ((row : RowView) → rows_within n (Some row) behind ≡ rows_within m (Some row) behind)
     → (r >>= λ row. check (is_above before row) Order >>= λ _. rows_within n (Some row) behind >>= λ rows. Ok (row ∷ rows))
@@ -37,7 +37,7 @@ alike n m before behind (Ok row) same =
     ap (λ (l : Result (List RowView) DbError). check (is_above before row) Order >>= λ _. l >>= λ rows. Ok (row ∷ rows)) (same row)
 alike n m before behind (Err e) same = refl
 
--- how many rows there may be changes nothing, from the number of bytes on
+-- any limit on the number of rows gives the same result, if it is at least the number of bytes
 enough : (n m : ℕ) (before : Option RowView) (bytes : List ℕ) → length bytes ≤ n → length bytes ≤ m → rows_within n before bytes ≡ rows_within m before bytes
 unfolding rows_within
 enough zero zero before bytes a b = refl
@@ -51,11 +51,11 @@ enough (suc n) (suc m) before (x ∷ bytes) a b =
     let fewer : length behind ≤ length bytes = omega (arith, length-drop (row_size (x ∷ bytes)) (x ∷ bytes)) in
     alike n m before behind (row_decoding (x ∷ bytes)) (λ row. enough n m (Some row) behind (omega (arith, fewer, a)) (omega (arith, fewer, b)))
 
--- what is left, behind what was read so far
+-- the result of reading the bytes that are left, after these rows
 abbrev pub rows_behind : List RowView → List ℕ → Result (List RowView) DbError
 rows_behind so_far bytes = rows_within (length bytes) (last_of so_far) bytes >>= λ others. Ok (so_far ++ others)
 
--- nothing was read so far
+-- at the start no row was read
 pub rows_begun : (bytes : List ℕ) → rows_decoding bytes ≡ rows_behind [] bytes
 unfolding rows_decoding
 rows_begun bytes = as_they_are (rows_within (length bytes) None bytes)
@@ -100,7 +100,7 @@ row_falls whole so_far row (b ∷ tail) some read above so =
     ∙ ap (λ r. (r >>= λ first. check (is_above (last_of so_far) first) Order >>= λ _. rows_within (length tail) (Some first) behind >>= λ rows. Ok (first ∷ rows)) >>= λ others. Ok (so_far ++ others)) read
     ∙ ap (λ h. (check h Order >>= λ _. rows_within (length tail) (Some row) behind >>= λ rows. Ok (row ∷ rows)) >>= λ others. Ok (so_far ++ others)) above
 
--- nothing is left
+-- no bytes are left
 pub rows_done : (whole : Result (List RowView) DbError) (so_far : List RowView) (bytes : List ℕ) → length bytes ≡ 0 → whole ≡ rows_behind so_far bytes → whole ≡ Ok so_far
 unfolding rows_within
 rows_done whole so_far [] empty so = so ∙ ap (λ (l : List RowView). Ok l) (append-nil so_far)

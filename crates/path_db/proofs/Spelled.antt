@@ -1,4 +1,4 @@
--- What is read is spelled so: for `record_laws`.
+-- The bytes that are read are the record of the result: for `record_laws`.
 use Rattle.std.proofs.Common.{◌≡◌, ℕ, zero, suc, ◌+◌, ◌*◌, ◌≤◌, Bool, true, false, List, [], ◌∷◌, ◌++◌, length, drop, take, refl, sym, ap, subst, ◌∙◌, arith, append_assoc, take-append-drop, Ok, Err, if◌then◌else◌}
 use Rattle.std.specs.Prelude.{Result, nat_le, ◌==◌}
 use Rattle.std.specs.List.{slice_index}
@@ -34,7 +34,7 @@ use Rattle.path_db.specs.RecordLaws.{ReadCommandsAreSpelled, CommandsAreReadOn}
 
 -- ---- steps
 
--- a step that went on, and what followed it
+-- a step that had a value, and the step that followed it
 pub record Went {A B : Type 0} (r : Result A DbError) (rest : A → Result B DbError) (b : B) : Type 0 where
   pub value : A
   pub first : r ≡ Ok value
@@ -92,7 +92,7 @@ row_of_pieces first tail encoding each inside is =
     ∙ ap (λ (t : List ℕ). t ++ drop 4 tail) head
     ∙ take-append-drop 4 tail)
 
--- what a row that is read went through
+-- the checks that a row which is read has passed
 pub record RowSteps (bytes : List ℕ) (row : RowView) : Type 0 where
   pub there : has_row bytes ≡ true
   pub kind : record_of (type_of (slice_index bytes 0)) ≡ Ok row.0

@@ -1,4 +1,4 @@
--- What bytes are read as, by the rows that were given of them: for the crates above.
+-- The rows that bytes are read as, given the rows that a walk returned: for the crates above.
 use Rattle.std.proofs.Common.{◌≡◌, ℕ, zero, suc, ◌<◌, Bool, true, false, List, [], ◌∷◌, ◌++◌, length, drop, refl, sym, ap, ◌∙◌, arith, append_assoc, Ok, Err}
 use Rattle.std.specs.Prelude.{Result, Option, Some}
 use Rattle.std.proofs.lemmas.List.{length-append}
@@ -14,15 +14,15 @@ use Rattle.path_db.proofs.RowsRead.{rows_behind}
 use Rattle.path_db.proofs.Refused.{behind_database}
 
 module _ (fed : List ℕ) (given : List RowView) (walk : WalkView) (is : HasGiven fed given walk) where
-  -- where no bytes are left, the rows that were given are all
+  -- where no bytes are left, the rows that were returned are all
   pub given_all : length walk.rest ≡ 0 → rows_decoding fed ≡ Ok given
   given_all none = ap rows_decoding (sym is.split) ∙ all_read given walk.rest is.database none
 
-  -- where some are left and no whole row, the bytes are no rows
+  -- where bytes are left but no whole row, the bytes are not rows
   pub given_cut : 0 < length walk.rest → has_row walk.rest ≡ false → rows_decoding fed ≡ Err BadRecord
   given_cut some none = ap rows_decoding (sym is.split) ∙ cut_off given walk.rest is.database some none
 
--- The rows are those that were given and others, and there are others where bytes are left.
+-- The rows are the returned rows and others, and there are others where bytes are left.
 pub record BeginsWith (given rows : List RowView) (rest : List ℕ) : Type 0 where
   pub others : List RowView
   pub split : rows ≡ given ++ others
@@ -51,7 +51,7 @@ some_within zero before (b ∷ bytes) others size is some = absurd (omega arith)
 some_within (suc n) before (b ∷ bytes) others size is some =
     one_at_least before b bytes (row_decoding (b ∷ bytes)) (λ row. rows_within n (Some row) (drop (row_size (b ∷ bytes)) (b ∷ bytes))) others is
 
--- what is read of more bytes begins with the rows that were given
+-- the rows that a longer list of bytes is read as begin with the rows that were returned
 pub given_begin : (fed : List ℕ) (given : List RowView) (walk : WalkView) → HasGiven fed given walk → (behind : List ℕ) (rows : List RowView)
     → rows_decoding (fed ++ behind) ≡ Ok rows → BeginsWith given rows walk.rest
 given_begin fed given walk is behind rows read =

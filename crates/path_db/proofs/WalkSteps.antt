@@ -1,4 +1,4 @@
--- Rows that are given one after the other: for `row_walk`.
+-- Rows that a walk returns one after the other: for `row_walk`.
 use Rattle.std.proofs.Common.{inl, inr, ◌≡◌, ℕ, ◌<◌, Bool, true, false, List, [], ◌∷◌, ◌++◌, length, drop, refl, sym, ap, subst, ◌∙◌, append_assoc, Ok, Err, Some, None}
 use Rattle.std.specs.Prelude.{Option}
 use Rattle.std.specs.Option.{option_map}
@@ -54,7 +54,7 @@ pub bad_refused : (fed : List ℕ) (given : List RowView) (walk : WalkView) → 
 bad_refused fed given walk is left left_is e there read =
     refused_on given left fed is.database (ap (λ (l : List ℕ). rows_encoding given ++ l) left_is ∙ is.split) there e read
 
--- what isn't the next row is refused whatever stands behind
+-- bytes that are not the next row are refused whatever bytes come after
 pub no_next : (fed : List ℕ) (given : List RowView) (walk : WalkView) → HasGiven fed given walk → (left : List ℕ) → left ≡ walk.rest → (last : Option Key) → walk.last ≡ option_map key_bytes last
     → (e : DbError) → IsNoNextRow left last e → AreRefused fed e
 no_next fed given walk is left left_is last last_is e (inl (bad, long)) =

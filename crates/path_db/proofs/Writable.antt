@@ -1,4 +1,4 @@
--- What is read can be written: for `record_laws` and `command_records`.
+-- Commands and rows that are read can be written: for `record_laws` and `command_records`.
 use Rattle.std.proofs.Common.{◌≡◌, ℕ, zero, suc, ◌+◌, ◌*◌, ◌^◌, ◌<◌, Bool, true, false, List, [], ◌∷◌, length, drop, refl, ap, subst, arith, Ok, Err, if◌then◌else◌}
 use Rattle.std.specs.Prelude.{nat_le, ◌==◌}
 use Rattle.std.specs.Int.{w64, from_be_bytes}
@@ -21,7 +21,7 @@ use Rattle.path_db.specs.RecordLaws.{CanBeWritten, ReadCommandsCanBeWritten}
 use Rattle.path_db.proofs.RowsBack.{row_takes}
 use Rattle.path_db.proofs.Spelled.{went, checked, row_whole, bytes_drop, tail_bytes}
 
--- eight bytes are a number below 2^64
+-- eight bytes have a number below 2^64
 eight_small : (bytes : List ℕ) → AreBytes bytes → from_be_bytes w64 bytes < 2 ^ 64
 eight_small bytes each = omega (arith, each 0, each 1, each 2, each 3, each 4, each 5, each 6, each 7)
 
@@ -36,7 +36,7 @@ items_whole (suc count) bytes rows each read =
     let same : (a.value ∷ b.value) ≡ rows = cc (b.others) in
     subst AreWhole same (row_whole bytes a.value each a.first, items_whole count behind b.value (bytes_drop (row_size bytes) bytes each) b.first)
 
--- how many rows are read, and how many bytes their segments have
+-- the number of rows that are read, and the length of their segments' encodings
 pub items_size : (count : ℕ) (bytes : List ℕ) (rows : List RowView) → items_decoding count bytes ≡ Ok rows → (length rows ≡ count) × (segments_len rows + 5 * count ≡ length bytes)
 unfolding items_decoding
 items_size zero [] rows read = let none : [] ≡ rows = cc in subst (λ (l : List RowView). (length l ≡ 0) × (segments_len l + 0 ≡ 0)) none (refl, refl)

@@ -14,7 +14,7 @@ use Rattle.path_rows.specs.Database.{RowView}
 use Rattle.path_db.specs.RecordSteps.{◌>>=◌, check}
 use Rattle.path_db.specs.RowRecord.{rows_encoding, row_decoding, row_size, record_of, HasOutline}
 
--- the bytes of the segments alone
+-- the bytes of the segments' encodings alone
 abbrev pub segments_len : List RowView → ℕ
 segments_len rows = sum_by (λ row. length (segment_encoding row.1)) rows
 
@@ -24,14 +24,14 @@ IsWithinLimits (Register rows) = (length rows ≤ MOST_REGISTERED) × (segments_
 IsWithinLimits (Purge moment) = Unit {0}
 IsWithinLimits (Remove kind id) = Unit {0}
 
--- the record of a command: its kind in one byte; behind it a count in one and rows, or a moment in eight, or a type in one and
--- an id in 32
+-- the record of a command: its kind (1 byte); after it, for a registration, a count (1) and the records of the rows; for a purge,
+-- a moment (8); for a removal, a type (1) and an id (32). Numbers are big-endian.
 unfoldable pub command_encoding : Command → List ℕ
 command_encoding (Register rows) = 1 ∷ length rows ∷ rows_encoding rows
 command_encoding (Purge moment) = 2 ∷ to_be_bytes w64 moment
 command_encoding (Remove kind id) = 3 ∷ type_number kind ∷ id
 
--- so many rows, in any order, that are all of the bytes
+-- this number of rows in any order, whose records are all of the bytes
 unfoldable pub items_decoding : ℕ → List ℕ → Result (List RowView) DbError
 items_decoding zero [] = Ok []
 items_decoding zero (b ∷ bytes) = Err BadRecord
@@ -40,7 +40,7 @@ items_decoding (suc count) bytes = do
   rows ← items_decoding count (drop (row_size bytes) bytes)
   Ok (row ∷ rows)
 
--- a count of at most 16, and so many rows: each takes five bytes beside its segment's, which are at most 131,072 together
+-- a count of at most 16, and this number of rows: each takes five bytes beside its segment's, which are at most 131,072 together
 unfoldable pub registration_decoding : List ℕ → Result Command DbError
 registration_decoding [] = Err BadRecord
 registration_decoding (count ∷ items) = do
@@ -63,7 +63,7 @@ removal_decoding (kind ∷ id) = do
   _ ← check (length id == 32) BadRecord
   Ok (Remove kind id)
 
--- the command of all bytes; a removal only where these are allowed
+-- the command whose record these bytes are; a removal only where removals are allowed
 unfoldable pub command_decoding : Bool → List ℕ → Result Command DbError
 command_decoding removals [] = Err BadRecord
 command_decoding removals (kind ∷ body) =
@@ -72,14 +72,14 @@ command_decoding removals (kind ∷ body) =
     else if kind == 3 then (if removals then removal_decoding body else Err BadRecord)
     else Err BadRecord
 
--- To read a registration takes memory: it has 1 to 16 segments, in no more bytes than may be, and the first has an outline.
+-- To read a registration takes memory if it has 1 to 16 segments, no more bytes than the limit, and its first segment has an outline.
 pub record WantsItems (body : List ℕ) : Type 0 where
   pub some : 1 ≤ slice_index body 0
   pub most : slice_index body 0 ≤ MOST_REGISTERED
   pub short : length (drop 1 body) ≤ MOST_REGISTERED_BYTES + 5 * slice_index body 0
   pub outline : HasOutline (drop 1 body)
 
--- To read the command takes memory: it registers, and to read that takes memory.
+-- To read the command takes memory if it is such a registration.
 abbrev pub WantsMemory : List ℕ → Type 0
 WantsMemory bytes = (slice_index bytes 0 ≡ 1) × WantsItems (drop 1 bytes)
 

@@ -14,13 +14,13 @@ ReadCommandsAreSpelled =
     (removals : Bool) (bytes : List ℕ) (command : Command) → AreBytes bytes
     → command_decoding removals bytes ≡ Ok command → command_encoding command ≡ bytes
 
--- What is read is read as the same command where as much or more is allowed.
+-- Bytes that are read as a command are read as the same command where as many kinds or more are allowed.
 abbrev pub CommandsAreReadOn : Type 0
 CommandsAreReadOn =
     (small large : Bool) (bytes : List ℕ) (command : Command) → (small ≡ true → large ≡ true)
     → command_decoding small bytes ≡ Ok command → command_decoding large bytes ≡ Ok command
 
--- the numbers and the id of a command have their widths
+-- the numbers and the id of a command fit their fields
 abbrev pub HasWidths : Command → Type 0
 HasWidths (Register rows) = Unit {0}
 HasWidths (Purge moment) = moment < 2 ^ 64
@@ -32,30 +32,30 @@ IsAllowedBy removals (Register rows) = Unit {0}
 IsAllowedBy removals (Purge moment) = Unit {0}
 IsAllowedBy removals (Remove kind id) = removals ≡ true
 
--- What is written of a command within its limits is read as that command, where it is allowed.
+-- The record of a command within its limits is read as that command, where the command is allowed.
 abbrev pub WrittenCommandsAreRead : Type 0
 WrittenCommandsAreRead =
     (removals : Bool) (command : Command) → IsWithinLimits command → HasWholeSegments command → HasWidths command → IsAllowedBy removals command
     → command_decoding removals (command_encoding command) ≡ Ok command
 
--- The command has a record that is read as it.
+-- The command has a record that is read as this command.
 pub record CanBeWritten (removals : Bool) (command : Command) : Type 0 where
   pub limits : IsWithinLimits command
   pub whole : HasWholeSegments command
   pub widths : HasWidths command
   pub allowed : IsAllowedBy removals command
 
--- What is read as a command can be written: just these commands have records.
+-- A command that is read can be written: exactly these commands have records.
 abbrev pub ReadCommandsCanBeWritten : Type 0
 ReadCommandsCanBeWritten =
     (removals : Bool) (bytes : List ℕ) (command : Command) → AreBytes bytes
     → command_decoding removals bytes ≡ Ok command → CanBeWritten removals command
 
--- What is written of a database is read as its rows.
+-- The records of a database are read as its rows.
 abbrev pub WrittenRowsAreRead : Type 0
 WrittenRowsAreRead = (rows : List RowView) → IsDatabase rows → rows_decoding (rows_encoding rows) ≡ Ok rows
 
--- The records of rows have as many bytes as are counted of the rows.
+-- The records of rows have the length that is counted for the rows.
 abbrev pub WrittenRowsAreCounted : Type 0
 WrittenRowsAreCounted = (rows : List RowView) → length (rows_encoding rows) ≡ rows_len rows
 

@@ -1,4 +1,4 @@
--- Rows as records, which stand one after the other.
+-- Rows as records, one after the other.
 use Rattle.std.specs.Prelude.{◌≡◌, ℕ, zero, suc, ◌+◌, List, [], ◌∷◌, ◌++◌, length, drop, slice_index, Bool, true, nat_le, Option, Some, None, Result, Ok, Err, IsOk, if◌then◌else◌, false}
 use Rattle.std.specs.List.{flat_map}
 use Rattle.std.specs.Int.{w32, to_be_bytes}
@@ -18,7 +18,7 @@ use Rattle.path_db.specs.RecordSteps.{◌>>=◌, check}
 
 -- ---- writing
 
--- the record of a row: its type in one byte, the length of its segment's encoding in four, and the encoding
+-- the record of a row: its type (1 byte), the length of its segment's encoding (4, big-endian), and the encoding
 unfoldable pub row_record : RowView → List ℕ
 row_record row = type_number row.0 ∷ (to_be_bytes w32 (length (segment_encoding row.1)) ++ segment_encoding row.1)
 
@@ -28,20 +28,20 @@ rows_encoding rows = flat_map row_record rows
 
 -- ---- reading one
 
--- how many bytes the row at the front has, by the length that it tells of its segment
+-- the length of the record at the front, by the length field of its segment
 abbrev pub row_size : List ℕ → ℕ
 row_size bytes = 5 + four_at 1 bytes
 
--- the bytes of the row at the front are there
+-- the whole record at the front is there
 abbrev pub has_row : List ℕ → Bool
 has_row bytes = if nat_le 5 (length bytes) then nat_le (row_size bytes) (length bytes) else false
 
--- what was refused of a message is no record
+-- a message that is refused is refused with BadRecord
 abbrev pub record_of : {A : Type 0} → Result A SegError → Result A DbError
 record_of (Ok x) = Ok x
 record_of (Err e) = Err BadRecord
 
--- the segment of a message, which is its one encoding
+-- the segment of a message, which has to be the segment's one encoding
 unfoldable pub spelled_segment : List ℕ → Result SegmentView DbError
 spelled_segment message = do
   segment ← record_of (segment_decoding message)
@@ -56,7 +56,7 @@ row_decoding bytes = do
   segment ← spelled_segment (part 5 (four_at 1 bytes) bytes)
   Ok (kind, segment)
 
--- The bytes of the row at the front are there, it is of a type, and its segment has an outline: to read it takes memory.
+-- The record at the front is whole, it has a type, and its segment has an outline: to read such a record takes memory.
 pub record HasOutline (bytes : List ℕ) : Type 0 where
   pub there : has_row bytes ≡ true
   pub kind : IsOk (type_of (slice_index bytes 0))
@@ -69,7 +69,7 @@ abbrev pub is_above : Option RowView → RowView → Bool
 is_above None row = true
 is_above (Some before) row = is_lt (key_order before row)
 
--- the rows of all bytes behind a row, where `most` is at least how many there are
+-- the rows of all bytes after a row, where `most` is at least the number of rows
 unfoldable pub rows_within : ℕ → Option RowView → List ℕ → Result (List RowView) DbError
 rows_within zero before bytes = Ok []
 rows_within (suc most) before [] = Ok []

@@ -1,4 +1,4 @@
--- Rows that are given one after the other: what was fed, what was given, and what is left.
+-- Rows that a walk returns one after the other: the bytes that were pushed, the rows that were returned, and the bytes that are left.
 use Rattle.std.specs.Prelude.{◌≡◌, ℕ, ◌≤◌, ◌<◌, ◌⊎◌, Bool, true, false, List, ◌++◌, length, drop, Option, Some, None, Ok, Err}
 use Rattle.std.specs.Option.{option_map}
 use Rattle.std.specs.Ordering.{nat_cmp, is_lt}
@@ -15,7 +15,7 @@ use Rattle.path_db.specs.declared.row_walk.RowWalk.TheInside.{Inside}
 use Rattle.path_db.specs.Key.{key_bytes}
 use Rattle.path_db.specs.RowRecord.{rows_encoding, has_row, row_size, row_decoding}
 
--- the key of the last row that was given, and the bytes after it
+-- the key of the last row that was returned, and the bytes after that row
 pub record WalkView : Type 0 where
   pub last : Option (List ℕ)
   pub rest : List ℕ
@@ -26,13 +26,13 @@ walk_view s = record { last = option_map key_bytes s.last; rest = drop s.at s.re
 abbrev pub IsWalk : Inside → Type 0
 IsWalk s = s.at ≤ length s.rest.items
 
--- These bytes were fed, and these rows given: a database, whose records with the bytes that are left are all that was fed.
+-- These bytes were pushed, and these rows returned: a database, whose records and the bytes that are left are all that was pushed.
 pub record HasGiven (fed : List ℕ) (given : List RowView) (walk : WalkView) : Type 0 where
   pub database : IsDatabase given
   pub last : walk.last ≡ option_map key_of (last_of given)
   pub split : rows_encoding given ++ walk.rest ≡ fed
 
--- there is no key, or the row's is strictly above it
+-- there is no key, or the row's key is strictly above it
 abbrev pub is_above_bytes : Option (List ℕ) → RowView → Bool
 is_above_bytes None row = true
 is_above_bytes (Some k) row = is_lt (slice_cmp nat_cmp k (key_of row))
@@ -40,17 +40,17 @@ is_above_bytes (Some k) row = is_lt (slice_cmp nat_cmp k (key_of row))
 abbrev pub is_above_key : Option Key → RowView → Bool
 is_above_key last row = is_above_bytes (option_map key_bytes last) row
 
--- The length of a row is there, and is more than a segment has.
+-- The length of a row is there, and is above that of any segment.
 pub record IsTooLong (left : List ℕ) : Type 0 where
   pub there : 5 ≤ length left
   pub long : 16384 < four_at 1 left
 
--- Not all bytes of the row at the front are there, which has at most 16,389.
+-- The record at the front, which has at most 16,389 bytes, is not whole.
 pub record IsShort (left : List ℕ) : Type 0 where
   pub none : has_row left ≡ false
   pub few : length left < 16389
 
--- A row is the next one after a key, in this number of bytes.
+-- This row is the next one after the key, and its record has this number of bytes.
 pub record IsNextRow (left : List ℕ) (last : Option Key) (row : RowView) (size : ℕ) : Type 0 where
   pub there : has_row left ≡ true
   pub read : row_decoding left ≡ Ok row
@@ -60,13 +60,13 @@ pub record IsNextRow (left : List ℕ) (last : Option Key) (row : RowView) (size
   pub within : size ≤ length left
   pub bytes : AreBytes left
 
--- A whole row isn't above the key.
+-- A whole row has a key that isn't above this key.
 pub record IsLowerRow (left : List ℕ) (last : Option Key) : Type 0 where
   pub row : RowView
   pub read : row_decoding left ≡ Ok row
   pub lower : is_above_key last row ≡ false
 
--- what is there is no row, whatever comes next: it is too long, or is there whole and is no row, or isn't above the key
+-- the bytes are no next row, whatever bytes come next: the length is too large, or a whole record is no row, or its key isn't above
 abbrev pub IsNoNextRow : List ℕ → Option Key → DbError → Type 0
 IsNoNextRow left last e =
     ((e ≡ BadRecord) × IsTooLong left) ⊎ ((has_row left ≡ true) × ((row_decoding left ≡ Err e) ⊎ (IsLowerRow left last × (e ≡ Order))))

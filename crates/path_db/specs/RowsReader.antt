@@ -1,4 +1,4 @@
--- Rows that are read by pieces: what was fed so far.
+-- Rows that are read from pieces: the bytes that were fed until now.
 use Rattle.std.specs.Prelude.{◌≡◌, ℕ, ◌≤◌, false, List, ◌++◌, length, drop, Err}
 use Rattle.path_db.specs.declared.error.DbError.{DbError}
 use Rattle.path_db.specs.declared.rows_reader.RowsReader.TheInside.{Inside}
@@ -6,20 +6,20 @@ use Rattle.path_rows.specs.Database.{RowView, IsDatabase}
 use Rattle.path_rows.specs.Row.{row_views}
 use Rattle.path_db.specs.RowRecord.{rows_encoding, rows_decoding, has_row}
 
--- the bytes that were fed: those of the rows that were read, and those behind them
+-- the bytes that were fed: the records of the rows that were read, and the bytes after them
 abbrev pub bytes_fed : Inside → List ℕ
 bytes_fed s = rows_encoding (row_views s.rows.items) ++ s.rest.items
 
--- The rows are a database, and behind them there is no whole row.
+-- The rows are a database, and after them there is no whole row.
 pub record IsReader (s : Inside) : Type 0 where
   pub database : IsDatabase (row_views s.rows.items)
   pub rest : has_row s.rest.items ≡ false
 
--- rows that begin with these bytes are refused for this reason, whatever stands behind
+-- rows that begin with these bytes are refused for this reason, whatever bytes come after
 abbrev pub AreRefused : List ℕ → DbError → Type 0
 AreRefused bytes e = (behind : List ℕ) → rows_decoding (bytes ++ behind) ≡ Err e
 
--- So many bytes at the front are whole rows, and were read behind those before; behind them there is no whole row.
+-- This number of bytes at the front are whole rows, which were read after the rows before; after them there is no whole row.
 pub record AreReadOn (before after : List RowView) (bytes : List ℕ) (taken : ℕ) : Type 0 where
   pub within : taken ≤ length bytes
   pub same : rows_encoding after ++ drop taken bytes ≡ rows_encoding before ++ bytes

@@ -25,9 +25,9 @@ const PURGE: u8 = 2;
 /// The kind of a record that removes.
 const REMOVE: u8 = 3;
 
-/// Appends the record of a command: its kind in one byte; behind it the count of its segments in one and each as a row's record,
-/// or a moment in eight big-endian bytes, or a type in one and an id in 32. Where memory is refused, the vector has the items that
-/// it had.
+/// Appends the record of a command: its kind (1 byte); after it, for a registration, the count of its segments (1) and the record
+/// of a row for each; for a purge, a moment (8); for a removal, a type (1) and an id (32). Numbers are big-endian. Where memory is
+/// refused, the vector keeps its items.
 pub fn write_command(command: &Command, out: &mut Vec<u8>) -> Result<(), AllocError>
     requires { IsWithinLimits command.now }
     ensures ok { OnOk result (out.new.items ≡ out.old.items ++ command_encoding command.now) }
@@ -55,7 +55,7 @@ fn put_command(command: &Command, out: &mut Vec<u8>) -> Result<(), AllocError>
     }
 }
 
-/// Appends a kind, a count and the segments.
+/// Appends a kind, a count of one byte, and the segments.
 fn put_registration(rows: &[(SegType, Segment)], out: &mut Vec<u8>) -> Result<(), AllocError>
     requires { length rows.now ≤ MOST_REGISTERED }
     ensures ok { OnOk result (out.new.items ≡ out.old.items ++ (1 ∷ length rows.now ∷ rows_encoding rows.now)) }
@@ -76,7 +76,7 @@ fn put_items(rows: &[(SegType, Segment)], out: &mut Vec<u8>) -> Result<(), Alloc
     Ok(())
 }
 
-/// Appends a kind and a moment.
+/// Appends a kind, and a moment of eight bytes, big-endian.
 fn put_purge(moment: u64, out: &mut Vec<u8>) -> Result<(), AllocError>
     ensures ok { OnOk result (out.new.items ≡ out.old.items ++ (2 ∷ to_be_bytes w64 moment)) }
     ensures kept { take (length out.old.items) out.new.items ≡ out.old.items }
@@ -85,7 +85,7 @@ fn put_purge(moment: u64, out: &mut Vec<u8>) -> Result<(), AllocError>
     out.extend_from_slice(&moment.to_be_bytes())
 }
 
-/// Appends a kind, a type and an id.
+/// Appends a kind, a type of one byte, and an id of 32.
 fn put_removal(kind: SegType, id: &[u8; 32], out: &mut Vec<u8>) -> Result<(), AllocError>
     ensures ok { OnOk result (out.new.items ≡ out.old.items ++ (3 ∷ type_number kind ∷ id.now)) }
     ensures kept { take (length out.old.items) out.new.items ≡ out.old.items }
@@ -94,8 +94,8 @@ fn put_removal(kind: SegType, id: &[u8; 32], out: &mut Vec<u8>) -> Result<(), Al
     out.extend_from_slice(id)
 }
 
-/// Reads a command's record, all of its bytes. Under version 1 a removal is refused. To read a purge or a removal takes no memory,
-/// nor does a registration of too many segments or bytes. A command that is read can be written.
+/// Reads a command's record, which has to be all of the bytes. A removal is refused in version 1. A purge, a removal, and a
+/// registration with too many segments or bytes take no memory. A command that is read can be written.
 #[tactic(auto, unfolding(crate::specs::CommandRecord::command_decoding))]
 pub fn read_command(alloc: Global, bytes: &[u8], version: u32) -> Result<Command, DbError>
     ensures decoding { Gives (λ command. command) result (command_decoding (allows_removals version) bytes.now) }
@@ -114,7 +114,7 @@ pub fn read_command(alloc: Global, bytes: &[u8], version: u32) -> Result<Command
     }
 }
 
-/// Reads a count and so many segments.
+/// Reads a count, and this number of segments.
 #[tactic(auto, unfolding(crate::specs::CommandRecord::registration_decoding))]
 fn read_registration(alloc: Global, body: &[u8]) -> Result<Command, DbError>
     ensures decoding { Gives (λ command. command) result (registration_decoding body.now) }
@@ -133,7 +133,7 @@ fn read_registration(alloc: Global, body: &[u8]) -> Result<Command, DbError>
     Ok(Command::Register(Registration::new(rows)))
 }
 
-/// Reads so many segments, each with its type, which have to be all of the bytes.
+/// Reads this number of segments, each with its type. Their records have to be all of the bytes.
 fn read_items(alloc: Global, count: usize, bytes: &[u8]) -> Result<Vec<(SegType, Segment)>, DbError>
     ensures decoding { Gives (λ rows. rows.items) result (items_decoding count bytes.now) }
     ensures whole { IfOk result (λ rows. AreWhole rows.items) }
@@ -152,7 +152,7 @@ fn read_items(alloc: Global, count: usize, bytes: &[u8]) -> Result<Vec<(SegType,
     Ok(rows)
 }
 
-/// Reads a moment.
+/// Reads a moment of eight bytes, big-endian.
 #[tactic(auto, unfolding(crate::specs::CommandRecord::purge_decoding))]
 fn read_purge(body: &[u8]) -> Result<Command, DbError>
     ensures decoding { Reads (λ command. command) result (purge_decoding body.now) }
@@ -166,7 +166,7 @@ fn read_purge(body: &[u8]) -> Result<Command, DbError>
     Ok(Command::Purge(read_u64(body, 0)))
 }
 
-/// Reads a type and an id.
+/// Reads a type of one byte and an id of 32.
 #[tactic(auto, unfolding(crate::specs::CommandRecord::removal_decoding))]
 fn read_removal(body: &[u8]) -> Result<Command, DbError>
     ensures decoding { Reads (λ command. command) result (removal_decoding body.now) }

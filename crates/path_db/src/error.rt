@@ -1,4 +1,4 @@
-//! Why bytes are no record.
+//! Why bytes are not a record.
 
 ghost use Rattle.std.specs.Prelude.{◌≡◌};
 ghost use Rattle.path_db.specs.declared.error.DbError.TheVariants.{NoMemory};
@@ -6,17 +6,17 @@ ghost use Rattle.path_db.specs.declared.error.DbError.TheVariants.{NoMemory};
 use std::alloc::{AllocError, AllocFailed};
 use thiserror::Error;
 
-/// Why bytes are no record, or no records. They are numbered from 0 in this order.
+/// Why bytes are not a record, or not records. The variants are numbered from 0 in this order.
 #[derive(Clone, Copy, Debug, PartialEq, Eq, Error)]
 pub enum DbError {
-    /// Memory ran out. It says nothing of the bytes.
+    /// Memory was refused. The bytes may be valid or not.
     #[error("out of memory")]
     NoMemory,
-    /// Bytes are missing or left over, a number is out of its range, or a segment can't be read or isn't spelled as it is
-    /// written.
+    /// Bytes are missing or left over, a number is out of its range, or a segment's bytes can't be read or are not its one
+    /// encoding.
     #[error("a record is not well-formed")]
     BadRecord,
-    /// The key of a row isn't strictly above that of the row before.
+    /// The key of a row isn't strictly above the key of the row before.
     #[error("rows are not in the order of their keys")]
     Order,
 }

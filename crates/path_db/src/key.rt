@@ -12,17 +12,17 @@ use seg_check::seg_id;
 use seg_core::{SegType, Segment};
 use std::cmp::Ordering;
 
-/// The key of a row: its type and its id. Keys are in the order of the types' numbers, and under one type in the order of the
+/// The key of a row: its type and its id. Keys are ordered by the types' numbers, and under one type by the
 /// ids' bytes.
 #[derive(Clone, Copy, Debug, PartialEq, Eq)]
 pub struct Key {
     pub kind: SegType,
-    /// SHA-256 over the hops of the segment.
+    /// SHA-256 over the hops of the segment, 32 bytes.
     pub id: [u8; 32],
 }
 
 impl Key {
-    /// The key of a segment of a type. It computes the id.
+    /// The key of a segment of a type. The call computes the id.
     #[tactic(auto, unfolding(path_rows::specs::Database::key_of))]
     pub fn of(kind: SegType, segment: &Segment) -> Key
         ensures { key_bytes result ≡ key_of (kind, segment.now) }
@@ -33,7 +33,7 @@ impl Key {
         }
     }
 
-    /// The key of a row, which has its id.
+    /// The key of a row. The id is the row's.
     #[tactic(auto, unfolding(path_rows::specs::Database::key_of))]
     pub fn of_row(row: &Row) -> Key
         ensures { key_bytes result ≡ key_of (row_view row.now) }
@@ -44,7 +44,7 @@ impl Key {
         }
     }
 
-    /// How the key compares to another.
+    /// The order of this key and another.
     pub fn order(&self, other: &Key) -> Ordering
         ensures { result ≡ slice_cmp nat_cmp (key_bytes self.now) (key_bytes other.now) }
     {

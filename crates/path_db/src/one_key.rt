@@ -1,4 +1,4 @@
-//! What commands leave under one key.
+//! The row under one key after commands.
 
 ghost use Rattle.std.specs.Prelude.{◌≡◌, not, IfOk};
 ghost use Rattle.std.specs.Option.{option_map};
@@ -14,8 +14,8 @@ use seg_check::expiry;
 use seg_core::{SegType, Segment};
 use std::alloc::AllocError;
 
-/// The row that commands leave under a key, where `found` is the row under it before: what a database has there after them. A new
-/// row shares its segment with the command. No memory is taken; a segment that is shared 2^63 times is refused.
+/// The row under a key after commands, where `found` is the row under it before: the row that a database has there after them. A
+/// new row shares its segment with the command. The call takes no memory. An error means that 2^63 rows share a segment already.
 pub fn row_after(
     key: &Key,
     found: Option<Row>,
@@ -30,7 +30,7 @@ pub fn row_after(
     Ok(left)
 }
 
-/// What one command leaves there.
+/// The row under the key after one command.
 fn row_after_one(
     key: &Key,
     found: Option<Row>,
@@ -45,7 +45,7 @@ fn row_after_one(
     }
 }
 
-/// What puts leave there, in their order.
+/// The row under the key after several puts, in their order.
 fn row_after_puts(
     key: &Key,
     found: Option<Row>,
@@ -60,7 +60,7 @@ fn row_after_puts(
     Ok(left)
 }
 
-/// What a put leaves there: under its own key the new row, unless one was found that is at least as new.
+/// The row under the key after a put: the new row if it has this key, unless the row before is at least as new.
 fn row_after_put(
     key: &Key,
     found: Option<Row>,
@@ -83,7 +83,7 @@ fn row_after_put(
     }
 }
 
-/// What a purge leaves of a row: it stays where it expires after the moment.
+/// The row after a purge: it is kept where it expires after the moment, in half seconds since 1970.
 fn row_after_purge(found: Option<Row>, moment: u64) -> Option<Row>
     ensures { option_map row_view result ≡ kept_if (is_valid_beyond moment) (option_map row_view found) }
 {
@@ -98,7 +98,7 @@ fn row_after_purge(found: Option<Row>, moment: u64) -> Option<Row>
     }
 }
 
-/// What a removal leaves of a row: it stays where its key is another one.
+/// The row after a removal: it is kept where its key is another one.
 fn row_after_removal(found: Option<Row>, kind: SegType, id: &[u8; 32]) -> Option<Row>
     ensures { option_map row_view result ≡ kept_if (λ row. not (is_under (key kind id.now) row)) (option_map row_view found) }
 {

@@ -19,9 +19,9 @@ use seg_core::{
 };
 use std::alloc::{AllocError, Global};
 
-/// Appends the records of all rows, in the order of their keys. A record is the type in one byte, the length of the segment's
-/// encoding in four big-endian bytes, and the encoding. Where memory is refused, the vector has the items that it had. To write no
-/// rows takes none.
+/// Appends the records of all rows, in the order of their keys. A record is the type (1 byte), the length of the segment's
+/// encoding (4, big-endian), and the encoding. Where memory is refused, the vector keeps its items. An empty database takes no
+/// memory.
 pub fn write_rows(db: &PathDb, out: &mut Vec<u8>) -> Result<(), AllocError>
     ensures ok { OnOk result (out.new.items ≡ out.old.items ++ rows_encoding db.now) }
     ensures err { OnErr result (out.new.items ≡ out.old.items) }
@@ -56,8 +56,7 @@ pub(crate) fn put_row(kind: SegType, segment: &Segment, out: &mut Vec<u8>) -> Re
     put_segment(segment, out)
 }
 
-/// What the record of a row begins with, before the segment's encoding: the type in one byte, and the length of that encoding in
-/// four.
+/// The bytes of a row's record before the segment's encoding: the type (1), and the length of that encoding (4, big-endian).
 #[tactic(auto, unfolding(crate::specs::RowRecord::row_record))]
 pub fn row_head(kind: SegType, segment: &Segment) -> [u8; 5]
     ensures { result ++ segment_encoding segment.now ≡ row_record (kind, segment.now) }
@@ -66,7 +65,7 @@ pub fn row_head(kind: SegType, segment: &Segment) -> [u8; 5]
     [type_byte(kind), size[0], size[1], size[2], size[3]]
 }
 
-/// The type of the number in a byte.
+/// The type with the number of this byte.
 pub(crate) fn type_from(byte: u8) -> Result<SegType, DbError>
     ensures { Reads (λ kind. kind) result (record_of (type_of byte)) }
 {
@@ -76,7 +75,7 @@ pub(crate) fn type_from(byte: u8) -> Result<SegType, DbError>
     }
 }
 
-/// How many bytes the row at the front has, where all of them are there.
+/// The length of the record at the front, where the whole record is there.
 pub(crate) fn size_of_row(bytes: &[u8]) -> Result<usize, DbError>
     ensures size { IfOk result (λ size. size ≡ row_size bytes.now) }
     ensures exact { is_ok result ≡ has_row bytes.now }
@@ -93,7 +92,7 @@ pub(crate) fn size_of_row(bytes: &[u8]) -> Result<usize, DbError>
     Ok(ROW_HEAD + size)
 }
 
-/// The segment of a message, which has to be its one encoding.
+/// The segment of a message, which has to be the segment's one encoding.
 #[tactic(auto, unfolding(crate::specs::RowRecord::spelled_segment))]
 fn read_spelled(alloc: Global, message: &[u8]) -> Result<Segment, DbError>
     ensures decoding { Gives (λ segment. segment) result (spelled_segment message.now) }
@@ -112,7 +111,7 @@ fn read_spelled(alloc: Global, message: &[u8]) -> Result<Segment, DbError>
     Ok(segment)
 }
 
-/// The row at the front of bytes, and the bytes behind it.
+/// The row at the front of the bytes, and the bytes after its record.
 #[tactic(auto, unfolding(crate::specs::RowRecord::row_decoding))]
 pub(crate) fn read_row(alloc: Global, bytes: &[u8]) -> Result<((SegType, Segment), &[u8]), DbError>
     ensures decoding { Gives (λ read. read.0) result (row_decoding bytes.now) }
@@ -127,9 +126,9 @@ pub(crate) fn read_row(alloc: Global, bytes: &[u8]) -> Result<((SegType, Segment
     Ok(((kind, segment), &bytes[size..]))
 }
 
-/// Reads the records of rows, all of the bytes, one after the other; their ids are computed again. Bytes that are no row are
-/// `BadRecord`, and a row whose key isn't strictly above that of the row before is `Order`: what is met first is told. No bytes
-/// are no rows. To read rows takes memory, from the first whose segment has an outline on.
+/// Reads the records of rows, which have to be all of the bytes. The ids are computed again. The error is the first that applies:
+/// `BadRecord` for bytes that are no record, `Order` for a row whose key isn't strictly above the key of the row before. No bytes
+/// are an empty database. The call takes memory from the first row on whose segment has an outline.
 pub fn read_rows(alloc: Global, bytes: &[u8]) -> Result<PathDb, DbError>
     ensures decoding { Gives (λ rows. rows) result (rows_decoding bytes.now) }
     ensures whole { IfOk result IsDatabase }
@@ -159,7 +158,7 @@ fn read_rising(alloc: Global, bytes: &[u8]) -> Result<Vec<Row>, DbError>
     Ok(rows)
 }
 
-/// Whether there is no row, or the key is strictly above that of the last.
+/// Whether there is no row before, or the key is strictly above that of the last row.
 pub(crate) fn is_above_last(rows: &[Row], row: &Row) -> bool
     ensures { result ≡ is_above (last_of (row_views rows.now)) (row_view row.now) }
 {

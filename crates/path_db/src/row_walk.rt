@@ -1,4 +1,4 @@
-//! Rows that are read one after the other from pieces of their records, and not kept.
+//! Reading rows one after the other from pieces of their records, without keeping them.
 
 ghost use Rattle.std.specs.Prelude.{◌≡◌, ◌≢◌, ◌≤◌, ◌<◌, ◌∷◌, ◌++◌, [], List, ℕ, length, drop, true, false, IfOk, IfErr, IfSome, IfNone, OnOk, OnErr, MatchOption, nat_lt};
 ghost use Rattle.path_db.specs.declared.error.DbError.TheVariants.{NoMemory, BadRecord};
@@ -17,9 +17,9 @@ use seg_core::MOST_SEGMENT_BYTES;
 use std::alloc::{AllocError, Global};
 use std::marker::Model;
 
-/// Reads rows from pieces of their records, cut anywhere, and gives them one after the other. It keeps the key of the last row
-/// that it gave, and of the bytes those after that row: once all whole rows are given, these are fewer than 16,389 bytes, the
-/// greatest row's.
+/// Reads rows from pieces of their records, cut anywhere, and returns them one after the other. It keeps the key of the last row
+/// that it returned, and the bytes after that row. Once all whole rows are returned, these are fewer than 16,389 bytes, the length
+/// of the greatest record.
 #[derive(Drop)]
 pub struct RowWalk {
     alloc: Global,
@@ -39,7 +39,7 @@ impl Model for RowWalk {
 }
 
 impl RowWalk {
-    /// A walk before the first piece. It takes no memory.
+    /// A walk before the first piece. The call takes no memory.
     pub fn new(alloc: Global) -> RowWalk
         ensures { HasGiven [] [] result }
     {
@@ -51,7 +51,7 @@ impl RowWalk {
         }
     }
 
-    /// Adds the next piece. An empty piece takes no memory; where memory is refused, the walk is as it was.
+    /// Adds the next piece. An empty piece takes no memory. Where memory is refused, the walk is unchanged.
     pub fn push(&mut self, piece: &[u8]) -> Result<(), AllocError>
         ensures fed { OnOk result ((fed : List ℕ) (given : List RowView) → HasGiven fed given self.old → HasGiven (fed ++ piece.now) given self.new) }
         ensures rest { OnOk result (self.new.rest ≡ self.old.rest ++ piece.now) }
@@ -66,10 +66,10 @@ impl RowWalk {
         Ok(())
     }
 
-    /// The next row, where all of its bytes are there. Bytes that are no row are `BadRecord`, a record that says more than 16,384
-    /// bytes as soon as its length is there; and a row whose key isn't strictly above that of the row before is `Order`. What is
-    /// refused is refused whatever bytes come next. Memory is wanted where the row's segment has an outline. After an error the
-    /// walk is as it was.
+    /// The next row, where its whole record is there; `None` where it is not. Bytes that are no record are `BadRecord`, as is a segment
+    /// of more than 16,384 bytes as soon as its length is there. A row whose key isn't strictly above the key of the row before is
+    /// `Order`. The refusal does not depend on later bytes. The call takes memory only where the row's segment has an outline. After an
+    /// error the walk is unchanged.
     pub fn next(&mut self) -> Result<Option<Row>, DbError>
         ensures row { IfOk result (λ next. MatchOption next ((self.new ≡ self.old) × (has_row self.old.rest ≡ false))
             (λ row. (fed : List ℕ) (given : List RowView) → HasGiven fed given self.old → HasGiven fed (given ++ row_view row ∷ []) self.new)) }
@@ -90,7 +90,7 @@ impl RowWalk {
         }
     }
 
-    /// Whether bytes are left after the rows that were given.
+    /// Whether bytes are left after the rows that were returned.
     pub fn has_rest(&self) -> bool
         ensures { result ≡ nat_lt 0 (length self.now.rest) }
     {
@@ -98,7 +98,7 @@ impl RowWalk {
     }
 }
 
-/// The bytes from a place on.
+/// The bytes from an index on.
 fn from_place(bytes: &[u8], at: usize) -> &[u8]
     requires { at ≤ length bytes.now }
     ensures { result.now ≡ drop at bytes.now }
@@ -106,7 +106,7 @@ fn from_place(bytes: &[u8], at: usize) -> &[u8]
     &bytes[at..]
 }
 
-/// The row at the front of bytes, after a row of this key, and how many bytes it has; none where its bytes are not all there.
+/// The row at the front of the bytes, after a row with this key, and the length of its record. `None` where the record is not whole.
 fn next_of(alloc: Global, last: &Option<Key>, left: &[u8]) -> Result<Option<(Row, usize)>, DbError>
     ensures row { IfOk result (λ next. MatchOption next (IsShort left.now) (λ found. IsNextRow left.now last.now (row_view found.0) found.1)) }
     ensures refused { IfErr result (λ e. e ≢ NoMemory → IsNoNextRow left.now last.now e) }
@@ -123,7 +123,7 @@ fn next_of(alloc: Global, last: &Option<Key>, left: &[u8]) -> Result<Option<(Row
     Ok(Some((row, size)))
 }
 
-/// How many bytes the row at the front has: none where they are not all there. A length of more than 16,384 is refused.
+/// The length of the record at the front, or `None` where the record is not whole. A segment of more than 16,384 bytes is refused.
 fn size_of_next(left: &[u8]) -> Result<Option<usize>, DbError>
     ensures size { IfOk result (λ size. MatchOption size (IsShort left.now) (λ size. (has_row left.now ≡ true) × (size ≡ row_size left.now) × (size ≤ length left.now))) }
     ensures refused { IfErr result (λ e. (e ≡ BadRecord) × IsTooLong left.now) }
@@ -141,7 +141,7 @@ fn size_of_next(left: &[u8]) -> Result<Option<usize>, DbError>
     Ok(Some(ROW_HEAD + size))
 }
 
-/// Whether there is no key, or the row's is strictly above it.
+/// Whether there is no key, or the row's key is strictly above it.
 fn is_above(last: &Option<Key>, row: &Row) -> bool
     ensures { result ≡ is_above_key last.now (row_view row.now) }
 {
@@ -151,7 +151,7 @@ fn is_above(last: &Option<Key>, row: &Row) -> bool
     }
 }
 
-/// Drops the bytes at the front, and answers where the others begin.
+/// Drops this number of bytes at the front, and returns the index at which the other bytes begin.
 fn forget_front(bytes: &mut Vec<u8>, count: usize) -> usize
     requires { count ≤ length bytes.old.items }
     ensures left { bytes.new.items ≡ drop count bytes.old.items }

@@ -1,4 +1,4 @@
-//! Rows that are read by pieces.
+//! Reading rows from pieces.
 
 ghost use Rattle.std.specs.Prelude.{◌≡◌, ◌≢◌, ◌<◌, ◌≤◌, ◌++◌, [], length, drop, IfOk, IfErr, IsOk};
 ghost use Rattle.path_db.specs.declared.error.DbError.TheVariants.{NoMemory};
@@ -14,8 +14,8 @@ use path_rows::{PathDb, Row};
 use std::alloc::{AllocError, Global};
 use std::marker::Model;
 
-/// Reads the records of rows from pieces of their bytes, cut anywhere. It keeps the rows that were read, and of the bytes only
-/// those of a row that isn't whole yet. Its value is all of the bytes that it was fed with.
+/// Reads the records of rows from pieces of their bytes, cut anywhere. It keeps the rows that were read, and beside them only the
+/// bytes of a record that isn't whole yet. In contracts its value is all of the bytes that were fed.
 #[derive(Drop)]
 pub struct RowsReader {
     alloc: Global,
@@ -35,7 +35,7 @@ impl Model for RowsReader {
 }
 
 impl RowsReader {
-    /// One that was fed with nothing. It takes no memory.
+    /// A reader that was fed nothing. The call takes no memory.
     pub fn new(alloc: Global) -> RowsReader
         ensures { result ≡ [] }
     {
@@ -46,8 +46,8 @@ impl RowsReader {
         }
     }
 
-    /// Reads on with the next piece. What is refused here is refused whatever stands behind this piece. To read an empty piece
-    /// takes no memory.
+    /// Reads the next piece. The refusal does not depend on the bytes after this piece. An empty piece takes no
+    /// memory.
     pub fn feed(self, piece: &[u8]) -> Result<RowsReader, DbError>
         ensures fed { IfOk result (λ reader. reader ≡ self ++ piece.now) }
         ensures refused { IfErr result (λ e. e ≢ NoMemory → AreRefused (self ++ piece.now) e) }
@@ -67,7 +67,7 @@ impl RowsReader {
         Ok(RowsReader { alloc, rows, rest })
     }
 
-    /// The rows of all bytes that were fed, as `read_rows` answers them. It takes memory only where there are some.
+    /// The rows of all bytes that were fed, as `read_rows` returns them. The call takes memory only where there are rows.
     pub fn finish(self) -> Result<PathDb, DbError>
         ensures decoding { Gives (λ rows. rows) result (rows_decoding self) }
         ensures whole { IfOk result IsDatabase }
@@ -80,7 +80,7 @@ impl RowsReader {
     }
 }
 
-/// The bytes behind the first ones.
+/// The bytes without the first ones.
 fn cut_front(bytes: Vec<u8>, taken: usize) -> Result<Vec<u8>, AllocError>
     requires { taken ≤ length bytes.items }
     ensures { IfOk result (λ rest. rest.items ≡ drop taken bytes.items) }
@@ -92,7 +92,7 @@ fn cut_front(bytes: Vec<u8>, taken: usize) -> Result<Vec<u8>, AllocError>
     bytes.split_off(taken)
 }
 
-/// Reads the whole rows at the front of bytes, behind the rows before them, and tells how many bytes they have.
+/// Reads the whole rows at the front of the bytes, after the rows before, and returns how many bytes their records have.
 fn read_on(alloc: Global, rows: Vec<Row>, bytes: &[u8]) -> Result<(Vec<Row>, usize), DbError>
     requires { IsDatabase (row_views rows.items) }
     ensures read { IfOk result (λ read. AreReadOn (row_views rows.items) (row_views read.0.items) bytes.now read.1) }
@@ -112,7 +112,7 @@ fn read_on(alloc: Global, rows: Vec<Row>, bytes: &[u8]) -> Result<(Vec<Row>, usi
     Ok((rows, bytes.len() - left.len()))
 }
 
-/// Whether the bytes of the row at the front are there.
+/// Whether the record at the front is whole.
 fn has_whole_row(bytes: &[u8]) -> bool
     ensures { result ≡ has_row bytes.now }
 {

@@ -5,7 +5,7 @@ use Rattle.path_db.specs.CommandRecord.{items_decoding}
 use Rattle.path_db.proofs.Records.{items_behind}
 use Rattle.path_db.proofs.command_records.read_items.Given as goal
 
--- What is left, behind what was read so far, gives what all of them give.
+-- The bytes that are left, after the rows read before, give the result of all bytes.
 abbrev pub invariant-loop : goal.invariant-loop
 invariant-loop l = record {
   decoding : items_decoding l.count l.bytes ≡ items_behind l.rows.items (l.count - l.counter) l.rest;

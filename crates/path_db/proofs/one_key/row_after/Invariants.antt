@@ -5,6 +5,6 @@ use Rattle.path_rows.specs.Row.{row_view}
 use Rattle.path_db.specs.Key.{key_bytes}
 use Rattle.path_db.proofs.one_key.row_after.Given as goal
 
--- The commands that are left lead to the same as all of them from the start.
+-- The commands that are left give the same row as all commands from the start.
 abbrev pub invariant-loop-command : goal.invariant-loop-command
 invariant-loop-command l = left_under_all (key_bytes l.key) (option_map row_view l.left) (drop l.command-index l.commands) ≡ left_under_all (key_bytes l.key) (option_map row_view l.fn.found) l.commands

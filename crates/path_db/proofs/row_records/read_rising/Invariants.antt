@@ -5,7 +5,7 @@ use Rattle.path_db.specs.RowRecord.{rows_decoding, HasOutline}
 use Rattle.path_db.proofs.RowsRead.{rows_behind}
 use Rattle.path_db.proofs.row_records.read_rising.Given as goal
 
--- What is left, behind what was read so far, gives what all of them give.
+-- The bytes that are left, after the rows read before, give the result of all bytes.
 abbrev pub invariant-loop-rest : goal.invariant-loop-rest
 invariant-loop-rest l = record {
   decoding : rows_decoding l.bytes ≡ rows_behind (row_views l.rows.items) l.rest;

@@ -17,7 +17,7 @@ returns-clause-decoding c =
     let all = all_read (row_views c.self.inside.rows.items) c.self.inside.rest.items c.self.invariant.database none in
     search (rules, all)
 
--- there are rows, so there are bytes
+-- there are rows, so there were bytes
 pub returns-in_err-of_rows-clause-memory : goal.returns-in_err-of_rows-clause-memory
 returns-in_err-of_rows-clause-memory c =
     let rows = row_views c.self.inside.rows.items in
