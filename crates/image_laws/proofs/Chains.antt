@@ -1,4 +1,4 @@
--- How a journal reads: it goes by the bytes up to its end, a group more makes it longer, and the scan answers it.
+-- How a journal is read: the reading depends on the bytes up to its end, one more group makes it longer, and the scan returns it.
 use Rattle.std.proofs.Common.{◌≡◌, ℕ, suc, ◌+◌, ◌-◌, ◌*◌, ◌<◌, ◌≤◌, Bool, true, false, List, [], ◌∷◌, ◌++◌, length, get_or, Ok, Err, Result, refl, sym, ◌∙◌, ap, subst, arith, length-append, append_assoc}
 use Rattle.std.proofs.lemmas.List.{append-nil}
 use Rattle.byte_lists.specs.Content.{part}
@@ -13,11 +13,11 @@ use Rattle.image_laws.specs.Journal.{all_of, HasGroup, IsChain, EndsAs, Reading,
 use Rattle.image_laws.specs.JournalReading.{with_front, ends, at_gate, scan_from, journal_scan}
 use Rattle.image_laws.proofs.Groups.{payload_group, payload_seal}
 
--- two contents of one length that agree up to a sector
+-- two contents of the same length that agree up to a sector
 abbrev pub AgreeBefore : List ℕ → List ℕ → ℕ → Type 0
 AgreeBefore xs ys sector = (i : ℕ) → i < 512 * sector → get_or xs i 0 ≡ get_or ys i 0
 
--- a part that ends where they agree
+-- a part that ends where the contents agree
 pub part_agrees : (xs ys : List ℕ) (sector from sectors : ℕ) → length xs ≡ length ys → AgreeBefore xs ys sector → from + sectors ≤ sector
     → part (512 * from) (512 * sectors) xs ≡ part (512 * from) (512 * sectors) ys
 part_agrees xs ys sector from sectors size agree inside = same_part (512 * from) (512 * sectors) xs ys size (λ i low high. agree i (omega arith))
@@ -26,7 +26,7 @@ pub sector_agrees : (xs ys : List ℕ) (sector from : ℕ) → length xs ≡ len
 sector_agrees xs ys sector from size agree inside = same_part (512 * from) 512 xs ys size (λ i low high. agree i (omega arith))
 
 module _ {C : Type 0} (format : CommandFormat C) (limits : Limits) where
-  -- a chain goes forward, and where it has groups the journal has room behind it
+  -- a chain goes forward, and where it has groups the journal has room after it
   pub chain_forward : (bytes : List ℕ) (gate place : ℕ) (groups : List (List C)) (tail : ℕ) → IsChain format limits bytes gate place groups tail → gate + length groups ≤ tail
   chain_forward bytes gate place [] tail chain = omega (arith, chain)
   chain_forward bytes gate place (commands ∷ more) tail chain =
@@ -38,7 +38,7 @@ module _ {C : Type 0} (format : CommandFormat C) (limits : Limits) where
       let here = chain.1.room in
       chain_room bytes (gate + 1 + group_sectors format commands) (place + length commands) more tail chain.2 (omega arith)
 
-  -- it goes by the bytes before its end
+  -- a chain depends on the bytes before its end
   pub chain_agrees : (xs ys : List ℕ) (gate place : ℕ) (groups : List (List C)) (tail : ℕ) → length xs ≡ length ys → AgreeBefore xs ys tail
       → IsChain format limits xs gate place groups tail → IsChain format limits ys gate place groups tail
   chain_agrees xs ys gate place [] tail size agree chain = chain
@@ -80,7 +80,7 @@ module _ {C : Type 0} (format : CommandFormat C) (limits : Limits) where
   with_both a b (Ok j) = ap (λ (list : List C). let r : Result (Reading C) JournalRefusal = Ok (record j { commands = list }) in r) (append_assoc a b j.commands)
   with_both a b (Err e) = refl
 
-  -- what is read behind a group
+  -- the result of reading after a group
   behind : ℕ → List ℕ → ℕ → ℕ → List C → ℕ → Result (Reading C) JournalRefusal
   behind steps bytes gate place commands size = scan_from steps format limits bytes (gate + 1 + payload_sectors size) (place + length commands)
 
@@ -92,7 +92,7 @@ module _ {C : Type 0} (format : CommandFormat C) (limits : Limits) where
       ap (λ (b : Bool). at_gate b (payload_at format limits bytes gate place) (behind steps bytes gate place) gate place) (open_true (sector_at gate bytes) opened)
       ∙ ap (λ (p : Result (Payload C) JournalRefusal). at_gate true p (behind steps bytes gate place) gate place) (payload_group format limits bytes gate place commands has)
 
-  -- reading on behind a chain
+  -- reading continues after a chain
   pub chain_scan : (bytes : List ℕ) (gate place : ℕ) (groups : List (List C)) (tail rest : ℕ) → IsChain format limits bytes gate place groups tail
       → scan_from (length groups + rest) format limits bytes gate place ≡ with_front (all_of groups) (scan_from rest format limits bytes tail (place + length (all_of groups)))
   chain_scan bytes gate place [] tail rest chain =

@@ -1,4 +1,4 @@
--- Whole checkpoints: what stands there is read, what is read stands there, and what is written is there.
+-- Whole checkpoints: a checkpoint at the front of an area is read, what is read is there, and what is written is there.
 use Rattle.std.proofs.Common.{◌≡◌, ℕ, ◌+◌, ◌-◌, ◌*◌, ◌≤◌, Bool, true, cond, leb, List, [], ◌++◌, length, take, drop, replicate, Some, None, Option, Ok, Err, Result, refl, sym, ◌∙◌, ap, arith, append_assoc, length-append, le-leb, leb-true}
 use Rattle.std.proofs.lemmas.List.{get_or_past, take_at}
 use Rattle.std.proofs.lemmas.Nat.{from_be_bytes-to_be_bytes_4}
@@ -16,7 +16,7 @@ use Rattle.byte_lists.proofs.Padding.{length-padded}
 use Rattle.std.proofs.Math.Seq.{take-add}
 use Rattle.image_laws.proofs.Heads.{take_take, four_small, head_read, head_from}
 
--- what is written to the front, with its padding
+-- the front of an area after padded bytes were written to it
 pub written_front : (bytes content : List ℕ) → take (length bytes) (overwrite 0 (padded bytes) content) ≡ bytes
 written_front bytes content =
     let zeros : List ℕ = replicate (512 * sectors_of (length bytes) - length bytes) 0 in
@@ -25,7 +25,7 @@ written_front bytes content =
 
 -- whole checkpoints
 module _ {Db : Type 0} (rows : RowsFormat Db) where
-  -- the bytes of a checkpoint, and what stands behind them
+  -- the bytes of a checkpoint, and the bytes after them
   module _ (checkpoint : Checkpoint Db) (can : CanBeCheckpoint rows checkpoint) (rest : List ℕ) where
     size_read : rows_size (checkpoint_bytes rows checkpoint ++ rest) ≡ length (rows.encoding checkpoint.db)
     size_read = from_be_bytes-to_be_bytes_4 (length (rows.encoding checkpoint.db)) can.size
@@ -136,7 +136,7 @@ module _ {Db : Type 0} (rows : RowsFormat Db) where
           two : part 28 4 area ≡ to_be_bytes w32 (rows.count checkpoint.db)
           two = sym (encoded-four_at 28 area each (omega (arith, inside))) ∙ ap (to_be_bytes w32) (sym count)
 
-  -- a checkpoint that is written is there
+  -- an area begins with the checkpoint that is written to it
   pub written_there : (area : List ℕ) (checkpoint : Checkpoint Db) → CanBeCheckpoint rows checkpoint → length (checkpoint_encoding rows checkpoint) ≤ length area
       → IsCheckpoint rows (overwrite 0 (checkpoint_encoding rows checkpoint) area) checkpoint
   written_there area checkpoint can fits = record {

@@ -1,4 +1,4 @@
--- An opening goes by what counts of the image.
+-- An opening depends on the bytes that count for it.
 use Rattle.std.proofs.Common.{◌≡◌, inl, inr, ℕ, ◌+◌, ◌*◌, ◌≤◌, Bool, true, false, List, [], ◌∷◌, length, take, get_or, subst, length-take, Some, None, Option, sym, ◌∙◌, ap, arith}
 use Rattle.std.specs.List.{AllByRecursion}
 use Rattle.byte_lists.specs.Content.{part, overwrite}
@@ -25,7 +25,7 @@ use Rattle.image_laws.proofs.Places.{area_long, journal_long, store_journal}
 pub front_same : (at n m : ℕ) (one two : List ℕ) → n ≤ m → part at n two ≡ part at n one → take n (part at m two) ≡ take n (part at m one)
 front_same at n m one two few same = take_take n m _ few ∙ same ∙ sym (take_take n m _ few)
 
--- a gate goes by its first byte
+-- whether a gate is open depends on its first byte
 pub gate_same : (at : ℕ) (one two : List ℕ) → part at 1 two ≡ part at 1 one → IsOpenGate (part at 512 one) → IsOpenGate (part at 512 two)
 gate_same at one two same opened =
     get_or-part at 512 two 0 (omega arith) ∙ sym (get_or-part at 1 two 0 (omega arith)) ∙ ap (λ (list : List ℕ). get_or list 0 0) same
@@ -36,7 +36,7 @@ read_inside : (sealed : Bool) (tail sectors : ℕ) → tail + 2 ≤ sectors → 
 read_inside false tail sectors room = omega arith
 read_inside true tail sectors room = omega arith
 
--- the head that counts, and what else does
+-- the head that counts, and the other bytes that count
 head_counts : (P : Span → Type 0) (geometry : Geometry) (half : Half) (opened : Bool) (more : List Span) → AllByRecursion P (head_spans geometry half opened more)
     → (opened ≡ true → P (span (512 * area_at geometry half) 24)) × AllByRecursion P more
 head_counts P geometry half false more all = (λ opened. cc, all)
@@ -82,7 +82,7 @@ module _ (geometry : Geometry) (one two : List ℕ) (size : length two ≡ lengt
         inside : 512 * sectors_read reading ≤ 512 * geometry.journal
         inside = omega (arith, read_inside reading.sealed reading.tail geometry.journal bounds)
 
--- what of the chosen half counts
+-- the bytes of the chosen half that count
 chosen_same : {Db C : Type 0} (format : StoreFormat Db C) (latest : ℕ) (one two : List ℕ) (opening : Opening Db C) (more : List Span) → length two ≡ length one
     → AllByRecursion (IsSameSpan one two) (chosen_spans format opening more)
     → (IsOpenGate (gate_of opening.geometry (other opening.chosen) two) → HasOlderHead latest (area_of opening.geometry (other opening.chosen) two) opening.checkpoint.head.epoch)
@@ -146,7 +146,7 @@ goes_by_what_counts Db C format latest one two opening size same is = record {
       },
     )
 
--- a write apart from spans
+-- a write outside of these spans
 pub spans_kept : (at : ℕ) (bytes image : List ℕ) → at + length bytes ≤ length image → (spans : List Span) → AllByRecursion (IsApart at (length bytes)) spans
     → AllByRecursion (IsSameSpan image (overwrite at bytes image)) spans
 spans_kept at bytes image inside [] all = tt

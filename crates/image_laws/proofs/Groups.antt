@@ -1,4 +1,4 @@
--- What is spelled as a group or a seal is read as one.
+-- The encoding of a group or a seal is read as that group or seal.
 use Rattle.std.proofs.Common.{◌≡◌, ℕ, zero, suc, ◌+◌, ◌-◌, ◌*◌, ◌^◌, ◌<◌, ◌≤◌, Bool, true, cond, leb, List, [], ◌∷◌, ◌++◌, length, take, drop, replicate, Some, None, Option, Ok, refl, sym, ◌∙◌, ap, arith, length-append, append_assoc, take-append-drop, eq-eqb, eqb-true, le-leb, leb-true}
 use Rattle.std.proofs.lemmas.List.{drop_at, take_at, drop-drop, length-replicate}
 use Rattle.std.proofs.lemmas.Bool.{and_from, and_parts}
@@ -14,7 +14,7 @@ use Rattle.image_laws.specs.Group.{most_record_bytes, records_of, with_header, g
 use Rattle.image_laws.specs.GroupReading.{BadRecord, Gap, PastEnd, check, size_in, place_in, IsHeader, is_header, IsGroupHeader, IsSealHeader, is_group_header, is_seal_header, record_size, with_first, commands_in, are_zeros, Group, Seal, group_of, Kind, OfGroup, OfSeal, OfNone, kind_of, group_in, seal_in, by_kind, payload_at}
 use Rattle.image_laws.specs.Journal.{HasGroup, HasSeal}
 
--- the header's test
+-- the test of a header
 pub header_true : (wanted few many longest : ℕ) (payload : List ℕ) → IsHeader wanted few many longest payload → is_header wanted few many longest payload ≡ true
 header_true wanted few many longest payload is =
     and_from _ _ (and_from _ _ (and_from _ _ (and_from _ _ (and_from _ _ (and_from _ _
@@ -38,7 +38,7 @@ header_from wanted few many longest payload is =
       last = leb-true _ _ six.1;
     }
 
--- those of a group and of a seal
+-- the headers of a group and of a seal
 pub group_header_true : (limits : Limits) (payload : List ℕ) → IsGroupHeader limits payload → is_group_header limits payload ≡ true
 group_header_true limits payload is = header_true 1 1 limits.most most_record_bytes payload is
 
@@ -51,7 +51,7 @@ seal_header_true payload is = header_true 2 0 0 0 payload is
 pub seal_header_from : (payload : List ℕ) → is_seal_header payload ≡ true → IsSealHeader payload
 seal_header_from payload is = header_from 2 0 0 0 payload is
 
--- what a header was spelled with
+-- the numbers that a header was encoded with
 size_read : (kind count size place : ℕ) (behind : List ℕ) → size < 2 ^ 32 → size_in (with_header kind count size place behind) ≡ size
 size_read kind count size place behind small = from_be_bytes-to_be_bytes_4 size small
 
@@ -63,7 +63,7 @@ zeros_true zero = refl
 zeros_true (suc n) = zeros_true n
 
 module _ {C : Type 0} (format : CommandFormat C) (limits : Limits) where
-  -- records that were spelled are read
+  -- records that were encoded are read
   pub records_read : (commands : List C) → AllByRecursion (IsAllowed format limits) commands → length (records_of format commands) < 2 ^ 32
       → commands_in format limits (length commands) (records_of format commands) ≡ Some commands
   records_read [] all small = refl
@@ -96,7 +96,7 @@ module _ {C : Type 0} (format : CommandFormat C) (limits : Limits) where
       within : leb (4 + len) (length bytes) ≡ true
       within = le-leb (4 + len) (length bytes) (omega (arith, long))
 
--- the records and the padding of a group, whatever stands behind them
+-- the records and the padding of a group, whatever bytes come after them
 module _ {C : Type 0} (format : CommandFormat C) (limits : Limits) (place : ℕ) (commands : List C) (can : CanBeGroup format limits place commands) (behind : List ℕ) (k : ℕ)
     (fits : k ≡ 512 * group_sectors format commands - (16 + length (records_of format commands))) where
   spelled : List ℕ
@@ -161,7 +161,7 @@ module _ {C : Type 0} (format : CommandFormat C) (limits : Limits) (place : ℕ)
 begins_with : (n : ℕ) (xs start : List ℕ) → take n xs ≡ start → xs ≡ start ++ drop n xs
 begins_with n xs start is = sym (take-append-drop n xs) ∙ ap (λ (list : List ℕ). list ++ drop n xs) is
 
--- a group behind a gate is read
+-- a group after a gate is read
 pub payload_group : {C : Type 0} (format : CommandFormat C) (limits : Limits) (bytes : List ℕ) (gate place : ℕ) (commands : List C) → HasGroup format limits bytes gate place commands
     → payload_at format limits bytes gate place ≡ Ok (Group commands (length (records_of format commands)))
 unfolding spelled
@@ -181,7 +181,7 @@ payload_group format limits bytes gate place commands has =
     zeros = 512 * sectors_of (length (with_header 1 (length commands) (length (records_of format commands)) place (records_of format commands)))
         - length (with_header 1 (length commands) (length (records_of format commands)) place (records_of format commands))
 
--- a seal behind a gate is read
+-- a seal after a gate is read
 pub payload_seal : {C : Type 0} (format : CommandFormat C) (limits : Limits) (bytes : List ℕ) (gate place : ℕ) → HasSeal bytes gate place → payload_at format limits bytes gate place ≡ Ok Seal
 payload_seal {C} format limits bytes gate place has =
     ap (λ (b : Bool). check b PastEnd (by_kind (kind_of limits payload) format limits payload gate place (whole_sectors bytes))) (le-leb _ _ has.room)

@@ -1,4 +1,4 @@
--- What a journal is after its tail's gate was written, behind other bytes, and under larger limits.
+-- A journal after its tail's gate was written, after other bytes were written, and under larger limits.
 use Rattle.std.proofs.Common.{◌≡◌, ℕ, ◌+◌, ◌*◌, ◌<◌, ◌≤◌, Bool, true, false, List, [], ◌∷◌, ◌++◌, length, take, get_or, sym, ◌∙◌, ap, subst, arith, length-append, get_or-take}
 use Rattle.std.specs.List.{AllByRecursion}
 use Rattle.byte_lists.specs.Content.{part, overwrite}
@@ -11,7 +11,7 @@ use Rattle.image_laws.specs.Journal.{all_of, HasGroup, IsChain, EndsAs, Reading,
 use Rattle.image_laws.specs.JournalLaws.{GoesByItsFront, GrowsByItsGate, IsSealedByItsGate, IsReadUnderLargerLimits}
 use Rattle.image_laws.proofs.Chains.{AgreeBefore, sector_agrees, chain_agrees, chain_more, all_of_more}
 
--- contents with one front agree there
+-- contents with the same front agree in this front
 pub agree_from_fronts : (xs ys : List ℕ) (sectors : ℕ) → take (512 * sectors) xs ≡ take (512 * sectors) ys → AgreeBefore xs ys sectors
 agree_from_fronts xs ys sectors same i below =
     sym (get_or-take (512 * sectors) xs i 0 below) ∙ ap (λ (list : List ℕ). get_or list i 0) same ∙ get_or-take (512 * sectors) ys i 0 below
@@ -19,7 +19,7 @@ agree_from_fronts xs ys sectors same i below =
 pub agree_fewer : (xs ys : List ℕ) (few many : ℕ) → few ≤ many → AgreeBefore xs ys many → AgreeBefore xs ys few
 agree_fewer xs ys few many less agree i below = agree i (omega arith)
 
--- how it ends goes by the last gate, and by the seal behind it
+-- the end of a journal depends on its last gate, and on the seal after that gate
 pub ends_agree : (xs ys : List ℕ) (gate place : ℕ) (sealed : Bool) → length xs ≡ length ys → AgreeBefore xs ys (sectors_to sealed gate) → EndsAs sealed xs gate place → EndsAs sealed ys gate place
 ends_agree xs ys gate place false size agree closed = λ opened. closed (subst IsOpenGate (sym (sector_agrees xs ys (gate + 1) gate size agree (omega arith))) opened)
 ends_agree xs ys gate place true size agree end =
@@ -70,7 +70,7 @@ module _ (bytes gate : List ℕ) (tail : ℕ) (inside : tail < whole_sectors byt
   pub written_closed : (IsOpenGate gate → ⊥) → IsOpenGate (sector_at tail (overwrite (512 * tail) gate bytes)) → ⊥
   written_closed closed opened = closed (subst IsOpenGate written_gate opened)
 
--- a closed gate leaves the journal as it was
+-- a closed gate leaves the journal unchanged
 closed_so : {C : Type 0} (format : CommandFormat C) (limits : Limits) (bytes : List ℕ) (start : ℕ) (reading : Reading C) (gate : List ℕ) → reading.tail < whole_sectors bytes
     → IsJournal format limits bytes start reading → reading.sealed ≡ false → length gate ≡ 512 → (IsOpenGate gate → ⊥) → IsJournal format limits (overwrite (512 * reading.tail) gate bytes) start reading
 closed_so format limits bytes start reading gate inside is unsealed size closed = record {

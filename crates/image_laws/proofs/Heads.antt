@@ -1,4 +1,4 @@
--- Heads: what stands there is read, what is read stands there, and what each refusal of a head means.
+-- Heads: a head at the front of an area is read, what is read is there, and each refusal of a head means what is defined.
 use Rattle.std.proofs.Common.{◌≡◌, ℕ, ◌+◌, ◌^◌, ◌<◌, ◌≤◌, zero, suc, Bool, true, false, leb, eqb, List, [], ◌∷◌, ◌++◌, length, take, drop, Ok, Err, Result, refl, sym, ◌∙◌, ap, arith, eq-eqb, eqb-true, le-leb, leb-true}
 use Rattle.std.proofs.lemmas.Bool.{eqb-false, leb-false, lt-leb}
 use Rattle.std.proofs.lemmas.Nat.{from_be_bytes-to_be_bytes_4, from_be_bytes-to_be_bytes_8}
@@ -13,7 +13,7 @@ use Rattle.image_laws.specs.CheckpointReading.{PairRefusal, NoHalf, SameEpoch, B
 use Rattle.image_laws.specs.CheckpointLaws.{IsHeadReadSo, IsHeadRefusedSo, HeadGoesByItsFront}
 use Rattle.image_laws.proofs.Titles.{begins_with, split_part}
 
--- the numbers of a head, whatever stands behind it
+-- the numbers of a head, whatever bytes come after it
 module _ (head : Head) (can : CanBeHead head) (rest : List ℕ) where
   magic_read : four_at 0 (head_encoding head ++ rest) ≡ checkpoint_magic
   magic_read = from_be_bytes-to_be_bytes_4 checkpoint_magic (omega arith)
@@ -27,7 +27,7 @@ module _ (head : Head) (can : CanBeHead head) (rest : List ℕ) where
   place_read : eight_at 16 (head_encoding head ++ rest) ≡ head.place
   place_read = from_be_bytes-to_be_bytes_8 head.place (omega (arith, can.place))
 
--- what an area reads as that begins with a head
+-- how an area that begins with a head is read
 module _ (area : List ℕ) (head : Head) (is : IsHead area head) where
   area_begins : area ≡ head_encoding head ++ drop 24 area
   area_begins = begins_with 24 area (head_encoding head) is.spelled
@@ -57,7 +57,7 @@ pub passed : {X E : Type 0} (b : Bool) (refusal : E) (behind : Result X E) (x : 
 passed true refusal behind x is = (refl, is)
 passed false refusal behind x is = cc
 
--- what the tests say
+-- what the tests decide
 record HeadTests (latest : ℕ) (area : List ℕ) (head : Head) : Type 0 where
   magic : four_at 0 area ≡ checkpoint_magic
   some : 1 ≤ version_in area
@@ -158,7 +158,7 @@ module _ (latest : ℕ) (area : List ℕ) where
   refused_from_magic false other SealedNewer is = cc
   refused_from_magic false other (NewerFormat version) is = cc
 
-  -- and a refusal comes where it is meant
+  -- and an area is refused where the definition of the refusal holds
   pub refused_head : (refusal : PairRefusal) → IsHeadRefusal refusal latest area → head_in latest area ≡ Err refusal
   refused_head NoHalf never = absurd never
   refused_head SameEpoch never = absurd never
@@ -182,7 +182,7 @@ pub is_head_refused_so : IsHeadRefusedSo
 is_head_refused_so latest area refusal =
     (refused_from_magic latest area (eqb (four_at 0 area) checkpoint_magic) refl refusal, refused_head latest area refusal)
 
--- a head goes by its front
+-- a head depends on the front of its area
 pub take_take : (n m : ℕ) (xs : List ℕ) → n ≤ m → take n (take m xs) ≡ take n xs
 take_take zero m xs few = refl
 take_take (suc n) zero xs few = absurd (omega arith)

@@ -1,4 +1,4 @@
--- What is read stands there: of bytes, what the scan answers is what the journal is.
+-- What is read is there: the result of the scan is the journal of the bytes.
 use Rattle.std.proofs.Common.{◌≡◌, ℕ, zero, suc, ◌+◌, ◌-◌, ◌*◌, ◌≤◌, Bool, true, false, cond, eqb, leb, List, [], ◌∷◌, ◌++◌, length, take, drop, get_or, replicate, Some, None, Option, Ok, Result, refl, sym, ◌∙◌, ap, subst, arith, length-drop, append_assoc, take-append-drop, get_or-drop, eqb-true, leb-true}
 use Rattle.std.proofs.lemmas.List.{take_at, drop-drop, drop_more}
 use Rattle.std.proofs.lemmas.Bool.{and_parts}
@@ -39,13 +39,13 @@ no_bytes : {C : Type 0} (bytes : List ℕ) (commands : List C) → none_left byt
 no_bytes [] commands is = (refl, cc)
 no_bytes (byte ∷ more) commands is = cc
 
--- bytes are the records of so many commands, each of them allowed
+-- bytes are the records of this number of commands, each of which is allowed
 record AreRecords {C : Type 0} (format : CommandFormat C) (limits : Limits) (bytes : List ℕ) (count : ℕ) (commands : List C) : Type 0 where
   spelled : bytes ≡ records_of format commands
   counted : length commands ≡ count
   allowed : AllByRecursion (IsAllowed format limits) commands
 
--- the first command, and those behind it
+-- the first command, and those after it
 record IsFirst {C : Type 0} (first : Option C) (others : Option (List C)) (commands : List C) : Type 0 where
   command : C
   more : List C
@@ -109,7 +109,7 @@ module _ {C : Type 0} (format : CommandFormat C) (limits : Limits) where
         allowed = subst (AllByRecursion (IsAllowed format limits)) (sym parts.joined) (one.1, behind.allowed);
       }
 
--- the sixteen bytes in front
+-- the encoding of the sixteen bytes in front
 header_spelled : (p : List ℕ) → AreBytes p → 16 ≤ length p → get_or p 2 0 ≡ 0 → get_or p 3 0 ≡ 0 → p ≡ with_header (get_or p 0 0) (count_in p) (size_in p) (place_in p) (drop 16 p)
 header_spelled p each long third fourth =
     drop_more p 0 0 (omega arith)
@@ -249,7 +249,7 @@ of_seal true b is = cc
 of_seal false true is = refl
 of_seal false false is = cc
 
--- what a payload stands for
+-- the meaning of a payload
 abbrev pub StandsBehind : {C : Type 0} → Payload C → CommandFormat C → Limits → List ℕ → ℕ → ℕ → Type 0
 StandsBehind (Group commands size) format limits bytes gate place = HasGroup format limits bytes gate place commands × (size ≡ length (records_of format commands))
 StandsBehind Seal format limits bytes gate place = HasSeal bytes gate place

@@ -1,4 +1,4 @@
--- What is read opens so; and what holds of what opens.
+-- What is read is an opening, and what holds for each opening.
 use Rattle.std.proofs.Common.{◌≡◌, ℕ, ◌<◌, ◌≤◌, Bool, true, false, ltb, eqb, List, Some, None, Option, Ok, Err, Result, refl, sym, ◌∙◌, ap, subst, arith}
 use Rattle.std.proofs.lemmas.Bool.{eqb-false, ltb-true, ltb-false}
 use Rattle.byte_lists.specs.Content.{AreBytes}
@@ -66,7 +66,7 @@ chosen_pair : (latest : ℕ) (geometry : Geometry) (image : List ℕ) (half : Ha
 chosen_pair latest geometry image First is = choice_from _ _ First is
 chosen_pair latest geometry image Second is = choice_from _ _ Second is
 
--- a head that was read stands behind an open gate
+-- a head that was read comes from a half with an open gate
 pub head_open : (b : Bool) (read : Result Head PairRefusal) (head : Head) → head_behind b read ≡ Ok (Some head) → (b ≡ true) × (read ≡ Ok head)
 head_open false read head is = cc
 head_open true (Err e) head is = cc
@@ -77,7 +77,7 @@ head_closed false read is = refl
 head_closed true (Err e) is = cc
 head_closed true (Ok found) is = cc
 
--- what was read behind the chosen half's journal
+-- the result of reading after the chosen half's journal
 abbrev TailRead : {C : Type 0} → Bool → Bool → Result (Reading C) JournalRefusal → Option (Reading C) → Type 0
 TailRead sealed other_is_open behind None = sealed ≡ false
 TailRead sealed other_is_open behind (Some last) = (sealed ≡ true) × (other_is_open ≡ false) × (behind ≡ Ok last) × (last.sealed ≡ false)
@@ -104,7 +104,7 @@ behind_from false other_is_open alone opening behind none is =
 behind_from true true alone opening behind none is = cc
 behind_from true false alone opening behind none is = tail_from alone opening behind is
 
--- what a journal was read with
+-- the steps by which a journal was read
 record JournalSo {Db C : Type 0} (geometry : Geometry) (half : Half) (checkpoint : Checkpoint Db) (other_is_open : Bool) (first : Result (Reading C) JournalRefusal)
     (behind : ℕ → Result (Reading C) JournalRefusal) (opening : Opening Db C) : Type 0 where
   journal : Reading C
@@ -120,7 +120,7 @@ journal_so geometry half checkpoint other_is_open (Ok journal) behind opening is
     let so = behind_from journal.sealed other_is_open (record { geometry = geometry; chosen = half; checkpoint = checkpoint; journal = journal; tail = None }) opening (behind journal.place) refl is in
     record { journal = journal; first_is = refl; parts = so.front; tail_read = so.tail_read }
 
--- and all of an image
+-- the steps by which an image was read
 record ImageSo {Db C : Type 0} (format : StoreFormat Db C) (latest : ℕ) (image : List ℕ) (opening : Opening Db C) : Type 0 where
   geometry : Geometry
   half : Half
@@ -157,7 +157,7 @@ module _ {Db C : Type 0} (format : StoreFormat Db C) (latest : ℕ) (image : Lis
   geometry_so (Some geometry) found_is is =
       choice_so geometry (choice_of (head_of latest geometry First image) (head_of latest geometry Second image)) found_is refl is
 
-  -- the relation, of the parts
+  -- the relation `IsOpening`, from the parts
   opens_so : AreBytes image → (so : ImageSo format latest image opening)
       → IsOpening format latest image (record { geometry = so.geometry; chosen = so.half; checkpoint = so.checkpoint; journal = so.journal_is.journal; tail = opening.tail })
   opens_so each so = record {

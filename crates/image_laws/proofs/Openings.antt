@@ -1,4 +1,4 @@
--- What opens is read so.
+-- An image that opens is read as its opening.
 use Rattle.std.proofs.Common.{◌≡◌, ℕ, ◌<◌, ◌≤◌, Bool, true, false, ltb, List, Some, None, Option, Ok, Result, refl, ◌∙◌, ap, arith, ne_eqb}
 use Rattle.std.proofs.lemmas.Bool.{lt-ltb, le-ltb}
 use Rattle.byte_lists.specs.Sectors.{IsOpenGate, is_open_gate}
@@ -19,7 +19,7 @@ use Rattle.image_laws.proofs.Heads.{head_read}
 use Rattle.image_laws.proofs.Checkpoints.{checkpoint_read, begins_with_its_head}
 use Rattle.image_laws.proofs.Places.{store_journal}
 
--- the head of the half that isn't chosen, if it is open, has an earlier epoch
+-- the head of the half that isn't chosen has an earlier epoch, if this half is open
 abbrev pub IsBehind : ℕ → Option Head → Type 0
 IsBehind epoch None = Unit {0}
 IsBehind epoch (Some head) = head.epoch < epoch
@@ -36,14 +36,14 @@ choice_second head (Some older) behind =
     ap (λ (b : Bool). by_epochs b (ltb older.epoch head.epoch)) (ne_eqb _ _ (λ same. omega arith))
     ∙ ap (λ (b : Bool). by_epochs false b) (lt-ltb older.epoch head.epoch behind)
 
--- what the other half's head is read as
+-- the result of reading the other half's head
 record OtherHead (latest : ℕ) (geometry : Geometry) (half : Half) (image : List ℕ) (epoch : ℕ) : Type 0 where
   head : Option Head
   read : head_of latest geometry half image ≡ Ok head
   behind : IsBehind epoch head
 
 module _ (latest : ℕ) (geometry : Geometry) (image : List ℕ) where
-  -- an open half's head, and a closed one's
+  -- the head of an open half, and of a closed one
   pub open_head : (half : Half) → IsOpenGate (gate_of geometry half image) → head_of latest geometry half image ≡ head_behind true (head_in latest (area_of geometry half image))
   open_head half opened = ap (λ (b : Bool). head_behind b (head_in latest (area_of geometry half image))) (open_true (gate_of geometry half image) opened)
 
@@ -73,7 +73,7 @@ module _ (latest : ℕ) (geometry : Geometry) (image : List ℕ) where
   half_chosen half head opened is known older =
       by_half half head (own_head half head opened is known) (passed_over (other half) head.epoch (is_open_gate (gate_of geometry (other half) image)) refl older)
 
--- and its checkpoint is read
+-- and the chosen half's checkpoint is read
 pub chosen_read : {Db C : Type 0} (format : StoreFormat Db C) (latest : ℕ) (image : List ℕ) (geometry : Geometry) (half : Half) (checkpoint : Checkpoint Db)
     → IsChosen format latest image geometry half checkpoint → opening_of format latest image ≡ by_checkpoint format geometry half image (Ok checkpoint)
 chosen_read format latest image geometry half checkpoint is =

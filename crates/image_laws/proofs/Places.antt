@@ -12,7 +12,7 @@ pub other_twice : (half : Half) → other (other half) ≡ half
 other_twice First = refl
 other_twice Second = refl
 
--- each is within the image
+-- each region is within the image
 pub half_inside : (geometry : Geometry) (half : Half) → journal_at geometry half + geometry.journal ≤ image_sectors geometry
 half_inside geometry First = omega arith
 half_inside geometry Second = omega arith

@@ -1,4 +1,4 @@
--- An image is refused just where the refusal means it.
+-- An image is refused exactly where the definition of the refusal holds.
 use Rattle.std.proofs.Common.{◌≡◌, inl, inr, ℕ, ◌<◌, ◌≤◌, Bool, true, false, ltb, eqb, List, Some, None, Option, Ok, Err, Result, refl, sym, ◌∙◌, ap, subst, arith, eq-eqb, eqb-true}
 use Rattle.std.proofs.lemmas.Bool.{eqb-false, ltb-true, ltb-false}
 use Rattle.byte_lists.specs.Content.{AreBytes}
@@ -27,18 +27,18 @@ use Rattle.image_laws.proofs.Places.{store_area, store_journal, area_bytes, jour
 use Rattle.image_laws.proofs.Openings.{open_head, closed_head, own_head, half_chosen, chosen_read}
 use Rattle.image_laws.proofs.Opened.{head_open, head_closed}
 
--- a head that was refused stands behind an open gate
+-- a head that was refused comes from a half with an open gate
 head_bad : (b : Bool) (read : Result Head PairRefusal) (refusal : PairRefusal) → head_behind b read ≡ Err refusal → (b ≡ true) × (read ≡ Err refusal)
 head_bad false read refusal is = cc
 head_bad true (Err e) refusal is = (refl, cc)
 head_bad true (Ok head) refusal is = cc
 
--- a head that no rows follow
+-- a head without rows after it
 no_rows : {Db : Type 0} (head : Head) (found : Option Db) (refusal : PairRefusal) → with_rows (Ok head) found ≡ Err refusal → (refusal ≡ BadCheckpoint) × (found ≡ None)
 no_rows head None refusal is = (cc, refl)
 no_rows head (Some db) refusal is = cc
 
--- an image is refused where the refusal means it
+-- an image is refused where the definition of the refusal holds
 module _ {Db C : Type 0} (format : StoreFormat Db C) (latest : ℕ) (image : List ℕ) (each : AreBytes image) where
   module _ (geometry : Geometry) (store : IsStore geometry image) where
     bad_head : (half : Half) (refusal : PairRefusal) → HasBadHead latest geometry half image refusal → head_of latest geometry half image ≡ Err refusal
@@ -79,7 +79,7 @@ module _ {Db C : Type 0} (format : StoreFormat Db C) (latest : ℕ) (image : Lis
     store_by : opening_of format latest image ≡ by_choice format latest geometry image (choice_of (head_of latest geometry First image) (head_of latest geometry Second image))
     store_by = ap (by_geometry format latest image) (store_read image geometry store)
 
-    -- behind the chosen half's sealed journal
+    -- after the chosen half's sealed journal
     sealed_read : (has : HasSealedJournal format latest geometry image)
         → opening_of format latest image ≡ behind_journal true (is_open_gate (gate_of geometry (other has.half) image))
         (record { geometry = geometry; chosen = has.half; checkpoint = has.checkpoint; journal = has.front; tail = None })
@@ -144,10 +144,10 @@ module _ {Db C : Type 0} (format : StoreFormat Db C) (latest : ℕ) (image : Lis
   refused_where (BadPair refusal) is = store_refused is.geometry is.store (BadPair refusal) is.wrong
   refused_where (BadJournal refusal) is = store_refused is.geometry is.store (BadJournal refusal) is.wrong
 
--- and nowhere else
+-- and is refused nowhere else
 module _ {Db C : Type 0} (format : StoreFormat Db C) (latest : ℕ) (image : List ℕ) (each : AreBytes image) where
   module _ (geometry : Geometry) (store : IsStore geometry image) where
-    -- what an answer means
+    -- the meaning of a result
     abbrev Means : Result (Opening Db C) OpenRefusal → Type 0
     Means (Ok opening) = Unit {0}
     Means (Err refusal) = IsStoreRefusal refusal format latest geometry image

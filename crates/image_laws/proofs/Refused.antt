@@ -1,4 +1,4 @@
--- What a refusal means, and that it comes just there.
+-- What a refusal means, and that it comes exactly there.
 use Rattle.std.proofs.Common.{◌≡◌, ◌⊎◌, inl, inr, ℕ, ◌+◌, ◌-◌, ◌*◌, Bool, true, false, cond, eqb, leb, List, Some, None, Option, Ok, Err, Result, refl, sym, ◌∙◌, ap, subst, arith, eq-eqb, ne_eqb, le-leb, leb-true, eqb-true}
 use Rattle.std.proofs.lemmas.Bool.{eqb-false}
 use Rattle.byte_lists.specs.Content.{AreBytes, part}
@@ -12,13 +12,13 @@ use Rattle.image_laws.specs.JournalRefusals.{HasPayload, HasGroupHeader, HasSeal
 use Rattle.image_laws.proofs.Inverse.{of_group, of_seal, payload_from}
 use Rattle.image_laws.proofs.Groups.{group_header_true, group_header_from, seal_header_true, seal_header_from, payload_group, payload_seal}
 
--- a test that was failed, or a later one
+-- the test that failed, or a later one
 check_failed : {X : Type 0} (b : Bool) (refusal : JournalRefusal) (behind : Result X JournalRefusal) (e : JournalRefusal) → check b refusal behind ≡ Err e
     → ((b ≡ false) × (e ≡ refusal)) ⊎ ((b ≡ true) × (behind ≡ Err e))
 check_failed true refusal behind e is = inr (refl, is)
 check_failed false refusal behind e is = inl (refl, cc)
 
--- no group and no seal, by the tests
+-- neither a group nor a seal, by the tests
 of_none : (a b : Bool) → cond a OfGroup (cond b OfSeal OfNone) ≡ OfNone → (a ≡ false) × (b ≡ false)
 of_none true b is = cc
 of_none false true is = cc
@@ -104,7 +104,7 @@ module _ {C : Type 0} (format : CommandFormat C) (limits : Limits) (bytes : List
       p : List ℕ
       p = payload_behind bytes gate
 
--- a test that can't be passed
+-- a test that can't be passed is false
 false_if : (b : Bool) → (b ≡ true → ⊥) → b ≡ false
 false_if true not_so = absurd (not_so refl)
 false_if false not_so = refl
@@ -119,7 +119,7 @@ module _ {C : Type 0} (format : CommandFormat C) (limits : Limits) (bytes : List
   p : List ℕ
   p = payload_behind bytes gate
 
-  -- behind the header of a group, and of a seal
+  -- after the header of a group, and of a seal
   at_group : HasGroupHeader limits bytes gate → payload_at format limits bytes gate place
       ≡ check (eqb (place_in (payload_behind bytes gate)) place) (Gap place)
       (check (leb (gate + 1 + payload_sectors (size_in (payload_behind bytes gate)) + 2) (whole_sectors bytes)) PastEnd (group_in format limits (payload_behind bytes gate)))
@@ -150,7 +150,7 @@ module _ {C : Type 0} (format : CommandFormat C) (limits : Limits) (bytes : List
   unfolding p
   at_seal_there has there = at_seal has ∙ ap (λ (b : Bool). check b (Gap place) (seal_in p)) (eq-eqb _ _ there)
 
-  -- a refusal comes where it is meant
+  -- the refusal comes where its definition holds
   pub refused_payload : (e : JournalRefusal) → AreBytes bytes → IsRefusedAt e format limits bytes gate place → payload_at format limits bytes gate place ≡ Err e
   unfolding p
   refused_payload PastEnd each (inl none) =

@@ -1,4 +1,4 @@
--- The scan answers just what a journal is, and refuses it just where it is none.
+-- The scan returns exactly the journal of the bytes, and refuses them exactly where they are no journal.
 use Rattle.std.proofs.Common.{◌≡◌, ℕ, zero, suc, ◌+◌, ◌-◌, ◌<◌, ◌≤◌, Bool, true, false, List, [], ◌∷◌, ◌++◌, length, Ok, Err, Result, refl, ◌∙◌, ap, subst, arith, length-append}
 use Rattle.byte_lists.specs.Content.{AreBytes}
 use Rattle.byte_lists.specs.Sectors.{whole_sectors, sector_at, IsOpenGate, is_open_gate}
@@ -15,7 +15,7 @@ use Rattle.image_laws.proofs.Chains.{chain_forward, chain_room, chain_scan, jour
 use Rattle.image_laws.proofs.Inverse.{payload_from}
 use Rattle.image_laws.proofs.Refused.{payload_refused, refused_payload}
 
--- a journal, and a refusal, from a gate on
+-- a journal, or a refusal, from a gate on
 record JournalFrom {C : Type 0} (format : CommandFormat C) (limits : Limits) (bytes : List ℕ) (gate start : ℕ) (reading : Reading C) : Type 0 where
   groups : List (List C)
   chain : IsChain format limits bytes gate start groups reading.tail
@@ -30,7 +30,7 @@ record RefusedFrom {C : Type 0} (format : CommandFormat C) (limits : Limits) (by
   opened : IsOpenGate (sector_at last bytes)
   wrong : IsRefusedAt refusal format limits bytes last (start + length (all_of groups))
 
--- what an answer means
+-- the meaning of a result
 abbrev Means : {C : Type 0} → Result (Reading C) JournalRefusal → CommandFormat C → Limits → List ℕ → ℕ → ℕ → Type 0
 Means (Ok reading) format limits bytes gate start = JournalFrom format limits bytes gate start reading
 Means (Err refusal) format limits bytes gate start = RefusedFrom format limits bytes gate start refusal

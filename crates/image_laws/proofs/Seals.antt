@@ -1,4 +1,4 @@
--- A seal leaves what an image stands for.
+-- A seal does not change the value of an image.
 use Rattle.std.proofs.Common.{◌≡◌, ℕ, ◌+◌, ◌*◌, ◌≤◌, false, List, length, Some, refl, sym, subst, arith}
 use Rattle.byte_lists.specs.Content.{overwrite}
 use Rattle.byte_lists.specs.Sectors.{whole_sectors, sector_at, IsOpenGate}
@@ -47,7 +47,7 @@ module _ {Db C : Type 0} (format : StoreFormat Db C) (latest : ℕ) (image : Lis
   read_with at bytes inside reading read =
       in_image format latest image opening.geometry opening.chosen opening.checkpoint is.half opening.journal is.journal opening.chosen at bytes inside opening.checkpoint.head.place reading read
 
-  -- what is written there leaves the other half as it was
+  -- a write to one half's journal leaves the other half unchanged
   other_still : (at : ℕ) (bytes : List ℕ) → at + length bytes ≤ 512 * opening.geometry.journal → IsOtherReady opening (image_with at bytes)
   other_still at bytes inside = record {
     alone = ready.alone;
@@ -56,7 +56,7 @@ module _ {Db C : Type 0} (format : StoreFormat Db C) (latest : ℕ) (image : Lis
         (journal_kept opening.geometry image is.half.store.room opening.chosen at bytes inside (other opening.chosen) (λ same. halves_differ opening.chosen (sym same))) opened);
   }
 
-  -- and leaves the opening, where it leaves the journal
+  -- and leaves the opening unchanged, where it leaves the journal unchanged
   kept_with : (at : ℕ) (bytes : List ℕ) → at + length bytes ≤ 512 * opening.geometry.journal
       → IsJournal format.commands (limits_in opening.checkpoint) (overwrite at bytes bytes_of) opening.checkpoint.head.place opening.journal → IsOpening format latest (image_with at bytes) opening
   kept_with at bytes inside read = record {
@@ -65,7 +65,7 @@ module _ {Db C : Type 0} (format : StoreFormat Db C) (latest : ℕ) (image : Lis
     tail = subst (IsTail format.commands (limits_in opening.checkpoint) opening.geometry (other opening.chosen) (image_with at bytes) opening.journal) (sym ready.alone) unsealed;
   }
 
-  -- a seal is written behind the last gate
+  -- a seal is written after the last gate
   seal_inside : 512 * (opening.journal.tail + 1) + length (seal_encoding opening.journal.place) ≤ 512 * opening.geometry.journal
   seal_inside = omega (arith, seal_room, sectors_are)
 
@@ -84,7 +84,7 @@ module _ {Db C : Type 0} (format : StoreFormat Db C) (latest : ℕ) (image : Lis
         (sym (journal_written opening.geometry image is.half.store.room opening.chosen (512 * (opening.journal.tail + 1)) (seal_encoding opening.journal.place) seal_inside)) placed.1,
   )
 
-  -- and then the last gate
+  -- and then the last gate is written
   module _ (gate : List ℕ) (has : HasSeal bytes_of opening.journal.tail opening.journal.place) (long : length gate ≡ 512) where
     gate_inside : 512 * opening.journal.tail + length gate ≤ 512 * opening.geometry.journal
     gate_inside = omega (arith, has.room, sectors_are)

@@ -16,7 +16,7 @@ four_long : (a b c d : List ℕ) → length (a ++ (b ++ (c ++ d))) ≡ length a 
 four_long a b c d =
     length-append a (b ++ (c ++ d)) ∙ ap (λ (n : ℕ). length a + n) (length-append b (c ++ d) ∙ ap (λ (n : ℕ). length b + n) (length-append c d))
 
--- what stands behind three parts
+-- the bytes after three parts
 behind_three : (a b c d : List ℕ) (i : ℕ) → length a ≡ 512 → length b ≡ 1024 → length c ≡ 512 → get_or (a ++ (b ++ (c ++ d))) (2048 + i) 0 ≡ get_or d i 0
 behind_three a b c d i first second third =
     get_or-append_right a (b ++ (c ++ d)) 512 (2048 + i) 0 first (omega arith)

@@ -1,4 +1,4 @@
--- What a journal is after a group or a seal was written behind its tail's gate.
+-- A journal after a group or a seal was written after its tail's gate.
 use Rattle.std.proofs.Common.{◌≡◌, ℕ, ◌+◌, ◌-◌, ◌*◌, ◌≤◌, Bool, true, false, cond, leb, List, ◌++◌, length, take, refl, sym, ◌∙◌, ap, subst, arith, length-append, le-leb, leb-true}
 use Rattle.std.proofs.lemmas.List.{take_at, take_all, drop_at}
 use Rattle.byte_lists.specs.Content.{part, overwrite}
@@ -34,7 +34,7 @@ kept_by_writes_behind C format limits bytes start reading at behind is above ins
     agree : AgreeBefore bytes written (sectors_read reading)
     agree i below = sym (overwrite_before at behind bytes i (omega arith) (omega (arith, above)))
 
--- an open journal's sectors are those up to its tail
+-- the sectors of an unsealed journal are those up to its tail
 unsealed_sectors : {C : Type 0} (reading : Reading C) → reading.sealed ≡ false → sectors_read reading ≡ reading.tail + 1
 unsealed_sectors reading unsealed = ap (λ (sealed : Bool). sectors_to sealed reading.tail) unsealed
 

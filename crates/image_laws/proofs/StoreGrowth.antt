@@ -1,4 +1,4 @@
--- What an image stands for grows by the group behind its last gate, and a seal leaves it.
+-- The value of an image grows by the group after its last gate, and a seal does not change it.
 use Rattle.std.proofs.Common.{◌≡◌, ◌≢◌, ℕ, ◌+◌, ◌*◌, ◌≤◌, false, List, [], ◌∷◌, ◌++◌, length, take, Some, None, Option, refl, sym, ◌∙◌, ap, subst, arith, length-append}
 use Rattle.byte_lists.specs.Content.{overwrite}
 use Rattle.byte_lists.specs.Sectors.{whole_sectors, IsOpenGate}
@@ -23,12 +23,12 @@ pub folds_in_parts : (Db C : Type 0) → FoldsInParts Db C
 folds_in_parts Db C format db [] behind = refl
 folds_in_parts Db C format db (command ∷ front) behind = folds_in_parts Db C format (format.apply db command) front behind
 
--- the halves are two
+-- a half is not the other half
 pub halves_differ : (half : Half) → half ≡ other half → ⊥
 halves_differ First same = cc
 halves_differ Second same = cc
 
--- a chosen half goes by sector 0, and by the areas and gates of both
+-- the choice of a half depends on sector 0, and on the areas and gates of both halves
 chosen_kept : {Db C : Type 0} (format : StoreFormat Db C) (latest : ℕ) (one two : List ℕ) (geometry : Geometry) (half : Half) (checkpoint : Checkpoint Db) → length two ≡ length one
     → region_of geometry FirstSector two ≡ region_of geometry FirstSector one
     → ((h : Half) → area_of geometry h two ≡ area_of geometry h one) → ((h : Half) → gate_of geometry h two ≡ gate_of geometry h one)
@@ -88,7 +88,7 @@ module _ {Db C : Type 0} (format : StoreFormat Db C) (latest : ℕ) (image : Lis
       (size_kept geometry image half.store.room h at bytes inside) (title_kept geometry image half.store.room h at bytes inside)
       (areas_kept geometry image half.store.room h at bytes inside) (gates_kept geometry image half.store.room h at bytes inside) half
 
-  -- what is read of the written journal is read of the image
+  -- the reading of the written journal is a reading of the image
   pub in_image : (h : Half) (at : ℕ) (bytes : List ℕ) → at + length bytes ≤ 512 * geometry.journal → (start : ℕ) (reading : Reading C)
       → IsJournal format.commands (limits_in checkpoint) (overwrite at bytes (journal_of geometry h image)) start reading
       → IsJournal format.commands (limits_in checkpoint) (journal_of geometry h (overwrite (512 * journal_at geometry h + at) bytes image)) start reading
@@ -114,7 +114,7 @@ module _ {Db C : Type 0} (format : StoreFormat Db C) (latest : ℕ) (image : Lis
     );
   }
 
-  -- the last journal, as it is
+  -- the last journal of the image
   pub last_is : (tail : Option (Reading C)) → IsTail format.commands (limits_in checkpoint) geometry (other chosen) image journal tail
       → IsJournal format.commands (limits_in checkpoint) (journal_of geometry (tail_half chosen tail) image) (start_of checkpoint.head.place journal tail) (last_journal journal tail)
   last_is None tail = is
@@ -128,7 +128,7 @@ module _ {Db C : Type 0} (format : StoreFormat Db C) (latest : ℕ) (image : Lis
   same_last None = refl
   same_last (Some behind) = refl
 
-  -- what it stands for with a group more
+  -- the value of an image with one more group
   pub grown_value : (tail : Option (Reading C)) (group : List C)
       → value_of format (with_last tail (opening_with journal tail) (with_group format.commands (last_journal journal tail) group)) ≡ value_after format (value_of format (opening_with journal tail)) group
   grown_value None group = λ i. record { db = folds_in_parts Db C format checkpoint.db journal.commands group i; place = journal.place + length group }
@@ -154,7 +154,7 @@ module _ {Db C : Type 0} (format : StoreFormat Db C) (latest : ℕ) (image : Lis
   unsealed_so : (last_reading opening).sealed ≡ false
   unsealed_so = last_unsealed format latest image opening.geometry opening.chosen opening.checkpoint is.half opening.journal is.journal opening.tail is.tail
 
-  -- a write that leaves the last journal leaves the opening
+  -- a write that leaves the last journal unchanged leaves the opening unchanged
   kept_so : (at : ℕ) (bytes : List ℕ) → at + length bytes ≤ 512 * opening.geometry.journal
       → IsJournal format.commands (limits_in opening.checkpoint) (overwrite at bytes last_bytes) (last_start opening) (last_reading opening) → IsOpening format latest (image_with at bytes) opening
   kept_so at bytes inside read =
@@ -168,7 +168,7 @@ module _ {Db C : Type 0} (format : StoreFormat Db C) (latest : ℕ) (image : Lis
   written_is : (at : ℕ) (bytes : List ℕ) → at + length bytes ≤ 512 * opening.geometry.journal → journal_of opening.geometry (last_half opening) (image_with at bytes) ≡ overwrite at bytes last_bytes
   written_is at bytes inside = journal_written opening.geometry image is.half.store.room (last_half opening) at bytes inside
 
-  -- a group is written behind the last gate
+  -- a group is written after the last gate
   pub made_ready_so : (group : List C) (gate : List ℕ) → CanBeGroup format.commands (limits_in opening.checkpoint) (last_reading opening).place group
       → HasRoom (last_reading opening).tail (group_sectors format.commands group) opening.geometry.journal → length gate ≡ 512 → (IsOpenGate gate → ⊥)
       → let bytes = group_encoding format.commands (last_reading opening).place group ++ gate in
@@ -195,7 +195,7 @@ module _ {Db C : Type 0} (format : StoreFormat Db C) (latest : ℕ) (image : Lis
           × IsReadyFor format.commands (limits_in opening.checkpoint) (overwrite at bytes last_bytes) (last_reading opening) group
       ready = made_ready C format.commands (limits_in opening.checkpoint) last_bytes (last_start opening) (last_reading opening) group gate last_so unsealed_so can enough long closed
 
-  -- and then the last gate
+  -- and then the last gate is written
   module _ (group : List C) (gate : List ℕ) (ready : IsReadyFor format.commands (limits_in opening.checkpoint) last_bytes (last_reading opening) group) (long : length gate ≡ 512) where
     gate_inside : 512 * (last_reading opening).tail + length gate ≤ 512 * opening.geometry.journal
     gate_inside = omega (arith, ready.has.room, sectors_are)

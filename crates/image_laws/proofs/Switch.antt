@@ -1,4 +1,4 @@
--- One half takes over from the other by its gate, and then the old half may change.
+-- One half takes over from the other when its gate is opened, and then the old half may change.
 use Rattle.std.proofs.Common.{◌≡◌, ◌≢◌, inl, inr, ℕ, ◌+◌, ◌*◌, ◌≤◌, List, [], ◌∷◌, length, take, Some, None, Option, sym, ◌∙◌, ap, subst, arith}
 use Rattle.std.specs.List.{AllByRecursion}
 use Rattle.byte_lists.specs.Content.{part, overwrite}
@@ -59,7 +59,7 @@ module _ {Db C : Type 0} (format : StoreFormat Db C) (latest : ℕ) (image : Lis
   abbrev switched : List ℕ
   switched = overwrite (512 * gate_at opening.geometry (other opening.chosen)) gate image
 
-  -- it stays closed
+  -- where the gate stays closed, the opening is unchanged
   pub stays : (IsOpenGate gate → ⊥) → IsOpening format latest switched opening
   stays closed = record {
     half = record {
@@ -91,7 +91,7 @@ module _ {Db C : Type 0} (format : StoreFormat Db C) (latest : ℕ) (image : Lis
         },
       )
 
-  -- it opens: the other half is chosen
+  -- where the gate opens, the other half is chosen
   pub is_switched : (next : Checkpoint Db) → IsLaid format latest image opening next → IsOpenGate gate → IsChosen format latest switched opening.geometry (other opening.chosen) next
   is_switched next laid opened = record {
     store = store_beside opening.geometry image is.half.store.room (other opening.chosen) gate long is.half.store;

@@ -1,4 +1,4 @@
--- A half that takes over stands for the same; and a new store is empty.
+-- A half that takes over has the same value; and a new store is empty.
 use Rattle.std.proofs.Common.{◌≡◌, ℕ, ◌+◌, List, [], Some, None, refl, sym, ◌∙◌, subst, arith}
 use Rattle.byte_lists.specs.Sectors.{sector_at, IsOpenGate}
 use Rattle.image_laws.specs.declared.half.Half.TheVariants.{First}
@@ -19,13 +19,13 @@ empty_read format limits bytes place closed =
     let here : place ≡ place + 0 = omega arith in
     record { groups = []; chain = refl; commands = refl; place = here; ends = closed }
 
--- with a tail both are one value
+-- with a tail, both openings have the same value
 pub same_value : {Db C : Type 0} (format : StoreFormat Db C) (opening : Opening Db C) (next : Checkpoint Db) (behind : Reading C) → opening.tail ≡ Some behind → FoldsJournal format opening next
     → value_of format (taken_over opening next behind) ≡ value_of format opening
 same_value format opening next behind tail_is folds =
     λ i. record { db = db_after format (folds.db i) (tail_commands (sym tail_is i)); place = (last_journal opening.journal (sym tail_is i)).place }
 
--- and at rest
+-- and so they do without a tail
 pub same_value_at_rest : {Db C : Type 0} (format : StoreFormat Db C) (opening : Opening Db C) (next : Checkpoint Db) → opening.tail ≡ None → FoldsJournal format opening next
     → value_of format (taken_over opening next (empty_journal next.head.place)) ≡ value_of format opening
 same_value_at_rest {Db} {C} format opening next none folds = (λ i. record { db = folds.db i; place = folds.place i }) ∙ (λ i. record {

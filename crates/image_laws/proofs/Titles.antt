@@ -1,4 +1,4 @@
--- Sector 0: what stands there is read, and what is read stands there.
+-- Sector 0: the sizes of a store are read, and sizes that are read are those of a store.
 use Rattle.std.proofs.Common.{◌≡◌, ℕ, ◌+◌, ◌^◌, ◌<◌, ◌≤◌, ◌&&◌, Bool, true, false, cond, leb, eqb, List, ◌++◌, length, take, drop, Some, None, Option, refl, sym, ◌∙◌, ap, subst, arith, take-append-drop, eq-eqb, eqb-true, le-leb, leb-true}
 use Rattle.std.proofs.lemmas.Bool.{and_from, and_parts}
 use Rattle.std.proofs.lemmas.List.{drop-drop}
@@ -79,7 +79,7 @@ store_read image g is = ap (λ (b : Bool). cond b (Some (sizes_in image)) None) 
     store = and_from _ _ (and_from _ _ (and_from _ _ (eq-eqb _ _ magic) (eq-eqb _ _ number)) (ap is_geometry sizes ∙ geometry_true g is.limits))
         (ap (λ (s : Geometry). leb (image_sectors s) (whole_sectors image)) sizes ∙ le-leb _ _ is.room)
 
--- what is read is one
+-- an image that is read as a store's is one
 pub store_from : (image : List ℕ) (g : Geometry) → AreBytes image → geometry_in image ≡ Some g → IsStore g image
 store_from image g each is = record {
   title = title;

@@ -1,4 +1,4 @@
--- The regions are apart, and what a write leaves.
+-- The regions do not overlap, and a write changes no other region.
 use Rattle.std.proofs.Common.{◌≡◌, ◌⊎◌, inl, inr, ℕ, ◌+◌, ◌-◌, ◌*◌, ◌<◌, ◌≤◌, List, length, get_or, refl, sym, ◌∙◌, ap, arith}
 use Rattle.byte_lists.specs.Content.{part, overwrite}
 use Rattle.std.proofs.lemmas.Bool.{cases_lt}
@@ -18,7 +18,7 @@ in_half geometry half Area = record { from = omega arith; to = omega arith }
 in_half geometry half Gate = record { from = omega arith; to = omega arith }
 in_half geometry half Journal = record { from = omega arith; to = omega arith }
 
--- so two of one half are apart
+-- so two regions of one half do not overlap
 pieces_apart : (geometry : Geometry) (half : Half) (one two : Piece) → (one ≡ two → ⊥)
     → (region_end geometry (InHalf half one) ≤ region_at geometry (InHalf half two)) ⊎ (region_end geometry (InHalf half two) ≤ region_at geometry (InHalf half one))
 pieces_apart geometry half Area Area others = absurd (others refl)

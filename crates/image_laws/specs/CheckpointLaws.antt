@@ -1,4 +1,4 @@
--- What holds of first sectors, heads and checkpoints. Each statement is the contract of a function.
+-- Laws of first sectors, heads and checkpoints. Each statement is the contract of a function.
 use Rattle.std.specs.Prelude.{◌≡◌, ◌↔◌, ℕ, ◌+◌, ◌<◌, ◌≤◌, ◌^◌, List, length, take, Some, Ok, Err}
 use Rattle.byte_lists.specs.Content.{AreBytes, part, overwrite}
 use Rattle.byte_lists.specs.Sectors.{whole_sectors}
@@ -8,31 +8,31 @@ use Rattle.image_laws.specs.StoreFormat.{RowsFormat, StoreFormat}
 use Rattle.image_laws.specs.Checkpoint.{Head, Checkpoint, checkpoint_encoding, first_checkpoint, CanBeCheckpoint, IsHead, IsCheckpoint}
 use Rattle.image_laws.specs.CheckpointReading.{PairRefusal, head_in, IsHeadRefusal, checkpoint_in}
 
--- an image is read as a store's just where it is one, with these sizes
+-- an image is read as a store's exactly where it is one, with these sizes
 abbrev pub IsStoreReadSo : Type 0
 IsStoreReadSo = (image : List ℕ) (geometry : Geometry) → AreBytes image → (geometry_in image ≡ Some geometry) ↔ IsStore geometry image
 
--- sector 0 written makes it one
+-- an image whose sector 0 is written so is a store's
 abbrev pub FirstSectorMakesStore : Type 0
 FirstSectorMakesStore =
     (image : List ℕ) (geometry : Geometry) → IsGeometry geometry → image_sectors geometry ≤ whole_sectors image
     → IsStore geometry (overwrite 0 (first_sector geometry) image)
 
--- an area is read as beginning with a head just where it does, and the head's version is known
+-- an area is read as beginning with a head exactly where it does, and the head's version is known
 abbrev pub IsHeadReadSo : Type 0
 IsHeadReadSo =
     (latest : ℕ) (area : List ℕ) (head : Head) → AreBytes area → 24 ≤ length area
     → (head_in latest area ≡ Ok head) ↔ (IsHead area head × (head.version ≤ latest))
 
--- and its head is refused just where the refusal means it
+-- the head of an area is refused exactly where the definition of the refusal holds
 abbrev pub IsHeadRefusedSo : Type 0
 IsHeadRefusedSo = (latest : ℕ) (area : List ℕ) (refusal : PairRefusal) → (head_in latest area ≡ Err refusal) ↔ IsHeadRefusal refusal latest area
 
--- a head goes by the 24 bytes in front, so the first sector of its area is enough
+-- a head depends on the first 24 bytes alone, so the first sector of its area is enough
 abbrev pub HeadGoesByItsFront : Type 0
 HeadGoesByItsFront = (latest : ℕ) (area : List ℕ) (n : ℕ) → 24 ≤ n → head_in latest (take n area) ≡ head_in latest area
 
--- the same of a whole checkpoint
+-- a checkpoint is read exactly where the area begins with it, and its version is known
 abbrev pub IsCheckpointReadSo : Type 0 → Type 0
 IsCheckpointReadSo Db =
     (rows : RowsFormat Db) (latest : ℕ) (area : List ℕ) (checkpoint : Checkpoint Db) → AreBytes area → 24 ≤ length area
@@ -42,27 +42,27 @@ IsCheckpointReadSo Db =
 abbrev pub BeginsWithItsHead : Type 0 → Type 0
 BeginsWithItsHead Db = (rows : RowsFormat Db) (area : List ℕ) (checkpoint : Checkpoint Db) → IsCheckpoint rows area checkpoint → IsHead area checkpoint.head
 
--- a checkpoint that is written to the front of an area, where it fits, is the one that the area begins with
+-- after a checkpoint is written to the front of an area, where it fits, the area begins with this checkpoint
 abbrev pub WrittenCheckpointIsThere : Type 0 → Type 0
 WrittenCheckpointIsThere Db =
     (rows : RowsFormat Db) (area : List ℕ) (checkpoint : Checkpoint Db) → CanBeCheckpoint rows checkpoint
     → length (checkpoint_encoding rows checkpoint) ≤ length area
     → IsCheckpoint rows (overwrite 0 (checkpoint_encoding rows checkpoint) area) checkpoint
 
--- It may be written piece by piece: where an area begins with the first so many bytes, it begins with more once the next ones
--- are written behind them.
+-- A checkpoint can be written in pieces: where an area begins with a number of its first bytes, the area begins with more of them
+-- once the next ones are written after these.
 abbrev pub PiecesAreWritten : Type 0
 PiecesAreWritten =
     (bytes area : List ℕ) (at n : ℕ) → at + n ≤ length bytes → length bytes ≤ length area → take at area ≡ take at bytes
     → take (at + n) (overwrite at (part at n bytes) area) ≡ take (at + n) bytes
 
--- And an area that begins with all that is written begins with the checkpoint.
+-- An area that begins with the whole encoding begins with the checkpoint.
 abbrev pub WholeEncodingIsThere : Type 0 → Type 0
 WholeEncodingIsThere Db =
     (rows : RowsFormat Db) (area : List ℕ) (checkpoint : Checkpoint Db) → CanBeCheckpoint rows checkpoint
     → take (length (checkpoint_encoding rows checkpoint)) area ≡ checkpoint_encoding rows checkpoint → IsCheckpoint rows area checkpoint
 
--- the checkpoint of a new store is one
+-- the checkpoint of a new store can be written
 abbrev pub FirstCheckpointCanBe : Type 0 → Type 0 → Type 0
 FirstCheckpointCanBe Db C =
     (format : StoreFormat Db C) (version : ℕ) → 1 ≤ version → version < 2 ^ 32 → CanBeCheckpoint format.rows (first_checkpoint format version)

@@ -1,4 +1,4 @@
--- What an area reads as, as functions: its head and its checkpoint, or the first refusal. Version `latest` is the greatest
+-- The reading of an area, as functions: its head and its checkpoint, or the first refusal. Version `latest` is the greatest
 -- that is known.
 use Rattle.std.specs.Prelude.{◌≡◌, ◌≢◌, ℕ, ◌+◌, ◌<◌, List, length, Result, Ok, Err, Option, Some, None, if◌then◌else◌, ◌==◌, nat_le}
 use Rattle.byte_lists.specs.Content.{part}
@@ -7,7 +7,7 @@ use Rattle.image_laws.specs.GroupReading.{check}
 use Rattle.image_laws.specs.StoreFormat.{RowsFormat}
 use Rattle.image_laws.specs.Checkpoint.{Head, Checkpoint, checkpoint_magic}
 
--- why a pair of halves is refused; of a newer format its version
+-- why a pair of halves is refused; `NewerFormat` has the version
 pub data PairRefusal : Type 0 where
   NoHalf : PairRefusal
   SameEpoch : PairRefusal
@@ -15,7 +15,7 @@ pub data PairRefusal : Type 0 where
   SealedNewer : PairRefusal
   NewerFormat : (version : ℕ) → PairRefusal
 
--- the numbers that stand where a head has them
+-- the numbers at the offsets of a head
 abbrev pub version_in : List ℕ → ℕ
 version_in area = four_at 4 area
 
@@ -29,14 +29,14 @@ head_in latest area =
     (check (nat_le 1 (version_in area)) BadCheckpoint
     (check (nat_le (version_in area) latest) (NewerFormat (version_in area)) (Ok (numbers_in area))))
 
--- how many bytes the rows of an area are said to have, and how many they are
+-- the length of the rows of an area in bytes, and their number, as the area has them
 abbrev pub rows_size : List ℕ → ℕ
 rows_size area = four_at 24 area
 
 abbrev pub rows_count : List ℕ → ℕ
 rows_count area = four_at 28 area
 
--- the database of the rows: none where they don't end within the area
+-- the database of the rows; `None` where the rows don't end within the area
 abbrev pub db_in : {Db : Type 0} → RowsFormat Db → List ℕ → Option Db
 db_in rows area =
     if nat_le (32 + rows_size area) (length area) then rows.decoding (rows_count area) (part 32 (rows_size area) area) else None
@@ -50,7 +50,7 @@ with_rows (Ok head) (Some db) = Ok (record { head = head; db = db })
 abbrev pub checkpoint_in : {Db : Type 0} → RowsFormat Db → ℕ → List ℕ → Result (Checkpoint Db) PairRefusal
 checkpoint_in rows latest area = with_rows (head_in latest area) (db_in rows area)
 
--- what each refusal of a head means: another magic or version 0, or a version that isn't known yet
+-- the definition of each refusal of a head: another magic or version 0, or a version that isn't known
 abbrev pub IsHeadRefusal : PairRefusal → ℕ → List ℕ → Type 0
 IsHeadRefusal NoHalf latest area = ⊥
 IsHeadRefusal SameEpoch latest area = ⊥

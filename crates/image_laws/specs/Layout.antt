@@ -1,4 +1,4 @@
--- Where what stands in an image. Places and sizes count sectors of 512 bytes; sector 0 tells the sizes.
+-- The places of the regions of an image. Places and sizes count sectors of 512 bytes; sector 0 has the sizes.
 use Rattle.std.specs.Prelude.{ℕ, ◌+◌, ◌*◌, ◌≤◌, List}
 use Rattle.byte_lists.specs.Content.{part}
 use Rattle.byte_lists.specs.Sectors.{sector_at}
@@ -25,7 +25,7 @@ other Second = First
 abbrev pub half_sectors : Geometry → ℕ
 half_sectors geometry = geometry.checkpoint + 1 + geometry.journal
 
--- the sectors where these begin
+-- the sectors at which the regions begin
 abbrev pub area_at : Geometry → Half → ℕ
 area_at geometry First = 1
 area_at geometry Second = 1 + half_sectors geometry
@@ -36,11 +36,11 @@ gate_at geometry half = area_at geometry half + geometry.checkpoint
 abbrev pub journal_at : Geometry → Half → ℕ
 journal_at geometry half = gate_at geometry half + 1
 
--- how many sectors an image needs: sector 0 and both halves
+-- the number of sectors of an image: sector 0 and both halves
 abbrev pub image_sectors : Geometry → ℕ
 image_sectors geometry = 1 + half_sectors geometry + half_sectors geometry
 
--- what stands there in an image
+-- the bytes of the regions of an image
 abbrev pub area_of : Geometry → Half → List ℕ → List ℕ
 area_of geometry half image = part (512 * area_at geometry half) (512 * geometry.checkpoint) image
 
@@ -50,7 +50,7 @@ gate_of geometry half image = sector_at (gate_at geometry half) image
 abbrev pub journal_of : Geometry → Half → List ℕ → List ℕ
 journal_of geometry half image = part (512 * journal_at geometry half) (512 * geometry.journal) image
 
--- the regions of an image, and where each begins and how many sectors it has
+-- the regions of an image, with the sector at which each begins and its number of sectors
 pub data Piece : Type 0 where
   Area : Piece
   Gate : Piece
@@ -72,7 +72,7 @@ region_sectors geometry (InHalf half Area) = geometry.checkpoint
 region_sectors geometry (InHalf half Gate) = 1
 region_sectors geometry (InHalf half Journal) = geometry.journal
 
--- the sector behind a region
+-- the sector after a region
 abbrev pub region_end : Geometry → Region → ℕ
 region_end geometry region = region_at geometry region + region_sectors geometry region
 

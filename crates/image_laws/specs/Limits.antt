@@ -1,4 +1,4 @@
--- What the groups of a journal may hold, by the version of the format that counts for it.
+-- The limits of a journal's groups, by the version of the format that counts for the journal.
 use Rattle.std.specs.Prelude.{◌≡◌, ℕ, ◌≤◌, Bool, true, false, if◌then◌else◌, nat_le}
 
 -- the most commands of a group, and whether one may be a removal
@@ -6,11 +6,11 @@ pub record Limits : Type 0 where
   pub most : ℕ
   pub removals : Bool
 
--- those of a version: 8 commands and no removal under version 1, from version 2 on 32 commands, removals among them
+-- the limits of a version: 8 commands and no removal in version 1, from version 2 on 32 commands, removals among them
 abbrev pub limits_of : ℕ → Limits
 limits_of version = if nat_le version 1 then record { most = 8; removals = false } else record { most = 32; removals = true }
 
--- what the first allow the second allow too
+-- the second limits allow what the first allow
 pub record AreAsLarge (small large : Limits) : Type 0 where
   pub most : small.most ≤ large.most
   pub removals : small.removals ≡ true → large.removals ≡ true

@@ -1,4 +1,4 @@
--- What an image stands for: the database of the open half of greater epoch, with the commands of its journal; and where that
+-- The value of an image: the database of the open half with the greater epoch, with the commands of its journal; and where that
 -- journal is sealed, with those of the other half's journal too.
 use Rattle.std.specs.Prelude.{◌≡◌, ℕ, ◌<◌, ◌≤◌, true, false, List, [], Option, Some, None}
 use Rattle.byte_lists.specs.Sectors.{IsOpenGate}
@@ -11,8 +11,8 @@ use Rattle.image_laws.specs.FirstSector.{IsStore}
 use Rattle.image_laws.specs.StoreFormat.{StoreFormat, db_after}
 use Rattle.image_laws.specs.Checkpoint.{Head, Checkpoint, IsHead, IsCheckpoint}
 
--- What an image that opens is read as: the sizes, the half that is chosen, its checkpoint and its journal, and where that
--- journal is sealed the one that goes on behind it, in the other half.
+-- The reading of an image that opens: the sizes, the half that is chosen, its checkpoint and its journal, and where that
+-- journal is sealed, the journal of the other half, which continues it.
 pub record Opening (Db C : Type 0) : Type 0 where
   pub geometry : Geometry
   pub chosen : Half
@@ -31,14 +31,14 @@ pub record HasOlderHead (latest : ℕ) (area : List ℕ) (epoch : ℕ) : Type 0 
   pub known : head.version ≤ latest
   pub older : head.epoch < epoch
 
--- the other half's journal goes on behind a seal, and isn't sealed itself
+-- the other half's journal continues after a seal, and isn't sealed itself
 pub record GoesOn {C : Type 0} (format : CommandFormat C) (limits : Limits) (bytes : List ℕ) (front behind : Reading C) : Type 0 where
   pub sealed : front.sealed ≡ true
   pub journal : IsJournal format limits bytes front.place behind
   pub unsealed : behind.sealed ≡ false
 
--- what stands behind the chosen half's journal: nothing if it isn't sealed, and else, in the other half, which is closed, the
--- journal that goes on behind the seal
+-- the journal after the chosen half's journal: none if that isn't sealed, and else the journal of the other half, which is closed,
+-- from the place of the seal on
 abbrev pub IsTail : {C : Type 0} → CommandFormat C → Limits → Geometry → Half → List ℕ → Reading C → Option (Reading C) → Type 0
 IsTail format limits geometry half image journal None = journal.sealed ≡ false
 IsTail format limits geometry half image journal (Some behind) =
@@ -66,7 +66,7 @@ abbrev pub tail_commands : {C : Type 0} → Option (Reading C) → List C
 tail_commands None = []
 tail_commands (Some behind) = behind.commands
 
--- the half in which the last journal is, and that journal
+-- the half of the last journal, and that journal
 abbrev pub tail_half : {C : Type 0} → Half → Option (Reading C) → Half
 tail_half chosen None = chosen
 tail_half chosen (Some behind) = other chosen
@@ -75,7 +75,7 @@ abbrev pub last_journal : {C : Type 0} → Reading C → Option (Reading C) → 
 last_journal journal None = journal
 last_journal journal (Some behind) = behind
 
--- what a store stands for: its database, and the place reached, which is the number of commands that made it
+-- the value of a store: its database, and the place reached, which is the number of commands that made the database
 pub record StoreValue (Db : Type 0) : Type 0 where
   pub db : Db
   pub place : ℕ

@@ -1,4 +1,4 @@
--- What an image opens to, as a function: what is read of it, or the first refusal. Each step goes by cases on what was read.
+-- The opening of an image, as a function: what is read of it, or the first refusal. Each step is a case analysis on what was read.
 use Rattle.std.specs.Prelude.{ℕ, Bool, true, false, List, Result, Ok, Err, Option, Some, None, ◌==◌, nat_lt}
 use Rattle.byte_lists.specs.Sectors.{is_open_gate}
 use Rattle.image_laws.specs.declared.half.Half.{Half}
@@ -13,13 +13,13 @@ use Rattle.image_laws.specs.Checkpoint.{Head, Checkpoint}
 use Rattle.image_laws.specs.CheckpointReading.{PairRefusal, NoHalf, SameEpoch, SealedNewer, head_in, checkpoint_in}
 use Rattle.image_laws.specs.Opening.{Opening, limits_in, StoreValue, value_of}
 
--- why an image doesn't open: it is no store's, its halves are refused, or a journal is
+-- why an image doesn't open: it is no store's, its halves are refused, or a journal is refused
 pub data OpenRefusal : Type 0 where
   NotAStore : OpenRefusal
   BadPair : (refusal : PairRefusal) → OpenRefusal
   BadJournal : (refusal : JournalRefusal) → OpenRefusal
 
--- the head of a half: none where its gate is closed
+-- the head of a half; `None` where its gate is closed
 abbrev pub head_behind : Bool → Result Head PairRefusal → Result (Option Head) PairRefusal
 head_behind false head = Ok None
 head_behind true (Err refusal) = Err refusal
@@ -28,7 +28,7 @@ head_behind true (Ok head) = Ok (Some head)
 abbrev pub head_of : ℕ → Geometry → Half → List ℕ → Result (Option Head) PairRefusal
 head_of latest geometry half image = head_behind (is_open_gate (gate_of geometry half image)) (head_in latest (area_of geometry half image))
 
--- of two open halves the one of greater epoch, by whether the epochs are equal, and whether the first is the smaller one
+-- of two open halves the one with the greater epoch, by whether the epochs are equal, and whether the first is the smaller one
 abbrev pub by_epochs : Bool → Bool → Result Half PairRefusal
 by_epochs true first_is_older = Err SameEpoch
 by_epochs false true = Ok Second
@@ -41,13 +41,13 @@ choice (Some one) None = Ok First
 choice None (Some two) = Ok Second
 choice (Some one) (Some two) = by_epochs (one.epoch == two.epoch) (nat_lt one.epoch two.epoch)
 
--- the first half's head is judged before the second's
+-- the first half's head is checked before the second's
 abbrev pub choice_of : Result (Option Head) PairRefusal → Result (Option Head) PairRefusal → Result Half PairRefusal
 choice_of (Err refusal) second = Err refusal
 choice_of (Ok one) (Err refusal) = Err refusal
 choice_of (Ok one) (Ok two) = choice one two
 
--- the journal behind a seal, which is not to be sealed too
+-- the journal after a seal, which must not be sealed too
 abbrev pub with_tail : {Db C : Type 0} → Opening Db C → Bool → Reading C → Result (Opening Db C) OpenRefusal
 with_tail opening true behind = Err (BadPair SealedNewer)
 with_tail opening false behind = Ok (record opening { tail = Some behind })
@@ -56,7 +56,7 @@ abbrev pub read_tail : {Db C : Type 0} → Opening Db C → Result (Reading C) J
 read_tail opening (Err refusal) = Err (BadJournal refusal)
 read_tail opening (Ok behind) = with_tail opening behind.sealed behind
 
--- what follows the chosen half's journal, by whether it is sealed, and whether the other half is open
+-- the journal after the chosen half's journal, by whether that is sealed, and whether the other half is open
 abbrev pub behind_journal : {Db C : Type 0} → Bool → Bool → Opening Db C → Result (Reading C) JournalRefusal → Result (Opening Db C) OpenRefusal
 behind_journal false other_is_open opening behind = Ok opening
 behind_journal true true opening behind = Err (BadPair SealedNewer)
@@ -91,11 +91,11 @@ by_geometry format latest image None = Err NotAStore
 by_geometry format latest image (Some geometry) =
     by_choice format latest geometry image (choice_of (head_of latest geometry First image) (head_of latest geometry Second image))
 
--- what an image opens with
+-- the opening of an image
 abbrev pub opening_of : {Db C : Type 0} → StoreFormat Db C → ℕ → List ℕ → Result (Opening Db C) OpenRefusal
 opening_of format latest image = by_geometry format latest image (geometry_in image)
 
--- and what it stands for
+-- and the value of that opening
 abbrev pub value_in : {Db C : Type 0} → StoreFormat Db C → Result (Opening Db C) OpenRefusal → Result (StoreValue Db) OpenRefusal
 value_in format (Err refusal) = Err refusal
 value_in format (Ok opening) = Ok (value_of format opening)

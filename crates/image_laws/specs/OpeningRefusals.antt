@@ -1,4 +1,4 @@
--- What each refusal of an image means, in the order in which they are judged.
+-- The definition of each refusal of an image, in the order of the checks.
 use Rattle.std.specs.Prelude.{◌≡◌, ◌⊎◌, ℕ, ◌≤◌, true, List}
 use Rattle.byte_lists.specs.Sectors.{IsOpenGate}
 use Rattle.image_laws.specs.declared.half.Half.{Half}
@@ -20,7 +20,7 @@ pub record HasKnownHead (latest : ℕ) (area : List ℕ) : Type 0 where
   pub is : IsHead area head
   pub known : head.version ≤ latest
 
--- a half is closed, or begins so
+-- a half is closed, or its area begins with a head of a known version
 abbrev pub IsClosedOrKnown : ℕ → Geometry → Half → List ℕ → Type 0
 IsClosedOrKnown latest geometry half image = IsOpenGate (gate_of geometry half image) → HasKnownHead latest (area_of geometry half image)
 
@@ -29,7 +29,7 @@ pub record HasBadHead (latest : ℕ) (geometry : Geometry) (half : Half) (image 
   pub gate : IsOpenGate (gate_of geometry half image)
   pub head : IsHeadRefusal refusal latest (area_of geometry half image)
 
--- that of the first half is judged before that of the second
+-- the first half's head is checked before the second's
 abbrev pub HasBadHeads : ℕ → Geometry → List ℕ → PairRefusal → Type 0
 HasBadHeads latest geometry image refusal =
     HasBadHead latest geometry First image refusal
@@ -39,14 +39,14 @@ HasBadHeads latest geometry image refusal =
 abbrev pub HasNoHalf : Geometry → List ℕ → Type 0
 HasNoHalf geometry image = (half : Half) → ¬ IsOpenGate (gate_of geometry half image)
 
--- both are open, with heads of one epoch
+-- both halves are open, with heads of the same epoch
 pub record HasOneEpoch (latest : ℕ) (geometry : Geometry) (image : List ℕ) : Type 0 where
   pub gates : (half : Half) → IsOpenGate (gate_of geometry half image)
   pub first : HasKnownHead latest (area_of geometry First image)
   pub second : HasKnownHead latest (area_of geometry Second image)
   pub same : first.head.epoch ≡ second.head.epoch
 
--- a half is open, begins with a head of a known version, and the other half is closed or older; and it has no rows
+-- a half is open, begins with a head of a known version, and the other half is closed or older; and the half has no valid rows
 pub record HasNoRows {Db C : Type 0} (format : StoreFormat Db C) (latest : ℕ) (geometry : Geometry) (image : List ℕ) : Type 0 where
   pub half : Half
   pub gate : IsOpenGate (gate_of geometry half image)
@@ -71,18 +71,18 @@ pub record HasSealedJournal {Db C : Type 0} (format : StoreFormat Db C) (latest 
   pub journal : IsJournal format.commands (limits_in checkpoint) (journal_of geometry half image) checkpoint.head.place front
   pub sealed : front.sealed ≡ true
 
--- though the other half is open
+-- the chosen half's journal is sealed, though the other half is open
 pub record IsSealedBesideOpen {Db C : Type 0} (format : StoreFormat Db C) (latest : ℕ) (geometry : Geometry) (image : List ℕ) : Type 0 where
   pub front : HasSealedJournal format latest geometry image
   pub gate : IsOpenGate (gate_of geometry (other front.half) image)
 
--- and the journal that goes on behind the seal is refused
+-- the chosen half's journal is sealed, and the journal that continues after the seal is refused
 pub record HasBadTail {Db C : Type 0} (format : StoreFormat Db C) (latest : ℕ) (geometry : Geometry) (image : List ℕ) (refusal : JournalRefusal) : Type 0 where
   pub front : HasSealedJournal format latest geometry image
   pub closed : ¬ IsOpenGate (gate_of geometry (other front.half) image)
   pub journal : IsRefused format.commands (limits_in front.checkpoint) (journal_of geometry (other front.half) image) front.front.place refusal
 
--- or is sealed too
+-- the chosen half's journal is sealed, and the journal that continues after the seal is sealed too
 pub record IsSealedTwice {Db C : Type 0} (format : StoreFormat Db C) (latest : ℕ) (geometry : Geometry) (image : List ℕ) : Type 0 where
   pub front : HasSealedJournal format latest geometry image
   pub closed : ¬ IsOpenGate (gate_of geometry (other front.half) image)
@@ -109,7 +109,7 @@ pub record IsRefusedStore {Db C : Type 0} (refusal : OpenRefusal) (format : Stor
   pub store : IsStore geometry image
   pub wrong : IsStoreRefusal refusal format latest geometry image
 
--- what each refusal of an image means: it is no store's, or of a store this is wrong
+-- the definition of each refusal of an image: it is no store's, or it is a store's and this is wrong
 abbrev pub IsOpenRefusal : {Db C : Type 0} → OpenRefusal → StoreFormat Db C → ℕ → List ℕ → Type 0
 IsOpenRefusal NotAStore format latest image = (geometry : Geometry) → ¬ IsStore geometry image
 IsOpenRefusal (BadPair refusal) format latest image = IsRefusedStore (BadPair refusal) format latest image

@@ -1,10 +1,10 @@
--- What holds of the regions of an image. Each statement is the contract of a function.
+-- Laws of the regions of an image. Each statement is the contract of a function.
 use Rattle.std.specs.Prelude.{◌≡◌, ◌≢◌, ◌⊎◌, ℕ, ◌+◌, ◌*◌, ◌≤◌, List, length}
 use Rattle.byte_lists.specs.Content.{overwrite}
 use Rattle.byte_lists.specs.Sectors.{whole_sectors}
 use Rattle.image_laws.specs.Layout.{Geometry, image_sectors, Region, region_at, region_sectors, region_end, region_of}
 
--- two regions are apart, and each is in the image
+-- two regions do not overlap, and each is within the image
 abbrev pub RegionsAreApart : Type 0
 RegionsAreApart =
     (geometry : Geometry) (one two : Region) → one ≢ two
@@ -13,14 +13,14 @@ RegionsAreApart =
 abbrev pub RegionsAreInside : Type 0
 RegionsAreInside = (geometry : Geometry) (region : Region) → region_end geometry region ≤ image_sectors geometry
 
--- what is written before or behind a region leaves it as it was
+-- a write before or after a region leaves it unchanged
 abbrev pub WritesLeaveRegionsApart : Type 0
 WritesLeaveRegionsApart =
     (geometry : Geometry) (region : Region) (image : List ℕ) (at : ℕ) (bytes : List ℕ) → at + length bytes ≤ length image
     → (at + length bytes ≤ 512 * region_at geometry region) ⊎ (512 * region_end geometry region ≤ at)
     → region_of geometry region (overwrite at bytes image) ≡ region_of geometry region image
 
--- so what is written in one region leaves the others
+-- so a write within one region leaves the others unchanged
 abbrev pub WritesLeaveOtherRegions : Type 0
 WritesLeaveOtherRegions =
     (geometry : Geometry) (written region : Region) (image : List ℕ) (at : ℕ) (bytes : List ℕ) → region ≢ written
@@ -28,7 +28,7 @@ WritesLeaveOtherRegions =
     → 512 * region_at geometry written ≤ at → at + length bytes ≤ 512 * region_end geometry written
     → region_of geometry region (overwrite at bytes image) ≡ region_of geometry region image
 
--- and within a region it changes just that
+-- and a write within a region changes only the bytes that it writes
 abbrev pub WritesChangeTheirRegion : Type 0
 WritesChangeTheirRegion =
     (geometry : Geometry) (region : Region) (image : List ℕ) (at : ℕ) (bytes : List ℕ) → image_sectors geometry ≤ whole_sectors image

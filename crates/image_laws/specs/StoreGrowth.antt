@@ -1,5 +1,5 @@
--- How what an image stands for grows: a group is written behind the last gate of its last journal, and then that gate decides;
--- and how a seal leaves it. Each statement is the contract of a function.
+-- How the value of an image grows: a group is written after the last gate of its last journal, and then that gate decides;
+-- and that a seal does not change the value. Each statement is the contract of a function.
 use Rattle.std.specs.Prelude.{◌≡◌, ℕ, ◌+◌, ◌*◌, ◌≤◌, false, List, ◌++◌, length, Option, Some, None}
 use Rattle.byte_lists.specs.Content.{overwrite}
 use Rattle.byte_lists.specs.Sectors.{sector_at, IsOpenGate}
@@ -17,8 +17,8 @@ abbrev pub FoldsInParts : Type 0 → Type 0 → Type 0
 FoldsInParts Db C =
     (format : StoreFormat Db C) (db : Db) (front behind : List C) → db_after format db (front ++ behind) ≡ db_after format (db_after format db front) behind
 
--- the half in which an image's last journal is, what it reads as, the place where it starts, and the sector of the gate at which
--- it ends
+-- the half of an image's last journal, the reading of that journal, the place at which it starts, and the sector of the gate at
+-- which it ends
 abbrev pub last_half : {Db C : Type 0} → Opening Db C → Half
 last_half opening = tail_half opening.chosen opening.tail
 
@@ -35,12 +35,12 @@ last_start opening = start_of opening.checkpoint.head.place opening.journal open
 abbrev pub last_gate : {Db C : Type 0} → Opening Db C → ℕ
 last_gate opening = journal_at opening.geometry (last_half opening) + (last_reading opening).tail
 
--- an opening whose last journal reads so
+-- an opening whose last journal has this reading
 abbrev pub with_last : {Db C : Type 0} → Option (Reading C) → Opening Db C → Reading C → Opening Db C
 with_last None opening last = record opening { journal = last }
 with_last (Some behind) opening last = record opening { tail = Some last }
 
--- Bytes are written anywhere in the last journal: the image opens with what that then reads as, if it isn't sealed.
+-- Bytes are written anywhere in the last journal: the image opens with the new reading of that journal, if it isn't sealed.
 abbrev pub StoreGoesByItsLastJournal : Type 0 → Type 0 → Type 0
 StoreGoesByItsLastJournal Db C =
     (format : StoreFormat Db C) (latest : ℕ) (image : List ℕ) (opening : Opening Db C) (at : ℕ) (bytes : List ℕ) (last : Reading C)
@@ -50,8 +50,8 @@ StoreGoesByItsLastJournal Db C =
     → last.sealed ≡ false
     → IsOpening format latest (overwrite (512 * journal_at opening.geometry (last_half opening) + at) bytes image) (with_last opening.tail opening last)
 
--- A group that can be one and has room, and a gate that isn't open, are written behind the last gate: the image opens as it did,
--- and its last journal is ready for the group.
+-- A group that can be written and has room, and a gate that isn't open, are written after the last gate: the opening is unchanged,
+-- and the last journal is ready for the group.
 abbrev pub StoreIsMadeReady : Type 0 → Type 0 → Type 0
 StoreIsMadeReady Db C =
     (format : StoreFormat Db C) (latest : ℕ) (image : List ℕ) (opening : Opening Db C) (group : List C) (gate : List ℕ)
@@ -63,12 +63,12 @@ StoreIsMadeReady Db C =
     IsOpening format latest written opening
     × IsReadyFor format.commands (limits_in opening.checkpoint) (journal_of opening.geometry (last_half opening) written) (last_reading opening) group
 
--- what a store stands for after commands
+-- the value of a store after commands
 abbrev pub value_after : {Db C : Type 0} → StoreFormat Db C → StoreValue Db → List C → StoreValue Db
 value_after format value commands = record { db = db_after format value.db commands; place = value.place + length commands }
 
--- The last journal is ready for a group, and its last gate is written with any bytes: where that opens it the image stands for
--- what it stood for after the commands of the group, and else it opens as it did.
+-- The last journal is ready for a group, and its last gate is written with any bytes: where these open it, the value of the image
+-- is the old value after the commands of the group; else the opening is unchanged.
 abbrev pub StoreGrowsByItsGate : Type 0 → Type 0 → Type 0
 StoreGrowsByItsGate Db C =
     (format : StoreFormat Db C) (latest : ℕ) (image : List ℕ) (opening : Opening Db C) (group : List C) (gate : List ℕ)
@@ -87,7 +87,7 @@ pub record IsOtherReady {Db C : Type 0} (opening : Opening Db C) (image : List �
   pub gate : ¬ IsOpenGate (gate_of opening.geometry (other opening.chosen) image)
   pub journal : ¬ IsOpenGate (sector_at 0 (journal_of opening.geometry (other opening.chosen) image))
 
--- There a seal is written behind the last gate: the image opens as it did, and has the seal.
+-- Where the other half is ready, a seal is written after the last gate: the opening is unchanged, and the seal is there.
 abbrev pub StoreIsMadeReadyForSeal : Type 0 → Type 0 → Type 0
 StoreIsMadeReadyForSeal Db C =
     (format : StoreFormat Db C) (latest : ℕ) (image : List ℕ) (opening : Opening Db C)
@@ -96,8 +96,8 @@ StoreIsMadeReadyForSeal Db C =
     IsOpening format latest written opening × IsOtherReady opening written
     × HasSeal (journal_of opening.geometry opening.chosen written) opening.journal.tail opening.journal.place
 
--- And then the last gate is written with any bytes: where that opens it the other half's journal goes on, with nothing in it
--- yet, and the image stands for what it stood for; and else it opens as it did.
+-- Then the last gate is written with any bytes: where these open it, the other half's journal continues, without a command
+-- yet, and the value of the image is unchanged; else the opening is unchanged.
 abbrev pub StoreIsSealedByItsGate : Type 0 → Type 0 → Type 0
 StoreIsSealedByItsGate Db C =
     (format : StoreFormat Db C) (latest : ℕ) (image : List ℕ) (opening : Opening Db C) (gate : List ℕ)

@@ -1,5 +1,5 @@
--- How one half takes over from the other: its area is written, then its gate decides, and then the old half may be anything that is older. Each statement
--- is the contract of a function.
+-- How one half takes over from the other: its area is written, then its gate decides, and then the old half may be anything that
+-- is older. Each statement is the contract of a function.
 use Rattle.std.specs.Prelude.{◌≡◌, ℕ, ◌+◌, ◌*◌, ◌<◌, ◌≤◌, List, [], ◌∷◌, length, Some, None}
 use Rattle.std.specs.List.{AllByRecursion}
 use Rattle.byte_lists.specs.Content.{overwrite}
@@ -12,14 +12,14 @@ use Rattle.image_laws.specs.Opening.{Opening, HasOlderHead, IsOpening, value_of}
 use Rattle.image_laws.specs.WhatCounts.{span, chosen_spans, IsApart}
 use Rattle.image_laws.specs.TakeOver.{FoldsJournal, taken_over, empty_journal}
 
--- the other half's area has the checkpoint that folds the chosen half's journal, of a later epoch
+-- the other half's area has the checkpoint that folds the chosen half's journal, with a later epoch
 pub record IsLaid {Db C : Type 0} (format : StoreFormat Db C) (latest : ℕ) (image : List ℕ) (opening : Opening Db C) (next : Checkpoint Db) : Type 0 where
   pub folds : FoldsJournal format opening next
   pub begins : IsCheckpoint format.rows (area_of opening.geometry (other opening.chosen) image) next
   pub known : next.head.version ≤ latest
   pub newer : opening.checkpoint.head.epoch < next.head.epoch
 
--- As long as the other half is closed, whatever is written in its area leaves the opening.
+-- As long as the other half is closed, any write to its area leaves the opening unchanged.
 abbrev pub ClosedAreaMayChange : Type 0 → Type 0 → Type 0
 ClosedAreaMayChange Db C =
     (format : StoreFormat Db C) (latest : ℕ) (image : List ℕ) (opening : Opening Db C) (at : ℕ) (bytes : List ℕ)
@@ -27,8 +27,8 @@ ClosedAreaMayChange Db C =
     → at + length bytes ≤ 512 * opening.geometry.checkpoint
     → IsOpening format latest (overwrite (512 * area_at opening.geometry (other opening.chosen) + at) bytes image) opening
 
--- The gate of the other half, in whose journal the tail is, is written with any bytes: where that opens it that half is chosen,
--- and stands for the same; and else the image opens as it did.
+-- The gate of the other half, whose journal is the tail, is written with any bytes: where these open it, that half is chosen,
+-- and the value is the same; else the opening is unchanged.
 abbrev pub SwitchesByTheGate : Type 0 → Type 0 → Type 0
 SwitchesByTheGate Db C =
     (format : StoreFormat Db C) (latest : ℕ) (image : List ℕ) (opening : Opening Db C) (next : Checkpoint Db) (behind : Reading C) (gate : List ℕ)
@@ -38,7 +38,7 @@ SwitchesByTheGate Db C =
     × (¬ IsOpenGate gate → IsOpening format latest written opening)
     × (value_of format (taken_over opening next behind) ≡ value_of format opening)
 
--- The same at rest, where no journal is sealed, and the first gate of the other half's is closed.
+-- The same without a tail, where no journal is sealed, and the first gate of the other half's journal is closed.
 abbrev pub SwitchesByTheGateAtRest : Type 0 → Type 0 → Type 0
 SwitchesByTheGateAtRest Db C =
     (format : StoreFormat Db C) (latest : ℕ) (image : List ℕ) (opening : Opening Db C) (next : Checkpoint Db) (gate : List ℕ)
@@ -50,8 +50,8 @@ SwitchesByTheGateAtRest Db C =
     × (¬ IsOpenGate gate → IsOpening format latest written opening)
     × (value_of format fresh ≡ value_of format opening)
 
--- Then the other half's head is older, and no journal is sealed: whatever is written apart from that head, and from what counts
--- of the chosen half, as over the gates of the other one, leaves the opening.
+-- Then the other half's head is older, and no journal is sealed: any write outside of that head, and outside of the bytes of the
+-- chosen half that count, leaves the opening unchanged, such as a write over the gates of the other half.
 abbrev pub OlderHalfMayChange : Type 0 → Type 0 → Type 0
 OlderHalfMayChange Db C =
     (format : StoreFormat Db C) (latest : ℕ) (image : List ℕ) (opening : Opening Db C) (at : ℕ) (bytes : List ℕ)

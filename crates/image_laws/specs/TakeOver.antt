@@ -1,4 +1,4 @@
--- When two images stand for the same: one half takes over from the other. And what a new store is. Each statement is the
+-- When two images have the same value, as one half takes over from the other, and the value of a new store. Each statement is the
 -- contract of a function.
 use Rattle.std.specs.Prelude.{◌≡◌, ℕ, ◌≤◌, false, List, [], Some, None}
 use Rattle.byte_lists.specs.Sectors.{sector_at, IsOpenGate}
@@ -10,14 +10,14 @@ use Rattle.image_laws.specs.StoreFormat.{StoreFormat}
 use Rattle.image_laws.specs.Checkpoint.{Checkpoint, IsCheckpoint, first_checkpoint}
 use Rattle.image_laws.specs.Opening.{Opening, limits_in, IsChosen, IsOpening, db_at_seal, value_of, OpensTo}
 
--- A checkpoint for the other half that has what the chosen one stands for, up to the end of its journal: this database, at the
--- place reached there, of no earlier a version.
+-- A checkpoint for the other half with the value of the chosen half up to the end of its journal: this database, at the
+-- place reached there, in the same version or a later one.
 pub record FoldsJournal {Db C : Type 0} (format : StoreFormat Db C) (opening : Opening Db C) (next : Checkpoint Db) : Type 0 where
   pub db : next.db ≡ db_at_seal format opening
   pub place : next.head.place ≡ opening.journal.place
   pub version : opening.checkpoint.head.version ≤ next.head.version
 
--- what is read once the other half is chosen, with this journal
+-- the opening once the other half is chosen, with this journal
 abbrev pub taken_over : {Db C : Type 0} → Opening Db C → Checkpoint Db → Reading C → Opening Db C
 taken_over opening next behind = record {
   geometry = opening.geometry;
@@ -27,9 +27,9 @@ taken_over opening next behind = record {
   tail = None;
 }
 
--- The old half with its sealed journal and then the tail, and the new half with that tail, stand for the same: where one image
--- opens with the tail, and in another the new half is chosen, and its journal is that tail under the old half's limits, the
--- other one opens too, and stands for the same.
+-- The old half with its sealed journal and the tail, and the new half with that tail, have the same value: where one image
+-- opens with the tail, and in another the new half is chosen and its journal is that tail under the old half's limits, the
+-- other image opens too, and has the same value.
 abbrev pub TakesOverTheSame : Type 0 → Type 0 → Type 0
 TakesOverTheSame Db C =
     (format : StoreFormat Db C) (latest : ℕ) (old new : List ℕ) (opening : Opening Db C) (next : Checkpoint Db) (behind : Reading C)
@@ -39,11 +39,11 @@ TakesOverTheSame Db C =
     → IsOpening format latest new (taken_over opening next behind)
     × (value_of format (taken_over opening next behind) ≡ value_of format opening)
 
--- a journal with no command yet
+-- a journal without a command
 abbrev pub empty_journal : {C : Type 0} → ℕ → Reading C
 empty_journal place = record { commands = []; tail = 0; sealed = false; place = place }
 
--- At rest no journal is sealed: there the new half's journal is empty, as its first gate is closed.
+-- Without a tail no journal is sealed: the new half's journal is empty, as its first gate is closed.
 abbrev pub TakesOverTheSameAtRest : Type 0 → Type 0 → Type 0
 TakesOverTheSameAtRest Db C =
     (format : StoreFormat Db C) (latest : ℕ) (new : List ℕ) (opening : Opening Db C) (next : Checkpoint Db)
@@ -53,8 +53,8 @@ TakesOverTheSameAtRest Db C =
     → IsOpening format latest new (taken_over opening next (empty_journal next.head.place))
     × (value_of format (taken_over opening next (empty_journal next.head.place)) ≡ value_of format opening)
 
--- A store as it is formatted: the first half is open with no row, and its journal's first gate is closed; and so is the second
--- half.
+-- A store as it is formatted: the first half is open without a row, and its journal's first gate is closed; the second
+-- half is closed.
 pub record IsFormatted {Db C : Type 0} (format : StoreFormat Db C) (version : ℕ) (geometry : Geometry) (image : List ℕ) : Type 0 where
   pub store : IsStore geometry image
   pub gate : IsOpenGate (gate_of geometry First image)
@@ -62,7 +62,7 @@ pub record IsFormatted {Db C : Type 0} (format : StoreFormat Db C) (version : �
   pub journal : ¬ IsOpenGate (sector_at 0 (journal_of geometry First image))
   pub second : ¬ IsOpenGate (gate_of geometry Second image)
 
--- it opens to the empty database, at place 0
+-- the store opens to the empty database, at place 0
 abbrev pub OpensEmpty : Type 0 → Type 0 → Type 0
 OpensEmpty Db C =
     (format : StoreFormat Db C) (version latest : ℕ) (geometry : Geometry) (image : List ℕ) → version ≤ latest

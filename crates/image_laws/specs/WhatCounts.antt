@@ -1,4 +1,4 @@
--- What counts of an image that opens, in spans of bytes: all else may be anything.
+-- The bytes of an image that count for its opening, as spans: all other bytes may be anything.
 use Rattle.std.specs.Prelude.{◌≡◌, ◌⊎◌, ℕ, ◌+◌, ◌*◌, ◌≤◌, Bool, true, false, List, [], ◌∷◌, Option, Some, None}
 use Rattle.byte_lists.specs.Content.{part}
 use Rattle.byte_lists.specs.Sectors.{is_open_gate}
@@ -9,7 +9,7 @@ use Rattle.image_laws.specs.StoreFormat.{StoreFormat}
 use Rattle.image_laws.specs.Checkpoint.{checkpoint_size}
 use Rattle.image_laws.specs.Opening.{Opening}
 
--- so many bytes at an offset
+-- this number of bytes at an offset
 pub record Span : Type 0 where
   pub at : ℕ
   pub size : ℕ
@@ -17,7 +17,7 @@ pub record Span : Type 0 where
 abbrev pub span : ℕ → ℕ → Span
 span at size = record { at = at; size = size }
 
--- of the half that isn't chosen: its head where it is open, and its journal where that goes on behind a seal
+-- of the half that isn't chosen: its head where it is open, and its journal where that continues after a seal
 abbrev pub head_spans : Geometry → Half → Bool → List Span → List Span
 head_spans geometry half false more = more
 head_spans geometry half true more = span (512 * area_at geometry half) 24 ∷ more
@@ -35,21 +35,21 @@ chosen_spans format opening more =
     ∷ span (512 * journal_at opening.geometry opening.chosen) (512 * sectors_read opening.journal)
     ∷ more
 
--- and of the other half byte 0 of its gate, and then its head or its journal
+-- all of these, with byte 0 of the other half's gate, and then its head or its journal
 abbrev pub spans_of : {Db C : Type 0} → StoreFormat Db C → Opening Db C → Bool → List Span
 spans_of format opening other_is_open =
     chosen_spans format opening
     (span (512 * gate_at opening.geometry (other opening.chosen)) 1
     ∷ head_spans opening.geometry (other opening.chosen) other_is_open (tail_spans opening.geometry (other opening.chosen) opening.tail))
 
--- those of an image that opens so
+-- the spans of an image with this opening
 abbrev pub spans_in : {Db C : Type 0} → StoreFormat Db C → List ℕ → Opening Db C → List Span
 spans_in format image opening = spans_of format opening (is_open_gate (gate_of opening.geometry (other opening.chosen) image))
 
--- two images are the same there
+-- two images have the same bytes in a span
 abbrev pub IsSameSpan : List ℕ → List ℕ → Span → Type 0
 IsSameSpan one two place = part place.at place.size two ≡ part place.at place.size one
 
--- so many bytes at an offset are before it or behind it
+-- this number of bytes at an offset is before the span or after it
 abbrev pub IsApart : ℕ → ℕ → Span → Type 0
 IsApart at size place = (at + size ≤ place.at) ⊎ (place.at + place.size ≤ at)

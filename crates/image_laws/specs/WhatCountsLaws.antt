@@ -1,4 +1,4 @@
--- What holds of the bytes that count for an opening. Each statement is the contract of a function.
+-- Laws of the bytes that count for an opening. Each statement is the contract of a function.
 use Rattle.std.specs.Prelude.{◌≡◌, ℕ, ◌+◌, ◌≤◌, List, [], length, None}
 use Rattle.std.specs.List.{AllByRecursion}
 use Rattle.byte_lists.specs.Content.{overwrite}
@@ -8,21 +8,21 @@ use Rattle.image_laws.specs.StoreFormat.{StoreFormat}
 use Rattle.image_laws.specs.Opening.{Opening, HasOlderHead, IsOpening}
 use Rattle.image_laws.specs.WhatCounts.{chosen_spans, spans_in, IsSameSpan, IsApart}
 
--- an opening goes by what counts of the image
+-- an opening depends on the bytes of the image that count for it
 abbrev pub GoesByWhatCounts : Type 0 → Type 0 → Type 0
 GoesByWhatCounts Db C =
     (format : StoreFormat Db C) (latest : ℕ) (one two : List ℕ) (opening : Opening Db C) → length two ≡ length one
     → AllByRecursion (IsSameSpan one two) (spans_in format one opening)
     → IsOpening format latest one opening → IsOpening format latest two opening
 
--- and what is written apart from that leaves it as it was
+-- a write outside of these bytes leaves the opening unchanged
 abbrev pub IsKeptByWritesElsewhere : Type 0 → Type 0 → Type 0
 IsKeptByWritesElsewhere Db C =
     (format : StoreFormat Db C) (latest : ℕ) (image : List ℕ) (opening : Opening Db C) (at : ℕ) (bytes : List ℕ)
     → at + length bytes ≤ length image → AllByRecursion (IsApart at (length bytes)) (spans_in format image opening)
     → IsOpening format latest image opening → IsOpening format latest (overwrite at bytes image) opening
 
--- where the chosen half's journal isn't sealed, nothing else of the other half counts than that it is closed, or has an older head
+-- where the chosen half's journal isn't sealed, all that counts of the other half is that it is closed, or has an older head
 abbrev pub GoesByTheChosenHalf : Type 0 → Type 0 → Type 0
 GoesByTheChosenHalf Db C =
     (format : StoreFormat Db C) (latest : ℕ) (one two : List ℕ) (opening : Opening Db C) → length two ≡ length one

@@ -8,7 +8,7 @@ use Rattle.image_laws.specs.GroupReading.{JournalRefusal}
 use Rattle.image_laws.specs.Journal.{Reading}
 use Rattle.image_laws.specs.JournalReading.{journal_scan}
 
--- commands that are any bytes, and are spelled as they are
+-- commands that are any bytes, and are their own encoding
 abbrev pub raw_format : CommandFormat (List ℕ)
 raw_format = record {
   encoding = λ command. command;
@@ -44,7 +44,7 @@ marked_payload = take 511 purge_payload ++ 1 ∷ []
 abbrev pub nine_payload : List ℕ
 nine_payload = group_encoding raw_format 0 (replicate 9 purge_command)
 
--- what a journal of these sectors reads as under a version, from a place on
+-- how a journal of these sectors is read in a version, from a place on
 abbrev pub reads_as : ℕ → ℕ → List ℕ → Result (Reading (List ℕ)) JournalRefusal → Type 0
 reads_as version place bytes result = journal_scan raw_format (limits_of version) bytes place ≡ result
 

@@ -7,7 +7,7 @@ use Rattle.image_laws.specs.StoreFormat.{RowsFormat, StoreFormat}
 use Rattle.image_laws.specs.Checkpoint.{Head, Checkpoint}
 use Rattle.image_laws.specs.CheckpointReading.{PairRefusal}
 
--- databases that are any bytes, said to be so many rows
+-- databases that are any bytes, with a number of rows
 pub record RawRows : Type 0 where
   pub count : ℕ
   pub bytes : List ℕ
@@ -21,7 +21,7 @@ raw_rows = record {
   counted = λ count bytes db each is. sym (ap (λ found. (unwrap_or found db).count) is);
 }
 
--- each command is a row more
+-- each command adds a row
 abbrev pub raw_store : StoreFormat RawRows (List ℕ)
 raw_store = record {
   rows = raw_rows;
@@ -31,11 +31,11 @@ raw_store = record {
   none = refl;
 }
 
--- the smallest sizes
+-- the smallest sizes of a store
 abbrev pub small : Geometry
 small = record { checkpoint = 2; journal = 516 }
 
--- the title of such a store: SCPATHDB, 1, 2, 516
+-- the title of a store with these sizes: SCPATHDB, 1, 2, 516
 abbrev pub small_title : List ℕ
 small_title =
     0x53 ∷ 0x43 ∷ 0x50 ∷ 0x41 ∷ 0x54 ∷ 0x48 ∷ 0x44 ∷ 0x42 ∷ 0 ∷ 0 ∷ 0 ∷ 1 ∷ 0 ∷ 0 ∷ 0 ∷ 2 ∷ 0 ∷ 0 ∷ 2 ∷ 4 ∷ []
@@ -46,21 +46,21 @@ small_head version epoch place =
     0x50 ∷ 0x43 ∷ 0x4b ∷ 0x50 ∷ 0 ∷ 0 ∷ 0 ∷ version
     ∷ 0 ∷ 0 ∷ 0 ∷ 0 ∷ 0 ∷ 0 ∷ 0 ∷ epoch ∷ 0 ∷ 0 ∷ 0 ∷ 0 ∷ 0 ∷ 0 ∷ 0 ∷ place ∷ []
 
--- the first sector of an area with no rows
+-- the first sector of an area without rows
 abbrev pub empty_area : ℕ → ℕ → ℕ → List ℕ
 empty_area version epoch place = small_head version epoch place ++ replicate 488 0
 
 abbrev pub head_with : ℕ → ℕ → ℕ → Head
 head_with version epoch place = record { version = version; epoch = epoch; place = place }
 
--- an area of one sector whose rows are said to have so many bytes
+-- an area of one sector whose front has this length of the rows
 abbrev pub area_with_size : ℕ → ℕ → List ℕ
 area_with_size high low = small_head 2 1 0 ++ (0 ∷ 0 ∷ high ∷ low ∷ replicate 484 0)
 
--- what an area with so many rows in so many bytes reads as
+-- how an area with this number of rows in this number of bytes is read
 abbrev pub checkpoint_with : Head → ℕ → List ℕ → Result (Checkpoint RawRows) PairRefusal
 checkpoint_with head count bytes = Ok (record { head = head; db = record { count = count; bytes = bytes } })
 
--- an image that begins with sector 0, the first half's area with no rows, and its gate open
+-- an image that begins with sector 0, the first half's area without rows, and its gate open
 abbrev pub small_image : List ℕ → List ℕ
 small_image behind = (small_title ++ replicate 492 0) ++ ((empty_area 2 1 0 ++ replicate 512 0) ++ (open_sector ++ behind))

@@ -1,28 +1,29 @@
-//! Laws of first sectors and checkpoints, in any format of rows of databases of type `Db`.
+//! Laws of first sectors and checkpoints, in any format of rows of databases of type `Db`. Each law is the contract of a function that
+//! does nothing.
 
 ghost use Rattle.image_laws.specs.CheckpointLaws.{IsStoreReadSo, FirstSectorMakesStore, IsHeadReadSo, IsHeadRefusedSo, HeadGoesByItsFront, BeginsWithItsHead, IsCheckpointReadSo, WrittenCheckpointIsThere, PiecesAreWritten, WholeEncodingIsThere, FirstCheckpointCanBe};
 
-/// An image is read as a store's just where it is one.
+/// An image is read as a store's exactly where it is one.
 pub fn first_sectors_are_read()
     ensures read { IsStoreReadSo }
     ensures written { FirstSectorMakesStore }
 {}
 
-/// A head is read just where it stands there and its version is known, and refused just where the refusal means it.
-/// It goes by its 24 bytes.
+/// A head is read exactly where the area begins with it and its version is known, and is refused exactly where the definition of the
+/// refusal holds. It depends on the first 24 bytes alone.
 pub fn heads_are_read()
     ensures read { IsHeadReadSo }
     ensures refused { IsHeadRefusedSo }
     ensures front { HeadGoesByItsFront }
 {}
 
-/// A checkpoint is read just where it stands there and its version is known. It begins with its head.
+/// A checkpoint is read exactly where the area begins with it and its version is known. It begins with its head.
 pub fn checkpoints_are_read<Db>()
     ensures read { IsCheckpointReadSo Db }
     ensures head { BeginsWithItsHead Db }
 {}
 
-/// A checkpoint that is written is there, in one piece or in several.
+/// An area begins with a checkpoint after it is written there, in one piece or in several.
 pub fn checkpoints_are_written<Db>()
     ensures there { WrittenCheckpointIsThere Db }
     ensures pieces { PiecesAreWritten }

@@ -1,4 +1,4 @@
-//! The sizes of a store, and where its regions begin.
+//! The sizes of a store, and the sectors at which its regions begin.
 
 ghost use Rattle.std.specs.Prelude.{◌≡◌, ◌↔◌, IsTrue};
 ghost use Rattle.image_laws.specs.Layout.{IsGeometry, image_sectors, area_at, gate_at, journal_at};
@@ -9,7 +9,7 @@ use crate::half::Half;
 
 /// The fewest sectors of a checkpoint area.
 pub const LEAST_CHECKPOINT: u32 = 2;
-/// The fewest sectors of a journal: those of the largest group and a seal, with their gates.
+/// The fewest sectors of a journal: enough for the largest group and a seal, with their gates.
 pub const LEAST_JOURNAL: u32 = 516;
 /// The most sectors of a checkpoint area, and of a journal.
 pub const MOST_SECTORS: u32 = 1_048_576;
@@ -32,7 +32,7 @@ impl Geometry {
             && self.journal <= MOST_SECTORS
     }
 
-    /// How many sectors a store of these sizes takes.
+    /// The number of sectors of a store of these sizes.
     pub fn sectors(self) -> u64
         ensures { result ≡ image_sectors (geometry_view self) }
     {
@@ -45,7 +45,7 @@ impl Geometry {
         self.checkpoint as u64 + 1 + self.journal as u64
     }
 
-    /// The sector where a half's checkpoint area begins.
+    /// The sector at which a half's checkpoint area begins.
     pub fn area_at(self, half: Half) -> u64
         ensures { result ≡ area_at (geometry_view self) half }
     {
@@ -62,7 +62,7 @@ impl Geometry {
         self.area_at(half) + self.checkpoint as u64
     }
 
-    /// The sector where a half's journal begins, which is the journal's first gate.
+    /// The sector at which a half's journal begins, which is the journal's first gate.
     pub fn journal_at(self, half: Half) -> u64
         ensures { result ≡ journal_at (geometry_view self) half }
     {

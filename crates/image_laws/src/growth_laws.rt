@@ -1,48 +1,48 @@
-//! Laws of what changes in an image, and what it then stands for, in any format of databases of type `Db` and commands of type
-//! `C`: groups and seals behind the last gate, and one half that takes over from the other.
+//! Laws of changes to an image and of its value after them, in any format of databases of type `Db` and commands of type
+//! `C`: groups and seals after the last gate, and one half that takes over from the other.
 
 ghost use Rattle.image_laws.specs.StoreGrowth.{FoldsInParts, StoreGoesByItsLastJournal, StoreIsMadeReady, StoreGrowsByItsGate, StoreIsMadeReadyForSeal, StoreIsSealedByItsGate};
 ghost use Rattle.image_laws.specs.Switch.{ClosedAreaMayChange, SwitchesByTheGate, SwitchesByTheGateAtRest, OlderHalfMayChange};
 ghost use Rattle.image_laws.specs.TakeOver.{TakesOverTheSame, TakesOverTheSameAtRest};
 
-/// An image goes by what its last journal reads as, whatever is written in it. Commands in two parts are folded one part after
-/// the other.
+/// The opening of an image depends on the reading of its last journal, whatever bytes are written in it. The database after two
+/// lists of commands is the database after the first list and then the second.
 pub fn stores_go_by_their_last_journal<Db, C>()
     ensures last { StoreGoesByItsLastJournal Db C }
     ensures parts { FoldsInParts Db C }
 {}
 
-/// What is written behind the last gate leaves an image as it was, and makes it ready for that group. What it stands for then
-/// grows by just that group, if the gate is opened.
+/// A group that is written after the last gate leaves the opening unchanged, and makes the image ready for that group. The value then
+/// grows by exactly that group, if the gate is opened.
 pub fn stores_grow_by_their_gate<Db, C>()
     ensures ready { StoreIsMadeReady Db C }
     ensures grown { StoreGrowsByItsGate Db C }
 {}
 
-/// A seal leaves what an image stands for.
+/// A seal does not change the value of an image.
 pub fn stores_are_sealed_by_their_gate<Db, C>()
     ensures ready { StoreIsMadeReadyForSeal Db C }
     ensures sealed { StoreIsSealedByItsGate Db C }
 {}
 
-/// A half that takes over from a sealed one, or from one at rest, stands for the same.
+/// A half that takes over from a sealed one, or from one without a tail, has the same value.
 pub fn halves_take_over_the_same<Db, C>()
     ensures sealed { TakesOverTheSame Db C }
     ensures rest { TakesOverTheSameAtRest Db C }
 {}
 
-/// The area of a half that is closed may change.
+/// The area of a closed half may change.
 pub fn closed_areas_may_change<Db, C>()
     ensures { ClosedAreaMayChange Db C }
 {}
 
-/// The gate of the new half decides which of two halves is chosen, and both stand for the same.
+/// The gate of the new half decides which of two halves is chosen, and both have the same value.
 pub fn halves_switch_by_their_gate<Db, C>()
     ensures sealed { SwitchesByTheGate Db C }
     ensures rest { SwitchesByTheGateAtRest Db C }
 {}
 
-/// A half that is older may change, but for its head.
+/// An older half may change, except for its head.
 pub fn older_halves_may_change<Db, C>()
     ensures { OlderHalfMayChange Db C }
 {}

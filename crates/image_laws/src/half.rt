@@ -11,7 +11,7 @@ pub enum Half {
 }
 
 impl Half {
-    /// The half that this one isn't.
+    /// The other half of the image.
     pub fn other(self) -> Half
         ensures { result ≡ other self }
     {

@@ -1,7 +1,7 @@
-//! What the regions of a store's image are, as relations and as functions, with the laws that hold of them.
+//! The regions of a store's image, as relations and as functions, with their laws.
 //!
-//! A journal is told for any format of commands (`CommandFormat`), an image for any format of rows and commands (`StoreFormat`):
-//! the crates that have these give theirs.
+//! Journals are defined for any format of commands (`CommandFormat`), and images for any format of rows and commands
+//! (`StoreFormat`). The crates above supply these formats.
 #![tactic(auto)]
 
 mod checkpoint_laws;

@@ -1,11 +1,11 @@
-//! Laws of what an image opens to, in any format of databases of type `Db` and commands of type `C`.
+//! Laws of the openings of images, in any format of databases of type `Db` and commands of type `C`.
 
 ghost use Rattle.image_laws.specs.OpeningLaws.{IsOpenedSo, IsOpenRefusedSo, HasValueJustWhere, HasOneValue, OpensUnderLaterVersions};
 ghost use Rattle.image_laws.specs.WhatCountsLaws.{GoesByWhatCounts, IsKeptByWritesElsewhere, GoesByTheChosenHalf};
 ghost use Rattle.image_laws.specs.TakeOver.{OpensEmpty};
 
-/// An image is read as opening just where it opens, to the value for which it stands; it stands for one value at most. And it
-/// is refused just where the refusal means it.
+/// An image is read as an opening exactly where it opens, and to its value; an image has at most one value. An image is refused
+/// exactly where the definition of the refusal holds.
 pub fn openings_are_read<Db, C>()
     ensures read { IsOpenedSo Db C }
     ensures refused { IsOpenRefusedSo Db C }
@@ -13,13 +13,14 @@ pub fn openings_are_read<Db, C>()
     ensures one { HasOneValue Db C }
 {}
 
-/// What opens where fewer versions are known opens to the same value where more are.
+/// An image that opens where fewer versions are known opens to the same value where more are known.
 pub fn openings_stay_under_later_versions<Db, C>()
     ensures { OpensUnderLaterVersions Db C }
 {}
 
-/// An opening goes by what counts of the image: one of that size that is the same there opens so too. What is written
-/// elsewhere leaves it as it was. Where no journal is sealed the chosen half is enough, if the other is closed or older.
+/// An opening depends on the bytes that count for it: an image of the same size with the same bytes there opens in the same way. A
+/// write elsewhere leaves the opening unchanged. Where no journal is sealed, the chosen half is enough, if the other one is closed or
+/// older.
 pub fn openings_go_by_what_counts<Db, C>()
     ensures same { GoesByWhatCounts Db C }
     ensures kept { IsKeptByWritesElsewhere Db C }

@@ -2,13 +2,14 @@
 
 ghost use Rattle.image_laws.specs.RegionLaws.{RegionsAreApart, RegionsAreInside, WritesLeaveRegionsApart, WritesLeaveOtherRegions, WritesChangeTheirRegion};
 
-/// The regions of an image are apart, and in it.
+/// The regions of an image do not overlap, and are within the image.
 pub fn regions_are_apart()
     ensures apart { RegionsAreApart }
     ensures inside { RegionsAreInside }
 {}
 
-/// What is written in one region changes it alone. What is written in several leaves those that are apart from it.
+/// A write within one region changes that region alone. Writes within several regions leave the regions that they don't meet
+/// unchanged.
 pub fn writes_leave_other_regions()
     ensures beside { WritesLeaveRegionsApart }
     ensures others { WritesLeaveOtherRegions }

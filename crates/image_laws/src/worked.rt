@@ -1,4 +1,4 @@
-//! Worked values of the definitions. Each function does nothing: what it says is its contract.
+//! Worked values of the definitions. Each function does nothing, and the values are in its contract.
 
 ghost use Rattle.std.specs.Prelude.{◌≡◌, ◌++◌, ◌∷◌, [], true, false, Err, replicate};
 ghost use Rattle.image_laws.specs.Group.{HasRoom, group_encoding, payload_sectors, seal_encoding};
@@ -11,7 +11,7 @@ pub fn worked_payloads()
     ensures seal { seal_encoding 257 ≡ seal_payload }
 {}
 
-/// How many sectors payloads take, by the length of their records, and which have room in a journal of 516 sectors.
+/// The number of sectors of payloads, by the length of their records, and which payloads have room in a journal of 516 sectors.
 pub fn worked_sizes()
     ensures few { payload_sectors 13 ≡ 1 }
     ensures full { payload_sectors 496 ≡ 1 }
@@ -22,7 +22,7 @@ pub fn worked_sizes()
     ensures largest { HasRoom 0 513 516 }
 {}
 
-/// What journals of four sectors and fewer read as, under version 1.
+/// How journals of four sectors and fewer are read in version 1.
 pub fn worked_journals()
     ensures closed { reads_as 1 7 closed_sector (reading [] 0 false 7) }
     ensures one { reads_as 1 0 (open_sector ++ purge_payload ++ closed_sector ++ closed_sector) (reading (purge_command ∷ []) 2 false 1) }
@@ -35,7 +35,7 @@ pub fn worked_journals()
     ensures behind_a_group { reads_as 1 0 (open_sector ++ purge_payload ++ open_sector ++ seal_payload) (Err (Gap 1)) }
 {}
 
-/// A group of nine commands is one from version 2 on.
+/// A group of nine commands is a group from version 2 on.
 pub fn worked_versions()
     ensures first { reads_as 1 0 (open_sector ++ nine_payload ++ closed_sector ++ closed_sector) (Err BadHeader) }
     ensures second { reads_as 2 0 (open_sector ++ nine_payload ++ closed_sector ++ closed_sector) (reading (replicate 9 purge_command) 2 false 9) }

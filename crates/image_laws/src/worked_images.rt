@@ -1,4 +1,4 @@
-//! Worked values of regions, first sectors, checkpoints and openings. Each function does nothing: what it says is its
+//! Worked values of regions, first sectors, checkpoints and openings. Each function does nothing, and the values are in its
 //! contract.
 
 ghost use Rattle.std.specs.Prelude.{◌≡◌, ℕ, List, [], ◌∷◌, replicate, Ok, Err, Some, None};
@@ -11,7 +11,7 @@ ghost use Rattle.image_laws.specs.Opening.{OpensTo};
 ghost use Rattle.image_laws.specs.OpeningReading.{choice};
 ghost use Rattle.image_laws.specs.WorkedImages.{raw_rows, raw_store, small, small_title, empty_area, head_with, area_with_size, checkpoint_with, small_image};
 
-/// Where the regions of the smallest store are.
+/// The sectors of the regions of the smallest store.
 pub fn worked_regions()
     ensures gate { gate_at small First ≡ 3 }
     ensures journal { journal_at small First ≡ 4 }
@@ -21,13 +21,13 @@ pub fn worked_regions()
     ensures all { image_sectors small ≡ 1039 }
 {}
 
-/// How its sector 0 begins, and that zeros are no store.
+/// The first bytes of the sector 0 of that store, and that zeros are no store.
 pub fn worked_titles()
     ensures title { title_encoding small ≡ small_title }
     ensures zeros { geometry_in (replicate 512 0) ≡ None }
 {}
 
-/// A checkpoint with no rows, and what areas read as, where version 2 is the greatest that is known.
+/// A checkpoint without rows, and how areas are read where version 2 is the greatest that is known.
 pub fn worked_checkpoints()
     ensures empty { checkpoint_encoding raw_rows (first_checkpoint raw_store 2) ≡ empty_area 2 1 0 }
     ensures head { head_in 2 (empty_area 2 7 5) ≡ Ok (head_with 2 7 5) }
@@ -40,7 +40,7 @@ pub fn worked_checkpoints()
     ensures long { checkpoint_in raw_rows 2 (area_with_size 1 225) ≡ Err BadCheckpoint }
 {}
 
-/// Which half is chosen, by the heads of both.
+/// The half that is chosen, by the heads of both.
 pub fn worked_choices()
     ensures none { choice None None ≡ Err NoHalf }
     ensures one { choice (Some (head_with 2 1 0)) None ≡ Ok First }
