@@ -1,5 +1,5 @@
--- What a stop may leave, before a call and after it: images, and which bytes are clean. Cited by this crate and by those
--- above it.
+-- The images that a stop may leave, before a call and after it, and the bytes that are clean. This crate and the crates
+-- above it cite these lemmas.
 use Rattle.std.proofs.Common.{◌≡◌, ◌⊎◌, inl, inr, ℕ, ◌+◌, ◌-◌, ◌≤◌, List, [], ◌∷◌, length, get_or, refl, sym, ◌∙◌, ap, subst, arith}
 use Rattle.std.proofs.lemmas.Bool.{cases_lt}
 use Rattle.std.proofs.lemmas.List.Elements.{All-nil, All-cons, All-head, All-tail}
@@ -8,18 +8,18 @@ use Rattle.sector_dev.specs.Disk.{Span, Moment, History, after_write, after_sync
 use Rattle.sector_dev.specs.Image.{IsClean, IsCleanPart, IsImage, EveryImage}
 use Rattle.byte_lists.proofs.Contents.{length-overwrite, overwrite_before, overwrite_within, overwrite_behind, length-part, get_or-part, same_part, same_content, overwrite_same, overwrite_twice, bytes_overwrite, bytes-part}
 
--- a range leaves this byte alone
+-- a range does not contain this byte
 abbrev pub IsBeside : ℕ → Span → Type 0
 IsBeside i span = span.start ≤ i → span.start + span.len ≤ i
 
--- with no range nothing is dirty
+-- where there is no range, nothing is dirty
 pub clean_none : (i : ℕ) → IsClean [] i
 clean_none i = All-nil (IsBeside i)
 
 pub clean_part_none : (at n : ℕ) → IsCleanPart [] at n
 clean_part_none at n i from to = clean_none i
 
--- a range more leaves clean what it doesn't meet
+-- one more range leaves clean the bytes that it doesn't contain
 pub clean_beside : (start len : ℕ) (dirty : List Span) (i : ℕ) → (start ≤ i → start + len ≤ i) → IsClean dirty i → IsClean (record { start = start; len = len } ∷ dirty) i
 clean_beside start len dirty i beside clean = All-cons (IsBeside i) (record { start = start; len = len }) dirty beside clean
 
@@ -31,35 +31,35 @@ clean_part_beside start len dirty at n (inr behind) clean = λ i from to. clean_
 pub clean_part_in : (dirty : List Span) (at n from m : ℕ) → at ≤ from → from + m ≤ at + n → IsCleanPart dirty at n → IsCleanPart dirty from m
 clean_part_in dirty at n from m low high clean i here to = clean i (omega arith) (omega arith)
 
--- what was clean with a range more is clean without it
+-- bytes that are clean with one more range are clean without it
 pub clean_before : (start len : ℕ) (dirty : List Span) (i : ℕ) → IsClean (record { start = start; len = len } ∷ dirty) i → (start ≤ i → start + len ≤ i) × IsClean dirty i
 clean_before start len dirty i clean = (
   All-head (IsBeside i) (record { start = start; len = len }) dirty clean,
   All-tail (IsBeside i) (record { start = start; len = len }) dirty clean,
 )
 
--- what reads give is an image
+-- the bytes that reads return are an image
 pub image_of_reads : (moment : Moment) → AreBytes moment.reads → IsImage moment moment.reads
 image_of_reads moment bytes = record { size = refl; bytes = bytes; clean = λ i _. refl }
 
--- where nothing is dirty, it is the only one
+-- where nothing is dirty, these bytes are the only image
 pub image_is_reads : (moment : Moment) (content : List ℕ) → moment.dirty ≡ [] → IsImage moment content → content ≡ moment.reads
 image_is_reads moment content none image =
     same_content content moment.reads image.size
     (λ i below. image.clean i (subst (λ (dirty : List Span). IsClean dirty i) (sym none) (clean_none i)))
 
--- a clean part of an image is what reads give there
+-- in a clean part an image has the bytes that reads return
 pub image_part : (moment : Moment) (content : List ℕ) (at n : ℕ) → IsImage moment content → IsCleanPart moment.dirty at n → part at n content ≡ part at n moment.reads
 image_part moment content at n image clean = same_part at n content moment.reads image.size (λ i from to. image.clean i (clean i from to))
 
--- a sync that succeeds only takes images away
+-- a sync that succeeds only removes images
 pub image_synced : (history : History) (content : List ℕ) → IsImage (after_sync history).now content → IsImage history.now content
 image_synced history content image = record { size = image.size; bytes = image.bytes; clean = λ i _. image.clean i (clean_none i) }
 
 pub image_after_sync : (history : History) (content : List ℕ) → IsImage (after_sync history).now content → content ≡ history.now.reads
 image_after_sync history content image = image_is_reads (after_sync history).now content refl image
 
--- an image after a write is one from before it, with other bytes in the range
+-- an image after a write is an image from before it, with other bytes in the range
 record IsTorn (history : History) (at n : ℕ) (content : List ℕ) : Type 0 where
   pub before : List ℕ
   pub image : IsImage history.now before
@@ -120,7 +120,7 @@ image_written history at landed content inside bytes image = record {
       ]
     ]
 
--- If a content with P, overwritten in the range by whatever bytes, has Q, then each image after the write has Q.
+-- If each content with P has Q once it is overwritten in the range by any bytes, then each image after the write has Q.
 pub every_written : (P Q : List ℕ → Type 0) (history : History) (at : ℕ) (landed : List ℕ) → at + length landed ≤ length history.now.reads → AreBytes history.now.reads → EveryImage history.now P
     → ((content torn : List ℕ) → length content ≡ length history.now.reads → length torn ≡ length landed → P content → Q (overwrite at torn content)) → EveryImage (after_write at landed history).now Q
 every_written P Q history at landed inside bytes each step content image =

@@ -1,4 +1,4 @@
--- Transfers one after another, for `read_whole` and `write_whole`, and what they make of a device over the file, for
+-- Several transfers, one after another, for `read_whole` and `write_whole`, and their effect on a device over the file, for
 -- `FileDevice::write`.
 use Rattle.std.proofs.Common.{◌≡◌, ◌≢◌, ℕ, ◌+◌, ◌-◌, ◌*◌, ◌<◌, ◌≤◌, inl, inr, List, [], ◌∷◌, ◌++◌, length, get_or, take, drop, refl, sym, ◌∙◌, ap, subst, arith, length-append, length-drop, get_or-take, Result, OnOk, Bool, IsTrue, add-zero}
 use Rattle.std.proofs.lemmas.Bool.{cases_lt}
@@ -22,19 +22,19 @@ take_join m n bytes =
     ∙ ap (λ (list : List ℕ). take m (take (m + n) bytes) ++ list) (sym (drop-take m n bytes))
     ∙ take-append-drop m (take (m + n) bytes)
 
--- two parts, one behind the other
+-- two parts, one after the other
 pub part_more : (at m n : ℕ) (bytes : List ℕ) → part at m bytes ++ part (at + m) n bytes ≡ part at (m + n) bytes
 part_more at m n bytes =
     ap (λ (list : List ℕ). part at m bytes ++ take n list) (sym (drop-drop m at bytes)) ∙ take_join m n (drop at bytes)
 
--- as many as there are, and n of what is behind
+-- to take as many as the first list has and n more gives the first list and n of the second
 pub take_past : (xs ys : List ℕ) (m n : ℕ) → m ≡ length xs → take (m + n) (xs ++ ys) ≡ xs ++ take n ys
 take_past xs ys m n is =
     let whole : take m (xs ++ ys) ≡ xs = take_at xs ys m (sym is) in
     let rest : drop m (xs ++ ys) ≡ ys = drop_at xs ys m (sym is) in
     sym (take_join m n (xs ++ ys)) ∙ (λ i. whole i ++ take n (rest i))
 
--- a transfer more of a read
+-- one more transfer of a read
 pub read_more : (done n offset : ℕ) (into rest bytes : List ℕ) → done ≤ length into → n ≤ length rest → take done into ≡ part offset done bytes → take n rest ≡ part (offset + done) n bytes
     → take (done + n) (put_mid done (length into - done) into rest) ≡ part offset (done + n) bytes
 read_more done n offset into rest bytes below most so_far next =
@@ -42,7 +42,7 @@ read_more done n offset into rest bytes below most so_far next =
     ∙ ap (λ (list : List ℕ). take done into ++ list) (take-append-le n rest (post_of done (length into - done) into) most)
     ∙ (λ i. so_far i ++ next i) ∙ part_more offset done n bytes
 
--- two writes, one behind the other
+-- two writes, one after the other
 pub overwrite_more : (at : ℕ) (first second content : List ℕ) → at + (length first + length second) ≤ length content → overwrite (at + length first) second (overwrite at first content) ≡ overwrite at (first ++ second) content
 overwrite_more at first second content inside =
     same_content twice once
@@ -88,7 +88,7 @@ overwrite_more at first second content inside =
       ]
     ]
 
--- what a write within the front changes of it
+-- how a write within the front changes the front
 pub front_overwrite : (size at : ℕ) (landed content : List ℕ) → at + length landed ≤ size → size ≤ length content → take size (overwrite at landed content) ≡ overwrite at landed (take size content)
 front_overwrite size at landed content inside covered =
     same_content (take size (overwrite at landed content)) (overwrite at landed (take size content)) (one ∙ sym two) (λ i below. entry i (omega (arith, one)))
@@ -119,14 +119,14 @@ front_overwrite size at landed content inside covered =
           ]
         ]
 
--- what a part within the front is
+-- a part within the front is a part of the content
 pub part-front : (size at n : ℕ) (content : List ℕ) → at + n ≤ size → part at n (take size content) ≡ part at n content
 part-front size at n content inside =
     let split : at + (size - at) ≡ size = omega arith in
     ap (λ (k : ℕ). take n (drop at (take k content))) (sym split)
     ∙ ap (λ (list : List ℕ). take n list) (drop-take at (size - at) content) ∙ take-take n (size - at) (drop at content) (omega arith)
 
--- a transfer more of a write
+-- one more transfer of a write
 pub write_more : (done n offset : ℕ) (bytes content new : List ℕ) → done + n ≤ length bytes → offset + length bytes ≤ length content → new ≡ overwrite offset (take done bytes) content
     → overwrite (offset + done) (take n (drop done bytes)) new ≡ overwrite offset (take (done + n) bytes) content
 write_more done n offset bytes content new below inside so_far =
@@ -136,7 +136,7 @@ write_more done n offset bytes content new below inside so_far =
     ∙ overwrite_more offset (take done bytes) (take n (drop done bytes)) content (omega (arith, first, second))
     ∙ ap (λ (list : List ℕ). overwrite offset list content) (take_join done n bytes)
 
--- a write that ends early, after a last transfer that left any bytes
+-- a write that ends early, after a last transfer that may have written any bytes
 pub ended_early : (done offset : ℕ) (bytes landed content new later : List ℕ) → done ≤ length bytes → offset + length bytes ≤ length content → length landed ≡ length bytes - done
     → new ≡ overwrite offset (take done bytes) content → later ≡ overwrite (offset + done) landed new → later ≡ overwrite offset (take done bytes ++ landed) content
 ended_early done offset bytes landed content new later below inside size so_far last =
@@ -144,7 +144,7 @@ ended_early done offset bytes landed content new later below inside size so_far 
     last ∙ (λ i. overwrite (offset + sym first i) landed (so_far i))
     ∙ overwrite_more offset (take done bytes) landed content (omega (arith, first))
 
--- what is behind a write stays, and may be thought of as written again
+-- the bytes after a write are unchanged, as if they had been written again
 pub overwrite_and_rest : (at : ℕ) (first content : List ℕ) (n : ℕ) → at + length first + n ≤ length content → overwrite at (first ++ part (at + length first) n content) content ≡ overwrite at first content
 overwrite_and_rest at first content n inside =
     let there = part (at + length first) n content in
@@ -162,14 +162,14 @@ overwrite_and_rest_at done at bytes content below inside =
     ap (λ (k : ℕ). overwrite at (take done bytes ++ part (at + k) (length bytes - done) content) content) (sym first)
     ∙ overwrite_and_rest at (take done bytes) content (length bytes - done) (omega (arith, first))
 
--- a transfer that moved some bytes is no failure, and one that moved none of some is
+-- a transfer that moved some bytes is no failure, and one that moved none of some bytes is
 pub failures_moved : (asked n failures : ℕ) → n ≢ 0 → failures_after_transfer asked (success (Unit {0}) n) failures ≡ failures
 failures_moved asked n failures some = grind (arith, nat_tests)
 
 pub failures_stuck : (asked n failures : ℕ) → 0 < asked → n ≡ 0 → failures_after_transfer asked (success (Unit {0}) n) failures ≡ one_more failures
 failures_stuck asked n failures some none = grind (arith, nat_tests)
 
--- honest before is honest after, where that stays
+-- a file that is honest before is honest after, where this stays
 pub honest_file : (old new : FileState) → new.is_honest ≡ old.is_honest → IsHonestFile old → IsHonestFile new
 honest_file old new same honest = subst (λ (b : Bool). IsTrue b) (sym same) honest
 
@@ -196,12 +196,12 @@ module _ (offset done : ℕ) (bytes : List ℕ) (start mid later : FileState) (b
       ∙ ap (λ (list : List ℕ). overwrite (offset + done) list mid.bytes) (take-take n (length bytes - done) (drop done bytes) (omega (arith, rest_size, most)))
       ∙ write_more done n offset bytes start.bytes mid.bytes (omega (arith, rest_size, most)) inside (so_far honest inside)
 
-  -- one that did anything
+  -- a transfer with any effect
   pub write_dirties : {E : Type 0} (result : Result ℕ E) → TransfersIn (offset + done) rest result mid later → IsHonestFile start → DirtiesOnly offset (length bytes) start.dirty later.dirty
   write_dirties result call honest i clean beside =
       call.dirty (honest_file start mid same honest) i (dirtied honest i clean beside) (λ from. omega (arith, beside (omega arith), rest_size))
 
-  -- one that moved none
+  -- a transfer that moved no bytes
   pub write_stuck : {T E F : Type 0} (e : F) (n : ℕ) → n ≡ 0 → TransfersIn (offset + done) rest (success E n) mid later → WritesWhole offset bytes (failure T e) start later
   write_stuck {T} {E} {F} e n none call = record {
     is_honest = call.is_honest ∙ same;
@@ -218,7 +218,7 @@ module _ (offset done : ℕ) (bytes : List ℕ) (start mid later : FileState) (b
         };
   }
 
-  -- one that failed
+  -- a transfer that failed
   pub write_failed : {T E F : Type 0} (e : F) (error : E) → TransfersIn (offset + done) rest (failure ℕ error) mid later → WritesWhole offset bytes (failure T e) start later
   write_failed e error call = record {
     is_honest = call.is_honest ∙ same;
@@ -233,7 +233,7 @@ module _ (offset done : ℕ) (bytes : List ℕ) (start mid later : FileState) (b
         };
   }
 
--- what a write of a file does to the device over it
+-- the effect of a write of a file on the device over the file
 module _ (sectors at : ℕ) (bytes : List ℕ) (old new : FileState) (past later : List Moment) (dirty dirtied : List Span) where
   abbrev before : History
   before = record { past = past; now = record { reads = front sectors old.bytes; dirty = dirty } }
@@ -259,13 +259,13 @@ module _ (sectors at : ℕ) (bytes : List ℕ) (old new : FileState) (past later
       span : ℕ → Span
       span n = record { start = 512 * at; len = n }
 
--- what was covered is covered after a write of which the device knows
+-- what was covered is covered after a write that the device has noted
 pub covers_written : (at n : ℕ) (dirty dirtied : List Span) (old new : FileState) → CoversDirty dirty old → DirtiesOnly at n old.dirty new.dirty → dirtied ≡ record { start = at; len = n } ∷ dirty → CoversDirty dirtied new
 covers_written at n dirty dirtied old new covers after_write is i clean =
     let both = clean_before at n dirty i (subst (λ (spans : List Span). IsClean spans i) is clean) in
     after_write i (covers i both.1) both.0
 
--- a write within the front leaves the file as long as it was
+-- a write within the front does not change the length of the file
 pub covered_after : {T E : Type 0} (size at : ℕ) (bytes : List ℕ) (told : Result T E) (old new : List ℕ) → at + length bytes ≤ size → size ≤ length old → LandsWhole at bytes told old new → size ≤ length new
 covered_after size at bytes told old new inside covered lands =
     omega (arith, ap length lands.is, length-overwrite at lands.landed old (omega (arith, lands.size)))

@@ -1,30 +1,30 @@
--- What each call of a device does, one record a call. What an honest device does is said under that premise alone.
+-- The effect of each call of a device, one record for each call. The effect on an honest device is defined under that premise.
 use Rattle.std.specs.Prelude.{◌≡◌, ℕ, ◌+◌, ◌-◌, ◌*◌, ◌^◌, min, List, length, Result, Ok, Err, OnOk, OnErr}
 use Rattle.byte_lists.specs.Content.{part}
 use Rattle.sector_dev.specs.Disk.{Disk, IsHonest, History, reads_of, after_write, after_sync}
 
--- a count of what failed, with one more; 2^64 - 1 stays
+-- a count of failures plus one; 2^64 - 1 stays
 abbrev pub one_more : ℕ → ℕ
 one_more count = min (count + 1) (2 ^ 64 - 1)
 
--- how many calls have failed after one that gave this result
+-- the count of failed calls after a call with this result
 abbrev pub count_after : {T E : Type 0} → Result T E → ℕ → ℕ
 count_after (Ok _) faults = faults
 count_after (Err _) faults = one_more faults
 
--- what no call changes
+-- the fields that no call changes
 pub record Keeps (old new : Disk) : Type 0 where
   pub is_honest : new.is_honest ≡ old.is_honest
   pub sectors : new.sectors ≡ old.sectors
 
--- a read at a sector: nothing changes, and what is read is what is there
+-- a read at a sector: nothing changes, and the bytes that are read are those at the sector
 pub record ReadCall {T E : Type 0} (sector : ℕ) (into : List ℕ) (result : Result T E) (old new : Disk) : Type 0 where
   pub keeps : Keeps old new
   pub faults : new.faults ≡ count_after result old.faults
   pub history : IsHonest old → new.history ≡ old.history
   pub bytes : IsHonest old → OnOk result (into ≡ part (512 * sector) (length into) (reads_of old))
 
--- some bytes landed in the range of a write, and nothing else changed; where it succeeded, they are those given
+-- some bytes landed in the range of a write, and nothing else changed; after a write that succeeded, they are the given bytes
 pub record Lands {T E : Type 0} (sector : ℕ) (bytes : List ℕ) (result : Result T E) (old new : History) : Type 0 where
   pub landed : List ℕ
   pub size : length landed ≡ length bytes

@@ -1,4 +1,4 @@
--- What contracts see of a device of 512-byte sectors, and how its calls change it. Offsets and lengths count bytes.
+-- A device of 512-byte sectors as contracts see it, and how its calls change it. Offsets and lengths count bytes.
 use Rattle.std.specs.Prelude.{◌≡◌, ℕ, ◌*◌, Bool, IsTrue, List, [], ◌∷◌, ◌++◌, length}
 use Rattle.byte_lists.specs.Content.{AreBytes, overwrite}
 
@@ -7,36 +7,36 @@ pub record Span : Type 0 where
   pub start : ℕ
   pub len : ℕ
 
--- what reads give, and the ranges written since the last sync that succeeded
+-- the bytes that reads return, and the ranges written since the last sync that succeeded
 pub record Moment : Type 0 where
   pub reads : List ℕ
   pub dirty : List Span
 
--- the moments so far, the oldest first: each write, and each sync that succeeds, makes a new one
+-- the moments until now, the oldest first: each write, and each sync that succeeds, adds a new one
 pub record History : Type 0 where
   pub past : List Moment
   pub now : Moment
 
--- the whole of a device: whether it is honest, its size, how many calls failed, and its history
+-- all of a device: whether it is honest, its size in sectors, the count of failed calls, and its history
 pub record Disk : Type 0 where
   pub is_honest : Bool
   pub sectors : ℕ
   pub faults : ℕ
   pub history : History
 
--- the device does what a device of sectors is to do, and nobody else writes it
+-- the device works as a device of sectors should, and nothing else writes to it
 abbrev pub IsHonest : Disk → Type 0
 IsHonest disk = IsTrue disk.is_honest
 
--- what reads give now
+-- the bytes that reads return now
 abbrev pub reads_of : Disk → List ℕ
 reads_of disk = disk.history.now.reads
 
--- all the moments, the one of now last
+-- all moments, the present one last
 abbrev pub moments : History → List Moment
 moments history = history.past ++ history.now ∷ []
 
--- what reads give is bytes, 512 for each sector
+-- the bytes that reads return are bytes, 512 for each sector
 pub record IsWhole (disk : Disk) : Type 0 where
   pub size : length (reads_of disk) ≡ 512 * disk.sectors
   pub bytes : AreBytes (reads_of disk)

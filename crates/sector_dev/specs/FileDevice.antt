@@ -1,4 +1,4 @@
--- What clauses see of a device over a file.
+-- A device over a file, as contracts see it.
 use Rattle.std.specs.Prelude.{◌≡◌, ℕ, ◌+◌, ◌*◌, ◌/◌, ◌≤◌, List, [], length, take, Result, OnOk}
 use Rattle.byte_lists.specs.Content.{overwrite}
 use Rattle.sector_dev.specs.Disk.{Disk}
@@ -11,28 +11,28 @@ use Rattle.sector_dev.specs.declared.file_device.FileDevice.{FileDevice}
 abbrev pub front : ℕ → List ℕ → List ℕ
 front sectors bytes = take (512 * sectors) bytes
 
--- a device that has just been made over a file: its whole sectors, of which dirty is what is dirty in the file
+-- a new device over a file: the whole sectors of the file, with the dirty ranges of the file
 pub record IsMadeOver (file : FileState) (disk : Disk) : Type 0 where
   pub is_honest : disk.is_honest ≡ file.is_honest
   pub sectors : IsHonestFile file → disk.sectors ≡ length file.bytes / 512
   pub faults : disk.faults ≡ 0
   pub history : IsHonestFile file → disk.history ≡ record { past = []; now = record { reads = front disk.sectors file.bytes; dirty = file.dirty } }
 
--- all the transfers of a write: some bytes landed, as many as were given, and just those where all went well
+-- all transfers of a write: some bytes landed, as many as were given, and exactly these where no transfer failed
 pub record LandsWhole {T E : Type 0} (offset : ℕ) (bytes : List ℕ) (result : Result T E) (old new : List ℕ) : Type 0 where
   pub landed : List ℕ
   pub size : length landed ≡ length bytes
   pub done : OnOk result (landed ≡ bytes)
   pub is : new ≡ overwrite offset landed old
 
--- a write to a file in as many transfers as it takes
+-- a write to a file in any number of transfers
 pub record WritesWhole {T E : Type 0} (offset : ℕ) (bytes : List ℕ) (result : Result T E) (old new : FileState) : Type 0 where
   pub is_honest : new.is_honest ≡ old.is_honest
   pub lands : IsHonestFile old → offset + length bytes ≤ length old.bytes → LandsWhole offset bytes result old.bytes new.bytes
   pub dirty : IsHonestFile old → DirtiesOnly offset (length bytes) old.dirty new.dirty
 
--- a call that fails just where a call of its file does: the file's count of failures grows by one, and stays where all
--- is well
+-- a call fails exactly where a call of its file fails: the file's count of failures grows by one, and stays where no call
+-- fails
 abbrev pub FailsWithFile : {T E : Type 0} → Result T E → FileState → FileState → Type 0
 FailsWithFile result old new = new.failures ≡ count_after result old.failures
 
@@ -40,11 +40,11 @@ FailsWithFile result old new = new.failures ≡ count_after result old.failures
 abbrev pub file_of : {F : Type 0} {G : Ghosts F} → FileDevice F G → F
 file_of device = device.file
 
--- what clauses see of that file
+-- that file as contracts see it
 abbrev pub file_state : {F : Type 0} {G : Ghosts F} → FileDevice F G → FileState
 file_state {F} {G} device = G.state device.file
 
--- the whole sectors of the file, with the moments that the device has had
+-- the whole sectors of the file, with the past moments of the device
 abbrev pub file_disk : {F : Type 0} {G : Ghosts F} → FileDevice F G → Disk
 file_disk {F} {G} device = record {
   is_honest = (G.state device.file).is_honest;

@@ -1,4 +1,4 @@
--- What clauses see of a device that stops for good after some calls.
+-- A device that stops for good after some calls, as contracts see it.
 use Rattle.std.specs.Prelude.{◌≡◌, ◌↔◌, ℕ, ◌-◌, ◌*◌, ◌<◌, List, ◌++◌, length, take, replicate, Result, IsOk, if◌then◌else◌, ◌==◌}
 use Rattle.byte_lists.specs.Content.{part}
 use Rattle.sector_dev.specs.Disk.{Disk, History, after_write}
@@ -11,7 +11,7 @@ use Rattle.sector_dev.specs.MemDevice.{memory_disk}
 abbrev pub fuse_memory : FuseDevice → MemDevice
 fuse_memory fuse = fuse.memory
 
--- how many more calls it passes
+-- how many more calls succeed
 abbrev pub calls_left : FuseDevice → ℕ
 calls_left fuse = fuse.left
 
@@ -23,17 +23,17 @@ fuse_tear fuse = fuse.tear
 abbrev pub fuse_disk : FuseDevice → Disk
 fuse_disk fuse = record (memory_disk fuse.memory) { faults = fuse.faults }
 
--- the first bytes land, and the others become one byte
+-- the first bytes land, and all others become one fill byte
 abbrev pub torn_bytes : Tear → List ℕ → List ℕ
 torn_bytes tear bytes = take tear.keep bytes ++ replicate (length bytes - tear.keep) tear.fill
 
--- one call of a fuse: it passes as long as some are left
+-- one call of a fuse: it succeeds as long as some calls are left
 pub record BurnsOne {T E : Type 0} (result : Result T E) (old new : FuseDevice) : Type 0 where
   pub passes : IsOk result ↔ (0 < calls_left old)
   pub left : calls_left new ≡ calls_left old - 1
   pub tear : fuse_tear new ≡ fuse_tear old
 
--- what a failed write leaves: it is torn where it is the first call that failed, and else nothing lands
+-- the history after a failed write: the write is torn where it is the first call that failed, and else nothing lands
 abbrev pub after_stopped_write : FuseDevice → ℕ → List ℕ → History
 after_stopped_write fuse sector bytes =
     let history = (fuse_disk fuse).history in

@@ -1,4 +1,4 @@
--- What clauses see of a device whose syncs wait at a gate.
+-- A device whose syncs wait at a gate, as contracts see it.
 use Rattle.sector_dev.specs.declared.held_device.HeldDevice.{HeldDevice}
 
 -- the device within

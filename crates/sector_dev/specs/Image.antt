@@ -1,18 +1,18 @@
--- What a device may hold after a stop. A stop within a call is covered too: in the middle of a write what is there is an
--- image of the moment after it, and in the middle of a sync one of the moment before.
+-- The contents that a device may have after a stop. A stop within a call is covered too: in the middle of a write, the contents are
+-- an image of the moment after it, and in the middle of a sync an image of the moment before it.
 use Rattle.std.specs.Prelude.{◌≡◌, ℕ, ◌+◌, ◌<◌, ◌≤◌, List, length, drop, slice_index, All}
 use Rattle.byte_lists.specs.Content.{AreBytes}
 use Rattle.sector_dev.specs.Disk.{Span, Moment, History, moments}
 
--- no range has the byte at this offset
+-- no range contains the byte at this offset
 abbrev pub IsClean : List Span → ℕ → Type 0
 IsClean dirty i = All (λ (span : Span). span.start ≤ i → span.start + span.len ≤ i) dirty
 
--- no range has any of the n bytes at an offset
+-- no range contains any of the n bytes at an offset
 abbrev pub IsCleanPart : List Span → ℕ → ℕ → Type 0
 IsCleanPart dirty at n = (i : ℕ) → at ≤ i → i < at + n → IsClean dirty i
 
--- bytes, as many as reads give, and the same wherever nothing is dirty
+-- bytes, as many as reads return, and the same wherever nothing is dirty
 pub record IsImage (moment : Moment) (content : List ℕ) : Type 0 where
   pub size : length content ≡ length moment.reads
   pub bytes : AreBytes content
@@ -22,11 +22,11 @@ pub record IsImage (moment : Moment) (content : List ℕ) : Type 0 where
 abbrev pub EveryImage : Moment → (List ℕ → Type 0) → Type 0
 EveryImage moment P = (content : List ℕ) → IsImage moment content → P content
 
--- each image of each moment from the t-th on has P, the first being the 0th
+-- each image of each moment from number t on has P; the first moment has number 0
 abbrev pub EveryImageSince : ℕ → History → (List ℕ → Type 0) → Type 0
 EveryImageSince t history P = All (λ (moment : Moment). EveryImage moment P) (drop t (moments history))
 
--- the content comes, by a relation, from some image of this moment
+-- the content is related to some image of this moment
 pub record IsFromImage (moment : Moment) (R : List ℕ → List ℕ → Type 0) (content : List ℕ) : Type 0 where
   pub before : List ℕ
   pub image : IsImage moment before

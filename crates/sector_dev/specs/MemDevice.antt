@@ -1,9 +1,9 @@
--- What clauses see of a device in memory.
+-- A device in memory, as contracts see it.
 use Rattle.std.specs.Prelude.{ℕ, ◌*◌, true, [], replicate}
 use Rattle.sector_dev.specs.Disk.{Disk}
 use Rattle.sector_dev.specs.declared.mem_device.MemDevice.{MemDevice}
 
--- an honest device that never failed
+-- an honest device whose calls never failed
 abbrev pub memory_disk : MemDevice → Disk
 memory_disk device = record {
   is_honest = true;
@@ -12,7 +12,7 @@ memory_disk device = record {
   history = record { past = device.trail.past; now = record { reads = device.bytes.items; dirty = device.trail.dirty } };
 }
 
--- an honest device of zeros, to which nothing has been done
+-- an honest device of zeros, before any call
 abbrev pub zeroed_disk : ℕ → Disk
 zeroed_disk sectors = record {
   is_honest = true;

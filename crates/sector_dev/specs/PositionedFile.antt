@@ -1,11 +1,11 @@
--- What the calls of a file do that is read and written at offsets. What an honest file does is said under that premise.
+-- The effects of the calls of a file that is read and written at offsets. The effect on an honest file is defined under that premise.
 use Rattle.std.specs.Prelude.{◌≡◌, ℕ, ◌+◌, ◌≤◌, Bool, IsTrue, List, [], length, take, Result, Ok, Err, IfOk, OnOk, OnErr, if◌then◌else◌, ◌==◌, ◌&&◌, nat_lt}
 use Rattle.byte_lists.specs.Content.{part, overwrite}
 use Rattle.sector_dev.specs.Disk.{Span}
 use Rattle.sector_dev.specs.Image.{IsClean}
 use Rattle.sector_dev.specs.Calls.{count_after, one_more}
 
--- a file as clauses see it: whether it is honest, the bytes that it holds, the ranges written since the last sync that
+-- a file as contracts see it: whether it is honest, its bytes, the ranges written since the last sync that
 -- succeeded, in which a stop may leave any bytes, and how many of its transfers and syncs have failed
 pub record FileState : Type 0 where
   pub is_honest : Bool
@@ -13,22 +13,22 @@ pub record FileState : Type 0 where
   pub dirty : List Span
   pub failures : ℕ
 
--- the file keeps what is written to it, and nobody else writes it
+-- the file keeps the bytes that are written to it, and nothing else writes to it
 abbrev pub IsHonestFile : FileState → Type 0
 IsHonestFile file = IsTrue file.is_honest
 
--- a call that changes nothing of what an honest file holds
+-- a call that does not change the bytes of an honest file
 pub record LeavesFile (old new : FileState) : Type 0 where
   pub is_honest : new.is_honest ≡ old.is_honest
   pub bytes : IsHonestFile old → new.bytes ≡ old.bytes
   pub dirty : IsHonestFile old → new.dirty ≡ old.dirty
 
--- the count of failures after a transfer of so many bytes: one more where it failed, or moved none of them
+-- the count of failures after a transfer of this number of bytes: one more where it failed, or moved none of them
 abbrev pub failures_after_transfer : {E : Type 0} → ℕ → Result ℕ E → ℕ → ℕ
 failures_after_transfer asked (Ok moved) failures = if nat_lt 0 asked && moved == 0 then one_more failures else failures
 failures_after_transfer asked (Err _) failures = one_more failures
 
--- a sync, after which a stop leaves an honest file as it is
+-- a sync; after one that succeeds, a stop leaves the bytes of an honest file unchanged
 pub record SyncsFile {T E : Type 0} (result : Result T E) (old new : FileState) : Type 0 where
   pub is_honest : new.is_honest ≡ old.is_honest
   pub failures : new.failures ≡ count_after result old.failures
@@ -36,15 +36,15 @@ pub record SyncsFile {T E : Type 0} (result : Result T E) (old new : FileState) 
   pub done : IsHonestFile old → OnOk result (new.dirty ≡ [])
   pub unchanged : IsHonestFile old → OnErr result (new.dirty ≡ old.dirty)
 
--- nothing is dirty but what was, and the n bytes at an offset
+-- nothing is dirty but what was dirty before, and the n bytes at an offset
 abbrev pub DirtiesOnly : ℕ → ℕ → List Span → List Span → Type 0
 DirtiesOnly offset n old new = (i : ℕ) → IsClean old i → (offset ≤ i → offset + n ≤ i) → IsClean new i
 
--- what is clean to the device is clean in the file
+-- bytes that are clean in the device are clean in the file
 abbrev pub CoversDirty : List Span → FileState → Type 0
 CoversDirty dirty file = (i : ℕ) → IsClean dirty i → IsClean file.dirty i
 
--- one transfer out of the file: as many bytes as it answers, at most those asked for
+-- one transfer out of the file, of the number of bytes that it returns, at most those asked for
 pub record TransfersOut {E : Type 0} (offset : ℕ) (into : List ℕ) (result : Result ℕ E) (old new : FileState) : Type 0 where
   pub same : LeavesFile old new
   pub failures : new.failures ≡ failures_after_transfer (length into) result old.failures
@@ -57,12 +57,12 @@ pub record LandsAny (offset : ℕ) (bytes old new : List ℕ) : Type 0 where
   pub size : length landed ≡ length bytes
   pub is : new ≡ overwrite offset landed old
 
--- the bytes of an honest file after a transfer into it: as many as it answers land, and any bytes where it fails
+-- the bytes of an honest file after a transfer into it: the number that it returns landed, and any bytes where it failed
 abbrev pub LandsTransfer : {E : Type 0} → ℕ → List ℕ → Result ℕ E → List ℕ → List ℕ → Type 0
 LandsTransfer offset bytes (Ok n) old new = new ≡ overwrite offset (take n bytes) old
 LandsTransfer offset bytes (Err _) old new = LandsAny offset bytes old new
 
--- one transfer into the file, of at most the bytes given
+-- one transfer into the file, of at most the given bytes
 pub record TransfersIn {E : Type 0} (offset : ℕ) (bytes : List ℕ) (result : Result ℕ E) (old new : FileState) : Type 0 where
   pub is_honest : new.is_honest ≡ old.is_honest
   pub failures : new.failures ≡ failures_after_transfer (length bytes) result old.failures

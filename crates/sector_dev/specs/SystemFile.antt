@@ -1,8 +1,8 @@
--- What clauses see of a file of the system.
+-- A file of the system, as contracts see it.
 use Rattle.std.specs.Prelude.{false, []}
 use Rattle.sector_dev.specs.PositionedFile.{FileState}
 use Rattle.sector_dev.specs.declared.system_file.SystemFile.{SystemFile}
 
--- a file that is not called honest, of which nothing is known but its count of failures
+-- a file that is not known to be honest; only its count of failures is known
 abbrev pub system_state : SystemFile → FileState
 system_state file = record { is_honest = false; bytes = []; dirty = []; failures = file.failures }

@@ -9,7 +9,7 @@ use std::fmt;
 /// Why a call of a device failed.
 #[derive(Clone, Copy, Debug)]
 pub enum DevError {
-    /// The device failed in that call, and has counted it.
+    /// The device failed in this call, and counted the failure.
     Fault = 1,
 }
 
@@ -23,42 +23,42 @@ impl fmt::Display for DevError {
 
 impl Error for DevError {}
 
-/// A device of 512-byte sectors. `at` counts sectors.
+/// A device of 512-byte sectors. The argument `at` counts sectors.
 ///
-/// Clauses see a device as a `Disk`. Whether it is honest stays as it is; what is said of reads and of what a stop may
-/// leave is said of an honest one. No call takes memory.
+/// Contracts see a device as a `Disk`. No call changes whether the device is honest. What contracts state of reads, and of the
+/// contents after a stop, holds for an honest device. No call takes memory.
 pub trait Device {
-    /// What clauses see of the device.
+    /// The device as contracts see it.
     ghost disk: { Self → Disk };
 
-    /// How many sectors it has: no call changes that.
+    /// The number of sectors. No call changes it.
     fn sectors(&self) -> u64
         ensures sectors { result ≡ (disk self.now).sectors };
 
-    /// Reads whole sectors. After a failed read `into` may hold any bytes.
+    /// Reads whole sectors from sector `at` on into `into`. After a failed read `into` may have any bytes.
     fn read(&mut self, at: u64, into: &mut [u8]) -> Result<(), DevError>
         requires whole { length into.old % 512 ≡ 0 }
         requires inside { 512 * at + length into.old ≤ 512 * (disk self.old).sectors }
         ensures read { ReadCall at into.new result (disk self.old) (disk self.new) };
 
-    /// Writes whole sectors. A failed write may leave any bytes in its range. Until a sync succeeds, a stop may leave any
-    /// bytes there, whatever the write answered.
+    /// Writes whole sectors from sector `at` on. A failed write may leave any bytes in its range. Until a sync succeeds, a stop may
+    /// leave any bytes in the range, whatever the write returned.
     fn write(&mut self, at: u64, bytes: &[u8]) -> Result<(), DevError>
         requires whole { length bytes.now % 512 ≡ 0 }
         requires inside { 512 * at + length bytes.now ≤ 512 * (disk self.old).sectors }
         ensures write { WriteCall at bytes.now result (disk self.old) (disk self.new) };
 
-    /// After a sync that succeeds, a stop leaves what reads give. One that fails changes nothing.
+    /// After a sync that succeeds, a stop leaves the bytes that reads return. A sync that fails changes nothing.
     fn sync(&mut self) -> Result<(), DevError>
         ensures sync { SyncCall result (disk self.old) (disk self.new) };
 
-    /// How many calls have failed, as far as that is below 2^64 - 1, which stays.
+    /// The number of calls that have failed, at most 2^64 - 1.
     fn faults(&self) -> u64
         ensures faults { result ≡ (disk self.now).faults };
 
-    /// Offsets into it fit a `u64`.
+    /// Offsets into the device in bytes fit a `u64`.
     ghost fits: { (device : Self) → 512 * (disk device).sectors < 2 ^ 64 };
 
-    /// What reads of an honest one give is bytes, 512 for each sector.
+    /// Reads of an honest device return bytes, 512 for each sector.
     ghost whole: { (device : Self) → IsHonest (disk device) → IsWhole (disk device) };
 }

@@ -3,8 +3,8 @@ ghost use Rattle.std.specs.Prelude.{◌≡◌, ◌+◌, ◌-◌, ◌*◌, ◌%�
 
 use crate::{DevError, Device, MemDevice};
 
-/// Fails one call of `read`, `write` and `sync`, and passes all others to a device in memory. Of the write that fails
-/// nothing lands.
+/// A device in memory of which one call of `read`, `write` or `sync` fails. All other calls are passed on. Where the failing call is
+/// a write, nothing of it lands.
 #[derive(Drop)]
 pub struct FaultDevice {
     memory: MemDevice,
@@ -15,7 +15,7 @@ impl FaultDevice {
     ghost use Rattle.sector_dev.specs.FaultDevice.{fault_disk, fault_memory, calls_before_fault, CountsDown};
     ghost use Rattle.sector_dev.specs.MemDevice.{memory_disk};
 
-    /// Fails the call of this number, the first one being number 0.
+    /// A device whose call of this number fails. The first call has number 0.
     pub fn new(memory: MemDevice, number: u64) -> FaultDevice
         ensures disk { fault_disk result ≡ memory_disk memory }
         ensures before { calls_before_fault result ≡ Some number }
@@ -26,7 +26,7 @@ impl FaultDevice {
         }
     }
 
-    /// What is there now.
+    /// The device in memory with its present contents.
     pub fn into_mem(self) -> MemDevice
         ensures { result ≡ fault_memory self }
     {
@@ -34,7 +34,7 @@ impl FaultDevice {
         memory
     }
 
-    // Counts one call, and says whether it is the one that fails.
+    // Counts one call, and returns an error if this is the call that fails.
     fn count(&mut self) -> Result<(), DevError>
         ensures counts { CountsDown result self.old self.new }
         ensures memory { fault_memory self.new ≡ fault_memory self.old }

@@ -7,8 +7,8 @@ use crate::transfers::{read_whole, write_whole};
 use crate::{DevError, Device, PositionedFile, SECTOR};
 use std::io;
 
-/// The whole sectors of a file, as long as it was when the device was made. It is as honest as the file is. It answers
-/// Fault just where the file's count of failures grows: where a transfer failed or moved nothing, or a sync failed.
+/// The whole sectors of a file, of the length that the file had when the device was made. The device is honest if the file is. A call
+/// returns `Fault` exactly where the file's count of failures grows: where a transfer failed or moved nothing, or a sync failed.
 #[derive(Drop)]
 pub struct FileDevice<F: PositionedFile> {
     file: F,
@@ -31,7 +31,7 @@ impl<F: PositionedFile> FileDevice<F> {
     ghost use Rattle.sector_dev.specs.FileDevice.{IsMadeOver, file_disk, file_of, file_state};
     ghost use Rattle.sector_dev.specs.Calls.{one_more};
 
-    /// The file's whole sectors; what is behind them is left alone. It fails where the file's length can't be had.
+    /// A device over the file's whole sectors. The bytes after them are never touched. The error is that of the call for the file's length.
     pub fn new(mut file: F) -> io::Result<FileDevice<F>>
     where
         F: Drop,
@@ -54,7 +54,7 @@ impl<F: PositionedFile> FileDevice<F> {
         file
     }
 
-    // Counts a call that failed.
+    // Counts a failed call, and returns its error.
     fn count(&mut self) -> DevError
         ensures disk { file_disk self.new ≡ record (file_disk self.old) { faults = one_more self.old.faults } }
         ensures file { file_state self.new ≡ file_state self.old }

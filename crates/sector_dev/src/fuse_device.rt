@@ -4,15 +4,15 @@ ghost use Rattle.sector_dev.specs.Calls.{count_after, ReadCall, WriteCall, SyncC
 
 use crate::{DevError, Device, MemDevice};
 
-/// What becomes of the write at which a fuse stops: its first `keep` bytes land, and its others become `fill`.
+/// How the write at which a fuse stops is torn: its first `keep` bytes land, and all others become `fill`.
 #[derive(Clone, Copy)]
 pub struct Tear {
     pub keep: usize,
     pub fill: u8,
 }
 
-/// Passes some calls of `read`, `write` and `sync` to a device in memory, and then fails all. Where the first one that
-/// fails is a write, it is torn; of the writes after it nothing lands.
+/// A device in memory of which some calls of `read`, `write` and `sync` succeed, and then all calls fail. Where the first call that
+/// fails is a write, the write is torn. Of later writes nothing lands.
 #[derive(Drop)]
 pub struct FuseDevice {
     memory: MemDevice,
@@ -25,7 +25,7 @@ impl FuseDevice {
     ghost use Rattle.sector_dev.specs.FuseDevice.{fuse_memory, fuse_disk, fuse_tear, calls_left, BurnsOne};
     ghost use Rattle.sector_dev.specs.MemDevice.{memory_disk};
 
-    /// Passes this many calls.
+    /// A device of which this number of calls succeed.
     pub fn new(memory: MemDevice, calls: u64, tear: Tear) -> FuseDevice
         ensures disk { fuse_disk result ≡ memory_disk memory }
         ensures calls { calls_left result ≡ calls }
@@ -39,7 +39,7 @@ impl FuseDevice {
         }
     }
 
-    /// What is there after the stop, in a device that goes on.
+    /// The contents after the stop, in a device that works again.
     pub fn into_mem(self) -> MemDevice
         ensures { result ≡ fuse_memory self }
     {
@@ -47,7 +47,7 @@ impl FuseDevice {
         memory
     }
 
-    // Takes one from the calls that are left, or counts one that fails.
+    // Takes one from the calls that are left, or counts a call that fails.
     fn burn(&mut self) -> Result<(), DevError>
         ensures burns { BurnsOne result self.old self.new }
         ensures memory { fuse_memory self.new ≡ fuse_memory self.old }

@@ -1,18 +1,18 @@
-//! A device whose syncs pass a gate first.
+//! A device with a gate before each sync.
 ghost use Rattle.std.specs.Prelude.{◌≡◌, ◌+◌, ◌*◌, ◌%◌, ◌≤◌, length};
 
 use crate::{DevError, Device};
 
-/// What a `HeldDevice` passes before each sync. It may count the syncs, or let them wait.
+/// The gate that a `HeldDevice` passes before each sync. A gate may count the syncs, or make them wait.
 pub trait Gate {
-    /// One pass may lead from the first state to the second.
+    /// One pass may change the first state into the second.
     ghost passed: { Self → Self → Type 0 };
 
     fn pass(&mut self)
         ensures { passed self.old self.new };
 }
 
-/// Passes its gate once before each sync, and is the device within in all else.
+/// A device that passes its gate once before each sync. All else is passed on to the device within.
 #[derive(Drop)]
 pub struct HeldDevice<D, G> {
     device: D,

@@ -1,8 +1,8 @@
-//! Devices of 512-byte sectors: what a store may rely on at every moment, a stop within a call included, and five
-//! devices that keep to it.
+//! Devices of 512-byte sectors: a contract for the contents at every moment, including a stop within a call, and five
+//! devices that satisfy it.
 //!
-//! To the layer above: `Device`'s clauses say of each call how it changes what reads give and what a stop may leave, as
-//! far as the device is honest. `proofs/Stretches.antt` has the lemmas that lead a caller from call to call.
+//! To the layer above: the contract of each call of `Device` states how the call changes what reads return and what a stop may leave,
+//! where the device is honest. `proofs/Stretches.antt` has lemmas for several calls, one after the other.
 #![tactic(auto)]
 
 mod device;

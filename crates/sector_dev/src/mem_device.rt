@@ -25,7 +25,7 @@ impl MemDevice {
     ghost use Rattle.sector_dev.specs.MemDevice.{memory_disk, zeroed_disk};
     ghost use Rattle.sector_dev.specs.FuseDevice.{torn_bytes};
 
-    /// Zeros.
+    /// A device of zeros with this number of sectors. An error means that memory was refused.
     pub fn new(alloc: Global, sectors: u64) -> Result<MemDevice, AllocError>
         requires { sectors ≤ 2 ^ 32 }
         ensures { IfOk result (λ device. memory_disk device ≡ zeroed_disk sectors) }
@@ -38,7 +38,7 @@ impl MemDevice {
         })
     }
 
-    /// A write that a stop cuts short.
+    /// A write that a stop tears.
     pub(crate) fn tear(&mut self, at: u64, bytes: &[u8], tear: Tear)
         requires { 512 * at + length bytes.now ≤ 512 * (memory_disk self.old).sectors }
         ensures { memory_disk self.new ≡ record (memory_disk self.old) {

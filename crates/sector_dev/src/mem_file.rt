@@ -6,8 +6,8 @@ use crate::PositionedFile;
 use crate::positioned_file::failures_after;
 use std::io;
 
-/// An honest file in memory, of which one transfer moves some bytes at most. Its calls never answer an error; a transfer
-/// that moves nothing, where it is to move some bytes, counts as a failure.
+/// An honest file in memory, of which one transfer moves at most a given number of bytes. Its calls never return an error. A transfer
+/// that moves nothing of some bytes counts as a failure.
 #[derive(Drop)]
 pub struct MemFile {
     bytes: Vec<u8>,
@@ -19,7 +19,7 @@ pub struct MemFile {
 impl MemFile {
     ghost use Rattle.sector_dev.specs.MemFile.{memory_state, transfer_limit, transfer_length};
 
-    /// A file of these bytes. A transfer moves at most `at_most` of them.
+    /// A file of these bytes. One transfer moves at most `at_most` bytes.
     pub fn new(bytes: Vec<u8>, at_most: usize) -> MemFile
         ensures state { memory_state result ≡ record { is_honest = true; bytes = bytes.items; dirty = []; failures = 0 } }
         ensures most { transfer_limit result ≡ at_most }
@@ -31,7 +31,7 @@ impl MemFile {
         }
     }
 
-    // How many bytes one transfer moves at an offset, of so many that are asked for.
+    // How many bytes one transfer moves at an offset, where `asked` bytes are asked for.
     fn room(&self, offset: u64, asked: usize) -> usize
         ensures { result ≡ transfer_length self.now offset asked }
     {

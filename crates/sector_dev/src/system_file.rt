@@ -10,9 +10,9 @@ use std::io;
 use std::io::{ErrorKind, Seek, SeekFrom};
 use std::os::unix::fs::FileExt;
 
-/// A file of the system, or a block device, with a count of its failures, as far as that is below 2^64 - 1, which stays.
-/// No clause says what such a file gives or keeps, so it is not called honest. A transfer that a signal interrupts before
-/// any byte moved is made again, and counts as one: no transfer answers `Interrupted`.
+/// A file of the system, or a block device, with a count of its failures, which stays at 2^64 - 1. No contract states what such a
+/// file returns or keeps, so the file is not known to be honest. A transfer that a signal interrupts before any byte moved is
+/// repeated, and counts as one: no transfer returns `Interrupted`.
 #[derive(Drop)]
 pub struct SystemFile {
     file: File,
@@ -22,14 +22,14 @@ pub struct SystemFile {
 impl SystemFile {
     ghost use Rattle.sector_dev.specs.SystemFile.{system_state};
 
-    /// No call of it has failed yet.
+    /// A file of the system whose count of failures is 0.
     pub fn new(file: File) -> SystemFile
         ensures { (system_state result).failures ≡ 0 }
     {
         SystemFile { file, failures: 0 }
     }
 
-    /// How many of its transfers and syncs have failed.
+    /// The number of its transfers and syncs that have failed, at most 2^64 - 1.
     pub fn failures(&self) -> u64
         ensures { result ≡ (system_state self.now).failures }
     {
@@ -45,7 +45,7 @@ impl PositionedFile for SystemFile {
 
     ghost bytes = { λ file honest i. Prim.omega arith };
 
-    // The offset of its end, as the metadata of a block device has no length.
+    // The offset of the file's end, since the metadata of a block device has no length.
     fn size(&mut self) -> io::Result<u64> {
         self.file.seek(SeekFrom::End(0))
     }
@@ -106,7 +106,7 @@ fn write_on(file: &File, bytes: &[u8], offset: u64) -> io::Result<usize>
     Err(never_settled())
 }
 
-// Signals interrupted 2^64 - 1 tries.
+// The error after signals interrupted 2^64 - 1 tries.
 fn never_settled() -> io::Error
     ensures { error_kind result ≡ ErrorKind.TimedOut }
 {

@@ -1,4 +1,4 @@
-//! What a device has been, for proofs alone: it takes no memory, and its functions do nothing.
+//! The history of a device, for proofs alone: a trail takes no memory, and its functions do nothing.
 ghost use Rattle.std.specs.Prelude.{◌≡◌, List, [], ◌∷◌, ◌++◌};
 ghost use Rattle.std.specs.Borrow.{ftrue};
 ghost use Rattle.sector_dev.specs.Disk.{Span, Moment};
@@ -6,7 +6,7 @@ ghost use Rattle.sector_dev.specs.Disk.{Span, Moment};
 use crate::PositionedFile;
 use std::marker::Model;
 
-/// What holds bytes that clauses can name.
+/// A type whose values have bytes that contracts can name.
 pub(crate) trait HoldsBytes {
     ghost use Rattle.std.specs.Prelude.{ℕ, List};
 
@@ -17,7 +17,7 @@ impl HoldsBytes for Vec<u8> {
     ghost bytes = { λ v. v.items };
 }
 
-/// What a trail is made from.
+/// The source of a trail.
 trait TrailSource {
     ghost use Rattle.std.specs.Prelude.{List};
     ghost use Rattle.sector_dev.specs.Disk.{Span, Moment};
@@ -27,7 +27,7 @@ trait TrailSource {
     ghost dirty: { Self → List Span };
 }
 
-// Nothing has been, and nothing is dirty.
+// No past moments, and nothing is dirty.
 struct FreshStart;
 
 impl TrailSource for FreshStart {
@@ -36,7 +36,7 @@ impl TrailSource for FreshStart {
     ghost dirty = { λ _. [] };
 }
 
-// Nothing has been, and what is dirty in a file is dirty.
+// No past moments, and the dirty ranges of a file.
 #[derive(Drop)]
 struct FileStart<'a, F> {
     file: &'a F,
@@ -48,7 +48,7 @@ impl<'a, F: PositionedFile> TrailSource for FileStart<'a, F> {
     ghost dirty = { λ start. (F.state start.file.now).dirty };
 }
 
-// A write of a range of what held these bytes.
+// A write of a range, where these were the bytes before.
 #[derive(Drop)]
 struct WriteStep<'a, B> {
     trail: &'a Trail,
@@ -63,7 +63,7 @@ impl<'a, B: HoldsBytes> TrailSource for WriteStep<'a, B> {
     ghost dirty = { λ step. record { start = step.start; len = step.len } ∷ step.trail.now.dirty };
 }
 
-// A sync of what holds these bytes.
+// A sync, where these are the bytes.
 #[derive(Drop)]
 struct SyncStep<'a, B> {
     trail: &'a Trail,
@@ -93,28 +93,28 @@ unsafe impl Send for Trail {}
 const _: () = prove!(size_of::<Trail>() == 0);
 
 impl Trail {
-    // The one function that is proved by hand: a trail is what its source says.
+    // The one function that is proved by hand: the trail has the fields of its source.
     fn of<T: TrailSource>(_source: &T) -> Trail
         ensures { (result.past ≡ T.past _source.now) × (result.dirty ≡ T.dirty _source.now) }
     {
         Trail {}
     }
 
-    /// Nothing has been, and nothing is dirty.
+    /// A trail without past moments, where nothing is dirty.
     pub(crate) fn new() -> Trail
         ensures { (result.past ≡ []) × (result.dirty ≡ []) }
     {
         Trail::of(&FreshStart)
     }
 
-    /// Nothing has been, and what is dirty in a file is dirty.
+    /// A trail without past moments, with the dirty ranges of a file.
     pub(crate) fn over<F: PositionedFile>(file: &F) -> Trail
         ensures { (result.past ≡ []) × (result.dirty ≡ (F.state file.now).dirty) }
     {
         Trail::of(&FileStart { file })
     }
 
-    /// After a write of a range of what held these bytes.
+    /// The trail after a write of a range, where these were the bytes before.
     pub(crate) fn wrote<B: HoldsBytes>(&self, before: &B, start: u64, len: usize) -> Trail
         ensures { (result.past ≡ self.now.past ++ record { reads = B.bytes before.now; dirty = self.now.dirty } ∷ [])
             × (result.dirty ≡ record { start = start; len = len } ∷ self.now.dirty) }
@@ -127,7 +127,7 @@ impl Trail {
         })
     }
 
-    /// After a sync of what holds these bytes.
+    /// The trail after a sync, where these are the bytes.
     pub(crate) fn synced<B: HoldsBytes>(&self, held: &B) -> Trail
         ensures { (result.past ≡ self.now.past ++ record { reads = B.bytes held.now; dirty = self.now.dirty } ∷ [])
             × (result.dirty ≡ []) }

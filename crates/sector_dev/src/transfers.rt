@@ -6,11 +6,11 @@ ghost use Rattle.sector_dev.specs.FileDevice.{WritesWhole, FailsWithFile};
 
 use crate::PositionedFile;
 
-/// A transfer failed, or moved nothing.
+/// A transfer failed, or moved no byte.
 #[derive(Drop)]
 pub(crate) struct Incomplete;
 
-/// Fills `into` with the bytes at an offset, in as many transfers as it takes.
+/// Fills `into` with the bytes at an offset, in any number of transfers.
 pub(crate) fn read_whole<F: PositionedFile>(
     file: &mut F,
     offset: u64,
@@ -32,7 +32,7 @@ pub(crate) fn read_whole<F: PositionedFile>(
     Ok(())
 }
 
-/// Writes all these bytes at an offset, in as many transfers as it takes.
+/// Writes all these bytes at an offset, in any number of transfers.
 pub(crate) fn write_whole<F: PositionedFile>(
     file: &mut F,
     offset: u64,

@@ -1,4 +1,4 @@
--- A transfer more of a read.
+-- One more transfer of a read.
 use Rattle.std.proofs.Common.{◌+◌, arith, ◌∙◌, ap}
 use Rattle.std.proofs.lemmas.Grind.{common_steps}
 use Rattle.byte_lists.specs.Content.{part}

@@ -1,4 +1,4 @@
--- A transfer more of a write, one that moved nothing, and one that failed.
+-- One more transfer of a write, a transfer that moved nothing, and a transfer that failed.
 use Rattle.std.proofs.Common.{arith, ◌∙◌, ap}
 use Rattle.std.proofs.lemmas.Grind.{common_steps}
 use Rattle.sector_dev.specs.Calls.{one_more}

@@ -1,4 +1,4 @@
--- A device that has just been made is as the file is.
+-- A new device has the contents of its file.
 use Rattle.std.proofs.Common.{◌/◌, refl, ap, ◌∙◌}
 use Rattle.sector_dev.specs.FileDevice.{front}
 use Rattle.sector_dev.proofs.file_device.FileDevice.new.Goals as goal

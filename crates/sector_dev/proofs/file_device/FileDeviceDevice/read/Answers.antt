@@ -1,4 +1,4 @@
--- A read that succeeds, found by the search itself.
+-- A read that succeeds, which the search finds itself.
 use Rattle.std.proofs.Common.{rules}
 use Rattle.sector_dev.proofs.file_device.FileDeviceDevice.read.Goals as goal
 

@@ -1,4 +1,4 @@
--- A sync that succeeds, found by the search itself.
+-- A sync that succeeds, which the search finds itself.
 use Rattle.std.proofs.Common.{rules}
 use Rattle.sector_dev.proofs.file_device.FileDeviceDevice.sync.Goals as goal
 

@@ -1,4 +1,4 @@
--- Nothing lands: what is there, written again, is the same content.
+-- Nothing lands: to write again what is there gives the same content.
 use Rattle.std.proofs.Common.{◌≡◌, ◌∷◌, ◌∙◌, ap, true, ◌+◌, ◌*◌, ◌≤◌, ℕ, length, arith, sym}
 use Rattle.byte_lists.specs.Content.{part, overwrite}
 use Rattle.sector_dev.specs.Disk.{Span}

@@ -1,4 +1,4 @@
--- A trail owns nothing, so it may go to another thread.
+-- A trail owns nothing, so it may be sent to another thread.
 use denote.Param.Send.{IsSend, owning_send}
 use Rattle.sector_dev.specs.contracts.trail.Trail.{the_row, the_type}
 

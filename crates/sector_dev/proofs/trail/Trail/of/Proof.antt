@@ -1,4 +1,4 @@
--- `of` makes a value of no bytes, with what its clause names.
+-- `of` returns a value without bytes, whose ghost fields are those that its clause names.
 use mathlib.Core.Path.{refl}
 use mathlib.Core.List.{List, [], ◌∷◌}
 use seplogic.Ra.Ura.{Ura}
