@@ -1,4 +1,4 @@
--- Messages answered one behind the other: for `answer_all`, `serve_piece` and `serve`.
+-- Messages answered one after the other: for `answer_all`, `serve_piece` and `serve`.
 use Rattle.std.proofs.Common.{◌≡◌, ℕ, ◌+◌, ◌-◌, ◌^◌, ◌<◌, min, List, [], ◌∷◌, ◌++◌, length, Option, Err, refl, sym, ap, subst, ◌∙◌, arith}
 use Rattle.std.proofs.lemmas.List.{append-nil, length-append, map-append}
 use Rattle.std.proofs.lemmas.List.Concat.{flat_map-append}
@@ -34,7 +34,7 @@ replies-append es fs = map-append (λ (e : Exchange). e.reply) es fs
 pub told-append : (form : Form) (es fs : List Exchange) → all_told form (es ++ fs) ≡ all_told form es ++ all_told form fs
 told-append form es fs = flat_map-append (λ (e : Exchange). told_as form e.reply) es fs
 
--- ---- what was answered so far
+-- ---- the messages answered before
 
 -- Messages at the front of the bytes were answered, the rest is left, and all replies were written and counted.
 pub record HasAnswered {S : Type 0} (form : Form) (answers : S → MessageView → ReplyView → S → Type 0) (old : S) (bytes : List ℕ) (new : S) (rest : List ℕ)
@@ -67,7 +67,7 @@ module _ {S : Type 0} (form : Form) (answers : S → MessageView → ReplyView �
     sized = (x.fits, tt);
   }
 
-  -- what was answered and the first message behind it
+  -- the messages answered before, and the first message after them
   module _ (a b c : S) (bytes mid rest : List ℕ) (o p : Option (List ℕ)) (n m : ℕ) (reply : ReplyView) (h : HasAnswered form answers a bytes b mid o p n m) (x : IsFirstAnswered answers b mid reply c rest) where
     abbrev pub more : List Exchange
     more = h.exchanges ++ first_of b c mid rest reply x ∷ []
@@ -96,7 +96,7 @@ module _ {S : Type 0} (form : Form) (answers : S → MessageView → ReplyView �
       counted = omega (arith, h.counted, is, length-append h.exchanges (first_of b c mid rest reply x ∷ []));
     }
 
-    -- the reply was not written, or not whole
+    -- the reply was not written, or only a front of it
     pub stops_at_write : (left : List ℕ) (q : Option (List ℕ)) (e : FrameError) → FailsToWrite p q (told_as form reply) e → AreFrontsAnswered form answers a bytes c left o q n (Err e)
     stops_at_write left q error.Write f = record {
       exchanges = more;

@@ -1,4 +1,4 @@
--- A fault of a frame stays, whatever comes behind: for `Framer` and the laws.
+-- A fault of a frame stays, whatever bytes come after: for `Framer` and the laws.
 use Rattle.std.proofs.Common.{◌≡◌, ℕ, ◌≤◌, List, ◌++◌, length, sym, ap, subst, ◌∙◌, arith}
 use Rattle.std.proofs.lemmas.List.{length-append, take-append-le, get_or_append_left}
 use Rattle.std.specs.Int.{w32, from_be_bytes}
@@ -15,7 +15,7 @@ length_of-more : (bytes more : List ℕ) → 5 ≤ length bytes → IsLengthOf (
 length_of-more bytes more long =
     ap (λ (k : ℕ). IsLengthOf k (length_at (bytes ++ more))) (kind_at-more bytes more long) ∙ ap (IsLengthOf (kind_at bytes)) (length_at-more bytes more (omega arith))
 
--- what comes behind mends no length
+-- a wrong length stays wrong, whatever bytes come after
 HasRightLength-front : (bytes more : List ℕ) → 4 ≤ length bytes → HasRightLength (bytes ++ more) → HasRightLength bytes
 HasRightLength-front bytes more four h = record {
   in_range = subst IsFrameLength (length_at-more bytes more four) h.in_range;

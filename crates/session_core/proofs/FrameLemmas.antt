@@ -1,4 +1,4 @@
--- A whole frame at the front of bytes, and what its encoding gives back: for `next_frame` and the laws.
+-- A whole frame at the front of bytes, and the message that its encoding gives: for `next_frame` and the laws.
 use Rattle.std.proofs.Common.{◌≡◌, ℕ, zero, suc, ◌+◌, ◌*◌, ◌-◌, ◌<◌, ◌≤◌, List, [], ◌∷◌, ◌++◌, ◌^◌, length, take, drop, get_or, slice_range, refl, sym, ap, ◌∙◌, arith, lit<, append_assoc, take-append-drop}
 use Rattle.std.proofs.lemmas.List.{get_or-take, length-take-le, length-drop, drop-drop, drop_more}
 use Rattle.std.proofs.lemmas.Nat.{be_bytes_4, be_bytes_8}
@@ -21,7 +21,7 @@ drop_below zero bytes b i = b i
 drop_below (suc n) [] b i = b i
 drop_below (suc n) (x ∷ xs) b i = drop_below n xs (λ j. b (suc j)) i
 
--- four bytes spell their number again
+-- four bytes are the encoding of their number
 pub length_encoded : (bytes : List ℕ) → AreBytes bytes → 4 ≤ length bytes → to_be_bytes w32 (length_at bytes) ≡ take 4 bytes
 length_encoded bytes b long = be_bytes_4 (take 4 bytes) (length_at bytes) (length-take-le 4 bytes long) (take_below 4 bytes b) refl
 
@@ -69,7 +69,7 @@ begins bytes len m b is some whole kind body fits =
       len_is = omega arith;
     }
 
--- the length, as a sum
+-- the length as a sum of four bytes
 pub length_at_is : (bytes : List ℕ) (n : ℕ) → n ≡ get_or bytes 0 0 * 16777216 + (get_or bytes 1 0 * 65536 + (get_or bytes 2 0 * 256 + (get_or bytes 3 0 * 1 + 0))) → n ≡ length_at bytes
 length_at_is bytes n is =
     let a : get_or (take 4 bytes) 0 0 ≡ get_or bytes 0 0 = get_or-take 4 bytes 0 0 (lit< tt) in
@@ -94,7 +94,7 @@ pub record IsMessageWith (kind : ℕ) (body : List ℕ) (m : MessageView) : Type
 moment_fits : (body : List ℕ) → AreBytes body → from_be_bytes w64 body < 2 ^ 64
 moment_fits body b = omega (arith, b 0, b 1, b 2, b 3, b 4, b 5, b 6, b 7)
 
--- each kind has the message of each body that its frames may have
+-- each kind has a message for each body that its frames can have
 pub message_with_is : (kind : ℕ) (body : List ℕ) → AreBytes body → IsMessageKind kind → IsFrameLength (1 + length body) → IsLengthOf kind (1 + length body) → IsMessageWith kind body (message_with kind body)
 message_with_is zero body b known sized of_kind = absurd (omega (arith, known.0))
 message_with_is (suc zero) body b known sized of_kind = record { kind_is = refl; body_is = refl; fits = sized }

@@ -1,4 +1,4 @@
--- A stream that comes in pieces: one frame more of a piece, and a piece more of a stream. For `Framer` and the laws.
+-- A stream that comes in pieces: one more frame of a piece, and one more piece of a stream. For `Framer` and the laws.
 use Rattle.std.proofs.Common.{◌≡◌, ℕ, ◌+◌, ◌≤◌, List, [], ◌∷◌, ◌++◌, length, drop, Option, Some, None, Vec, refl, sym, ap, subst, ◌∙◌, arith, append_assoc}
 use Rattle.std.proofs.lemmas.List.{append-nil, length-drop, drop-drop, map-append}
 use Rattle.session_core.specs.declared.error.FrameError.{FrameError}
@@ -10,7 +10,7 @@ use Rattle.session_core.specs.Framer.{message_view, message_views, fault_of, IsF
 use Rattle.session_core.proofs.Streams.{AreWholeFrames-none, AreWholeFrames-append, AreWholeFrames-more, AreWholeFrames-next, BeginsWithFrame-within}
 use Rattle.session_core.proofs.Faults.{AreFrames-bad_length, AreFrames-bad_kind}
 
--- ---- one frame more
+-- ---- one more frame
 
 pub within-next : (bytes back : List ℕ) (m : MessageView) (used len : ℕ) → used ≤ length bytes → back ≡ drop used bytes → BeginsWithFrame back m len → used + len ≤ length bytes
 within-next bytes back m used len within is f =
@@ -28,7 +28,7 @@ so_far-next old new message m bytes back used len so_far is f same pushed =
     AreWholeFrames-next (message_views old) m bytes back len (subst (AreWholeFrames bytes (message_views old)) (sym is) so_far) f in
     rw views (subst (AreWholeFrames bytes (message_views old ++ m ∷ [])) rest next)
 
--- ---- one piece more
+-- ---- one more piece
 
 ends_as : (bytes : List ℕ) (fault : Option FrameError) → IsFaultOf bytes fault → EndsAs bytes (ending_of bytes fault)
 ends_as bytes None h = (refl, h)
@@ -48,7 +48,7 @@ fault-ending bytes (Some error.Read) h = absurd h
 fault-ending bytes (Some error.Write) h = absurd h
 fault-ending bytes (Some error.Turns) h = absurd h
 
--- frames of the bytes that were kept and the piece
+-- the frames of the bytes that were kept, followed by the piece
 continues : (kept piece rest : List ℕ) (messages : List MessageView) (fault : Option FrameError) → AreWholeFrames (kept ++ piece) messages rest → IsFaultOf rest fault
     → Continues (Rest kept) piece messages (ending_of rest fault)
 continues kept piece rest messages fault whole h stream before framed = record {
@@ -58,7 +58,7 @@ continues kept piece rest messages fault whole h stream before framed = record {
   ends = ends_as rest fault h;
 }
 
--- behind a fault
+-- pieces after a fault
 continues-faulty : (kept piece : List ℕ) (fault : FrameError) → IsFaultOf kept (Some fault) → Continues (ending_of kept (Some fault)) piece [] (ending_of kept (Some fault))
 continues-faulty kept piece error.Length h stream before framed = rw (append-nil before) (AreFrames-bad_length stream piece before framed)
 continues-faulty kept piece error.Kind h stream before framed = rw (append-nil before) (AreFrames-bad_kind stream piece before framed)
@@ -67,9 +67,9 @@ continues-faulty kept piece error.Read h stream before framed = absurd h
 continues-faulty kept piece error.Write h stream before framed = absurd h
 continues-faulty kept piece error.Turns h stream before framed = absurd h
 
--- ---- in the words of `feed`
+-- ---- in the terms of `feed`
 
--- an ending with no fault
+-- an ending without a fault
 pub rest_is : (kept : List ℕ) (fault : Option FrameError) (old : Ending) → ending_of kept fault ≡ old → fault ≡ None → old ≡ Rest kept
 rest_is kept fault old view none = sym view ∙ ap (ending_of kept) none
 

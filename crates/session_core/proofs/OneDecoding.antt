@@ -1,4 +1,4 @@
--- Bytes are frames in one way at most: for the laws, and for what a session or a `Framer` says of its stream.
+-- Bytes are frames in at most one way: for the laws, and for the contracts of sessions and of `Framer`.
 use Rattle.std.proofs.Common.{◌≡◌, ℕ, ◌+◌, List, [], ◌∷◌, ◌++◌, length, take, drop, get_or, refl, sym, ap, subst, ◌∙◌, arith, append_assoc}
 use Rattle.std.proofs.lemmas.List.{length-append, take_at, drop_at}
 use Rattle.std.proofs.lemmas.Nat.{from_be_bytes-to_be_bytes_4, from_be_bytes-to_be_bytes_8}
@@ -68,7 +68,7 @@ length_is_right m rest h = record {
 
 -- ---- an ending
 
--- a frame is no ending
+-- a frame is not an ending
 no_ending : (m : MessageView) (bytes rest : List ℕ) (e : Ending) → bytes ≡ message_frame m ++ rest → FitsFrame m → EndsAs bytes e → ⊥
 no_ending m bytes rest (Rest left) e sized h =
     let at : length_at bytes ≡ 1 + length (body_of m) = ap length_at e ∙ length_at-frame m rest sized in

@@ -1,4 +1,4 @@
--- Pieces read one behind the other: for `read_pieces`.
+-- Pieces that are read one after the other: for `read_pieces`.
 use Rattle.std.proofs.Common.{◌≡◌, ℕ, ◌+◌, ◌<◌, ◌≤◌, List, [], ◌∷◌, ◌++◌, length, Option, Err, refl, sym, ap, subst, ◌∙◌, arith, Vec, Ok}
 use Rattle.std.proofs.lemmas.List.{append-nil, length-append}
 use Rattle.std.proofs.lemmas.List.Folds.{concat-append}
@@ -11,7 +11,7 @@ use Rattle.session_core.specs.declared.source.TheConstants.{MOST_PIECE}
 use Rattle.session_core.specs.Source.{AreReads, IsAllRead}
 use Rattle.session_core.proofs.SessionLemmas.{pieces-append}
 
--- So many reads were made, and these are the bytes of their pieces.
+-- At most this number of reads were made, and these are the bytes of their pieces.
 pub record AreRead {R : Type 0} (gives : R → List ℕ → R → Type 0) (source source_left : R) (bytes : List ℕ) (turn : ℕ) : Type 0 where
   pub pieces : List (List ℕ)
   pub made : FoldsTo gives source pieces source_left
@@ -47,7 +47,7 @@ module _ {R : Type 0} (gives : R → List ℕ → R → Type 0) where
       joined = is ∙ all_bytes piece;
     }
 
-    -- the end of the source
+    -- the source is at its end
     pub read_whole : {A : Type 0} (turns : ℕ) (t : R) (i : Option (List ℕ)) (v : Vec ℕ A) → turn < turns → gives s [] t → IsAtEnd i → v.items ≡ bytes → IsAllRead {A = A} gives turns r t i (Ok v)
     read_whole turns t i v lt one end is = record {
       pieces = h.pieces ++ [] ∷ [];
@@ -64,6 +64,6 @@ module _ {R : Type 0} (gives : R → List ℕ → R → Type 0) where
     pub read_without_room : {A : Type 0} (turns : ℕ) (t : R) (i : Option (List ℕ)) (piece : List ℕ) → turn < turns → gives s piece t → length piece ≤ MOST_PIECE → IsAllRead {A = A} gives turns r t i (Err error.NoMemory)
     read_without_room turns t i piece lt one short = record { pieces = h.pieces ++ piece ∷ []; read = all_reads turns t piece lt one short; ended = tt }
 
-    -- all reads are made
+    -- the allowed number of reads was made
     pub read_turns : {A : Type 0} (turns : ℕ) (i : Option (List ℕ)) → turn ≡ turns → IsAllRead {A = A} gives turns r s i (Err error.Turns)
     read_turns turns i all = record { pieces = h.pieces; read = record { made = h.made; few = omega (arith, h.turns_are, all); short = h.short }; ended = h.turns_are ∙ all }

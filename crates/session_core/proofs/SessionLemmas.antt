@@ -1,4 +1,4 @@
--- What was answered piece by piece makes a session: for `serve_piece` and `serve_session`.
+-- The pieces that were answered one after the other are a session: for `serve_piece` and `serve_session`.
 use Rattle.std.proofs.Common.{◌≡◌, ℕ, ◌+◌, ◌<◌, ◌≤◌, List, [], ◌∷◌, ◌++◌, length, Option, Result, Ok, Err, IfOk, IfErr, refl, sym, ap, subst, ◌∙◌, arith, append_assoc}
 use Rattle.std.proofs.lemmas.List.{append-nil, length-append}
 use Rattle.std.proofs.lemmas.List.Folds.{concat-append}
@@ -34,7 +34,7 @@ all_of form written es told = record {
   written_is = told ∙ sym (append-nil (all_told form es));
 }
 
--- however it ended, all were but the last one, and a front of that
+-- for any result, all replies but the last one were written, and a front of the last one
 front_of : (form : Form) (r : Result ℕ FrameError) (written : List ℕ) (es : List Exchange) → Tells form r written es → TellsFrontOfLast form written es
 front_of form (Ok n) written es told = all_of form written es told
 front_of form (Err error.Length) written es told = all_of form written es told
@@ -67,7 +67,7 @@ module _ {S : Type 0} (form : Form) (answers : S → MessageView → ReplyView �
     stops = tt;
   }
 
-  -- a flush behind it that failed
+  -- a flush after the piece that failed
   pub not_flushed : (a b : S) (bytes left : List ℕ) (o p q : Option (List ℕ)) (n : ℕ) (r : Result ℕ FrameError) → AreFrontsAnswered form answers a bytes b left o p n r → Keeps p q
       → AreFrontsAnswered form answers a bytes b left o q n (Err error.Write)
   not_flushed a b bytes left o p q n r x k = record {
@@ -91,7 +91,7 @@ pieces-append (p ∷ ps) qs a b = (a.0, pieces-append ps qs a.1 b)
 pub nothing_is_partial : IsPartial []
 nothing_is_partial = record { length_is_right = λ h. absurd (omega arith); kind_is_right = λ h. absurd (omega arith); incomplete = λ h. absurd (omega arith) }
 
--- So many reads were made, all that stands whole in their pieces was answered, and all replies were written.
+-- At most this number of reads were made, all whole frames of their pieces were answered, and all replies were written.
 pub record SoFar {S R : Type 0} (answers : S → MessageView → ReplyView → S → Type 0) (gives : R → List ℕ → R → Type 0) (service service_left : S) (source source_left : R) (inbox : List ℕ)
     (output output_left : Option (List ℕ)) (count turn : ℕ) : Type 0 where
   pub pieces : List (List ℕ)
@@ -141,7 +141,7 @@ module _ {S R : Type 0} (answers : S → MessageView → ReplyView → S → Typ
   })
 
   module _ (a b : S) (r s : R) (inbox : List ℕ) (o p : Option (List ℕ)) (count turn : ℕ) (h : SoFar answers gives a b r s inbox o p count turn) where
-    -- what was told before the last piece
+    -- the replies that were written before the last piece
     prompt_of : (last : List (List ℕ)) (others : List Exchange) (more : List ℕ) → length last ≤ 1 → IsPrompt (h.pieces ++ last) (h.done.exchanges ++ others) (reply_frames h.done.exchanges ++ more)
     prompt_of last others more one = record {
       earlier = h.pieces;
@@ -156,7 +156,7 @@ module _ {S R : Type 0} (answers : S → MessageView → ReplyView → S → Typ
       kept = (more, refl);
     }
 
-    -- one read more that gave this piece
+    -- one more read, which gave this piece
     read_more : (turns : ℕ) (t : R) (piece : List ℕ) → turn < turns → gives s piece t → length piece ≤ MOST_PIECE → AreReads gives turns r (h.pieces ++ piece ∷ []) t
     read_more turns t piece lt one short = record {
       made = FoldsTo-push gives r h.pieces s piece t h.made one;
@@ -167,7 +167,7 @@ module _ {S R : Type 0} (answers : S → MessageView → ReplyView → S → Typ
     all_joined : (piece : List ℕ) → concat (h.pieces ++ piece ∷ []) ≡ concat h.pieces ++ piece
     all_joined piece = concat-append h.pieces (piece ∷ []) ∙ ap (λ (t : List ℕ). concat h.pieces ++ t) (append-nil piece)
 
-    -- no piece came with the last read, or none was made
+    -- the last read gave no piece, or no read was made
     module _ (turns : ℕ) (t : R) (i : Option (List ℕ)) (last : List (List ℕ)) (nothing : concat (h.pieces ++ last) ≡ concat h.pieces) (one : length last ≤ 1) (read : AreReads gives turns r (h.pieces ++ last) t) where
       same_exchanges : h.done.exchanges ++ [] ≡ h.done.exchanges
       same_exchanges = append-nil h.done.exchanges
@@ -223,7 +223,7 @@ module _ {S R : Type 0} (answers : S → MessageView → ReplyView → S → Typ
         (ends_well turns t i ([] ∷ []) nothing_more (omega arith) (read_more turns t [] lt one (omega arith)) end none)
     ends_at_end turns t i (Err e) lt one end same none err = fails_to_read turns t i e lt one err
 
-    -- all reads are made
+    -- the allowed number of reads was made
     pub ends_at_turns : (i : Option (List ℕ)) → IsServed answers gives turn a b r s i o p (Err error.Turns)
     ends_at_turns i =
         let same : h.pieces ++ [] ≡ h.pieces = append-nil h.pieces in
@@ -231,7 +231,7 @@ module _ {S R : Type 0} (answers : S → MessageView → ReplyView → S → Typ
         (record { made = subst (λ (ps : List (List ℕ)). FoldsTo gives r ps s) (sym same) h.made; few = omega (arith, h.turns_are, ap length same); short = pieces-append h.pieces [] h.short tt })
         (ap length same ∙ h.turns_are)
 
-    -- ---- one piece more
+    -- ---- one more piece
 
     module _ (c : S) (t : R) (piece left : List ℕ) (q : Option (List ℕ)) (result : Result ℕ FrameError) (x : AreFrontsAnswered Frames answers b (inbox ++ piece) c left p q count result) where
       both_framed : AreWholeFrames (concat (h.pieces ++ piece ∷ [])) (messages_of (h.done.exchanges ++ x.exchanges)) x.rest
@@ -268,7 +268,7 @@ module _ {S R : Type 0} (answers : S → MessageView → ReplyView → S → Typ
       partial = subst IsPartial (sym x.stops.left_is) x.stops.partial;
     }
 
-    -- told of both, what was told of the last ones
+    -- what was written for two lists of exchanges is what was written for the last ones after all of the first
     both_told : (result : Result ℕ FrameError) (written : List ℕ) (es fs : List Exchange) → Tells Frames result written fs → Tells Frames result (reply_frames es ++ written) (es ++ fs)
     both_told (Ok n) written es fs told = ap (λ (w : List ℕ). reply_frames es ++ w) told ∙ sym (told-append Frames es fs)
     both_told (Err error.Length) written es fs told = ap (λ (w : List ℕ). reply_frames es ++ w) told ∙ sym (told-append Frames es fs)

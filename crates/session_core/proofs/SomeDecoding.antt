@@ -1,4 +1,4 @@
--- Any bytes are the frames of some messages, with an ending: for the laws.
+-- Any bytes are the frames of some messages and an ending: for the laws.
 use Rattle.std.proofs.Common.{◌≡◌, ℕ, zero, suc, ◌+◌, ◌<◌, ◌≤◌, ◌⊎◌, inl, inr, List, [], ◌∷◌, ◌-◌, length, drop, slice_range, refl, sym, subst, arith}
 use Rattle.std.proofs.lemmas.List.{length-drop}
 use Rattle.std.proofs.lemmas.Bool.{cases_lt, cases_eq}
@@ -7,7 +7,7 @@ use Rattle.session_core.specs.Front.{BeginsWithFrame}
 use Rattle.session_core.proofs.FrameLemmas.{AreBytes, take_below, drop_below, length-body_at, begins, message_with, message_with_is}
 use Rattle.session_core.proofs.Streams.{AreWholeFrames-none, AreWholeFrames-one, AreFrames-behind}
 
--- the messages at the front, and the ending behind them
+-- the messages at the front, and the ending after them
 pub record Decoding (bytes : List ℕ) : Type 0 where
   pub messages : List MessageView
   pub ending : Ending

@@ -1,4 +1,4 @@
--- Whole frames, one behind the other, and what may follow them: for `Framer`, `serve` and the laws.
+-- Whole frames, one after the other, and the bytes after them: for `Framer`, `serve` and the laws.
 use Rattle.std.proofs.Common.{◌≡◌, ℕ, ◌+◌, ◌≤◌, List, [], ◌∷◌, ◌++◌, length, drop, refl, sym, ap, ◌∙◌, arith, append_assoc}
 use Rattle.std.proofs.lemmas.List.{append-nil, length-append}
 use Rattle.std.proofs.lemmas.List.Concat.{flat_map-append}
@@ -10,11 +10,11 @@ pub sized-append : (ms ns : List MessageView) → AllByRecursion FitsFrame ms �
 sized-append [] ns p q = q
 sized-append (m ∷ ms) ns p q = (p.0, sized-append ms ns p.1 q)
 
--- bytes before the first frame is whole
+-- the bytes before the first whole frame
 pub AreWholeFrames-none : (bytes : List ℕ) → AreWholeFrames bytes [] bytes
 AreWholeFrames-none bytes = record { joined = refl; sized = tt }
 
--- frames and then the frames of what follows them
+-- frames, and then the frames of the bytes after them
 pub AreWholeFrames-append : (ms ns : List MessageView) (bytes mid rest : List ℕ) → AreWholeFrames bytes ms mid → AreWholeFrames mid ns rest → AreWholeFrames bytes (ms ++ ns) rest
 AreWholeFrames-append ms ns bytes mid rest p q = record {
   joined = p.joined ∙ ap (λ (t : List ℕ). flat_map message_frame ms ++ t) q.joined
@@ -23,7 +23,7 @@ AreWholeFrames-append ms ns bytes mid rest p q = record {
   sized = sized-append ms ns p.sized q.sized;
 }
 
--- more bytes come behind
+-- the same frames with more bytes after them
 pub AreWholeFrames-more : (ms : List MessageView) (bytes rest more : List ℕ) → AreWholeFrames bytes ms rest → AreWholeFrames (bytes ++ more) ms (rest ++ more)
 AreWholeFrames-more ms bytes rest more p = record {
   joined = ap (λ (t : List ℕ). t ++ more) p.joined ∙ append_assoc (flat_map message_frame ms) rest more;
@@ -37,7 +37,7 @@ AreWholeFrames-one bytes m len f = record {
   sized = (f.sized, tt);
 }
 
--- one frame more behind others
+-- one more frame after others
 pub AreWholeFrames-next : (ms : List MessageView) (m : MessageView) (bytes mid : List ℕ) (len : ℕ) → AreWholeFrames bytes ms mid → BeginsWithFrame mid m len → AreWholeFrames bytes (ms ++ m ∷ []) (drop len mid)
 AreWholeFrames-next ms m bytes mid len p f = AreWholeFrames-append ms (m ∷ []) bytes mid (drop len mid) p (AreWholeFrames-one mid m len f)
 
@@ -48,7 +48,7 @@ BeginsWithFrame-within bytes m len f =
     let parts : length (message_frame m) ≡ 5 + length (body_of m) = omega arith in
     omega (arith, whole, parts, f.len_is)
 
--- whole frames, and then frames that end so
+-- whole frames, and then frames with this ending
 pub AreFrames-behind : (ms ns : List MessageView) (bytes mid : List ℕ) (ending : Ending) → AreWholeFrames bytes ms mid → AreFrames mid ns ending → AreFrames bytes (ms ++ ns) ending
 AreFrames-behind ms ns bytes mid ending p q = record {
   rest = q.rest;

@@ -1,4 +1,4 @@
--- What two writes in turn have done together: for what writes by `write_all`.
+-- The effect of two writes, one after the other: for the functions that use `write_all`.
 use Rattle.std.proofs.Common.{◌≡◌, ℕ, List, ◌++◌, take, drop, Option, Result, Ok, Err, IfErr, sym, ap, ◌∙◌, append_assoc, take-append-drop}
 use Rattle.std.specs.Io.KnownBytes.{Appends}
 use Rattle.std.proofs.KnownBytes.{Appends-trans}

@@ -1,4 +1,4 @@
--- What answering the frames that stand whole has done.
+-- The effect of answering the whole frames of some bytes.
 use Rattle.std.specs.Prelude.{◌≡◌, ℕ, ◌+◌, ◌-◌, ◌^◌, min, List, [], ◌++◌, length, Option, Some, None, Result, Ok, Err}
 use Rattle.std.specs.List.{AllByRecursion}
 use Rattle.std.specs.Io.KnownBytes.{Appends}
@@ -14,7 +14,7 @@ use Rattle.session_core.specs.Service.{Exchange, messages_of, replies_of, AreAns
 use Rattle.session_core.specs.declared.reply.Form.{Form}
 use Rattle.session_core.specs.Session.{Tells, EndsEarly}
 
--- The message at the front was answered, and its frame taken off.
+-- The message at the front was answered, and its frame was removed.
 pub record IsFirstAnswered {S : Type 0} (answers : S → MessageView → ReplyView → S → Type 0) (old : S) (bytes : List ℕ) (reply : ReplyView) (new : S) (rest : List ℕ) : Type 0 where
   pub message : MessageView
   pub framed : bytes ≡ message_frame message ++ rest
@@ -22,12 +22,12 @@ pub record IsFirstAnswered {S : Type 0} (answers : S → MessageView → ReplyVi
   pub answered : answers old message reply new
   pub sized : HasReplySize reply
 
--- Nothing was answered, and nothing taken off.
+-- Nothing was answered, and nothing was removed.
 pub record IsUnanswered {S : Type 0} (old : S) (bytes : List ℕ) (new : S) (rest : List ℕ) : Type 0 where
   pub same : new ≡ old
   pub left : rest ≡ bytes
 
--- The first message was answered; or less than a frame is there, or a faulty one, and nothing is done.
+-- The first message was answered; or the bytes begin with less than a frame, or a faulty one, and nothing changed.
 abbrev pub IsNext : {S : Type 0} → (S → MessageView → ReplyView → S → Type 0) → S → List ℕ → S → List ℕ → Result (Option Reply) FrameError → Type 0
 IsNext answers old bytes new rest (Ok (Some reply)) = IsFirstAnswered answers old bytes (reply_view reply) new rest
 IsNext answers old bytes new rest (Ok None) = IsPartial bytes × IsUnanswered old bytes new rest
@@ -39,13 +39,13 @@ pub record GoesOn (count : ℕ) (exchanges : List Exchange) (rest left : List �
   pub left_is : left ≡ rest
   pub counted : sum ≡ min (count + length exchanges) (2 ^ 64 - 1)
 
--- Why no more was answered: less than a frame is left, or a faulty one, or a write failed, or memory ran out.
+-- Why no more messages were answered: less than a frame is left, or a faulty one, or a write failed, or memory was refused.
 abbrev pub StopsFor : ℕ → List Exchange → List ℕ → List ℕ → Result ℕ FrameError → Type 0
 StopsFor count exchanges rest left (Ok sum) = GoesOn count exchanges rest left sum
 StopsFor count exchanges rest left (Err e) = EndsEarly ⊥ ⊥ rest e
 
--- Messages at the front of the bytes were answered, and this was written of their replies; the rest follows them, and is
--- left where all went well.
+-- Messages at the front of the bytes were answered, and this was written of their replies. The rest comes after their frames, and is
+-- what is left unless there is an error.
 pub record AreFrontsAnswered {S : Type 0} (form : Form) (answers : S → MessageView → ReplyView → S → Type 0) (old : S) (bytes : List ℕ) (new : S) (left : List ℕ)
     (output output_left : Option (List ℕ)) (count : ℕ) (result : Result ℕ FrameError) : Type 0 where
   pub exchanges : List Exchange
@@ -63,7 +63,7 @@ pub record FailsWithin (output output_left : Option (List ℕ)) (bytes : List �
   pub part : IsWrittenInPart output output_left bytes
   pub fault : e ≡ error.Write
 
--- A write failed after a front of the bytes; or nothing was written, for want of memory.
+-- A write failed after a front of the bytes; or nothing was written, because memory was refused.
 abbrev pub FailsToWrite : Option (List ℕ) → Option (List ℕ) → List ℕ → FrameError → Type 0
 FailsToWrite output output_left bytes error.Write = IsWrittenInPart output output_left bytes
 FailsToWrite output output_left bytes error.NoMemory = Appends output output_left []

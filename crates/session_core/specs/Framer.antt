@@ -7,7 +7,7 @@ use Rattle.session_core.specs.declared.message.Message.TheVariants.{Register, Lo
 use Rattle.session_core.specs.Frames.{MessageView, IsPartial, Ending, Rest, BadLength, BadKind, AreFrames}
 use Rattle.session_core.specs.Front.{IsFaultAt}
 
--- a message without how its body is kept
+-- a message by the bytes of its body, however the body is kept
 abbrev pub message_view : {A : Type 0} → Message (Vec ℕ A) → MessageView
 message_view (Register body) = Register body.items
 message_view (Lookup body) = Lookup body.items
@@ -17,7 +17,7 @@ message_view (Remove kind id) = Remove kind id
 abbrev pub message_views : {A : Type 0} → List (Message (Vec ℕ A)) → List MessageView
 message_views messages = map message_view messages
 
--- the error that a fault is
+-- the error of a fault
 abbrev pub fault_of : Ending → Option FrameError
 fault_of (Rest bytes) = None
 fault_of BadLength = Some error.Length
@@ -28,19 +28,19 @@ IsFaulty (Rest bytes) = ⊥
 IsFaulty BadLength = Unit {0}
 IsFaulty BadKind = Unit {0}
 
--- A stream that came to the old ending comes with the piece to these messages more, and to the new ending.
+-- A stream with the old ending has these further messages with the piece, and then the new ending.
 abbrev pub Continues : Ending → List ℕ → List MessageView → Ending → Type 0
 Continues old piece messages new =
     (stream : List ℕ) (before : List MessageView) → AreFrames stream before old → AreFrames (stream ++ piece) (before ++ messages) new
 
 -- ---- the fields of a `Framer`
 
--- what is wrong with the bytes behind the last whole frame
+-- what is wrong with the bytes after the last whole frame
 abbrev pub IsFaultOf : List ℕ → Option FrameError → Type 0
 IsFaultOf bytes None = IsPartial bytes
 IsFaultOf bytes (Some e) = IsFaultAt bytes e
 
--- the ending that the bytes and what is wrong with them are
+-- the ending of a stream with these bytes after its last whole frame, and with this fault
 abbrev pub ending_of : List ℕ → Option FrameError → Ending
 ending_of bytes None = Rest bytes
 ending_of bytes (Some error.Length) = BadLength

@@ -1,4 +1,4 @@
--- A stream of frames: a length of four bytes, big-endian, and that many bytes, which are a kind and a body.
+-- A stream of frames: a length of four bytes, big-endian, and this number of bytes, which are a kind and a body.
 use Rattle.std.specs.Prelude.{◌≡◌, ℕ, ◌+◌, ◌^◌, ◌<◌, ◌≤◌, List, ◌∷◌, ◌++◌, length, take, slice_index}
 use Rattle.std.specs.List.{flat_map, AllByRecursion}
 use Rattle.std.specs.Int.{w32, w64, to_be_bytes, from_be_bytes}
@@ -22,7 +22,7 @@ body_of (Lookup body) = body
 body_of (Purge moment) = to_be_bytes w64 moment
 body_of (Remove kind id) = kind ∷ id
 
--- length and content
+-- a length of four bytes, big-endian, and the content
 abbrev pub frame_encoding : List ℕ → List ℕ
 frame_encoding content = to_be_bytes w32 (length content) ++ content
 
@@ -43,7 +43,7 @@ IsFrameLength len = (1 ≤ len) × (len ≤ MOST_LENGTH)
 abbrev pub IsMessageKind : ℕ → Type 0
 IsMessageKind kind = (1 ≤ kind) × (kind ≤ 4)
 
--- the frames of purges have one length, and those of removals
+-- all frames of purges have one length, and so have all frames of removals
 abbrev pub IsLengthOf : ℕ → ℕ → Type 0
 IsLengthOf kind len = (kind ≡ 3 → len ≡ 9) × (kind ≡ 4 → len ≡ 34)
 
@@ -54,24 +54,24 @@ FitsFrame (Lookup body) = IsFrameLength (1 + length body)
 FitsFrame (Purge moment) = moment < 2 ^ 64
 FitsFrame (Remove kind id) = (kind < 256) × (length id ≡ 32)
 
--- The bytes are the frames of these messages, one after the other, and then the rest.
+-- The bytes are the frames of these messages, one after the other, followed by the rest.
 pub record AreWholeFrames (bytes : List ℕ) (messages : List MessageView) (rest : List ℕ) : Type 0 where
   pub joined : bytes ≡ flat_map message_frame messages ++ rest
   pub sized : AllByRecursion FitsFrame messages
 
--- Four bytes or more begin with the length of a frame, and, once the kind is there, of a frame of that kind.
+-- Four bytes or more begin with the length of a frame, and, where the kind is there, of a frame of that kind.
 pub record HasRightLength (bytes : List ℕ) : Type 0 where
   pub in_range : IsFrameLength (length_at bytes)
   pub of_kind : 5 ≤ length bytes → IsLengthOf (kind_at bytes) (length_at bytes)
 
--- Less than a whole frame, in which nothing is wrong so far: the length is judged once four bytes are there, and again
--- with the kind once five are.
+-- Less than a whole frame, without a fault: the length is checked once four bytes are there, and again
+-- with the kind once five bytes are there.
 pub record IsPartial (bytes : List ℕ) : Type 0 where
   pub length_is_right : 4 ≤ length bytes → HasRightLength bytes
   pub kind_is_right : 5 ≤ length bytes → IsMessageKind (kind_at bytes)
   pub incomplete : 4 ≤ length bytes → length bytes < 4 + length_at bytes
 
--- Bytes that begin with a length that no frame has, or none of the kind that follows.
+-- Bytes that begin with a length that no frame has, or no frame of the kind after it.
 pub record HasBadLength (bytes : List ℕ) : Type 0 where
   pub long : 4 ≤ length bytes
   pub bad : ¬ HasRightLength bytes
@@ -82,7 +82,7 @@ pub record HasBadKind (bytes : List ℕ) : Type 0 where
   pub length_is_right : HasRightLength bytes
   pub bad : ¬ IsMessageKind (kind_at bytes)
 
--- how a stream ends behind its last whole frame: with less than a frame, or with a fault
+-- how a stream ends after its last whole frame: with less than a frame, or with a fault
 pub data Ending : Type 0 where
   Rest : (bytes : List ℕ) → Ending
   BadLength : Ending
@@ -93,7 +93,7 @@ EndsAs bytes (Rest rest) = (bytes ≡ rest) × IsPartial bytes
 EndsAs bytes BadLength = HasBadLength bytes
 EndsAs bytes BadKind = HasBadKind bytes
 
--- The stream is the frames of these messages, one after the other, and ends so.
+-- The stream is the frames of these messages, one after the other, followed by this ending.
 pub record AreFrames (bytes : List ℕ) (messages : List MessageView) (ending : Ending) : Type 0 where
   pub rest : List ℕ
   pub whole : AreWholeFrames bytes messages rest

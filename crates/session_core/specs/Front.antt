@@ -1,4 +1,4 @@
--- What stands at the front of a stream of frames.
+-- The front of a stream of frames.
 use Rattle.std.specs.Prelude.{◌≡◌, ℕ, ◌+◌, List, ◌++◌, length, drop, Option, Some, None, Result, Ok, Err}
 use Rattle.std.specs.Borrow.{Bor}
 use Rattle.session_core.specs.declared.error.FrameError.{FrameError}
@@ -7,14 +7,14 @@ use Rattle.session_core.specs.declared.message.Message.{Message}
 use Rattle.session_core.specs.declared.message.Message.TheVariants.{Register, Lookup, Purge, Remove}
 use Rattle.session_core.specs.Frames.{MessageView, body_of, message_frame, FitsFrame, IsPartial, HasBadLength, HasBadKind}
 
--- a message without where its body lies
+-- a message by the bytes of its body, wherever the body is in memory
 abbrev pub message_at : Message (Bor (List ℕ)) → MessageView
 message_at (Register body) = Register body.now
 message_at (Lookup body) = Lookup body.now
 message_at (Purge moment) = Purge moment
 message_at (Remove kind id) = Remove kind id
 
--- Bytes begin with the frame of a message, of this many bytes.
+-- The bytes begin with the frame of a message, which has this number of bytes.
 pub record BeginsWithFrame (bytes : List ℕ) (message : MessageView) (len : ℕ) : Type 0 where
   pub frame : bytes ≡ message_frame message ++ drop len bytes
   pub sized : FitsFrame message
@@ -29,7 +29,7 @@ IsFaultAt bytes error.Read = ⊥
 IsFaultAt bytes error.Write = ⊥
 IsFaultAt bytes error.Turns = ⊥
 
--- A whole frame with its message, less than a frame, or what is wrong with the frame.
+-- The result of reading the front: a whole frame with its message, less than a frame, or the fault of the frame.
 abbrev pub IsFront : List ℕ → Result (Option (Message (Bor (List ℕ)) × ℕ)) FrameError → Type 0
 IsFront bytes (Ok None) = IsPartial bytes
 IsFront bytes (Ok (Some next)) = BeginsWithFrame bytes (message_at next.0) next.1

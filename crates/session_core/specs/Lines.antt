@@ -1,4 +1,4 @@
--- A session over bytes in memory, whose replies are told in lines of hexadecimal digits.
+-- A session over bytes in memory, whose replies are written as lines of hexadecimal digits.
 use Rattle.std.specs.Prelude.{◌≡◌, ℕ, ◌-◌, ◌^◌, min, List, [], length, Option, Result, Ok, Err}
 use Rattle.std.specs.List.{AllByRecursion}
 use Rattle.std.specs.Io.KnownBytes.{Appends}
@@ -9,18 +9,18 @@ use Rattle.session_core.specs.Reply.{ReplyView, HasReplySize}
 use Rattle.session_core.specs.Service.{Exchange, messages_of, replies_of, AreAnswered}
 use Rattle.session_core.specs.Session.{Tells, EndsEarly}
 
--- nothing is left over, and the count of replies stays at 2^64 - 1
+-- nothing is left over, and the count of replies is capped at 2^64 - 1
 pub record IsWholeCount (exchanges : List Exchange) (rest : List ℕ) (count : ℕ) : Type 0 where
   pub whole : rest ≡ []
   pub counted : count ≡ min (length exchanges) (2 ^ 64 - 1)
 
--- With the bytes, or early: within a frame.
+-- The session ends at the end of the bytes, or early: within a frame.
 abbrev pub EndsInLines : List Exchange → List ℕ → Result ℕ FrameError → Type 0
 EndsInLines exchanges rest (Ok count) = IsWholeCount exchanges rest count
 EndsInLines exchanges rest (Err e) = EndsEarly (IsPartial rest) ⊥ rest e
 
--- The bytes are the frames of the messages that were answered, and a rest; the service answered them in order; what was
--- written are the lines of those replies.
+-- The bytes are the frames of the messages that were answered, and a rest; the service answered them in order; and the lines of
+-- those replies were written.
 pub record IsServedInLines {S : Type 0} (answers : S → MessageView → ReplyView → S → Type 0) (bytes : List ℕ) (service service_left : S)
     (output output_left : Option (List ℕ)) (result : Result ℕ FrameError) : Type 0 where
   pub exchanges : List Exchange

@@ -20,7 +20,7 @@ pub data ReplyView : Type 0 where
   Removed : (ack : Ack) → ReplyView
   Refused : (code : ℕ) → ReplyView
 
--- the place in eight bytes, and four counts in four bytes each
+-- the place in eight bytes, and four counts in four bytes each, all big-endian
 abbrev pub ack_encoding : Ack → List ℕ
 ack_encoding ack =
     to_be_bytes w64 ack.place
@@ -28,7 +28,7 @@ ack_encoding ack =
     ++ (to_be_bytes w32 ack.outcome.updated
     ++ (to_be_bytes w32 ack.outcome.kept ++ to_be_bytes w32 ack.outcome.purged)))
 
--- a kind, and what belongs to it
+-- the kind, and the bytes that belong to it
 abbrev pub reply_content : ReplyView → List ℕ
 reply_content (Registered ack) = 0x81 ∷ ack_encoding ack
 reply_content (Found kind segments) = 0x82 ∷ response_encoding (rows_of kind segments)
@@ -39,11 +39,11 @@ reply_content (Refused code) = 0xff ∷ code ∷ []
 unfoldable pub reply_frame : ReplyView → List ℕ
 reply_frame reply = frame_encoding (reply_content reply)
 
--- how a reply is told: by its frame, or by a line of the frame's digits in lower case
+-- how a reply is written: as its frame, or as a line of the frame's hexadecimal digits in lower case
 abbrev pub told_as : Form → ReplyView → List ℕ
 told_as Frames reply = reply_frame reply
 told_as Lines reply = encode_lower (reply_frame reply) ++ 0x0a ∷ []
 
--- a reply fits its frame
+-- a reply fits into a frame
 abbrev pub HasReplySize : ReplyView → Type 0
 HasReplySize reply = length (reply_content reply) ≤ MOST_REPLY

@@ -1,4 +1,4 @@
--- What the program's replies stand for.
+-- The program's replies as contracts see them.
 use Rattle.std.specs.Prelude.{◌≤◌, length}
 use Rattle.session_core.specs.declared.reply.Reply.{Reply}
 use Rattle.session_core.specs.declared.reply.Reply.TheVariants as reply

@@ -1,4 +1,4 @@
--- What a service answers, message by message.
+-- The messages that a service answers, and its replies.
 use Rattle.std.specs.Prelude.{◌≡◌, ℕ, List, map, Result, Ok, Err, Vec}
 use Rattle.std.specs.Borrow.{MutBor}
 use Rattle.std.specs.List.{FoldsTo, flat_map}
@@ -38,18 +38,18 @@ messages_of exchanges = map (λ e. e.message) exchanges
 abbrev pub replies_of : List Exchange → List ReplyView
 replies_of exchanges = map (λ e. e.reply) exchanges
 
--- the replies, told one after the other
+-- the written replies, one after the other
 abbrev pub all_told : Form → List Exchange → List ℕ
 all_told form exchanges = flat_map (λ e. told_as form e.reply) exchanges
 
--- their frames
+-- the frames of the replies
 abbrev pub reply_frames : List Exchange → List ℕ
 reply_frames exchanges = all_told Frames exchanges
 
--- The service answered these messages so, one after the other, and each state was the next one's beginning.
+-- The service answered these messages with these replies, one after the other, each from the state after the one before.
 abbrev pub AreAnswered : {S : Type 0} → (S → MessageView → ReplyView → S → Type 0) → S → List Exchange → S → Type 0
 AreAnswered answers old exchanges new = FoldsTo (λ before e after. answers before e.message e.reply after) old exchanges new
 
--- A service answered that is borrowed, and the borrow stays the same.
+-- The borrowed service answered, and the borrow itself did not change.
 abbrev pub AnswersBehind : {S : Type 0} → (S → MessageView → ReplyView → S → Type 0) → MutBor S → MessageView → ReplyView → MutBor S → Type 0
 AnswersBehind answers old message reply new = answers old.now message reply new.now × (new.ghost_name ≡ old.ghost_name)

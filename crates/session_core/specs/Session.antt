@@ -13,7 +13,7 @@ use Rattle.session_core.specs.Source.{AreReads}
 
 -- ---- what was written
 
--- some bytes begin the others
+-- the front is the beginning of these bytes
 abbrev pub Begins : List ℕ → List ℕ → Type 0
 Begins front bytes = (rest : List ℕ) × (bytes ≡ front ++ rest)
 
@@ -35,8 +35,8 @@ pub record TellsFrontOfLast (form : Form) (written : List ℕ) (exchanges : List
   pub begins : Begins front (all_told form last)
   pub written_is : written ≡ all_told form before ++ front
 
--- What was written of the replies to the messages that were answered: all of them, but after a failed write, when the last
--- one may be missing or cut, and for want of memory, when it may be missing.
+-- What was written of the replies to the messages that were answered: all of them, except that after a failed write the last
+-- one may be missing or cut, and where memory was refused the last one may be missing.
 abbrev pub Tells : Form → Result ℕ FrameError → List ℕ → List Exchange → Type 0
 Tells form (Ok count) written exchanges = written ≡ all_told form exchanges
 Tells form (Err error.NoMemory) written exchanges = TellsAllBefore form written exchanges
@@ -46,8 +46,8 @@ Tells form (Err error.Read) written exchanges = written ≡ all_told form exchan
 Tells form (Err error.Write) written exchanges = TellsFrontOfLast form written exchanges
 Tells form (Err error.Turns) written exchanges = written ≡ all_told form exchanges
 
--- All that was read but for its last piece was answered as far as its frames stand whole, no fault stands in it, and
--- those replies were written.
+-- All whole frames of the pieces before the last one were answered, these pieces have no fault, and
+-- their replies were written.
 pub record IsPrompt (pieces : List (List ℕ)) (exchanges : List Exchange) (written : List ℕ) : Type 0 where
   pub earlier : List (List ℕ)
   pub last : List (List ℕ)
@@ -62,14 +62,14 @@ pub record IsPrompt (pieces : List (List ℕ)) (exchanges : List Exchange) (writ
 
 -- ---- why a session ends
 
--- At the end that the reader shows, with nothing left over; the count of replies stays at 2^64 - 1.
+-- The reader is at its end, nothing is left over, and the count of replies is capped at 2^64 - 1.
 pub record EndsWell (input_left : Option (List ℕ)) (exchanges : List Exchange) (rest : List ℕ) (count : ℕ) : Type 0 where
   pub at_end : IsAtEnd input_left
   pub whole : rest ≡ []
   pub counted : count ≡ min (length exchanges) (2 ^ 64 - 1)
 
--- At a fault of the frame that follows; at a failed write and for want of memory anywhere; at the end of the input, or of
--- the reads, under these conditions.
+-- The frame at the front of the rest has a fault; or a write failed or memory was refused, anywhere; or the input or
+-- the reads came to their end, under these conditions.
 abbrev pub EndsEarly : Type 0 → Type 0 → List ℕ → FrameError → Type 0
 EndsEarly cut out_of_turns rest error.NoMemory = Unit {0}
 EndsEarly cut out_of_turns rest error.Length = HasBadLength rest
@@ -78,15 +78,15 @@ EndsEarly cut out_of_turns rest error.Read = cut
 EndsEarly cut out_of_turns rest error.Write = Unit {0}
 EndsEarly cut out_of_turns rest error.Turns = out_of_turns
 
--- At the end of the input, or early: at a failed read or within a frame, or when all reads are made.
+-- The session ends at the end of the input, or early: at a failed read or within a frame, or when the allowed reads are made.
 abbrev pub EndsFor : Option (List ℕ) → ℕ → List (List ℕ) → List Exchange → List ℕ → Result ℕ FrameError → Type 0
 EndsFor input_left turns pieces exchanges rest (Ok count) = EndsWell input_left exchanges rest count
 EndsFor input_left turns pieces exchanges rest (Err e) = EndsEarly (IsPartial rest) (IsPartial rest × (length pieces ≡ turns)) rest e
 
 -- ---- a session
 
--- At most so many reads gave these pieces. Joined they are the frames of the messages that were answered, and a rest;
--- the service answered them in order, from its first state to its last; what was written are the frames of those replies.
+-- At most `turns` reads gave these pieces. Joined, they are the frames of the messages that were answered, and a rest.
+-- The service answered the messages in order, from its first state to its last; and the frames of those replies were written.
 pub record IsServed {S R : Type 0} (answers : S → MessageView → ReplyView → S → Type 0) (gives : R → List ℕ → R → Type 0) (turns : ℕ)
     (service service_left : S) (source source_left : R) (input_left output output_left : Option (List ℕ)) (result : Result ℕ FrameError) : Type 0 where
   pub pieces : List (List ℕ)

@@ -6,14 +6,14 @@ use Rattle.session_core.specs.declared.error.FrameError.{FrameError}
 use Rattle.session_core.specs.declared.error.FrameError.TheVariants as error
 use Rattle.session_core.specs.declared.source.TheConstants.{MOST_PIECE}
 
--- The source was read at most so often. Each read gave one of these pieces, which are no longer than one may be; a read
--- that failed, and one at the end, gave none of its bytes.
+-- The source was read at most `turns` times. Each read gave one of these pieces, none of which is longer than `MOST_PIECE`. A read
+-- that failed, and a read at the end, gave no bytes.
 pub record AreReads {R : Type 0} (gives : R → List ℕ → R → Type 0) (turns : ℕ) (old : R) (pieces : List (List ℕ)) (new : R) : Type 0 where
   pub made : FoldsTo gives old pieces new
   pub few : length pieces ≤ turns
   pub short : AllByRecursion (λ piece. length piece ≤ MOST_PIECE) pieces
 
--- All was read up to the end that the source shows; or a read failed, memory ran out, or all reads are made.
+-- All was read up to the end of the source; or a read failed, memory was refused, or all allowed reads were made.
 abbrev pub EndsReading : {A : Type 0} → ℕ → Option (List ℕ) → List (List ℕ) → Result (Vec ℕ A) FrameError → Type 0
 EndsReading turns input_left pieces (Ok bytes) = IsAtEnd input_left × (bytes.items ≡ concat pieces)
 EndsReading turns input_left pieces (Err error.NoMemory) = Unit {0}
@@ -23,7 +23,7 @@ EndsReading turns input_left pieces (Err error.Read) = Unit {0}
 EndsReading turns input_left pieces (Err error.Write) = ⊥
 EndsReading turns input_left pieces (Err error.Turns) = length pieces ≡ turns
 
--- A source was read to its end, or as far as reading went, in at most so many reads.
+-- A source was read to its end, or up to an error, in at most this number of reads.
 pub record IsAllRead {R A : Type 0} (gives : R → List ℕ → R → Type 0) (turns : ℕ) (source source_left : R) (input_left : Option (List ℕ)) (result : Result (Vec ℕ A) FrameError) : Type 0 where
   pub pieces : List (List ℕ)
   pub read : AreReads gives turns source pieces source_left

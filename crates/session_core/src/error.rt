@@ -2,14 +2,14 @@
 
 use thiserror::Error;
 
-/// What ends a session. After each but `Write` the replies to earlier messages stand whole, and nothing is written for
-/// the frame in which it happened; after `Write` a front of the replies' bytes stands.
+/// Why a session ends. After each error but `Write` the replies to earlier messages are written whole, and nothing is written for
+/// the frame at which it happened; after `Write` a front of the replies' bytes is written.
 #[derive(Clone, Copy, Debug, PartialEq, Eq, Error)]
 pub enum FrameError {
-    /// Memory for a frame ran out.
+    /// Memory for a frame was refused.
     #[error("out of memory")]
     NoMemory = 0,
-    /// The length of a frame is 0 or above 131,073, or none of a purge's or a removal's.
+    /// The length of a frame is 0 or above 131,073, or is not that of a purge's or a removal's frame.
     #[error("the length of a frame is out of range")]
     Length = 1,
     /// The kind of a frame is unknown.
@@ -21,7 +21,7 @@ pub enum FrameError {
     /// A write failed, or took no bytes.
     #[error("the output failed")]
     Write = 4,
-    /// So many reads were made as were allowed.
+    /// The allowed number of reads was made before the input ended.
     #[error("the session took too many reads")]
     Turns = 5,
 }

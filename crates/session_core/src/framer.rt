@@ -14,23 +14,23 @@ use std::marker::Model;
 
 /// A stream of frames that comes in pieces.
 ///
-/// It gives each message as soon as its frame is whole, and the same messages however the stream is cut. Beside them
-/// memory holds one piece and less than a frame. At a fault of a frame it stops: it gives that fault again for each piece
-/// that follows, and no message.
+/// It returns each message as soon as the message's frame is whole, and the same messages however the stream is cut. Beside the
+/// messages it keeps less than a frame in memory, and the piece while it is read. After a fault of a frame it returns no more
+/// messages: the result for each later piece is the same fault.
 #[derive(Drop)]
 pub struct Framer {
-    /// What came behind the last whole frame.
+    /// The bytes after the last whole frame.
     kept: Vec<u8>,
-    /// What is wrong with it: `Length` or `Kind`.
+    /// The fault of these bytes: `Length` or `Kind`.
     fault: Option<FrameError>,
 }
 
-/// What a piece of a stream completes.
+/// The result of feeding a piece of a stream.
 #[derive(Drop)]
 pub struct Fed {
     /// The messages whose frames the piece ends, in order.
     pub messages: Vec<Message>,
-    /// `Length` or `Kind`, where a frame with that fault follows them.
+    /// `Length` or `Kind`, where a frame with that fault comes after the messages.
     pub fault: Option<FrameError>,
 }
 
@@ -46,7 +46,7 @@ impl Model for Framer {
 }
 
 impl Framer {
-    /// The start of a stream.
+    /// A framer at the start of a stream.
     pub fn new(alloc: Global) -> Framer
         ensures { result ≡ Rest [] }
     {
@@ -56,7 +56,7 @@ impl Framer {
         }
     }
 
-    /// Takes the next piece of the stream. Where memory runs out it stays as it was, and the piece can be given again.
+    /// Takes the next piece of the stream. Where memory is refused, nothing changes, and the piece can be fed again.
     pub fn feed(&mut self, piece: &[u8]) -> Result<Fed, AllocError>
         ensures stream { IfOk result (λ fed. Continues self.old piece.now (message_views fed.messages.items) self.new) }
         ensures fault { IfOk result (λ fed. fed.fault ≡ fault_of self.new) }
@@ -88,7 +88,7 @@ impl Framer {
     }
 }
 
-/// The messages of the whole frames at the front, what is wrong behind them, and how many bytes the frames have.
+/// The messages of the whole frames at the front, the fault after them, and how many bytes the frames have.
 fn whole_frames(alloc: Global, bytes: &[u8]) -> Result<(Fed, usize), AllocError>
     ensures within { IfOk result (λ r. r.1 ≤ length bytes.now) }
     ensures messages { IfOk result (λ r. AreWholeFrames bytes.now (message_views r.0.messages.items) (drop r.1 bytes.now)) }
@@ -109,7 +109,7 @@ fn whole_frames(alloc: Global, bytes: &[u8]) -> Result<(Fed, usize), AllocError>
     Ok((Fed { messages, fault }, used))
 }
 
-/// The message with a body of its own.
+/// The message with a copy of its body.
 fn message_copy(alloc: Global, message: Message<&[u8]>) -> Result<Message, AllocError>
     ensures { IfOk result (λ m. message_view m ≡ message_at message.entry) }
 {

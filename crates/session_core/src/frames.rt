@@ -1,4 +1,4 @@
-//! Frames: a length of four bytes, big-endian, and that many bytes, which are a kind and a body.
+//! Frames: a length of four bytes, big-endian, and this number of bytes, which are a kind and a body.
 
 ghost use Rattle.std.specs.Prelude.{◌≡◌, ◌+◌, length, IsTrue, ◌↔◌};
 ghost use Rattle.session_core.specs.Frames.{kind_of, body_of, IsFrameLength, IsMessageKind, IsLengthOf, FitsFrame};
@@ -8,10 +8,10 @@ use crate::error::FrameError;
 use crate::message::Message;
 use byteorder::{BigEndian, ByteOrder};
 
-/// The bytes of a frame's length.
+/// The number of bytes of a frame's length.
 const LENGTH_SIZE: usize = 4;
 
-/// The greatest length of a message's frame: its kind and 131,072 bytes.
+/// The greatest length of a message's frame: 1 byte for its kind, and 131,072 bytes.
 pub const MOST_LENGTH: usize = 131_073;
 
 const REGISTER: u8 = 1;
@@ -28,9 +28,10 @@ const PURGE_LENGTH: usize = 9;
 /// The length of a removal's frame: its kind, a type of one byte and an id of 32.
 const REMOVE_LENGTH: usize = 34;
 
-/// The message at the front of the bytes, and how many bytes its frame has. `None` is less than a frame.
+/// The message at the front of the bytes, and how many bytes its frame has. `None` means that the bytes are less than a frame.
 ///
-/// The length is judged once four bytes are there. Once five are, so is the kind, and the length of a purge or a removal.
+/// The length is checked once four bytes are there. Once five bytes are there, the kind is checked, and the length of a purge or a
+/// removal.
 pub(crate) fn next_frame(bytes: &[u8]) -> Result<Option<(Message<&[u8]>, usize)>, FrameError>
     ensures { IsFront bytes.now result }
 {
@@ -58,7 +59,7 @@ pub(crate) fn next_frame(bytes: &[u8]) -> Result<Option<(Message<&[u8]>, usize)>
     Ok(Some((message_of(kind, body), LENGTH_SIZE + len)))
 }
 
-/// Whether frames of this kind may have this length, as far as the kind says.
+/// Whether frames of this kind can have this length. Only purges and removals have a length of their own.
 fn is_length_of(kind: u8, len: usize) -> bool
     ensures { IsTrue result ↔ IsLengthOf kind len }
 {

@@ -1,8 +1,8 @@
-//! Bytes that are taken off the front of a vector.
+//! Removing bytes from the front of a vector.
 
 ghost use Rattle.std.specs.Prelude.{◌≡◌, ◌≤◌, length, drop};
 
-/// Takes this number of bytes off the front; those after them move there.
+/// Removes this number of bytes from the front; the bytes after them move to the front.
 pub(crate) fn drop_front(bytes: &mut Vec<u8>, count: usize)
     requires { count ≤ length bytes.old.items }
     ensures { bytes.new.items ≡ drop count bytes.old.items }

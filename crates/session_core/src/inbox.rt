@@ -1,4 +1,4 @@
-//! What was read and is not answered yet.
+//! The bytes that were read but are not answered yet.
 
 ghost use Rattle.std.specs.Prelude.{◌≡◌, ◌≤◌, ◌++◌, [], length, drop, OnOk, OnErr, IsTrue, ◌↔◌};
 ghost use Rattle.session_core.specs.Front.{IsFront};
@@ -10,7 +10,7 @@ use crate::message::Message;
 use std::alloc::{AllocError, Global};
 use std::marker::Model;
 
-/// Bytes of a stream of frames, from the first one on that is not answered: less than a frame and one piece of input.
+/// Bytes of a stream of frames, from the first frame on that is not answered: less than a frame and one piece of input.
 #[derive(Drop)]
 pub(crate) struct Inbox {
     bytes: Vec<u8>,
@@ -28,7 +28,7 @@ impl Model for Inbox {
 }
 
 impl Inbox {
-    /// No bytes.
+    /// An inbox without bytes.
     pub(crate) fn new(alloc: Global) -> Inbox
         ensures { result ≡ [] }
     {
@@ -38,21 +38,21 @@ impl Inbox {
         }
     }
 
-    /// These bytes.
+    /// An inbox with these bytes.
     pub(crate) fn holding(bytes: Vec<u8>) -> Inbox
         ensures { result ≡ bytes.items }
     {
         Inbox { bytes, used: 0 }
     }
 
-    /// Whether nothing is left over.
+    /// Whether no byte is left.
     pub(crate) fn is_empty(&self) -> bool
         ensures { (IsTrue result) ↔ (self.now ≡ []) }
     {
         self.used == self.bytes.len()
     }
 
-    /// Adds a piece of input at the end. Where memory runs out, nothing is added.
+    /// Adds a piece of input at the end. Where memory is refused, nothing changes.
     pub(crate) fn take_in(&mut self, piece: &[u8]) -> Result<(), AllocError>
         ensures ok { OnOk result (self.new ≡ self.old ++ piece.now) }
         ensures err { OnErr result (self.new ≡ self.old) }
@@ -62,14 +62,14 @@ impl Inbox {
         self.bytes.extend_from_slice(piece)
     }
 
-    /// The message whose frame stands at the front, and how many bytes the frame has. `None` is less than a frame.
+    /// The message whose frame is at the front, and how many bytes the frame has. `None` means that the bytes are less than a frame.
     pub(crate) fn front(&self) -> Result<Option<(Message<&[u8]>, usize)>, FrameError>
         ensures { IsFront self.now result }
     {
         next_frame(self.bytes.split_at(self.used).1)
     }
 
-    /// Takes so many bytes off the front.
+    /// Removes this number of bytes from the front.
     pub(crate) fn advance(&mut self, count: usize)
         requires { count ≤ length self.old }
         ensures { self.new ≡ drop count self.old }

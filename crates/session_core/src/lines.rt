@@ -1,4 +1,4 @@
-//! Sessions over bytes in memory, whose replies are lines.
+//! Sessions over bytes in memory, whose replies are written as lines.
 
 ghost use Rattle.session_core.specs.Lines.{IsServedInLines};
 
@@ -10,8 +10,8 @@ use crate::session::Session;
 use std::alloc::Global;
 use std::io::Write;
 
-/// Answers the messages whose frames are these bytes, and writes each reply as a line: the digits of its frame in lower
-/// case. Tells how many replies were written, a count that stays at 2^64 - 1. Bytes that end within a frame are Read.
+/// Answers the messages whose frames are these bytes, and writes each reply as a line: the hexadecimal digits of its frame in lower
+/// case. The result is the number of replies that were written, capped at 2^64 - 1. Bytes that end within a frame are `Read`.
 pub fn serve_in_lines<W: Write, S: Service>(
     alloc: Global,
     bytes: Vec<u8>,
@@ -26,7 +26,7 @@ pub fn serve_in_lines<W: Write, S: Service>(
     served
 }
 
-/// Answers the messages to which all that came belongs, each in a line.
+/// Answers the messages of a session that has all of the input, and writes each reply as a line.
 fn serve_whole<W: Write, S: Service>(
     alloc: Global,
     writer: &mut W,

@@ -1,6 +1,6 @@
-//! What a frame carries.
+//! The messages in frames.
 
-/// A message. The body of a registration or a lookup is owned by a `Framer`'s caller, or a slice of the bytes that were
+/// A message. The body of a registration or a lookup is owned by the caller of a `Framer`, or is a slice of the bytes that were
 /// read.
 #[derive(Debug, Drop, PartialEq)]
 pub enum Message<B = Vec<u8>> {
@@ -8,8 +8,8 @@ pub enum Message<B = Vec<u8>> {
     Register(B),
     /// Kind 2: a `SegmentsRequest`.
     Lookup(B),
-    /// Kind 3: a purge of what has expired by this moment, in half seconds since 1970; eight bytes, big-endian.
+    /// Kind 3: a purge of the rows that expire at this moment or before, in half seconds since 1970; eight bytes, big-endian.
     Purge(u64),
-    /// Kind 4: the removal of a segment by its type, a byte that a service judges, and its id.
+    /// Kind 4: the removal of a segment by its type, a byte that the service checks, and its id.
     Remove(u8, [u8; 32]),
 }

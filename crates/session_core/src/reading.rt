@@ -8,7 +8,7 @@ use crate::serving::new_piece;
 use crate::source::{MOST_PIECE, Source, read_once};
 use std::alloc::Global;
 
-/// Reads all that a source gives, in at most `turns` reads.
+/// Reads a source to its end, in at most `turns` reads. The error is `Read`, `NoMemory`, or `Turns` after the last allowed read.
 pub fn read_all<R: Source>(alloc: Global, reader: &mut R, turns: u64) -> Result<Vec<u8>, FrameError>
     ensures { IsAllRead R.gives turns reader.old reader.new (R.remaining reader.new) result }
 {
@@ -16,7 +16,7 @@ pub fn read_all<R: Source>(alloc: Global, reader: &mut R, turns: u64) -> Result<
     read_pieces(alloc, reader, piece.as_mut_slice(), turns)
 }
 
-/// Reads all that a source gives, with room for one read.
+/// Reads a source to its end, with a buffer for one read.
 fn read_pieces<R: Source>(
     alloc: Global,
     reader: &mut R,

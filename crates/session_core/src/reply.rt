@@ -25,18 +25,18 @@ pub(crate) const REMOVED: u8 = 0x84;
 
 const REFUSED: u8 = 0xff;
 
-/// The greatest length of a reply's frame: its kind, and what belongs to it.
+/// The greatest length of a reply's frame: its kind, and the bytes that belong to it.
 pub const MOST_REPLY: usize = 1_114_112;
 
-/// The bytes of an acknowledgement's frame: its length, the kind, the place and four counts.
+/// The number of bytes of an acknowledgement's frame: its length (4), the kind (1), the place (8) and four counts (4 each).
 pub(crate) const ACK_FRAME: usize = 29;
 
-/// How replies are told.
+/// How replies are written.
 #[derive(Clone, Copy)]
 pub enum Form {
-    /// By their frames.
+    /// As their frames.
     Frames,
-    /// By lines, each the hexadecimal digits of a frame, in lower case.
+    /// As lines, each of which is the hexadecimal digits of a frame, in lower case.
     Lines,
 }
 
@@ -83,7 +83,7 @@ pub(crate) fn refusal_frame(code: Code) -> [u8; 6]
     [0, 0, 0, 2, REFUSED, code.0]
 }
 
-/// The length and the kind that stand before a response of so many bytes.
+/// The length and the kind before a response of this number of bytes.
 pub(crate) fn found_head(response: usize) -> [u8; 5]
     requires { response < MOST_REPLY }
     ensures { (body : List ℕ) → length body ≡ response → result ++ body ≡ frame_encoding (0x82 ∷ body) }

@@ -1,4 +1,4 @@
-//! What answers the messages of a session.
+//! Services, which answer the messages of a session.
 
 ghost use Rattle.std.specs.Prelude.{◌≤◌, length, IfOk};
 ghost use Rattle.std.specs.List.{AllByRecursion};
@@ -15,20 +15,20 @@ use std::alloc::Global;
 /// The most segments of an answer to a lookup.
 pub const MOST_SEGMENTS: usize = 64;
 
-/// The acknowledgement of a command: its place in the order of commands, from 0 on, and what it did.
+/// The acknowledgement of a command: its place in the order of commands, counted from 0, and what the command did.
 #[derive(Clone, Copy)]
 pub struct Ack {
     pub place: u64,
     pub outcome: Outcome,
 }
 
-/// The code of a refusal in a reply.
+/// The code of a refusal in a reply, one byte.
 #[derive(Clone, Copy)]
 pub struct Code(pub u8);
 
-/// Answers messages, each of which may change what it answers from.
+/// Answers messages. Each message may change the state of the service.
 pub trait Service {
-    /// From the first state the service may answer the message with the reply, and be in the second state then.
+    /// The service may answer the message with the reply in the first state, and is in the second state afterwards.
     ghost answers: { Self → MessageView → ReplyView → Self → Type 0 };
 
     /// Answers the body of a registration.
@@ -41,11 +41,11 @@ pub trait Service {
         ensures few { IfOk result (λ found. length found.1.items ≤ MOST_SEGMENTS) }
         ensures whole { IfOk result (λ found. AllByRecursion IsSegment found.1.items) };
 
-    /// Answers a purge of what has expired by this moment, in half seconds since 1970.
+    /// Answers a purge of the rows that expire at this moment or before, in half seconds since 1970.
     fn purge(&mut self, moment: u64) -> Result<Ack, Code>
         ensures { answers self.old (Purge moment) (reply_to_purge result) self.new };
 
-    /// Answers the removal of a segment by the byte of its type, which may be any, and its id.
+    /// Answers the removal of a segment by the byte of its type, which can be any byte, and its id.
     fn remove(&mut self, kind: u8, id: &[u8; 32]) -> Result<Ack, Code>
         ensures { answers self.old (Remove kind id.now) (reply_to_remove result) self.new };
 }

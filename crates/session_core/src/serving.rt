@@ -1,4 +1,4 @@
-//! The loop at the edge of a session, which alone knows a reader and a writer.
+//! The loop of a session, which alone uses a reader and a writer.
 
 ghost use Rattle.std.specs.Prelude.{◌≡◌, ◌++◌, [], length, IfOk, IfErr};
 ghost use Rattle.session_core.specs.Answered.{AreFrontsAnswered};
@@ -13,12 +13,12 @@ use crate::writing::write_reply;
 use std::alloc::Global;
 use std::io::Write;
 
-/// Answers the messages that a reader gives, in at most `turns` reads, and tells how many replies were written: a
-/// count that stays at 2^64 - 1.
+/// Answers the messages of a reader, in at most `turns` reads. The result is the number of replies that were written,
+/// capped at 2^64 - 1.
 ///
-/// Memory holds one piece of the input, less than a frame before it, and one reply. What is written is flushed before
-/// each further read, and behind a write that failed no further message is answered. The contract leaves open why a read
-/// or a write failed and when memory runs out, since no call of a reader, a writer or the allocator shows that.
+/// At any time memory has one piece of the input, less than a frame before it, and one reply. The writer is flushed before
+/// each further read, and after a failed write no message is answered. The contract leaves open why a read
+/// or a write failed and when memory is refused, since no call of a reader, a writer or the allocator reports that.
 pub fn serve<R: Source, W: Write, S: Service>(
     alloc: Global,
     reader: &mut R,
@@ -43,7 +43,7 @@ pub fn serve<R: Source, W: Write, S: Service>(
     served
 }
 
-/// Answers the messages that a reader gives, in a session to which nothing came, and with room for one read.
+/// Answers the messages of a reader, in a session without input, with a buffer for one read.
 fn serve_session<R: Source, W: Write, S: Service>(
     alloc: Global,
     reader: &mut R,
@@ -68,7 +68,7 @@ fn serve_session<R: Source, W: Write, S: Service>(
     Err(FrameError::Turns)
 }
 
-/// Room for one read.
+/// A buffer for one read.
 pub(crate) fn new_piece(alloc: Global) -> Result<Vec<u8>, FrameError>
     ensures ok { IfOk result (λ piece. length piece.items ≡ MOST_PIECE) }
     ensures err { IfErr result (λ e. e ≡ FrameError.NoMemory) }
@@ -76,7 +76,7 @@ pub(crate) fn new_piece(alloc: Global) -> Result<Vec<u8>, FrameError>
     Vec::from_elem(alloc, 0, MOST_PIECE).map_err(|_| FrameError::NoMemory)
 }
 
-/// What a session answers at the end of the input: nothing may be left over.
+/// The result of a session at the end of the input: an error where bytes are left over.
 pub(crate) fn end<S: Service>(session: &Session<S>, count: u64) -> Result<u64, FrameError>
     ensures ok { IfOk result (λ n. n ≡ count) }
     ensures whole { IfOk result (λ _. session.now.inbox ≡ []) }
@@ -89,7 +89,7 @@ pub(crate) fn end<S: Service>(session: &Session<S>, count: u64) -> Result<u64, F
     }
 }
 
-/// Answers the messages that stand whole once a piece of input has come.
+/// Answers the messages whose frames are whole after this piece of input.
 fn serve_piece<W: Write, S: Service>(
     alloc: Global,
     writer: &mut W,
@@ -106,7 +106,7 @@ fn serve_piece<W: Write, S: Service>(
     answer_and_flush(alloc, writer, session, Form::Frames, count)
 }
 
-/// Answers the messages that stand whole, and flushes what was written, unless a write failed.
+/// Answers the messages whose frames are whole, and flushes the writer, unless a write failed.
 pub(crate) fn answer_and_flush<W: Write, S: Service>(
     alloc: Global,
     writer: &mut W,
@@ -128,7 +128,7 @@ pub(crate) fn answer_and_flush<W: Write, S: Service>(
     }
 }
 
-/// Answers the messages that stand whole, and writes each reply. Adds how many there are.
+/// Answers the messages whose frames are whole, and writes each reply. The result is the count plus the number of replies.
 fn answer_all<W: Write, S: Service>(
     alloc: Global,
     writer: &mut W,

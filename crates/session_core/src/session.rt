@@ -1,4 +1,4 @@
-//! The core of a session, which neither reads nor writes: it is fed with pieces, and gives replies.
+//! The core of a session, which neither reads nor writes: it takes pieces of input, and returns replies.
 
 ghost use Rattle.std.specs.Prelude.{◌≡◌, ◌++◌, [], OnOk, OnErr, IsTrue, ◌↔◌};
 ghost use Rattle.session_core.specs.Answered.{IsNext};
@@ -13,14 +13,14 @@ use crate::reply::Reply;
 use crate::service::Service;
 use std::alloc::{AllocError, Global};
 
-/// A service, and what came for it and is not answered yet. At the end the service is taken out again.
+/// A service, and the input for it that is not answered yet. At the end of the session the service is taken out again.
 pub(crate) struct Session<S> {
     service: S,
     inbox: Inbox,
 }
 
 impl<S: Service> Session<S> {
-    /// A session to which nothing came.
+    /// A session without input.
     pub(crate) fn new(alloc: Global, service: S) -> Session<S>
         ensures service { result.service ≡ service }
         ensures inbox { result.inbox ≡ [] }
@@ -31,7 +31,7 @@ impl<S: Service> Session<S> {
         }
     }
 
-    /// A session to which these bytes came.
+    /// A session with these bytes as its input.
     pub(crate) fn holding(service: S, bytes: Vec<u8>) -> Session<S>
         ensures service { result.service ≡ service }
         ensures inbox { result.inbox ≡ bytes.items }
@@ -42,7 +42,7 @@ impl<S: Service> Session<S> {
         }
     }
 
-    /// Takes the next piece of input. Where memory runs out, nothing changes.
+    /// Takes the next piece of input. Where memory is refused, nothing changes.
     pub(crate) fn feed(&mut self, piece: &[u8]) -> Result<(), AllocError>
         ensures service { self.new.service ≡ self.old.service }
         ensures ok { OnOk result (self.new.inbox ≡ self.old.inbox ++ piece.now) }
@@ -51,8 +51,8 @@ impl<S: Service> Session<S> {
         self.inbox.take_in(piece)
     }
 
-    /// Lets the service answer the message whose frame stands whole at the front. `None` is less than a frame, an error a
-    /// faulty frame: then nothing changes.
+    /// Lets the service answer the message whose frame is whole at the front. `None` means that the input is less than a frame, an error
+    /// that the frame is faulty; in both cases nothing changes.
     pub(crate) fn next_reply(&mut self, alloc: Global) -> Result<Option<Reply>, FrameError>
         ensures { IsNext S.answers self.old.service self.old.inbox self.new.service self.new.inbox result }
     {
@@ -64,14 +64,14 @@ impl<S: Service> Session<S> {
         Ok(Some(reply))
     }
 
-    /// Whether all that came is answered.
+    /// Whether all input is answered.
     pub(crate) fn is_done(&self) -> bool
         ensures { (IsTrue result) ↔ (self.now.inbox ≡ []) }
     {
         self.inbox.is_empty()
     }
 
-    /// Gives the service back.
+    /// Returns the service.
     pub(crate) fn into_service(self) -> S
         ensures { result ≡ self.service }
     {

@@ -1,4 +1,4 @@
-//! What a session reads from.
+//! The readers of sessions.
 
 ghost use Rattle.std.specs.Prelude.{◌≡◌, ◌≤◌, ◌<◌, ℕ, List, [], length, take, MatchResult, IfOk, IfErr};
 ghost use Rattle.std.specs.Io.KnownBytes.{Consumes, ReadConsumes, IsAtEnd};
@@ -7,18 +7,18 @@ use crate::error::FrameError;
 use std::io;
 use std::io::Read;
 
-/// How many bytes one read asks for at most.
+/// The most bytes of one read.
 pub const MOST_PIECE: usize = 65_536;
 
-/// A reader whose contract counts its reads: `piece` makes one, and nothing else is known to make one.
+/// A reader whose contract counts its reads: `piece` makes one read, and no other call is known to make one.
 ///
-/// Every `Read` is a `Source`. A caller that is generic over `Source` can read by `piece` alone, since what any other
-/// call did to the reader it could not say.
+/// Every `Read` is a `Source`. A caller that is generic over `Source` can read by `piece` alone, since its contract could not
+/// describe the effect of any other call on the reader.
 pub trait Source: Read {
-    /// One read may give these bytes, and lead from the first state to the second. A read that fails gives none.
+    /// One read may give these bytes, and change the first state into the second. A read that fails gives no bytes.
     ghost gives: { Self → List ℕ → Self → Type 0 };
 
-    /// Reads once, into `buf`, and answers how many bytes came.
+    /// Reads once, into `buf`, and returns the number of bytes that were read.
     fn piece(&mut self, buf: &mut [u8]) -> io::Result<usize>
         ensures bytes { ReadConsumes (Self.remaining self.old) (Self.remaining self.new) result buf.new }
         ensures ok { IfOk result (λ n. n ≤ length buf.new) }
@@ -33,7 +33,7 @@ impl<R: Read> Source for R {
     }
 }
 
-/// Reads once, and answers how many bytes came: none at the end alone.
+/// Reads once, and returns the number of bytes that were read. The number is 0 at the end of the source only.
 pub(crate) fn read_once<R: Source>(reader: &mut R, piece: &mut [u8]) -> Result<usize, FrameError>
     requires { 0 < length piece.old }
     ensures ok { IfOk result (λ n. n ≤ length piece.new) }

@@ -1,4 +1,4 @@
-//! Replies on their way to a writer.
+//! Writing replies.
 
 ghost use Rattle.std.specs.Prelude.{◌≡◌, ◌++◌, OnOk, IfOk, IfErr, string_bytes};
 ghost use Rattle.std.specs.Io.KnownBytes.{Appends};
@@ -16,7 +16,7 @@ use std::alloc::{AllocError, Global};
 use std::io::Write;
 use whole_writes::WriteFailed;
 
-/// Writes a reply. Where memory runs out, nothing of it is written.
+/// Writes a reply. Where memory is refused, nothing of the reply is written.
 pub(crate) fn write_reply<W: Write>(
     alloc: Global,
     writer: &mut W,
@@ -33,7 +33,7 @@ pub(crate) fn write_reply<W: Write>(
     }
 }
 
-/// Writes the digits of a reply's frame, and the end of the line.
+/// Writes the hexadecimal digits of a reply's frame, and the end of the line.
 fn write_line<W: Write>(alloc: Global, writer: &mut W, reply: &Reply) -> Result<(), FrameError>
     requires { HasReplySize (reply_view reply.now) }
     ensures ok { OnOk result (Appends (W.contents writer.old) (W.contents writer.new) (told_as Form.Lines (reply_view reply.now))) }
@@ -45,7 +45,7 @@ fn write_line<W: Write>(alloc: Global, writer: &mut W, reply: &Reply) -> Result<
     write_all(writer, line.as_bytes())
 }
 
-/// The digits of a reply's frame, and the end of the line.
+/// The hexadecimal digits of a reply's frame, and the end of the line.
 fn line_of(alloc: Global, reply: &Reply) -> Result<String, AllocError>
     requires { HasReplySize (reply_view reply.now) }
     ensures { IfOk result (λ line. string_bytes line ≡ told_as Form.Lines (reply_view reply.now)) }
@@ -56,7 +56,7 @@ fn line_of(alloc: Global, reply: &Reply) -> Result<String, AllocError>
     Ok(line)
 }
 
-/// Writes the frame of a reply. Memory is wanted for a response alone, before its first byte.
+/// Writes the frame of a reply. Memory is taken for a response alone, before its first byte is written.
 #[tactic(auto, unfolding(crate::specs::Reply::reply_frame))]
 fn write_frame<W: Write>(alloc: Global, writer: &mut W, reply: &Reply) -> Result<(), FrameError>
     requires { HasReplySize (reply_view reply.now) }
@@ -90,7 +90,7 @@ fn write_found<W: Write>(
     write_both(writer, &found_head(response.len()), response.as_slice())
 }
 
-/// Writes all of two byte strings.
+/// Writes all bytes of two byte strings.
 fn write_both<W: Write>(writer: &mut W, head: &[u8], body: &[u8]) -> Result<(), FrameError>
     ensures ok { OnOk result (Appends (W.contents writer.old) (W.contents writer.new) (head.now ++ body.now)) }
     ensures err { IfErr result (FailsWithin (W.contents writer.old) (W.contents writer.new) (head.now ++ body.now)) }
@@ -99,7 +99,7 @@ fn write_both<W: Write>(writer: &mut W, head: &[u8], body: &[u8]) -> Result<(), 
     write_all(writer, body)
 }
 
-/// Writes all of the bytes. A write that takes none is a fault, and none is tried again.
+/// Writes all of the bytes. A write that takes no byte is an error, and no failed write is repeated.
 pub fn write_all<W: Write>(writer: &mut W, bytes: &[u8]) -> Result<(), FrameError>
     ensures ok { OnOk result (Appends (W.contents writer.old) (W.contents writer.new) bytes.now) }
     ensures err { IfErr result (FailsWithin (W.contents writer.old) (W.contents writer.new) bytes.now) }

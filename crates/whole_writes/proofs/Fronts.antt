@@ -1,10 +1,10 @@
--- What writes in pieces have done together.
+-- The combined effect of several writes in pieces.
 use Rattle.std.proofs.Common.{◌≡◌, ℕ, List, ◌++◌, take, drop, Option, sym, ap, ◌∙◌, append_assoc, take-append-drop}
 use Rattle.std.specs.Io.KnownBytes.{Appends}
 use Rattle.std.proofs.KnownBytes.{Appends-trans}
 use Rattle.whole_writes.specs.Written.{IsWrittenInPart}
 
--- A front of the bytes was written, and the rest is left.
+-- A front of the bytes was written, and this rest is left.
 pub record HasWritten (output output_left : Option (List ℕ)) (bytes rest : List ℕ) : Type 0 where
   pub front : List ℕ
   pub parts : bytes ≡ front ++ rest

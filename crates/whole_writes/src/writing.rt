@@ -1,4 +1,4 @@
-//! The loop over a writer.
+//! The loop that writes all of some bytes to a writer.
 
 ghost use Rattle.std.specs.Prelude.{◌≤◌, [], length, take, OnOk, OnErr, IfOk};
 ghost use Rattle.std.specs.Io.KnownBytes.{Appends};
@@ -9,7 +9,8 @@ use std::io::Write;
 /// A write failed, or took no byte.
 pub struct WriteFailed;
 
-/// Writes all of the bytes. A write that takes none is a failure, and none is tried again.
+/// Writes all of the bytes. A write that takes no byte is a failure, and no failed write is repeated. After an error a front of
+/// the bytes, perhaps of no byte, is written.
 pub fn write_all<W: Write>(writer: &mut W, bytes: &[u8]) -> Result<(), WriteFailed>
     ensures ok { OnOk result (Appends (W.contents writer.old) (W.contents writer.new) bytes.now) }
     ensures err { OnErr result (IsWrittenInPart (W.contents writer.old) (W.contents writer.new) bytes.now) }
@@ -22,7 +23,7 @@ pub fn write_all<W: Write>(writer: &mut W, bytes: &[u8]) -> Result<(), WriteFail
     Ok(())
 }
 
-/// Writes a front of the bytes, of at least one.
+/// Writes a front of the bytes, of at least one byte, and returns the length of that front.
 fn write_some<W: Write>(writer: &mut W, bytes: &[u8]) -> Result<usize, WriteFailed>
     ensures ok { IfOk result (λ n. Appends (W.contents writer.old) (W.contents writer.new) (take n bytes.now)) }
     ensures some { IfOk result (λ n. 1 ≤ n) }
