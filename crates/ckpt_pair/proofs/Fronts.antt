@@ -16,7 +16,7 @@ use Rattle.ckpt_pair.specs.Heads.{latest, head_view}
 use Rattle.ckpt_pair.specs.Rows.{as_counted, rows_format}
 use Rattle.ckpt_pair.specs.Reading.{FrontView, front_view, with_room, front_in, or_bad, HasRowsToRead, with_head, with_rows_behind, rows_behind, AreReadByTheirFronts}
 
--- by the head, and by whether the rows end within the area
+-- the checkpoint by its head, and by whether the rows end within the area
 by_front : (head : Result laws.Head PairRefusal) (fits : Bool) (size count : ℕ) (found : FrontView → Option (List RowView)) (rows : Option (List RowView))
     → ((h : laws.Head) → found (record { head = h; size = size; count = count }) ≡ rows)
     → with_rows head (if fits then rows else None) ≡ with_rows_behind (with_room head fits size count) found
@@ -33,7 +33,7 @@ by_its_front area =
     by_front (head_in latest area) (leb (32 + rows_size area) (length area)) (rows_size area) (rows_count area)
     (rows_behind area) (as_counted (rows_count area) (rows_decoding (part 32 (rows_size area) area))) (λ h. refl)
 
--- ---- read
+-- ---- reading
 
 front_is : (front : Front) (reading : Result FrontView PairRefusal) → Reads front_view (Ok front) reading → reading ≡ Ok (front_view front)
 front_is front (Ok view) reads = cc
@@ -77,7 +77,7 @@ module _ (area : List ℕ) (front : Front) (rows : List ℕ) (reads : Reads fron
 
 -- ---- the first 32 bytes
 
--- a head by its numbers
+-- a head from its numbers
 abbrev head_of : ℕ → ℕ → ℕ → ℕ → Result laws.Head PairRefusal
 head_of magic version epoch place =
     check (eqb magic laws.checkpoint_magic) BadCheckpoint
@@ -96,7 +96,7 @@ part_in_front (suc at) n zero list within = absurd (omega (arith, within))
 part_in_front (suc at) n (suc k) [] within = refl
 part_in_front (suc at) n (suc k) (x ∷ list) within = part_in_front at n k list (omega (arith, within))
 
--- a number within the first bytes goes by them
+-- a number within the first bytes depends on these bytes alone
 part_same : (at n k : ℕ) (one other : List ℕ) → at + n ≤ k → take k one ≡ take k other → part at n one ≡ part at n other
 part_same at n k one other within same = part_in_front at n k one within ∙ ap (part at n) same ∙ sym (part_in_front at n k other within)
 

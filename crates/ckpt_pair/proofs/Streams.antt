@@ -1,4 +1,4 @@
--- Rows that are given as a stream: for `row_stream` and `rows_laws`.
+-- Rows that a stream returns: for `row_stream` and `rows_laws`.
 use Rattle.std.proofs.Common.{◌≡◌, ◌≢◌, ℕ, zero, suc, ◌+◌, ◌-◌, ◌<◌, ◌≤◌, Bool, true, false, List, [], ◌∷◌, ◌++◌, length, take, drop, refl, sym, ap, subst, ◌∙◌, arith, append-nil, Ok, Err, Some, None, ne_eqb, eq-eqb}
 use Rattle.std.specs.Prelude.{Result, Option, if◌then◌else◌}
 use Rattle.std.proofs.lemmas.List.{length-append, length-take}
@@ -14,7 +14,7 @@ use Rattle.ckpt_pair.specs.Stream.{StreamView, HasStreamed, AreNoStreamedRows, I
 use Rattle.ckpt_pair.proofs.Fronts.{by_fronts}
 use Rattle.image_laws.specs.CheckpointReading.{PairRefusal}
 
--- ---- what was pushed
+-- ---- the bytes that were pushed
 
 take_more : (n : ℕ) (xs ys : List ℕ) → take n (xs ++ ys) ≡ take n xs ++ take (n - length xs) ys
 take_more zero xs ys = let none : 0 ≡ 0 - length xs = omega arith in ap (λ (k : ℕ). take k ys) none
@@ -24,7 +24,7 @@ take_more (suc n) (x ∷ xs) ys =
     ap (λ (l : List ℕ). x ∷ l) (take_more n xs ys ∙ ap (λ (k : ℕ). take n xs ++ take k ys) less)
 
 module _ (size count : ℕ) (pushed : List ℕ) (given : List RowView) (stream : StreamView) (is : HasStreamed size count pushed given stream) where
-  -- the first bytes of more bytes
+  -- the first bytes of a longer list of bytes
   more_taken : (more : List ℕ) → take size (pushed ++ more) ≡ take size pushed ++ take stream.bytes more
   more_taken more = take_more size pushed more ∙ ap (λ (n : ℕ). take size pushed ++ take n more) (sym is.bytes)
 
@@ -45,7 +45,7 @@ module _ (size count : ℕ) (pushed : List ℕ) (given : List RowView) (stream :
     rows = omega (arith, fewer, is.rows, length-append given (row ∷ []));
   }
 
-  -- after the last row, where no bytes are left
+  -- the rows that were returned are all, once no row is to come and no byte is left
   pub all_streamed : stream.rows ≡ 0 → length stream.walk.rest ≡ 0 → as_counted count (rows_decoding (take size pushed)) ≡ Some given
   all_streamed last none =
       ap (as_counted count) (given_all (take size pushed) given stream.walk is.walk none)
@@ -56,12 +56,12 @@ module _ (size count : ℕ) (pushed : List ℕ) (given : List RowView) (stream :
 
 -- ---- refusals
 
--- what is read as other rows than so many
+-- a reading whose rows, if any, have another count
 none_by : (count : ℕ) (reading : Result (List RowView) DbError) → ((rows : List RowView) → reading ≡ Ok rows → length rows ≢ count) → as_counted count reading ≡ None
 none_by count (Ok rows) never = ap (λ (b : Bool). if b then Some rows else None) (ne_eqb (length rows) count (never rows refl))
 none_by count (Err e) never = refl
 
--- bytes are left after the last row
+-- bytes that are left after the last row are refused
 pub more_than_count : (stream : StreamView) → stream.rows ≡ 0 → 0 < length stream.walk.rest → AreNoStreamedRows stream
 more_than_count stream last some size count pushed given is after =
     none_by count (rows_decoding (take size (pushed ++ after)))
@@ -70,12 +70,12 @@ more_than_count stream last some size count pushed given is after =
     (ap rows_decoding (sym (more_taken size count pushed given stream is after)) ∙ read) in
     omega (arith, same, last, is.rows, begin.more some, ap length begin.split, length-append given begin.others))
 
--- what is there is refused
+-- the bytes that are left are refused
 pub refused_walk : (stream : StreamView) → IsRefusedWalk stream.walk → AreNoStreamedRows stream
 refused_walk stream refused size count pushed given is after =
     ap (as_counted count) (ap rows_decoding (more_taken size count pushed given stream is after) ∙ refused.1 (take size pushed) given is.walk (take stream.bytes after))
 
--- all bytes were pushed, a row is missing, and no whole one is left
+-- all bytes were pushed, a row is missing, and no whole row is left
 pub fewer_than_count : (stream : StreamView) → 0 < stream.rows → stream.bytes ≡ 0 → has_row stream.walk.rest ≡ false → AreNoStreamedRows stream
 fewer_than_count stream some end none size count pushed given is after =
     ap (λ (l : List ℕ). as_counted count (rows_decoding l))

@@ -1,4 +1,4 @@
--- Heads as values, and where the tail of a store stands.
+-- Heads as values, and the half that has the tail of a store.
 use Rattle.std.specs.Prelude.{◌≡◌, ℕ, Bool, true, false, Result, Ok, Err, Option}
 use Rattle.std.specs.Option.{option_map}
 use Rattle.image_laws.specs.declared.half.Half.{Half}
@@ -13,7 +13,7 @@ use Rattle.image_laws.specs.OpeningReading.{BadPair, read_tail, behind_journal}
 use Rattle.ckpt_pair.specs.declared.head.Head.{Head}
 use Rattle.ckpt_pair.specs.declared.head.Heads.{Heads}
 
--- the greatest version that is known, in which checkpoints are written
+-- the greatest version that is known; checkpoints are written in this version
 abbrev pub latest : ℕ
 latest = 2
 
@@ -29,15 +29,15 @@ abbrev pub head_at : Half → Heads → Option Head
 head_at First heads = heads.first
 head_at Second heads = heads.second
 
--- The half where the tail stands, by whether the chosen half's journal is sealed, and whether the other half is open: the
--- chosen one, or behind a seal the other one, which has to be closed.
+-- The half that has the tail, by whether the chosen half's journal is sealed, and whether the other half is open: the
+-- chosen half, or after a seal the other half, which has to be closed.
 abbrev pub tail_of : Half → Bool → Bool → Result Half PairRefusal
 tail_of chosen false other_is_open = Ok chosen
 tail_of chosen true true = Err SealedNewer
 tail_of chosen true false = Ok (other chosen)
 
--- What an opening is once the chosen half's journal is read, by where the tail stands: it is refused as the tail is, it is whole
--- where the tail is in the chosen half, and else it goes on in the other half's journal.
+-- An opening once the chosen half's journal is read, by the half that has the tail: it is refused as the tail is; it is complete
+-- where the chosen half has the tail; and else it continues with the other half's journal.
 pub record IsByTail {Db C : Type 0} (opening : Opening Db C) (sealed other_is_open : Bool) (behind : Result (Reading C) JournalRefusal) : Type 0 where
   pub refused : (refusal : PairRefusal) → tail_of opening.chosen sealed other_is_open ≡ Err refusal
       → behind_journal sealed other_is_open opening behind ≡ Err (BadPair refusal)

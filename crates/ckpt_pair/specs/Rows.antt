@@ -1,4 +1,4 @@
--- The rows of a checkpoint are those of the database, one record after the other.
+-- The rows of a checkpoint are the records of the database's rows, one after the other.
 use Rattle.std.specs.Prelude.{◌≡◌, ℕ, Bool, true, false, List, length, Result, Ok, Err, Option, Some, None, if◌then◌else◌, ◌==◌}
 use Rattle.std.proofs.Common.{refl, sym, ap, ◌∙◌, eqb-true}
 use Rattle.image_laws.specs.StoreFormat.{RowsFormat}
@@ -7,17 +7,17 @@ use Rattle.path_rows.specs.Database.{RowView}
 use Rattle.path_db.specs.RowRecord.{rows_encoding, rows_decoding}
 use Rattle.path_db.proofs.RowsBack.{rows_spelled}
 
--- the rows that were read, where they are as many as this
+-- the rows that were read, if their number is this count
 abbrev pub as_counted : ℕ → Result (List RowView) DbError → Option (List RowView)
 as_counted count (Ok rows) = if length rows == count then Some rows else None
 as_counted count (Err e) = None
 
--- what is read of a list by a test is the list
+-- a list that is the result under a test is the list
 by_test : (test : Bool) (found rows : List RowView) → (if test then Some found else None) ≡ Some rows → (test ≡ true) × (found ≡ rows)
 by_test true found rows is = (refl, cc)
 by_test false found rows is = absurd cc
 
--- the rows are as many, and were read
+-- a counted reading has this number of rows, and these rows were read
 pub counted_rows : (count : ℕ) (reading : Result (List RowView) DbError) (rows : List RowView) → as_counted count reading ≡ Some rows
     → (reading ≡ Ok rows) × (length rows ≡ count)
 counted_rows count (Ok found) rows is =
@@ -25,7 +25,7 @@ counted_rows count (Ok found) rows is =
     (ap (λ (l : List RowView). let r : Result (List RowView) DbError = Ok l in r) so.1, ap length (sym so.1) ∙ eqb-true (length found) count so.0)
 counted_rows count (Err e) rows is = absurd cc
 
--- Rows are spelled as their records, and bytes are read as so many rows where they are the records of just so many, in order.
+-- Rows are written as their records, and bytes are read as `count` rows exactly where they are the records of `count` rows, in order.
 abbrev pub rows_format : RowsFormat (List RowView)
 rows_format = record {
   encoding = rows_encoding;

@@ -1,4 +1,4 @@
--- Rows that are given as a stream: what was pushed, what was given, and what is still to come.
+-- Rows that a stream returns: the bytes that were pushed, the rows that were returned, and what is still to come.
 use Rattle.std.specs.Prelude.{◌≡◌, ℕ, ◌+◌, ◌-◌, ◌≤◌, List, ◌++◌, length, take, drop, Ok, Some, None}
 use Rattle.image_laws.specs.CheckpointReading.{checkpoint_in}
 use Rattle.path_rows.specs.Database.{RowView}
@@ -11,7 +11,7 @@ use Rattle.ckpt_pair.specs.Heads.{latest}
 use Rattle.ckpt_pair.specs.Rows.{rows_format, as_counted}
 use Rattle.ckpt_pair.specs.Reading.{FrontView, front_in, with_head}
 
--- the rows that were given with the bytes after them, and how many bytes and rows are still to come
+-- the walk over the rows, and how many bytes and rows are still to come
 pub record StreamView : Type 0 where
   pub walk : WalkView
   pub bytes : ℕ
@@ -20,34 +20,34 @@ pub record StreamView : Type 0 where
 abbrev pub stream_view : Inside → StreamView
 stream_view s = record { walk = s.walk; bytes = s.bytes; rows = s.rows }
 
--- These bytes were pushed, of which the first ones are those of the rows, and these rows given: of this size and count.
+-- These bytes were pushed, of which the first `size` are the records of the rows, and these rows of `count` were returned.
 pub record HasStreamed (size count : ℕ) (pushed : List ℕ) (given : List RowView) (stream : StreamView) : Type 0 where
   pub walk : HasGiven (take size pushed) given stream.walk
   pub bytes : stream.bytes ≡ size - length pushed
   pub rows : length given + stream.rows ≡ count
 
--- what was pushed is not read as this number of rows in this number of bytes, whatever bytes come next
+-- the bytes that were pushed are not read as this number of rows in this number of bytes, whatever bytes come next
 abbrev pub AreNoStreamedRows : StreamView → Type 0
 AreNoStreamedRows stream =
     (size count : ℕ) (pushed : List ℕ) (given : List RowView) → HasStreamed size count pushed given stream
     → (after : List ℕ) → as_counted count (rows_decoding (take size (pushed ++ after))) ≡ None
 
--- whatever was fed to a walk and given, it is refused for some reason
+-- a walk in this state is refused, whatever was pushed and returned before
 abbrev pub IsRefusedWalk : WalkView → Type 0
 IsRefusedWalk walk = (e : DbError) × ((fed : List ℕ) (given : List RowView) → HasGiven fed given walk → AreRefused fed e)
 
--- Rows begin with these.
+-- The list of rows begins with these.
 pub record BeginWith (given rows : List RowView) : Type 0 where
   pub others : List RowView
   pub split : rows ≡ given ++ others
 
--- What is read of the bytes that were pushed and more of them begins with the rows that were given.
+-- The rows that the pushed bytes and any later ones are read as begin with the rows that were returned.
 abbrev pub StreamsBeginRows : Type 0
 StreamsBeginRows =
     (size count : ℕ) (pushed after : List ℕ) (given rows : List RowView) (stream : StreamView) → HasStreamed size count pushed given stream
     → as_counted count (rows_decoding (take size (pushed ++ after))) ≡ Some rows → BeginWith given rows
 
--- Where a half's area is pushed from the rows on, its checkpoint is what is read so of the size and the count of its front.
+-- Where a half's area is pushed from the rows on, its checkpoint is the reading of these bytes by the size and the count of its front.
 abbrev pub StreamsReadHalves : Type 0
 StreamsReadHalves =
     (area bytes : List ℕ) (front : FrontView) → 32 ≤ length area → front_in latest (length area) area ≡ Ok front → bytes ≡ drop 32 area

@@ -1,4 +1,4 @@
-//! Which half counts, and where the tail stands.
+//! The half that is chosen, and the half that has the tail.
 
 ghost use Rattle.std.specs.Prelude.{◌==◌, nat_lt};
 ghost use Rattle.std.specs.Option.{is_some};
@@ -12,8 +12,8 @@ use crate::error::PairError;
 use crate::head::Heads;
 use image_laws::Half;
 
-/// The half that is chosen: the open one, and of two the one of greater epoch. It is refused as `NoHalf` where none is open, and
-/// as `SameEpoch` where both have one epoch.
+/// The half that is chosen: the open one, and of two open halves the one with the greater epoch. The error is `NoHalf` where no half
+/// is open, and `SameEpoch` where both have the same epoch.
 pub fn choose(heads: Heads) -> Result<Half, PairError>
     ensures { Reads (λ half. half) result (choice (head_seen heads.first) (head_seen heads.second)) }
 {
@@ -25,7 +25,7 @@ pub fn choose(heads: Heads) -> Result<Half, PairError>
     }
 }
 
-/// Of two open halves the one of greater epoch.
+/// Of two open halves the one with the greater epoch.
 fn by_epochs(first: u64, second: u64) -> Result<Half, PairError>
     ensures { Reads (λ half. half) result (laws.by_epochs (first == second) (nat_lt first second)) }
 {
@@ -39,8 +39,8 @@ fn by_epochs(first: u64, second: u64) -> Result<Half, PairError>
     }
 }
 
-/// The half where the tail stands: the chosen one, or where its journal is sealed the other one. It is refused as `SealedNewer`
-/// where the chosen half's journal is sealed and the other half is open.
+/// The half that has the tail: the chosen one, or the other one where the chosen half's journal is sealed. The error is
+/// `SealedNewer` where the chosen half's journal is sealed and the other half is open.
 pub fn tail_half(heads: Heads, chosen: Half, sealed: bool) -> Result<Half, PairError>
     ensures { Reads (λ half. half) result (tail_of chosen sealed (is_some (head_at (other chosen) heads))) }
 {
@@ -57,7 +57,7 @@ pub fn tail_half(heads: Heads, chosen: Half, sealed: bool) -> Result<Half, PairE
     Ok(chosen.other())
 }
 
-/// Where the tail stands is where an opening reads on.
+/// An opening continues in the half that has the tail.
 pub fn openings_go_on_there<Db, C>()
     ensures { GoesOnWhereTailStands Db C }
 {}

@@ -1,4 +1,4 @@
-//! Checkpoints as they are written.
+//! Writing checkpoints.
 
 ghost use Rattle.std.specs.Prelude.{◌≡◌, ◌<◌, ◌≤◌, ◌^◌, ◌++◌, ◌+◌, List, length, take, IfOk, OnOk};
 ghost use Rattle.image_laws.specs.Checkpoint.{checkpoint_bytes, checkpoint_encoding, CanBeCheckpoint};
@@ -12,8 +12,8 @@ use byte_lists::{SECTOR, pad, sector_count};
 use path_db::{PathDb, write_rows};
 use std::alloc::{AllocError, Global};
 
-/// A database as the checkpoint of an epoch and a place, in the version that is written, filled with zeros to whole sectors.
-/// Its records have to be less than 4 GiB; then it can be a checkpoint. The buffer is reserved once, for all of it.
+/// A database as the checkpoint of an epoch and a place, in version `LATEST`, padded with zeros to whole sectors. Its records have
+/// to have less than 4 GiB; such a database can be a checkpoint. The buffer is reserved once, for all of the bytes.
 pub fn encode_checkpoint(
     alloc: Global,
     db: &PathDb,
@@ -33,8 +33,8 @@ pub fn encode_checkpoint(
     Ok(out)
 }
 
-/// What that checkpoint begins with, before its rows: the magic, the version, the epoch and the place, how many bytes the rows
-/// have, and how many they are. Numbers are big-endian.
+/// The 32 bytes of that checkpoint before its rows: the magic (4), the version (4), the epoch (8), the place (8), the length of the
+/// rows' records in bytes (4), and the number of rows (4). Numbers are big-endian.
 pub fn checkpoint_head(db: &PathDb, epoch: u64, place: u64) -> [u8; 32]
     requires { rows_len db.now < 2 ^ 32 }
     ensures spelled { result ++ rows_encoding db.now ≡ checkpoint_bytes rows_format (written_checkpoint epoch place db.now) }
@@ -43,8 +43,8 @@ pub fn checkpoint_head(db: &PathDb, epoch: u64, place: u64) -> [u8; 32]
     checkpoint_front(epoch, place, db.encoded_len() as u32, row_count(db))
 }
 
-/// The same of any rows, by how many bytes they have as records, and how many they are: these numbers have to be known of the rows
-/// that are to be written after it.
+/// The same 32 bytes for any rows, by the length of their records in bytes and their number. The caller has to know both before the
+/// rows are written.
 pub fn checkpoint_front(epoch: u64, place: u64, size: u32, count: u32) -> [u8; 32]
     ensures spelled { (rows : List RowView) → rows_len rows ≡ size → length rows ≡ count
         → result ++ rows_encoding rows ≡ checkpoint_bytes rows_format (written_checkpoint epoch place rows) }
@@ -60,7 +60,7 @@ pub fn checkpoint_front(epoch: u64, place: u64, size: u32, count: u32) -> [u8; 3
     head
 }
 
-/// Puts bytes behind what stands before an offset.
+/// Puts bytes at an offset. The bytes before the offset are unchanged.
 fn put(head: &mut [u8], at: usize, bytes: &[u8])
     requires { at + length bytes.now ≤ length head.old }
     ensures put { take (at + length bytes.now) head.new ≡ take at head.old ++ bytes.now }
@@ -69,7 +69,7 @@ fn put(head: &mut [u8], at: usize, bytes: &[u8])
     head[at..at + bytes.len()].copy_from_slice(bytes);
 }
 
-/// How many rows there are, where their records have less than 4 GiB.
+/// The number of rows of a database whose records have less than 4 GiB.
 fn row_count(db: &PathDb) -> u32
     requires { rows_len db.now < 2 ^ 32 }
     ensures count { result ≡ length db.now }

@@ -12,7 +12,7 @@ use crate::format::{CHECKPOINT_MAGIC, LATEST};
 use byte_lists::{is_open, read_u32, read_u64};
 
 /// The head of a checkpoint: the version of its format, the epoch, which is greater in the newer half, and the place, which is
-/// how many commands are folded into its rows.
+/// the number of commands that are folded into its rows.
 #[derive(Clone, Copy, Debug, PartialEq, Eq)]
 pub struct Head {
     pub version: u32,
@@ -20,15 +20,15 @@ pub struct Head {
     pub place: u64,
 }
 
-/// The heads of both halves of a store: none of a half that is closed.
+/// The heads of both halves of a store, `None` for a closed half.
 #[derive(Clone, Copy, Debug, PartialEq, Eq)]
 pub struct Heads {
     pub first: Option<Head>,
     pub second: Option<Head>,
 }
 
-/// The head that a half's area begins with: none where the half's gate is closed, and then the area isn't read. An open half
-/// with another magic or version 0 is `BadCheckpoint`, and a version above `LATEST` is `NewerFormat`.
+/// The head at the front of a half's area, or `None` where the half's gate is closed; the area is not read then. An open half
+/// with another magic or with version 0 is `BadCheckpoint`, and a version above `LATEST` is `NewerFormat`.
 pub fn read_head(gate: &[u8], area: &[u8]) -> Result<Option<Head>, PairError>
     requires { 24 ≤ length area.now }
     ensures { Reads head_seen result (head_behind (is_open_gate gate.now) (head_in latest area.now)) }
@@ -39,7 +39,7 @@ pub fn read_head(gate: &[u8], area: &[u8]) -> Result<Option<Head>, PairError>
     Ok(Some(open_head(area)?))
 }
 
-/// The head that an open half's area begins with.
+/// The head at the front of an open half's area.
 pub(crate) fn open_head(area: &[u8]) -> Result<Head, PairError>
     requires { 24 ≤ length area.now }
     ensures { Reads head_view result (head_in latest area.now) }

@@ -1,7 +1,7 @@
-//! The two halves of a store: what their heads and checkpoints are read as, which half is chosen, and what is written.
+//! The two halves of a store: how their heads and checkpoints are read and written, and which half is chosen.
 //!
-//! To the layer above, each call answers what the definitions of `image_laws` say of the bytes, with the rows of `path_db`,
-//! and refuses just where they do.
+//! To the layer above, each call returns what the definitions of `image_laws` give for the bytes, with the rows of `path_db`,
+//! and an error exactly where they give one.
 #![tactic(auto)]
 
 mod choice;

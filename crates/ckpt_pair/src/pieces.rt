@@ -1,4 +1,4 @@
-//! The rows of a checkpoint, read by pieces of their bytes: for areas that are larger than what is to be in memory.
+//! The rows of a checkpoint, read from pieces of their bytes: for areas that are larger than the memory for them.
 
 ghost use Rattle.std.specs.Prelude.{◌≡◌, ◌≢◌, ◌<◌, ◌++◌, length, IfOk, IfErr, IsOk};
 ghost use Rattle.path_rows.specs.Database.{IsDatabase};
@@ -12,8 +12,8 @@ use crate::error::PairError;
 use crate::reading::has_count;
 use path_db::{DbError, PathDb, RowsReader};
 
-/// Reads on with the next piece of the rows' bytes, cut anywhere. What is `BadCheckpoint` here are no rows, however many they
-/// are to be and whatever stands behind this piece. To read an empty piece takes no memory.
+/// Reads the next piece of the rows' bytes, cut anywhere. A `BadCheckpoint` does not depend on the count of rows or on the bytes
+/// after this piece. An empty piece takes no memory.
 pub fn feed_rows(reader: RowsReader, piece: &[u8]) -> Result<RowsReader, PairError>
     ensures fed { IfOk result (λ more. more ≡ reader ++ piece.now) }
     ensures refused { IfErr result (λ e. e ≢ NoMemory → (e ≡ BadCheckpoint) × AreNoRows (reader ++ piece.now)) }
@@ -26,8 +26,8 @@ pub fn feed_rows(reader: RowsReader, piece: &[u8]) -> Result<RowsReader, PairErr
     }
 }
 
-/// The database of all bytes that were fed, which are to be the records of just so many rows. It takes memory only where they
-/// are the records of some rows.
+/// The database of all bytes that were fed, which have to be the records of exactly `count` rows. The call takes memory only where
+/// the bytes are the records of some rows.
 pub fn finish_rows(reader: RowsReader, count: u32) -> Result<PathDb, PairError>
     ensures decoding { Gives (λ rows. rows) result (or_bad (as_counted count (rows_decoding reader))) }
     ensures whole { IfOk result IsDatabase }

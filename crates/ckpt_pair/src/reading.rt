@@ -1,4 +1,4 @@
-//! Checkpoints as they are read.
+//! Reading checkpoints.
 
 ghost use Rattle.std.specs.Prelude.{◌≡◌, ◌≤◌, ◌+◌, ◌==◌, length, IfOk, IfErr};
 ghost use Rattle.byte_lists.specs.Content.{part};
@@ -18,7 +18,7 @@ use byte_lists::read_u32;
 use path_db::{DbError, PathDb, read_rows};
 use std::alloc::Global;
 
-/// What stands before the rows of a checkpoint: its head, how many bytes the rows have, and how many they are.
+/// The front of a checkpoint: its head, the length of the rows' records in bytes, and the number of rows.
 #[derive(Clone, Copy, Debug, PartialEq, Eq)]
 pub struct Front {
     pub head: Head,
@@ -33,8 +33,8 @@ pub struct Checkpoint {
     pub db: PathDb,
 }
 
-/// Reads the front of an area of so many bytes. An area with another magic or version 0 is `BadCheckpoint`, a version above
-/// `LATEST` is `NewerFormat`, and then rows that don't end within the area are `BadCheckpoint`.
+/// Reads the front of an area of `area` bytes. An area with another magic or with version 0 is `BadCheckpoint`, a version above
+/// `LATEST` is `NewerFormat`, and rows that don't end within the area are `BadCheckpoint`.
 pub fn read_front(bytes: &[u8], area: u64) -> Result<Front, PairError>
     requires { 32 ≤ length bytes.now }
     ensures { Reads front_view result (front_in latest area bytes.now) }
@@ -48,9 +48,9 @@ pub fn read_front(bytes: &[u8], area: u64) -> Result<Front, PairError>
     Ok(Front { head, size, count })
 }
 
-/// Reads the checkpoint that a half's area begins with. First its front is judged, as `read_front` does. Then rows that aren't
-/// just as many in just as many bytes as they are said to be, or that aren't in the order of their keys, are `BadCheckpoint`.
-/// Bytes behind the rows aren't read. To read takes memory from the first row on whose segment has an outline.
+/// Reads the checkpoint at the front of a half's area. Its front is checked first, as by `read_front`. Then rows whose length or
+/// number is not that of the front, or that aren't in the order of their keys, are `BadCheckpoint`. Bytes after the rows are not
+/// read. The call takes memory from the first row on whose segment has an outline.
 pub fn read_half(alloc: Global, area: &[u8]) -> Result<Checkpoint, PairError>
     requires { 32 ≤ length area.now }
     ensures checkpoint { Gives checkpoint_view result (checkpoint_in rows_format latest area.now) }
@@ -65,7 +65,7 @@ pub fn read_half(alloc: Global, area: &[u8]) -> Result<Checkpoint, PairError>
     })
 }
 
-/// The bytes of the rows behind a front.
+/// The bytes of the rows after a front.
 fn rows_bytes(area: &[u8], size: u32) -> &[u8]
     requires { 32 + size ≤ length area.now }
     ensures { result.now ≡ part 32 size area.now }
@@ -73,7 +73,7 @@ fn rows_bytes(area: &[u8], size: u32) -> &[u8]
     &area[BEFORE_ROWS..BEFORE_ROWS + size as usize]
 }
 
-/// Reads just so many rows, all of these bytes.
+/// Reads exactly this number of rows from all of these bytes.
 fn read_counted(alloc: Global, bytes: &[u8], count: u32) -> Result<PathDb, PairError>
     ensures decoding { Gives (λ rows. rows) result (or_bad (as_counted count (rows_decoding bytes.now))) }
     ensures whole { IfOk result IsDatabase }
@@ -90,7 +90,7 @@ fn read_counted(alloc: Global, bytes: &[u8], count: u32) -> Result<PathDb, PairE
     Ok(db)
 }
 
-/// Whether there are just so many rows.
+/// Whether there is exactly this number of rows.
 pub(crate) fn has_count(db: &PathDb, count: u32) -> bool
     ensures { result ≡ (length db.now == count) }
 {

@@ -1,4 +1,4 @@
-//! The rows of a checkpoint as a stream: one after the other, from pieces of their bytes, and not kept.
+//! The rows of a checkpoint as a stream: read one after the other from pieces of their bytes, and not kept.
 
 ghost use Rattle.std.specs.Prelude.{◌≡◌, ◌≢◌, ◌+◌, ◌≤◌, ◌<◌, ◌∷◌, ◌++◌, [], List, ℕ, length, take, IfOk, IfErr, IfSome, IfNone, OnOk, OnErr, Some, None, false};
 ghost use Rattle.path_rows.specs.Database.{RowView};
@@ -14,8 +14,8 @@ use path_db::{DbError, Row, RowWalk};
 use std::alloc::{AllocError, Global};
 use std::marker::Model;
 
-/// Gives the rows of a checkpoint one after the other, from pieces of their bytes, cut anywhere. It keeps the bytes that were
-/// pushed after the last row that it gave: once all whole rows are given, these are fewer than 16,389.
+/// Returns the rows of a checkpoint one after the other, from pieces of their bytes, cut anywhere. It keeps the bytes that were
+/// pushed after the last row that it returned. Once all whole rows are returned, these are fewer than 16,389.
 #[derive(Drop)]
 pub struct RowStream {
     walk: RowWalk,
@@ -32,7 +32,7 @@ impl Model for RowStream {
 }
 
 impl RowStream {
-    /// A stream before the first piece, of `count` rows in `length` bytes, as the front of a checkpoint has them. It takes no
+    /// A stream before the first piece, of `count` rows in `length` bytes, as in the front of a checkpoint. The call takes no
     /// memory.
     pub fn new(alloc: Global, length: u32, count: u32) -> RowStream
         ensures { HasStreamed length count [] [] result }
@@ -44,8 +44,8 @@ impl RowStream {
         }
     }
 
-    /// Adds the next piece of a half's area from the rows on. Bytes after those of the rows are not taken. An empty piece takes no
-    /// memory; where memory is refused, the stream is as it was.
+    /// Adds the next piece of a half's area from the rows on. Bytes after those of the rows are ignored. An empty piece takes no
+    /// memory. Where memory is refused, the stream is unchanged.
     pub fn push(&mut self, piece: &[u8]) -> Result<(), AllocError>
         ensures pushed { OnOk result ((size count : ℕ) (pushed : List ℕ) (given : List RowView) → HasStreamed size count pushed given self.old
             → HasStreamed size count (pushed ++ piece.now) given self.new) }
@@ -58,10 +58,10 @@ impl RowStream {
         Ok(())
     }
 
-    /// The next row, where all of its bytes were pushed. Where all bytes of the rows were pushed, none is answered only after the
-    /// last row. Bytes that are no row, a row that is out of order or one more than the count, and bytes that end within a row or
-    /// with fewer rows are `BadCheckpoint`, as `read_half` has it, whatever bytes come next. Memory is wanted where the row's
-    /// segment has an outline. After an error the stream is as it was.
+    /// The next row, where its whole record was pushed; else `None`. Once all bytes of the rows were pushed, `None` means that the last
+    /// row was returned. Bytes that are no record, a row that is out of order or beyond the count, and bytes that end within a record or
+    /// with too few rows are `BadCheckpoint`, as for `read_half`, whatever bytes come next. The call takes memory only where the row's
+    /// segment has an outline. After an error the stream is unchanged.
     pub fn next(&mut self) -> Result<Option<Row>, PairError>
         ensures row { IfOk result (λ next. IfSome next (λ row. (size count : ℕ) (pushed : List ℕ) (given : List RowView) → HasStreamed size count pushed given self.old
             → HasStreamed size count pushed (given ++ row_view row ∷ []) self.new)) }
@@ -95,7 +95,7 @@ impl RowStream {
     }
 }
 
-/// The first bytes of a piece, at most as many as these.
+/// The first bytes of a piece, at most `most`.
 fn front_of(piece: &[u8], most: u32) -> &[u8]
     ensures front { result.now ≡ take most piece.now }
     ensures few { length result.now ≤ most }
@@ -103,7 +103,7 @@ fn front_of(piece: &[u8], most: u32) -> &[u8]
     &piece[..piece.len().min(most as usize)]
 }
 
-/// The next row of a walk, and what is no row as a bad checkpoint.
+/// The next row of a walk. Bytes that are no next row are a bad checkpoint.
 fn next_row(walk: &mut RowWalk) -> Result<Option<Row>, PairError>
     ensures row { IfOk result (λ next. IfSome next (λ row. (fed : List ℕ) (given : List RowView) → HasGiven fed given walk.old → HasGiven fed (given ++ row_view row ∷ []) walk.new)) }
     ensures none { IfOk result (λ next. IfNone next ((walk.new ≡ walk.old) × (has_row walk.old.rest ≡ false))) }

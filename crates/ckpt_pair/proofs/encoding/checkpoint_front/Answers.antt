@@ -1,4 +1,4 @@
--- Six numbers, each behind the other.
+-- Six numbers, each after the other.
 use Rattle.std.proofs.Common.{rules, ◌≡◌, List, ℕ, [], ◌++◌, replicate, refl, sym, ap, ◌∙◌, arith}
 use Rattle.std.proofs.lemmas.List.{take_all}
 use Rattle.image_laws.specs.Checkpoint.{CanBeHead}
