@@ -1,4 +1,4 @@
--- Registrations commute, and repeat.
+-- Registrations commute, and can be repeated.
 use Rattle.std.proofs.Common.{◌≡◌, ℕ, true, List, refl, sym, ◌∙◌}
 use Rattle.std.specs.List.{Contains, filter}
 use Rattle.std.specs.Ordering.{nat_cmp, is_eq}
@@ -27,7 +27,7 @@ equal_from Greater e = absurd (false≢true e)
 its_key : (k : List ℕ) (row : RowView) → is_under k row ≡ true → k ≡ key_of row
 its_key k row under = exact_bytes k (key_of row) (equal_from (slice_cmp nat_cmp k (key_of row)) under)
 
--- rows of one list that are in another, are so under a key
+-- rows of one list that are in another list are in it under a key too
 under_too : (k : List ℕ) (xs ys : List RowView) → ((row : RowView) → Contains xs row → Contains ys row) → (row : RowView) → Contains (filter (is_under k) xs) row → Contains (filter (is_under k) ys) row
 under_too k xs ys into row found =
     let both = passed (is_under k) xs row found in passes_in (is_under k) ys row (into row both.0) both.1

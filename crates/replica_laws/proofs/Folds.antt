@@ -1,4 +1,4 @@
--- Registrations one after the other, as one of all their rows.
+-- Several registrations, one after the other, as one registration of all their rows.
 use Rattle.std.proofs.Common.{◌≡◌, ℕ, List, [], ◌∷◌, ◌++◌, Option, refl, sym, ◌∙◌, subst}
 use Rattle.path_rows.specs.declared.command.Command.TheVariants.{Register}
 use Rattle.path_rows.specs.Database.{RowView, IsRising, IsDatabase, AreWhole, row_under}
@@ -16,7 +16,7 @@ registrations_leave k found [] = refl
 registrations_leave k found (rows ∷ registrations) =
     registrations_leave k (left_by_puts k found rows) registrations ∙ sym (puts_append k found rows (rows_of registrations))
 
--- all of a list of two parts are all of each
+-- if all rows of two lists together are whole, the rows of each list are
 whole_first : (xs ys : List RowView) → AreWhole (xs ++ ys) → AreWhole xs
 whole_first [] ys all = tt
 whole_first (x ∷ xs) ys all = (all.0, whole_first xs ys all.1)
@@ -32,7 +32,7 @@ module _ (separate : KeysAreSeparate) (keep : CommandsKeepDatabase) (newest : Re
   database_left rows (first ∷ registrations) is whole =
       database_left (database_after rows (Register first)) registrations (keep rows (Register first) is (whole_first first (rows_of registrations) whole)) (whole_rest first (rows_of registrations) whole)
 
-  -- under each key the newest of all
+  -- the row under each key is the newest of all its candidates
   under_each : (k : List ℕ) (rows : List RowView) (registrations : List (List RowView)) → IsRising rows
       → row_under k (database_after rows (Register (rows_of registrations))) ≡ row_under k (database_after_all rows (commands_of registrations))
   unfolding database_after_all

@@ -1,4 +1,4 @@
--- The newest of rows by what is among them.
+-- The newest row of a list, by the list's members.
 use Rattle.std.proofs.Common.{◌≡◌, ◌<◌, ◌≤◌, List, [], ◌∷◌, ◌++◌, Option, Some, None, MatchOption, refl, sym, ap, subst, arith, ⊎_elim}
 use Rattle.std.specs.List.{AllByRecursion, Contains}
 use Rattle.std.specs.Option.{option_to_list}
@@ -11,7 +11,7 @@ abbrev pub IsNewestOf : List RowView → Option RowView → Type 0
 IsNewestOf rows found = MatchOption found (rows ≡ []) (λ row. IsNewest rows row)
 
 module _ (rows : List RowView) (newest : RowView) (is : IsNewest rows newest) where
-  -- it is one of them
+  -- the newest is a member
   pub newest_among : Contains rows newest
   newest_among =
       subst (λ list. Contains list newest) (sym is.split)
@@ -26,13 +26,13 @@ module _ (rows : List RowView) (newest : RowView) (is : IsNewest rows newest) wh
   at_most_before : (other : RowView) → Contains is.before other → other.1.timestamp ≤ newest.1.timestamp
   at_most_before other found = let less = at_member (λ row. row.1.timestamp < newest.1.timestamp) is.before other is.older found in omega (arith, less)
 
-  -- and none is newer
+  -- and no member is newer
   pub at_most : (other : RowView) → Contains rows other → other.1.timestamp ≤ newest.1.timestamp
   at_most other found =
       ⊎_elim (at_most_before other) (at_most_behind other)
       (Contains-append_cases is.before (newest ∷ is.after) other (subst (λ list. Contains list other) is.split found))
 
--- the first is the newest, or strictly older
+-- the first row is the newest, or is strictly older
 first_parts : (P : Type 0) (first newest : RowView) (rows before after : List RowView) → first ∷ rows ≡ before ++ newest ∷ after
     → AllByRecursion (λ (row : RowView). row.1.timestamp < newest.1.timestamp) before → (first ≡ newest → P) → (first.1.timestamp < newest.1.timestamp → P) → P
 first_parts P first newest rows [] after split older one two = one cc
@@ -46,7 +46,7 @@ first_or_older P first newest rows is one two = first_parts P first newest rows 
 not_empty : (rows : List RowView) (row : RowView) → rows ≡ [] → Contains rows row → ⊥
 not_empty rows row none found = contains_none row (subst (λ list. Contains list row) none found)
 
--- ---- two lists with the same rows, behind what was there
+-- ---- two lists with the same rows, after the same rows before
 
 module _ (xs ys : List RowView) (there : (row : RowView) → Contains xs row → Contains ys row) (back : (row : RowView) → Contains ys row → Contains xs row)
     (apart : (row other : RowView) → Contains xs row → Contains xs other → row.1.timestamp ≡ other.1.timestamp → row ≡ other) where
@@ -78,7 +78,7 @@ module _ (xs ys : List RowView) (there : (row : RowView) → Contains xs row →
   agree (Some old) (Some a) None first second = absurd (not_empty (old ∷ ys) old second (contains_head old ys))
   agree (Some old) (Some a) (Some b) first second = ap (λ (row : RowView). Some row) (agree_behind old a b first second)
 
--- ---- rows that were there before stay
+-- ---- rows that are in the list before stay
 
 module _ (rows again : List RowView) (known : (row : RowView) → Contains again row → Contains rows row) where
   pub stays : (now after : Option RowView) → IsNewestOf rows now → IsNewestOf (option_to_list now ++ again) after → after ≡ now

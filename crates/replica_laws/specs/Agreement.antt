@@ -1,4 +1,4 @@
--- What makes servers agree that get the same registrations.
+-- When servers with the same registrations have the same rows.
 use Rattle.std.specs.Prelude.{◌≡◌, ◌↔◌, List, map, Contains}
 use Rattle.std.specs.List.{flat_map}
 use Rattle.path_rows.specs.declared.command.Command.{Command}
@@ -10,11 +10,11 @@ use Rattle.path_rows.specs.Command.{database_after, database_after_all}
 abbrev pub commands_of : List (List RowView) → List Command
 commands_of registrations = map (λ rows. Register rows) registrations
 
--- all rows of registrations, in order
+-- all rows of the registrations, in order
 abbrev pub rows_of : List (List RowView) → List RowView
 rows_of registrations = flat_map (λ rows. rows) registrations
 
--- each row of the one is in the other, in whatever order and however often
+-- each row of one list is in the other, in any order and any number of times
 abbrev pub HaveSameRows : List RowView → List RowView → Type 0
 HaveSameRows one other = (row : RowView) → Contains one row ↔ Contains other row
 
@@ -23,14 +23,14 @@ abbrev pub AreApart : List RowView → Type 0
 AreApart rows =
     (row other : RowView) → Contains rows row → Contains rows other → key_of row ≡ key_of other → row.1.timestamp ≡ other.1.timestamp → row ≡ other
 
--- Two servers of the same rows that get registrations of the same segments, whole and apart, have the same rows afterwards.
+-- Two servers with the same rows have the same rows after registrations of the same segments, which are whole and apart.
 abbrev pub RegistrationsCommute : Type 0
 RegistrationsCommute =
     (rows : List RowView) (one other : List (List RowView)) → IsDatabase rows → AreWhole (rows_of one) → AreWhole (rows_of other)
     → HaveSameRows (rows_of one) (rows_of other) → AreApart (rows_of one)
     → database_after_all rows (commands_of one) ≡ database_after_all rows (commands_of other)
 
--- Registering segments again that were all registered changes nothing, whatever came between.
+-- Registering segments again that were all registered before changes nothing, whatever commands came between.
 abbrev pub RegistrationsRepeat : Type 0
 RegistrationsRepeat =
     (rows : List RowView) (registrations : List (List RowView)) (again : List RowView) → IsDatabase rows → AreWhole (rows_of registrations) → AreWhole again

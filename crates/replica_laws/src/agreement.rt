@@ -1,4 +1,4 @@
-//! What registrations leave, in any order and more than once.
+//! The rows after registrations, in any order and repeated.
 
 ghost use Rattle.replica_laws.specs.Agreement.{RegistrationsCommute, RegistrationsRepeat};
 
@@ -6,8 +6,8 @@ use path_rows::{
     commands_keep_database, database_is_canonical, keys_are_separate, register_leaves_newest,
 };
 
-/// Registrations of the same segments leave the same rows, in whatever order and however often they are made, where no two
-/// different segments of one key have one timestamp.
+/// Registrations of the same segments give the same rows, in any order and any number of times, where no two
+/// different segments of one key have the same timestamp.
 pub fn registrations_commute()
     ensures { RegistrationsCommute }
 {

@@ -24,7 +24,7 @@ module _ (verifies : Verdicts) (now : ℕ) where
       let rest = none_rest (check_refusal verifies now row.1) (first_refusal verifies now (take i rows)) first before in
       ap (λ o. option_or o (first_refusal verifies now (take (suc i) rows))) first ∙ accepted_next rows i d (omega arith) rest good
 
-  -- the rows so far and one more are accepted
+  -- the rows before and one more are accepted
   pub accepted_more : (rows : List RowView) (i : ℕ) (d : RowView) → i < length rows → first_refusal verifies now (take i rows) ≡ None
       → check_refusal verifies now ((get_or rows i d).1) ≡ None → first_refusal verifies now (take (i + 1) rows) ≡ None
   accepted_more rows i d lt before good =

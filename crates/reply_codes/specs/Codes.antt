@@ -11,15 +11,15 @@ use Rattle.seg_lookup.specs.declared.error.LookupError.TheVariants.{NullDestinat
 use Rattle.group_core.specs.declared.submit_error.SubmitError.{SubmitError}
 use Rattle.group_core.specs.declared.submit_error.SubmitError.TheVariants as submit
 
--- want of memory
+-- the code where memory was refused
 abbrev pub memory_code : ℕ
 memory_code = 0x01
 
--- a lookup without a reader
+-- the code of a lookup without a reader
 abbrev pub reader_code : ℕ
 reader_code = 0x61
 
--- a store that stopped before a command was committed
+-- the code where the store stopped before a command was committed
 abbrev pub stopped_code : ℕ
 stopped_code = 0x62
 

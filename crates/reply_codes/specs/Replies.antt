@@ -1,4 +1,4 @@
--- The replies of the calls that judge a message.
+-- The replies of the calls that check a message.
 use Rattle.std.specs.Prelude.{Result, Ok, Err, Vec}
 use Rattle.seg_core.specs.declared.seg_type.SegType.{SegType}
 use Rattle.seg_core.specs.SegmentView.{SegmentView}
@@ -7,7 +7,7 @@ use Rattle.session_core.specs.Reply.{ReplyView, Found, Refused}
 use Rattle.reply_codes.specs.declared.refusal.Refusal.{Refusal}
 use Rattle.reply_codes.specs.Refusal.{refusal_code}
 
--- the reply to a command of some kind
+-- the reply to a command of this kind
 abbrev pub reply_to_command : (Ack → ReplyView) → Result Ack Refusal → ReplyView
 reply_to_command taken (Ok ack) = taken ack
 reply_to_command taken (Err refusal) = Refused (refusal_code refusal)

@@ -1,4 +1,4 @@
-//! The codes of what other crates refuse.
+//! The codes of other crates' refusals.
 
 ghost use Rattle.std.specs.Prelude.{◌≡◌};
 ghost use Rattle.reply_codes.specs.Codes.{wire_code, seg_code, check_code, lookup_code, submit_code};
@@ -9,7 +9,7 @@ use seg_check::CheckError;
 use seg_core::SegError;
 use seg_lookup::LookupError;
 
-/// The code of a message that can't be read.
+/// The code of a message that is refused when it is read.
 pub(crate) fn seg_code(error: SegError) -> u8
     ensures { result ≡ seg_code error }
 {

@@ -14,10 +14,10 @@ use thiserror::Error;
 /// Why a message is refused.
 #[derive(Clone, Copy, Debug, PartialEq, Eq, Error)]
 pub enum Refusal {
-    /// Memory ran out. It says nothing of the message.
+    /// Memory was refused. The message may be valid or not.
     #[error("out of memory")]
     NoMemory,
-    /// The message is not what its kind says.
+    /// The bytes are not a message of their kind.
     #[error("{0}")]
     Message(SegError),
     /// A segment of the registration isn't accepted.
@@ -29,10 +29,10 @@ pub enum Refusal {
     /// The command isn't accepted.
     #[error("{0}")]
     Submit(SubmitError),
-    /// The lookup found no reader.
+    /// No reader was free for the lookup.
     #[error("no reader is left")]
     NoReader,
-    /// The store stopped before the command was committed: whether it keeps the command is not known.
+    /// The store stopped before the command was committed. It is not known whether the store keeps the command.
     #[error("the store stopped before the command was committed")]
     Stopped,
 }
@@ -40,7 +40,7 @@ pub enum Refusal {
 impl Refusal {
     ghost use Rattle.reply_codes.specs.Refusal.{refusal_code};
 
-    /// The code of the refusal in a reply.
+    /// The code of the refusal in a reply, one byte.
     pub fn code(self) -> Code
         ensures { result.0 ≡ refusal_code self }
     {
