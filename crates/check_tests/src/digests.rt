@@ -1,4 +1,4 @@
-//! Ids of segments, and the digest that they are. The values are Python's, by hashlib, and those of FIPS 180-4's examples.
+//! Ids of segments, and the digest that they are. The values are from Python's hashlib, and from FIPS 180-4's examples.
 
 use crate::worked::{PEERED, SEGMENT};
 use seg_check::seg_id;
@@ -6,7 +6,7 @@ use seg_core::read_segment;
 use sha2::{Digest, Sha256};
 use std::test::Fail;
 
-// The id depends on the path alone: another time and other peers keep it, and another egress does not.
+// The id depends on the path alone: it is the same with another time and with other peers, and not with another egress.
 #[test]
 fn ids_tell_the_path(rt: HostRuntime) -> Result<(), Fail> {
     let same = "8adcea68dc57cbbe68da7142af88b68a9d27a590e1d5157c53c2bb2c762345ff";

@@ -15,7 +15,7 @@ fn with_exp_times(first: [u8; 2], second: [u8; 2]) -> [u8; 90] {
     message
 }
 
-// The exp_times, and the moment in half seconds: 2 * 1,700,000,000 and 675 for each unit.
+// The exp_times, and the expiry in half seconds: 2 * 1,700,000,000 and 675 for each unit.
 #[test]
 fn expiry_values(rt: HostRuntime) -> Result<(), Fail> {
     for (first, second, moment) in [
@@ -33,7 +33,7 @@ fn expiry_values(rt: HostRuntime) -> Result<(), Fail> {
     Ok(())
 }
 
-// A peer entry does not count.
+// The exp_time of a peer entry does not count.
 #[test]
 fn peers_do_not_count(rt: HostRuntime) -> Result<(), Fail> {
     let segment = read_segment(rt.alloc(), &PEERED)?;

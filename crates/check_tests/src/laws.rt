@@ -1,4 +1,4 @@
-//! The laws do nothing, and cost a caller nothing.
+//! The laws are functions that do nothing.
 
 use seg_check::{
     check_refusals_are_exact, digests_have_32_bytes, keyed_verdicts_are_exact,

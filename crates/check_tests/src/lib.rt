@@ -1,4 +1,4 @@
-//! Tests of `seg_check`, a module for each subject. They hold what no clause says: values from outside.
+//! Tests of `seg_check`, a module for each subject. They check what no contract states: values from outside.
 #![tactic(auto)]
 
 #[cfg(test)]

@@ -1,4 +1,4 @@
-//! Signatures of the test profile. The values are Python's, by hashlib.
+//! Signatures of the test profile. The values are from Python's hashlib.
 
 use crate::worked::{EXPIRY, KEY, SEGMENT, SIGNED};
 use seg_check::{CheckError, Keyed, check, keyed_signature};
@@ -42,7 +42,7 @@ fn keyed_signature_values(rt: HostRuntime) -> Result<(), Fail> {
     Ok(())
 }
 
-// One bit changed of the segment's information, of each MAC, of each signature and of both.
+// Segments with one bit changed in the segment's information, in each MAC, in each signature and in both.
 #[test]
 fn keyed_signature_refused(rt: HostRuntime) -> Result<(), Fail> {
     let verifier = keyed(rt.alloc(), &KEY)?;
@@ -72,7 +72,7 @@ fn keyed_signature_refused(rt: HostRuntime) -> Result<(), Fail> {
     Ok(())
 }
 
-// Another key, and none; a bad signature comes before the expiry.
+// Verifiers with another key, and with an empty one. A bad signature is reported before the expiry.
 #[test]
 fn keys_differ(rt: HostRuntime) -> Result<(), Fail> {
     let segment = read_segment(rt.alloc(), &SIGNED)?;

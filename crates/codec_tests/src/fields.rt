@@ -15,7 +15,7 @@ const TOO_LARGE: [u8; 10] = [255, 255, 255, 255, 255, 255, 255, 255, 255, 2];
 
 const GOES_ON: [u8; 11] = [128, 128, 128, 128, 128, 128, 128, 128, 128, 128, 0];
 
-/// The varint behind a tag of one byte, and how many bytes it takes.
+/// The varint after a tag of one byte, and how many bytes it takes.
 fn varint_behind(message: &[u8]) -> Result<(u64, usize), WireError> {
     match next_field(message)? {
         Some(
@@ -31,7 +31,7 @@ fn varint_behind(message: &[u8]) -> Result<(u64, usize), WireError> {
     }
 }
 
-/// Varints, and what is read of each.
+/// Varints, and the result of reading each.
 const VARINTS: [(&[u8], Result<(u64, usize), WireError>); 6] = [
     (&[0], Ok((0, 1))),
     (&[0x80, 0], Ok((0, 2))),
@@ -57,7 +57,7 @@ fn varint_encodings(rt: HostRuntime) -> Result<(), Fail> {
     Ok(())
 }
 
-/// The fields that protobuf's page on its encoding works through, each with a byte after it: a message, its field's number and
+/// The example fields of protobuf's page on its encoding, each with a byte after it: a message, its field's number and
 /// value, and the bytes of the field.
 const FIELDS: [(&[u8], u32, Value<'static>, usize); 4] = [
     (&[0x08, 0x96, 1, 9], 1, Value::Varint(150), 3),
@@ -71,7 +71,7 @@ const FIELDS: [(&[u8], u32, Value<'static>, usize); 4] = [
     (&[0x25, 1, 2, 3, 4, 9], 4, Value::Fixed32(0x04030201), 5),
 ];
 
-/// Sees what a message's next field is.
+/// Checks what a message's next field is.
 fn assert_field(
     rt: &impl Abort,
     message: &[u8],
@@ -118,7 +118,7 @@ fn put_all(alloc: Global) -> Result<Vec<u8>, Fail> {
     Ok(put)
 }
 
-/// What they are encoded as.
+/// The bytes of these fields.
 fn all_put(alloc: Global) -> Result<Vec<u8>, Fail> {
     let mut expected = Vec::from_slice(alloc, &[0x96, 1, 0x08, 0x96, 1])?;
     expected.extend_from_slice(b"\x12\x07testing")?;
@@ -134,7 +134,7 @@ fn encodings_that_are_put(rt: HostRuntime) -> Result<(), Fail> {
     Ok(())
 }
 
-// Run with each allocation failing in turn: what was put stays, and nothing is added.
+// Run with each allocation failing in turn: the bytes that were put stay, and nothing is added.
 #[test]
 fn refused_memory_changes_nothing(rt: HostRuntime) {
     let mut out = Vec::new(rt.alloc());
@@ -160,7 +160,7 @@ fn text_of_a_fault(rt: HostRuntime) -> Result<(), Fail> {
     Ok(())
 }
 
-// The laws do nothing, and cost a caller nothing.
+// The laws are functions that do nothing.
 #[test]
 fn laws_return(_rt: HostRuntime) {
     field_or_fault();

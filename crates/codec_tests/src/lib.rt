@@ -1,5 +1,5 @@
 //! Tests of the crates that read and write bytes and texts: `isd_as`, `pw_wire` and `seg_core`. They hold what no
-//! clause there says: values from outside, that calls succeed where memory suffices, and what is reported where it is
+//! contract states: values from outside, that calls succeed where memory suffices, and the error where memory is
 //! refused.
 #![tactic(auto)]
 

@@ -22,7 +22,7 @@ fn rows_of(alloc: Global, message: &[u8]) -> Result<Vec<(SegType, Segment)>, Seg
     read_registration(alloc, message)
 }
 
-/// Sees that these rows are answered with these bytes.
+/// Checks that the answer of these rows is these bytes.
 fn assert_answered(
     rt: &impl Abort,
     alloc: Global,
@@ -34,7 +34,7 @@ fn assert_answered(
     Ok(())
 }
 
-/// Sees that a row of a down segment is the only one.
+/// Checks that a row of a down segment is the only one.
 fn assert_down(rt: &impl Abort, rows: &[(SegType, Segment)]) {
     assert!(rt; rows.len() == 1 && rows[0].0 == SegType::Down);
 }
@@ -61,7 +61,7 @@ fn both(alloc: Global) -> Result<Vec<(SegType, Segment)>, Fail> {
     Ok(rows)
 }
 
-/// The worked segment, answered as a down segment and as a core segment.
+/// The answer of the worked segment as a down segment and as a core segment.
 fn both_answered(alloc: Global) -> Result<Vec<u8>, Fail> {
     let mut expected = registration(alloc)?;
     expected.extend_from_slice(&CORE)?;
@@ -77,7 +77,7 @@ fn types_are_answered_by_number(rt: HostRuntime) -> Result<(), Fail> {
     assert_answered(&rt, rt.alloc(), &[], &[])
 }
 
-/// The ends that a request names, as numbers.
+/// The source and the destination of a request, as numbers.
 fn ends_of(message: &[u8]) -> Result<(u64, u64), SegError> {
     let (source, destination) = read_request(message)?;
     Ok((source.to_u64(), destination.to_u64()))
@@ -86,7 +86,7 @@ fn ends_of(message: &[u8]) -> Result<(u64, u64), SegError> {
 /// A request from 1-ff00:0:110 to 1-ff00:0:111.
 const REQUEST: [u8; 16] = *b"\x08\x90\x82\x80\x80\x80\xe0\x7f\x10\x91\x82\x80\x80\x80\xe0\x7f";
 
-// That request, and an empty one.
+// The request above, and an empty one.
 #[test]
 fn request_is_read(rt: HostRuntime) {
     let ends = (0x0001_ff00_0000_0110, 0x0001_ff00_0000_0111);
@@ -94,12 +94,12 @@ fn request_is_read(rt: HostRuntime) {
     assert_same(&rt, &ends_of(b""), &Ok((0, 0)), &"an empty one");
 }
 
-/// How many segments a registration has.
+/// The number of segments of a registration.
 fn count(alloc: Global, message: &[u8]) -> Result<usize, SegError> {
     Ok(read_registration(alloc, message)?.len())
 }
 
-/// Messages, and how many segments each registers.
+/// Messages, and the number of segments that each registers.
 const MESSAGES: [(&[u8], Result<usize, SegError>); 15] = [
     (b"", Ok(0)),
     (b"\x0a", Err(SegError::Wire(WireError::Truncated))),
@@ -137,7 +137,7 @@ fn messages_are_refused(rt: HostRuntime) {
     }
 }
 
-/// So many copies of the worked segment behind these bytes.
+/// This number of copies of the worked segment after these bytes.
 fn repeated(alloc: Global, head: &[u8], times: usize) -> Result<Vec<u8>, Fail> {
     let mut message = Vec::from_slice(alloc, head)?;
     for _ in 0..times {
@@ -158,14 +158,14 @@ fn seventeen_segments_are_refused(rt: HostRuntime) -> Result<(), Fail> {
     Ok(())
 }
 
-/// Sees that rows are answered with these bytes, or not at all.
+/// Checks that the answer of rows is these bytes, or that memory was refused.
 fn assert_answer(rt: &impl Abort, alloc: Global, rows: &[(SegType, Segment)], expected: &[u8]) {
     if let Ok(response) = write_response(alloc, rows) {
         assert_bytes(rt, &response, expected);
     }
 }
 
-// Run with each allocation failing in turn: the answer is the right one, or that memory ran out.
+// Run with each allocation failing in turn: the result is the right answer, or the error for refused memory.
 #[test]
 fn refused_memory_is_told(rt: HostRuntime) {
     let mut message = [0; 96];

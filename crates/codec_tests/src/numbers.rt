@@ -6,7 +6,7 @@ use std::alloc::Global;
 use std::process::Abort;
 use std::test::Fail;
 
-/// Whether the text says this number, of which the other text is printed.
+/// Whether the text denotes this number, which is printed as the other text.
 fn says(alloc: Global, text: &str, number: u64, printed: &str) -> bool {
     match parse(text) {
         Ok(ia) => {
@@ -20,19 +20,19 @@ fn says(alloc: Global, text: &str, number: u64, printed: &str) -> bool {
     }
 }
 
-/// Sees that each text says its number, of which its other text is printed.
+/// Checks that each text denotes its number, which is printed as its other text.
 fn assert_texts(rt: &impl Abort, alloc: Global, texts: &[(&str, u64, &str)]) {
     for (text, number, printed) in texts {
         assert_same(rt, &says(alloc, text, *number, printed), &true, text);
     }
 }
 
-/// Sees that a text says this number.
+/// Checks that a text denotes this number.
 fn assert_says(rt: &impl Abort, text: &str, ia: IsdAs) {
     assert_same(rt, &parse(text), &Ok(ia), &text);
 }
 
-/// Texts, the number that each says, and what is printed of it.
+/// Texts, the number that each denotes, and the text that is printed.
 const TEXTS: [(&str, u64, &str); 3] = [
     ("1-ff00:0:110", 0x0001_ff00_0000_0110, "1-ff00:0:110"),
     ("2-64512", 0x0002_0000_0000_fc00, "2-64512"),
@@ -65,7 +65,7 @@ fn isd_as_text_limits(rt: HostRuntime) {
     assert_texts(&rt, rt.alloc(), &LIMITS);
 }
 
-/// Sees that a text is refused with this error.
+/// Checks that a text is refused with this error.
 fn assert_refused(rt: &impl Abort, text: &str, error: IaError) {
     assert_same(rt, &parse(text), &Err(error), &text);
 }
@@ -143,7 +143,7 @@ const COVERED: [(&str, &str, bool); 8] = [
     ("1-ff00:0:110", "0-0", false),
 ];
 
-/// Whether the pattern that a text says covers the number that another one says.
+/// Whether the pattern of one text covers the number of another.
 fn is_covered(pattern: &str, ia: &str) -> Result<bool, IaError> {
     Ok(covers(parse(pattern)?, parse(ia)?))
 }

@@ -1,9 +1,9 @@
-//! What the tests of cases see, each in one call.
+//! Assertions on one case of a table, each in one call.
 
 use std::fmt::Debug;
 use std::process::Abort;
 
-/// Sees that what was found in a case is what was wanted.
+/// Checks that what was found in a case is what was wanted.
 pub(crate) fn assert_same<T: PartialEq + Debug, C: Debug>(
     rt: &impl Abort,
     found: &T,
@@ -13,7 +13,7 @@ pub(crate) fn assert_same<T: PartialEq + Debug, C: Debug>(
     assert_eq!(rt; *found, *wanted, "{case:?}");
 }
 
-/// Sees that these bytes were found.
+/// Checks that these bytes were found.
 pub(crate) fn assert_bytes(rt: &impl Abort, found: &[u8], wanted: &[u8]) {
     assert_eq!(rt; found, wanted);
 }

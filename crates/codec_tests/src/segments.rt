@@ -1,4 +1,4 @@
-//! Segments: a worked one, and paths that are none.
+//! Segments: a worked one, and paths that are refused.
 
 use crate::same::{assert_bytes, assert_same};
 use crate::worked::SEGMENT;
@@ -19,7 +19,7 @@ fn hop_of(entry: &Entry) -> (IsdAs, IsdAs, (u16, u16, u8)) {
     )
 }
 
-/// Sees that an entry has this AS, next AS, interfaces and expiry, and these signed bytes, and neither of its other parts.
+/// Checks that an entry has this AS, next AS, interfaces and expiry, and these signed bytes, and no other parts.
 fn assert_entry(
     rt: &impl Abort,
     entry: &Entry,
@@ -31,14 +31,14 @@ fn assert_entry(
     assert!(rt; entry.signature().is_empty() && entry.unsigned().is_none());
 }
 
-/// Sees that a segment has the worked one's information, and as many entries.
+/// Checks that a segment has the worked one's information, and as many entries.
 fn assert_information(rt: &impl Abort, segment: &Segment) {
     assert_same(rt, &segment.timestamp(), &1_700_000_000, &"timestamp");
     assert_same(rt, &segment.segment_id(), &7, &"segment id");
     assert_same(rt, &segment.entries().len(), &2, &"entries");
 }
 
-/// Sees that two entries are those of the worked segment.
+/// Checks that two entries are those of the worked segment.
 fn assert_entries(rt: &impl Abort, one: &Entry, two: &Entry) {
     let first = IsdAs::from_u64(0x0001_ff00_0000_0110);
     let second = IsdAs::from_u64(0x0001_ff00_0000_0111);
@@ -47,7 +47,7 @@ fn assert_entries(rt: &impl Abort, one: &Entry, two: &Entry) {
     assert_entry(rt, two, (second, last, (2, 0, 63)), &SEGMENT[59..]);
 }
 
-/// Sees that a segment is the worked one.
+/// Checks that a segment is the worked one.
 fn assert_worked(rt: &impl Abort, segment: &Segment) {
     assert_information(rt, segment);
     if let [one, two] = segment.entries() {
@@ -55,7 +55,7 @@ fn assert_worked(rt: &impl Abort, segment: &Segment) {
     }
 }
 
-/// Sees that a copy of a segment is the same, and is written as the worked one.
+/// Checks that a copy of a segment is the same, and is written as the worked one.
 fn assert_copied(
     rt: &impl Abort,
     alloc: Global,
@@ -76,12 +76,12 @@ fn segment_is_read_and_written(rt: HostRuntime) -> Result<(), Fail> {
     assert_copied(&rt, rt.alloc(), &segment, &copy)
 }
 
-/// Sees that a message is no segment, and why.
+/// Checks that a message is refused as a segment with this error.
 fn assert_refused(rt: &impl Abort, alloc: Global, message: &[u8], error: SegError) {
     assert_eq!(rt; read_segment(alloc, message).err(), Some(error));
 }
 
-// Changed bytes of the segment, each at its place: the entries are no chain, or come back to the first AS.
+// Segments with one byte changed, each at its place: the entries are no chain, or return to the first AS.
 #[test]
 fn paths_are_refused(rt: HostRuntime) {
     let mut broken = SEGMENT;

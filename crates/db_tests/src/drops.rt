@@ -7,7 +7,7 @@ use std::alloc::Global;
 use std::process::Abort;
 use std::test::Fail;
 
-/// This number of rows went.
+/// The outcome of a purge of this number of rows.
 fn purged(purged: u32) -> Outcome {
     Outcome {
         inserted: 0,
@@ -17,7 +17,7 @@ fn purged(purged: u32) -> Outcome {
     }
 }
 
-/// Applies commands in turn, and sees how many rows go by each, and how many are left.
+/// Applies commands in turn, and checks how many rows each drops, and how many are left.
 fn assert_each(
     rt: &impl Abort,
     database: &mut PathDb,
@@ -31,7 +31,7 @@ fn assert_each(
     Ok(())
 }
 
-/// Applies them to a database of the worked segment.
+/// Applies the commands to a database of the worked segment.
 fn assert_drops(
     rt: &impl Abort,
     alloc: Global,
@@ -42,8 +42,8 @@ fn assert_drops(
     assert_each(rt, &mut database, name, commands)
 }
 
-// A database of the worked segment, which is there until the moment of its expiry, and under its own type: each command, how
-// many rows go, and how many are left.
+// A database of the worked segment, which is valid until its expiry, and has this type: each command, how
+// many rows it drops, and how many are left.
 #[test]
 fn rows_are_dropped(rt: HostRuntime) -> Result<(), Fail> {
     let purges = [

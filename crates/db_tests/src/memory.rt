@@ -1,4 +1,4 @@
-//! Want of memory: a command is applied whole or not at all.
+//! Refused memory: a command is applied completely or not at all.
 
 use crate::records::written;
 use crate::worked::{ID, apply, count_rows, dated_by, is_there, leaving_by, len_of, put, row_of};
@@ -28,7 +28,7 @@ fn shown(database: &PathDb) -> (usize, u64, bool, bool) {
     )
 }
 
-/// Applies a command to a database of which this is shown. Where it is refused, this is shown still, and it is applied again.
+/// Applies a command to a database of which this is shown. Where it is refused, the same is shown, and the command is applied again.
 fn apply_again(
     rt: &impl Abort,
     database: &mut PathDb,
@@ -44,7 +44,7 @@ fn apply_again(
     }
 }
 
-/// Sees that sixteen rows are registered in a database of one core segment.
+/// Checks that sixteen rows are registered in a database of one core segment.
 fn assert_sixteen(
     rt: &impl Abort,
     database: &mut PathDb,
@@ -64,7 +64,7 @@ fn assert_sixteen(
     Ok(())
 }
 
-// It is run with each allocation refused in turn. Where that is one of the registration, the database is as it was, and the
+// Run with each allocation refused in turn. Where an allocation of the registration is refused, the database is unchanged, and the
 // registration succeeds when it is tried again.
 #[test]
 fn refused_registration_changes_nothing(rt: HostRuntime) -> Result<(), Fail> {
@@ -73,7 +73,7 @@ fn refused_registration_changes_nothing(rt: HostRuntime) -> Result<(), Fail> {
     Ok(assert_sixteen(&rt, &mut database, &command)?)
 }
 
-/// The command that registers eight segments of the ids of eight that are there, made later, and eight of other ids.
+/// The command that registers eight newer segments with the ids of eight that are there, and eight with other ids.
 fn eight_and_eight(alloc: Global) -> Result<Command, Fail> {
     let mut rows = Vec::new(alloc);
     for egress in 1..=16 {
@@ -96,14 +96,14 @@ fn eight(alloc: Global) -> Result<PathDb, Fail> {
     Ok(database)
 }
 
-/// How many down segments are shown from one AS to another.
+/// The number of down segments that are shown from one AS to another.
 fn count(database: &PathDb, start: u64, end: u64) -> Result<usize, Fail> {
     let (start, end) = (IsdAs::from_u64(start), IsdAs::from_u64(end));
     let shown = database.matching(SegType::Down, start, end, 0, usize::MAX)?;
     Ok(shown.len())
 }
 
-/// The records of all rows, and how many down segments are shown by the index of each end and by neither.
+/// The records of all rows, and the number of down segments that are shown by the index of each end and by neither.
 fn whole(alloc: Global, database: &PathDb) -> Result<(Vec<u8>, [usize; 3]), Fail> {
     let rows = written(alloc, database)?;
     let by_first = count(database, 0x0001_ff00_0000_0110, 0)?;
@@ -111,7 +111,7 @@ fn whole(alloc: Global, database: &PathDb) -> Result<(Vec<u8>, [usize; 3]), Fail
     Ok((rows, [by_first, by_last, count(database, 0, 0)?]))
 }
 
-/// Sees that a database is of these rows, and shows this by its indexes.
+/// Checks that a database has these rows, and shows this by its indexes.
 fn assert_whole(
     rt: &impl Abort,
     alloc: Global,
@@ -125,7 +125,7 @@ fn assert_whole(
     Ok(())
 }
 
-/// Applies a command. Where it is refused, the database is as it was, and it is applied again.
+/// Applies a command. Where it is refused, the database is unchanged, and the command is applied again.
 fn replace_again(
     rt: &impl Abort,
     alloc: Global,
@@ -143,7 +143,7 @@ fn replace_again(
     }
 }
 
-/// Sees that eight rows are replaced and eight inserted.
+/// Checks that eight rows are replaced and eight inserted.
 fn assert_replaced(
     rt: &impl Abort,
     alloc: Global,
@@ -162,7 +162,7 @@ fn assert_replaced(
     Ok(())
 }
 
-// It is run with each allocation refused in turn, as the one above. All rows and both indexes are compared.
+// Run with each allocation refused in turn, as the test above. All rows and both indexes are compared.
 #[test]
 fn refused_replacement_changes_nothing(rt: HostRuntime) -> Result<(), Fail> {
     let mut database = eight(rt.alloc())?;

@@ -1,4 +1,4 @@
-//! Registrations: under one key the newer timestamp wins.
+//! Registrations: of two segments with one key the newer one is kept.
 
 use crate::worked::{apply, dated, len_of, no_rows, put, register, standing};
 use path_db::{ApplyError, Command, Outcome, PathDb, Registration};
@@ -7,7 +7,7 @@ use std::alloc::Global;
 use std::process::Abort;
 use std::test::Fail;
 
-/// What a registration did.
+/// The outcome of a registration.
 fn done(inserted: u32, updated: u32, kept: u32) -> Outcome {
     Outcome {
         inserted,
@@ -17,7 +17,7 @@ fn done(inserted: u32, updated: u32, kept: u32) -> Outcome {
     }
 }
 
-/// Registers a segment, and sees what that did, and whose row is there then.
+/// Registers a segment, and checks the outcome, and the segment id of the row.
 fn assert_put(
     rt: &impl Abort,
     alloc: Global,
@@ -32,7 +32,7 @@ fn assert_put(
     Ok(())
 }
 
-// One segment with the timestamps 10, 11, 11 and 9, each time with another segment id, which shows whose row is there.
+// One segment with the timestamps 10, 11, 11 and 9, each time with another segment id, by which the row is recognized.
 #[test]
 fn newer_timestamp_wins(rt: HostRuntime) -> Result<(), Fail> {
     let mut database = no_rows(rt.alloc());
@@ -47,7 +47,7 @@ fn newer_timestamp_wins(rt: HostRuntime) -> Result<(), Fail> {
     Ok(())
 }
 
-/// The same in one registration.
+/// The same four segments in one registration.
 fn four(alloc: Global) -> Result<Registration, Fail> {
     let mut rows = Vec::new(alloc);
     for (timestamp, segment_id) in [(10, 1), (11, 2), (11, 3), (9, 4)] {
@@ -56,7 +56,7 @@ fn four(alloc: Global) -> Result<Registration, Fail> {
     Ok(Registration::new(rows))
 }
 
-/// Sees that the second of four segments is there once they are registered.
+/// Checks that the second of four segments is there once they are registered.
 fn assert_second_stands(
     rt: &impl Abort,
     database: &mut PathDb,
@@ -78,7 +78,7 @@ fn puts_are_in_order(rt: HostRuntime) -> Result<(), Fail> {
     assert_second_stands(&rt, &mut database, &Command::Register(again))
 }
 
-/// The bytes of a database to which this command alone was applied.
+/// The bytes of a database to which only this command was applied.
 fn len_of_one(alloc: Global, command: &Command) -> Result<u64, Fail> {
     let mut database = no_rows(alloc);
     apply(&mut database, command)?;
@@ -94,7 +94,7 @@ fn apply_within(
     database.apply_within(command, most)
 }
 
-/// Sees that a command that takes this many bytes is refused within one less, and applied within them.
+/// Checks that a command whose rows take this number of bytes is refused by a limit of one byte less, and applied within the limit.
 fn assert_within(
     rt: &impl Abort,
     database: &mut PathDb,
@@ -109,7 +109,7 @@ fn assert_within(
     Ok(())
 }
 
-/// Sees that a purge of nothing is applied within no bytes, and leaves this many.
+/// Checks that a purge of nothing is applied with a limit of 0 bytes, and leaves this number of bytes.
 fn assert_purged(rt: &impl Abort, database: &mut PathDb, len: u64) -> Result<(), Fail> {
     let found = apply_within(database, &Command::Purge(0), 0)?;
     assert_eq!(rt; found, done(0, 0, 0));
@@ -117,7 +117,7 @@ fn assert_purged(rt: &impl Abort, database: &mut PathDb, len: u64) -> Result<(),
     Ok(())
 }
 
-// A registration may fill the limit, and isn't applied one byte above it. A purge is applied whatever the limit.
+// A registration may reach the limit, and isn't applied one byte above it. A purge is applied with any limit.
 #[test]
 fn rows_stay_within_the_limit(rt: HostRuntime) -> Result<(), Fail> {
     let command = register(rt.alloc(), SegType::Down, dated(rt.alloc(), 10, 1)?)?;

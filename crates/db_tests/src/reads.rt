@@ -1,4 +1,4 @@
-//! What a database shows.
+//! The calls that read a database.
 
 use crate::worked::{
     EXPIRY, ID, SEGMENT, apply, copy_of, count_rows, is_there, leaving_by, len_of, no_rows, put,
@@ -11,7 +11,7 @@ use std::alloc::{AllocError, Global};
 use std::process::Abort;
 use std::test::Fail;
 
-/// Registers the worked segment under types in turn, and sees how many bytes the rows have.
+/// Registers the worked segment under types in turn, and checks how many bytes the rows have.
 fn assert_len_of_puts(rt: &impl Abort, alloc: Global, database: &mut PathDb) -> Result<(), Fail> {
     for (kind, len) in [
         (SegType::Down, 93),
@@ -24,7 +24,7 @@ fn assert_len_of_puts(rt: &impl Abort, alloc: Global, database: &mut PathDb) -> 
     Ok(())
 }
 
-/// Drops both rows, and sees how many bytes are left.
+/// Drops both rows, and checks how many bytes are left.
 fn assert_len_of_drops(rt: &impl Abort, database: &mut PathDb) -> Result<(), Fail> {
     apply(database, &Command::Remove(SegType::Down, ID))?;
     assert_eq!(rt; len_of(database), 93);
@@ -42,7 +42,7 @@ fn encoded_len_is_kept(rt: HostRuntime) -> Result<(), Fail> {
     assert_len_of_drops(&rt, &mut database)
 }
 
-/// The interface by which a row's first AS is left.
+/// The interface by which the segment of a row leaves its first AS.
 fn egress_of(row: &Row) -> u16 {
     row.segment
         .entries()
@@ -50,7 +50,7 @@ fn egress_of(row: &Row) -> u16 {
         .map_or(0, |entry| entry.egress)
 }
 
-/// The next row's type, and the interface by which its first AS is left.
+/// The next row's type, and the interface by which its segment leaves its first AS.
 fn next_of(rows: &mut Rows<'_>) -> Option<(SegType, u16)> {
     rows.next().map(|row| (row.kind, egress_of(row)))
 }
@@ -91,7 +91,7 @@ fn rows_have_ids(rt: HostRuntime) -> Result<(), Fail> {
     Ok(())
 }
 
-/// Sees that the worked segment is found, and no other.
+/// Checks that the worked segment is found, and no other.
 fn assert_found(rt: &impl Abort, database: &PathDb) {
     for (kind, id, found) in [
         (SegType::Down, ID, true),
@@ -113,14 +113,14 @@ fn segments_are_found(rt: HostRuntime) -> Result<(), Fail> {
     Ok(())
 }
 
-/// Sees that a purge of a database leaves its copy.
+/// Checks that a purge of a database does not change its copy.
 fn assert_apart(rt: &impl Abort, database: &mut PathDb, copy: &PathDb) -> Result<(), Fail> {
     apply(database, &Command::Purge(EXPIRY))?;
     assert_eq!(rt; (count_rows(database), count_rows(copy)), (0, 1));
     Ok(())
 }
 
-// What changes a database leaves its copy as it was.
+// A change of a database does not change its copy.
 #[test]
 fn copies_are_apart(rt: HostRuntime) -> Result<(), Fail> {
     let mut database = row_of(rt.alloc(), SegType::Down)?;
@@ -128,7 +128,7 @@ fn copies_are_apart(rt: HostRuntime) -> Result<(), Fail> {
     assert_apart(&rt, &mut database, &copy)
 }
 
-/// What a database shows.
+/// The segments that a database shows.
 fn matching(
     database: &PathDb,
     kind: SegType,
@@ -140,14 +140,14 @@ fn matching(
     database.matching(kind, start, end, moment, limit)
 }
 
-/// Sees that a segment is the worked one.
+/// Checks that a segment is the worked one.
 fn assert_worked(rt: &impl Abort, alloc: Global, segment: &Segment) -> Result<(), Fail> {
     let written = write_segment(alloc, segment)?;
     assert_eq!(rt; written.as_slice(), SEGMENT.as_slice());
     Ok(())
 }
 
-/// Sees what a database of the worked segment shows from one end to another.
+/// Checks what a database of the worked segment shows from one end to another.
 fn assert_shown(rt: &impl Abort, alloc: Global, database: &PathDb) -> Result<(), Fail> {
     let start = IsdAs::from_u64(0x0001_ff00_0000_0110);
     let end = IsdAs::from_u64(0x0001_ff00_0000_0111);

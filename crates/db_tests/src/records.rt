@@ -1,4 +1,4 @@
-//! Rows and commands as records: the worked row and others like it, and each refusal by a byte changed.
+//! Rows and commands as records: the worked row and others like it, and the refusals after one byte was changed.
 
 use crate::worked::{ID, SEGMENT, count_rows, is_there, len_of};
 use path_db::{Command, DbError, PathDb, read_command, read_rows, write_command, write_rows};
@@ -7,10 +7,10 @@ use std::alloc::Global;
 use std::process::Abort;
 use std::test::Fail;
 
-/// A record that is none.
+/// The error for bytes that are no record.
 const BAD: DbError = DbError::BadRecord;
 
-/// Appends the row of the worked segment under the type of this number. It is left by the interface, below 128.
+/// Appends the row of the worked segment under the type of this number. It leaves its first AS by this interface, below 128.
 fn put_row(bytes: &mut Vec<u8>, kind: u8, egress: u8) -> Result<(), Fail> {
     let mut segment = SEGMENT;
     segment[39] = egress;
@@ -28,7 +28,7 @@ pub(crate) fn rows_of(alloc: Global, kinds: &[u8]) -> Result<Vec<u8>, Fail> {
     Ok(bytes)
 }
 
-/// The bytes with another one at its place.
+/// The bytes with another byte at this place.
 pub(crate) fn changed(alloc: Global, bytes: &[u8], at: usize, byte: u8) -> Result<Vec<u8>, Fail> {
     let mut changed = Vec::from_slice(alloc, bytes)?;
     if let Some(old) = changed.get_mut(at) {
@@ -37,7 +37,7 @@ pub(crate) fn changed(alloc: Global, bytes: &[u8], at: usize, byte: u8) -> Resul
     Ok(changed)
 }
 
-/// The rows that are read. Where memory is refused, it is tried once more.
+/// The rows that are read. Where memory is refused, the bytes are read again.
 pub(crate) fn read_again(alloc: Global, bytes: &[u8]) -> Result<PathDb, DbError> {
     match read_rows(alloc, bytes) {
         Err(DbError::NoMemory) => read_rows(alloc, bytes),
@@ -45,7 +45,7 @@ pub(crate) fn read_again(alloc: Global, bytes: &[u8]) -> Result<PathDb, DbError>
     }
 }
 
-/// How many rows are read.
+/// The number of rows that are read.
 fn count_of(alloc: Global, bytes: &[u8]) -> Result<usize, DbError> {
     let database = read_again(alloc, bytes)?;
     Ok(count_rows(&database))
@@ -58,7 +58,7 @@ pub(crate) fn written(alloc: Global, database: &PathDb) -> Result<Vec<u8>, Fail>
     Ok(bytes)
 }
 
-/// Sees that a database is written as these bytes.
+/// Checks that a database is written as these bytes.
 pub(crate) fn assert_written_as(
     rt: &impl Abort,
     alloc: Global,
@@ -70,7 +70,7 @@ pub(crate) fn assert_written_as(
     Ok(())
 }
 
-/// Sees that a database has the worked row under each type.
+/// Checks that a database has the worked row under each type.
 fn assert_three(rt: &impl Abort, database: &PathDb) {
     assert_eq!(rt; (count_rows(database), len_of(database)), (3, 279));
     for kind in [SegType::Up, SegType::Down, SegType::Core] {
@@ -99,8 +99,8 @@ const KINDS: [([u8; 3], Result<usize, DbError>); 8] = [
     ([0, 1, 1], Err(BAD)),
 ];
 
-/// The interfaces by which two rows are left, and how many rows are read. The ids of the worked segment left by 2, 1 and 3 begin
-/// with 19, 8a and be.
+/// The interfaces by which two rows leave their first AS, and how many rows are read. The ids of the worked segment with the
+/// interfaces 2, 1 and 3 begin with 19, 8a and be.
 const EGRESSES: [(u8, u8, Result<usize, DbError>); 4] = [
     (2, 1, Ok(2)),
     (1, 3, Ok(2)),
@@ -108,7 +108,7 @@ const EGRESSES: [(u8, u8, Result<usize, DbError>); 4] = [
     (1, 2, Err(DbError::Order)),
 ];
 
-/// Down rows of the worked segment, left by these interfaces.
+/// Down rows of the worked segment with these interfaces.
 fn two_rows(alloc: Global, first: u8, second: u8) -> Result<Vec<u8>, Fail> {
     let mut bytes = Vec::new(alloc);
     put_row(&mut bytes, 2, first)?;
@@ -116,7 +116,7 @@ fn two_rows(alloc: Global, first: u8, second: u8) -> Result<Vec<u8>, Fail> {
     Ok(bytes)
 }
 
-// What is met first is told: the second row's want of order before the third's type.
+// The first fault is reported: the second row's order before the third row's type.
 #[test]
 fn keys_rise(rt: HostRuntime) -> Result<(), Fail> {
     for (kinds, expected) in KINDS {
@@ -130,7 +130,7 @@ fn keys_rise(rt: HostRuntime) -> Result<(), Fail> {
     Ok(())
 }
 
-// Rows of 93 bytes each: a part of one is none.
+// Rows of 93 bytes each: a part of a row is no row.
 #[test]
 fn rows_are_whole(rt: HostRuntime) -> Result<(), Fail> {
     let bytes = rows_of(rt.alloc(), &[1, 2, 3])?;
@@ -145,7 +145,7 @@ fn rows_are_whole(rt: HostRuntime) -> Result<(), Fail> {
     Ok(())
 }
 
-/// Which byte is changed, what to, and how many rows are read.
+/// The place of the changed byte, its new value, and how many rows are read.
 const CHANGED_ROWS: [(usize, u8, Result<usize, DbError>); 17] = [
     (0, 4, Err(BAD)), // the type
     (93, 0, Err(BAD)), // the second row's
@@ -166,7 +166,7 @@ const CHANGED_ROWS: [(usize, u8, Result<usize, DbError>); 17] = [
     (278, 0x0c, Ok(3)), // the last row's
 ];
 
-// Three rows with one byte changed: each begins 93 bytes behind the one before, its segment 5 bytes later.
+// Three rows with one byte changed: each begins 93 bytes after the one before, its segment 5 bytes later.
 #[test]
 fn changed_rows(rt: HostRuntime) -> Result<(), Fail> {
     let bytes = rows_of(rt.alloc(), &[1, 2, 3])?;
@@ -179,7 +179,7 @@ fn changed_rows(rt: HostRuntime) -> Result<(), Fail> {
 
 // ---- commands
 
-/// A record that registers the worked segment so many times, as down segments.
+/// A record that registers the worked segment this number of times, as down segments.
 pub(crate) fn registration(alloc: Global, count: u8) -> Result<Vec<u8>, Fail> {
     let mut bytes = Vec::from_slice(alloc, &[1, count])?;
     for _ in 0..count {
@@ -188,7 +188,7 @@ pub(crate) fn registration(alloc: Global, count: u8) -> Result<Vec<u8>, Fail> {
     Ok(bytes)
 }
 
-/// Appends a down row of 8,192 bytes, or of one more, behind its head: the worked segment with a signature of 8,099 bytes or of one
+/// Appends a down row of 8,192 bytes, or of one more, after its head: the worked segment with a signature of 8,099 bytes or of one
 /// more.
 fn put_long_row(bytes: &mut Vec<u8>, is_longer: bool) -> Result<(), Fail> {
     // The lengths of the row, of the first entry, of its signed message and of the signature.
@@ -228,8 +228,8 @@ fn told(command: &Command) -> (u8, u64) {
     }
 }
 
-/// What is told of the command that is read, of kind 0 where it isn't written as it was read. Where memory is refused, it is
-/// tried once more.
+/// The kind and the number of the command that is read; kind 0 where it isn't written as it was read. Where memory is refused, the
+/// bytes are read again.
 fn command_of(alloc: Global, bytes: &[u8], version: u32) -> Result<(u8, u64), DbError> {
     let command = match read_command(alloc, bytes, version) {
         Err(DbError::NoMemory) => read_command(alloc, bytes, version)?,
@@ -243,10 +243,10 @@ fn command_of(alloc: Global, bytes: &[u8], version: u32) -> Result<(u8, u64), Db
     Ok(if is_same { told(&command) } else { (0, 0) })
 }
 
-/// The purge of a moment, and a byte behind it.
+/// The purge of a moment, and a byte after it.
 const PURGE: [u8; 10] = [2, 0, 0, 0, 0, 0, 0, 1, 2, 0];
 
-// A front of a purge's bytes, under either version: it has nine.
+// Fronts of a purge's nine bytes, in either version.
 #[test]
 fn purges(rt: HostRuntime) {
     for version in [1, 2] {
@@ -258,7 +258,7 @@ fn purges(rt: HostRuntime) {
     }
 }
 
-/// A kind, a type's number, how many bytes of an id, a version, and what is told.
+/// A kind, a type's number, how many bytes of an id, a version, and the result.
 const REMOVALS: [(u8, u8, u8, u32, Result<(u8, u64), DbError>); 11] = [
     (3, 1, 32, 2, Ok((3, 1))),
     (3, 2, 32, 2, Ok((3, 2))),
@@ -273,7 +273,7 @@ const REMOVALS: [(u8, u8, u8, u32, Result<(u8, u64), DbError>); 11] = [
     (0, 2, 32, 2, Err(BAD)),
 ];
 
-// A removal has 34 bytes, the third kind, and a type from 1 to 3; version 1 has none.
+// A removal has 34 bytes, the third kind, and a type from 1 to 3. Version 1 has no removals.
 #[test]
 fn removals(rt: HostRuntime) -> Result<(), Fail> {
     for (kind, number, ids, version, expected) in REMOVALS {
@@ -287,7 +287,7 @@ fn removals(rt: HostRuntime) -> Result<(), Fail> {
     Ok(())
 }
 
-/// Which byte is changed, what to, and what is told.
+/// The place of the changed byte, its new value, and the result.
 const CHANGED_REGISTRATIONS: [(usize, u8, Result<(u8, u64), DbError>); 18] = [
     (0, 2, Err(BAD)), // a purge of many bytes
     (0, 3, Err(BAD)), // a removal of many bytes

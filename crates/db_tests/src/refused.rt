@@ -1,5 +1,5 @@
-//! Want of memory while records are written or read. Each test is run with each of its allocations refused in turn: what was there
-//! before the refused call stays, the call succeeds when it is tried again, and no answer is another for the refusal.
+//! Refused memory while records are written or read. Each test is run with each of its allocations refused in turn: the bytes from
+//! before the refused call stay, the call succeeds when it is tried again, and no other result depends on the refusal.
 
 use crate::records::{assert_written_as, changed, read_again, registration, rows_of};
 use path_db::{
@@ -9,16 +9,16 @@ use std::alloc::{AllocError, Global};
 use std::process::Abort;
 use std::test::Fail;
 
-/// What is before a record that is appended.
+/// The bytes before a record that is appended.
 const FRONT: [u8; 3] = [7, 8, 9];
 
-/// Sees that the vector has what was in it, and after it these bytes.
+/// Checks that the vector has its earlier bytes, and after them these bytes.
 fn assert_behind_front(rt: &impl Abort, out: &[u8], bytes: &[u8]) {
     assert_eq!(rt; out.get(..3), Some(&FRONT[..]));
     assert_eq!(rt; out.get(3..), Some(bytes));
 }
 
-/// The rows that are read, where no memory is refused.
+/// The rows that are read, in one try.
 fn read_once(alloc: Global, bytes: &[u8]) -> Result<PathDb, DbError> {
     read_rows(alloc, bytes)
 }
@@ -28,7 +28,7 @@ fn write(database: &PathDb, out: &mut Vec<u8>) -> Result<(), AllocError> {
     write_rows(database, out)
 }
 
-/// Sees that a database is written as these bytes, after what was there.
+/// Checks that a database is written as these bytes, after the earlier bytes.
 fn assert_appended(
     rt: &impl Abort,
     alloc: Global,
@@ -51,8 +51,8 @@ fn refused_memory_of_written_rows(rt: HostRuntime) -> Result<(), Fail> {
     assert_appended(&rt, rt.alloc(), &database, &bytes)
 }
 
-/// Sees that a database is written as these bytes, or that reading was refused by this refusal, where there is one. Want of
-/// memory is no answer.
+/// Checks that a database is written as these bytes, or that reading was refused with this error, where there is one. `NoMemory` is
+/// not accepted as a result.
 fn assert_rows(
     rt: &impl Abort,
     alloc: Global,
@@ -121,7 +121,7 @@ const REMOVAL: [u8; 34] = [
     25, 26, 27, 28, 29, 30, 31, 32,
 ];
 
-/// Sees that a command is written as these bytes, after what was there.
+/// Checks that a command is written as these bytes, after the earlier bytes.
 fn assert_written(rt: &impl Abort, alloc: Global, bytes: &[u8]) -> Result<(), Fail> {
     let command = read_command(alloc, bytes, 2)?;
     let mut out = Vec::from_slice(alloc, &FRONT)?;
@@ -141,8 +141,8 @@ fn refused_memory_of_written_commands(rt: HostRuntime) -> Result<(), Fail> {
     assert_written(&rt, rt.alloc(), &REMOVAL)
 }
 
-/// Sees that a command is read and written as these bytes, or refused as a bad record, and that only what may take memory is
-/// refused it.
+/// Checks that a command is read and written as these bytes, or refused as a bad record, and that only reads that may take memory
+/// are refused it.
 fn assert_read(
     rt: &impl Abort,
     alloc: Global,

@@ -11,21 +11,21 @@ pub(crate) fn segment(alloc: Global) -> Result<Segment, Fail> {
     Ok(read_segment(alloc, &SEGMENT)?)
 }
 
-/// The worked segment with another timestamp and another segment id, both below 128. It has the same hops, and so that id.
+/// The worked segment with another timestamp and another segment id, both below 128. It has the same hops, and so the same id.
 pub(crate) fn dated(alloc: Global, timestamp: u8, segment_id: u8) -> Result<Segment, Fail> {
     let mut message = Vec::from_slice(alloc, &[0x0a, 0x04, 0x08, timestamp, 0x10, segment_id])?;
     message.extend_from_slice(&SEGMENT[10..])?;
     Ok(read_segment(alloc, &message)?)
 }
 
-/// The worked segment, but its first AS is left by this interface, below 128: its id is another.
+/// The worked segment, which leaves its first AS by this interface, below 128: its id is another.
 pub(crate) fn leaving_by(alloc: Global, egress: u8) -> Result<Segment, Fail> {
     let mut message = SEGMENT;
     message[39] = egress;
     Ok(read_segment(alloc, &message)?)
 }
 
-/// The worked segment with another timestamp, below 128, and left by this interface, below 128.
+/// The worked segment with another timestamp, below 128, which leaves its first AS by this interface, below 128.
 pub(crate) fn dated_by(alloc: Global, timestamp: u8, egress: u8) -> Result<Segment, Fail> {
     let mut message = Vec::from_slice(alloc, &[0x0a, 0x04, 0x08, timestamp, 0x10, 7])?;
     message.extend_from_slice(&SEGMENT[10..39])?;
@@ -41,9 +41,9 @@ pub(crate) fn register(alloc: Global, kind: SegType, segment: Segment) -> Result
     Ok(Command::Register(Registration::new(rows)))
 }
 
-// ---- databases: no test needs a fact of one, so these calls, which have no contracts, keep the tests' proofs short
+// ---- databases: no test needs a fact about one, so these calls, which have no contracts, keep the tests' proofs short
 
-/// A database of no rows.
+/// A database without rows.
 pub(crate) fn no_rows(alloc: Global) -> PathDb {
     PathDb::new(alloc)
 }
@@ -76,7 +76,7 @@ pub(crate) fn copy_of(database: &PathDb) -> Result<PathDb, AllocError> {
     database.try_clone()
 }
 
-/// How many rows there are.
+/// The number of rows.
 pub(crate) fn count_rows(database: &PathDb) -> usize {
     database.rows().count()
 }
