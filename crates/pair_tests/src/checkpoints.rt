@@ -1,4 +1,4 @@
-//! Checkpoints written and read: the worked bytes, and each refusal by a byte changed.
+//! Checkpoints that are written and read: the worked bytes, and each refusal after one byte was changed.
 
 use crate::worked::{END, FRESH, area, changed};
 use ckpt_pair::{Checkpoint, PairError, encode_checkpoint, read_half};
@@ -6,10 +6,10 @@ use path_db::PathDb;
 use std::alloc::Global;
 use std::test::Fail;
 
-/// A checkpoint that is none.
+/// The error for bytes that are no checkpoint.
 const BAD: PairError = PairError::BadCheckpoint;
 
-/// Reads an area. Where memory is refused, it is tried once more.
+/// Reads an area. Where memory is refused, the area is read again.
 fn read(alloc: Global, area: &[u8]) -> Result<Checkpoint, PairError> {
     if area.len() < 32 {
         return Err(PairError::NoHalf);
@@ -26,7 +26,7 @@ fn read_of(alloc: Global, area: &[u8]) -> Result<(u32, usize), PairError> {
     Ok((checkpoint.head.version, checkpoint.db.rows().count()))
 }
 
-// A store that is new: one sector, zeros after the front.
+// The area of a new store: one sector, zeros after the front.
 #[test]
 fn new_store_is_written(rt: HostRuntime) -> Result<(), Fail> {
     let bytes = encode_checkpoint(rt.alloc(), &PathDb::new(rt.alloc()), 1, 0)?;
@@ -37,7 +37,7 @@ fn new_store_is_written(rt: HostRuntime) -> Result<(), Fail> {
     Ok(())
 }
 
-// Three rows: they are read, and written as they were.
+// Three rows: they are read, and written again as the same bytes.
 #[test]
 fn rows_are_read_and_written(rt: HostRuntime) -> Result<(), Fail> {
     let area = area(rt.alloc())?;
@@ -55,7 +55,7 @@ fn rows_are_read_and_written(rt: HostRuntime) -> Result<(), Fail> {
     Ok(())
 }
 
-// Of the head, the length, the count and the rows a byte is changed. What is after the rows isn't read.
+// One byte of the head, the length, the count or the rows is changed. The bytes after the rows aren't read.
 #[test]
 fn changed_areas(rt: HostRuntime) -> Result<(), Fail> {
     for (at, byte, expected) in [
@@ -77,7 +77,7 @@ fn changed_areas(rt: HostRuntime) -> Result<(), Fail> {
         (37, 0x0b, Err(BAD)), // a segment that is none
         (125, 0, Err(BAD)), // the second row's type
         (125, 3, Err(BAD)), // the same key as the third row's
-        (END, 1, Ok((2, 3))), // behind the rows
+        (END, 1, Ok((2, 3))), // after the rows
         (511, 0xff, Ok((2, 3))),
     ] {
         let area = changed(rt.alloc(), at, byte)?;

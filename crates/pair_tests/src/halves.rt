@@ -1,4 +1,4 @@
-//! Heads, which half is chosen, and which half has the tail.
+//! Heads, the half that is chosen, and the half that has the tail.
 
 use crate::worked::changed;
 use ckpt_pair::{Head, Heads, PairError, choose, read_head, tail_half};
@@ -19,7 +19,7 @@ fn head(epoch: u64) -> Head {
     }
 }
 
-/// The head of an area that has room for one.
+/// The head of an area that is long enough for one.
 fn head_of(gate: &[u8], area: &[u8]) -> Result<Option<Head>, PairError> {
     if area.len() < 24 {
         return Err(PairError::NoMemory);
@@ -27,7 +27,7 @@ fn head_of(gate: &[u8], area: &[u8]) -> Result<Option<Head>, PairError> {
     read_head(gate, area)
 }
 
-// The worked head, and each refusal by a byte changed. After a closed gate nothing is judged.
+// The worked head, and each refusal after one byte was changed. After a closed gate nothing is checked.
 #[test]
 fn heads_are_read(rt: HostRuntime) -> Result<(), Fail> {
     let older = Head {
@@ -50,7 +50,7 @@ fn heads_are_read(rt: HostRuntime) -> Result<(), Fail> {
         (4, 1, Err(PairError::NewerFormat(0x0100_0002))),
         (8, 1, Ok(Some(later))), // the epoch
         (15, 0, Ok(Some(head(0)))),
-        (24, 0xff, Ok(Some(head(7)))), // behind the head
+        (24, 0xff, Ok(Some(head(7)))), // after the head
     ] {
         let area = changed(rt.alloc(), at, byte)?;
         assert_eq!(rt; head_of(&OPEN, &area), expected, "{at} {byte}");
@@ -59,7 +59,7 @@ fn heads_are_read(rt: HostRuntime) -> Result<(), Fail> {
     Ok(())
 }
 
-// The half of greater epoch is chosen.
+// The half with the greater epoch is chosen.
 #[test]
 fn halves_are_chosen(rt: HostRuntime) -> Result<(), Fail> {
     for (first, second, expected) in [

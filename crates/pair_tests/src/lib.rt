@@ -1,5 +1,5 @@
-//! Tests of `ckpt_pair`. They hold what no clause there says: values from outside, that calls succeed where memory suffices,
-//! and what stands where it is refused.
+//! Tests of `ckpt_pair`. They check what no contract states: values from outside, that calls succeed where memory suffices,
+//! and the results where memory is refused.
 #![tactic(auto)]
 
 #[cfg(test)]

@@ -1,14 +1,14 @@
-//! Rows from pieces of their bytes, however these are cut.
+//! Rows from pieces of their bytes, cut anywhere.
 
 use crate::worked::{area, changed, rows_of};
 use ckpt_pair::{PairError, RowsReader, feed_rows, finish_rows, read_front};
 use std::alloc::Global;
 use std::test::Fail;
 
-/// Rows that are none, or more or fewer.
+/// The error for bytes that are no rows, or are more or fewer rows.
 const BAD: PairError = PairError::BadCheckpoint;
 
-/// How many rows are read of bytes in pieces of a size, and how many bytes they have.
+/// The number of rows that are read from bytes in pieces of this size, and the length of their records.
 fn read(alloc: Global, bytes: &[u8], size: usize, count: u32) -> Result<(usize, u64), PairError> {
     let mut reader = RowsReader::new(alloc);
     if size > 0 {
@@ -20,7 +20,7 @@ fn read(alloc: Global, bytes: &[u8], size: usize, count: u32) -> Result<(usize, 
     Ok((db.rows().count(), db.encoded_len()))
 }
 
-/// The same; where memory is refused, it is tried once more.
+/// The same; where memory is refused, the rows are read again.
 fn read_again(
     alloc: Global,
     bytes: &[u8],
@@ -72,7 +72,7 @@ fn pieces_are_counted(rt: HostRuntime) -> Result<(), Fail> {
     Ok(())
 }
 
-// A row that is none, and one out of order, are refused in pieces of each size.
+// A row that is refused, and one out of order, are refused in pieces of each size.
 #[test]
 fn changed_pieces(rt: HostRuntime) -> Result<(), Fail> {
     for (at, byte) in [
@@ -93,7 +93,7 @@ fn changed_pieces(rt: HostRuntime) -> Result<(), Fail> {
     Ok(())
 }
 
-/// How many bytes and rows the front of an area of this size gives.
+/// The length and the number of the rows, from the front of an area of this size.
 fn front_of(bytes: &[u8], size: u64) -> Result<(u32, u32), PairError> {
     if bytes.len() < 32 {
         return Err(PairError::NoHalf);
@@ -102,7 +102,7 @@ fn front_of(bytes: &[u8], size: u64) -> Result<(u32, u32), PairError> {
     Ok((front.size, front.count))
 }
 
-// The front gives how many bytes have to be read of an area, which may be larger than what is there to read.
+// The front has the number of bytes that have to be read from an area, which may be larger than the bytes that are there.
 #[test]
 fn fronts_are_read(rt: HostRuntime) -> Result<(), Fail> {
     let area = area(rt.alloc())?;

@@ -1,5 +1,5 @@
-//! Want of memory while checkpoints are written or read. Each test is run with each of its allocations refused in turn: a
-//! refused call succeeds when it is tried again, and no answer is another for the refusal.
+//! Refused memory while checkpoints are written or read. Each test is run with each of its allocations refused in turn: a
+//! refused call succeeds when it is tried again, and no other result depends on the refusal.
 
 use crate::worked::{area, changed, rows_of};
 use ckpt_pair::{
@@ -10,7 +10,7 @@ use std::alloc::Global;
 use std::process::Abort;
 use std::test::Fail;
 
-/// Sees that a database is written as these rows.
+/// Checks that a database is written as these rows.
 fn assert_rows(rt: &impl Abort, alloc: Global, db: &PathDb, rows: &[u8]) -> Result<(), Fail> {
     let mut written = Vec::new(alloc);
     write_rows(db, &mut written)?;
@@ -18,7 +18,7 @@ fn assert_rows(rt: &impl Abort, alloc: Global, db: &PathDb, rows: &[u8]) -> Resu
     Ok(())
 }
 
-/// Reads an area that has room for a front.
+/// Reads an area that is long enough for a front.
 fn read(alloc: Global, area: &[u8]) -> Result<Checkpoint, PairError> {
     if area.len() < 32 {
         return Err(PairError::NoHalf);
@@ -42,8 +42,8 @@ fn refused_memory_of_written_checkpoints(rt: HostRuntime) -> Result<(), Fail> {
     Ok(())
 }
 
-// The area as it is, and with a byte changed: the version and the length, which are judged without memory, the third row's type,
-// and the count, which are judged after rows that were read.
+// The unchanged area, and areas with one byte changed: the version and the length, which are checked without memory, and the third
+// row's type and the count, which are checked after rows were read.
 #[test]
 fn refused_memory_of_read_checkpoints(rt: HostRuntime) -> Result<(), Fail> {
     for (at, byte, takes_memory, refusal) in [

@@ -4,7 +4,7 @@ use std::alloc::Global;
 use std::test::Fail;
 use worked_segments::SEGMENT;
 
-/// What stands before the rows: PCKP, version 2, epoch 7, place 258, and 3 rows in 279 bytes.
+/// The bytes before the rows: PCKP, version 2, epoch 7, place 258, and 3 rows in 279 bytes.
 const FRONT: [u8; 32] = [
     0x50, 0x43, 0x4b, 0x50, 0, 0, 0, 2, // the magic, the version
     0, 0, 0, 0, 0, 0, 0, 7, // the epoch
@@ -12,7 +12,7 @@ const FRONT: [u8; 32] = [
     0, 0, 1, 0x17, 0, 0, 0, 3, // the bytes of the rows, their count
 ];
 
-/// The front of the area of a store that is new: version 2, epoch 1, place 0, no rows.
+/// The front of the area of a new store: version 2, epoch 1, place 0, no rows.
 pub(crate) const FRESH: [u8; 32] = [
     0x50, 0x43, 0x4b, 0x50, 0, 0, 0, 2, // the magic, the version
     0, 0, 0, 0, 0, 0, 0, 1, // the epoch
@@ -20,7 +20,7 @@ pub(crate) const FRESH: [u8; 32] = [
     0, 0, 0, 0, 0, 0, 0, 0, // no rows
 ];
 
-/// Where the rows end.
+/// The offset at which the rows end.
 pub(crate) const END: usize = 311;
 
 /// The area of the three rows, each of 93 bytes.

@@ -1,4 +1,4 @@
-//! Purges and removals, over a service that reports what it was given.
+//! Purges and removals, over a service that reports its arguments.
 
 use crate::same::assert_same;
 use seg_core::{SegType, Segment};
@@ -8,7 +8,7 @@ use std::io::Read;
 use std::process::Abort;
 use std::test::Fail;
 
-/// Counts the commands, and keeps nothing of them.
+/// A service that counts the commands, and keeps nothing of them.
 #[derive(Drop)]
 struct Counter {
     place: u64,
@@ -42,12 +42,12 @@ impl Service for Counter {
         Err(Code(0x26))
     }
 
-    /// Reports the moment's lower half as what was purged.
+    /// Reports the lower half of the moment as the count of purged rows.
     fn purge(&mut self, moment: u64) -> Result<Ack, Code> {
         Ok(self.ack(0, (moment & 0xffff_ffff) as u32))
     }
 
-    /// Refuses a type that is none, and reports the last byte of the id as what was kept.
+    /// Refuses a byte that is no type, and reports the last byte of the id as the count of kept rows.
     fn remove(&mut self, kind: u8, id: &[u8; 32]) -> Result<Ack, Code> {
         if kind < 1 || kind > 3 {
             return Err(Code(0x29));
@@ -79,7 +79,7 @@ fn input(alloc: Global) -> Result<Vec<u8>, AllocError> {
     Ok(bytes)
 }
 
-/// Their replies: acknowledgements at the places 0 and 1, a refusal, and an acknowledgement at the place 2.
+/// The replies: acknowledgements at the places 0 and 1, a refusal, and an acknowledgement at the place 2.
 const OUTPUT: [u8; 93] = [
     0x00, 0x00, 0x00, 0x19, 0x83, // the purge's, of 25 bytes
     0x00, 0x00, 0x00, 0x00, 0x00, 0x00, 0x00, 0x00, // its place
@@ -106,7 +106,7 @@ fn served(
     serve(alloc, &mut front.chain(rest), output, &mut service, 9)
 }
 
-/// Sees that an input that comes in two parts gets the replies.
+/// Checks the replies to an input that comes in two parts.
 fn assert_cut(rt: &impl Abort, alloc: Global, input: (&[u8], &[u8])) -> Result<(), Fail> {
     let cut = input.0.len();
     let mut output = Vec::new(alloc);

@@ -23,7 +23,7 @@ impl Taker {
         }
     }
 
-    /// Takes a piece, and adds the messages that it completes. Gives the fault after them.
+    /// Takes a piece, and adds the messages that it completes. Returns the fault after them.
     fn take(&mut self, piece: &[u8]) -> Result<Option<FrameError>, AllocError> {
         let fed = self.framer.feed(piece)?;
         for message in fed.messages {
@@ -33,7 +33,7 @@ impl Taker {
     }
 }
 
-/// Takes a piece in a case, and sees whether a fault is after it.
+/// Takes a piece in a case, and checks whether there is a fault after it.
 fn assert_taken<C: Debug>(
     rt: &impl Abort,
     taker: &mut Taker,
@@ -46,7 +46,7 @@ fn assert_taken<C: Debug>(
     Ok(())
 }
 
-/// Sees that the messages of a case are these.
+/// Checks that the messages of a case are these.
 fn assert_messages<C: Debug>(rt: &impl Abort, found: &[Message], wanted: &[Message], case: &C) {
     assert_same(rt, &found, &wanted, case);
 }
@@ -59,7 +59,7 @@ fn both(alloc: Global) -> Result<Vec<Message>, AllocError> {
     Ok(messages)
 }
 
-/// Takes the two parts of a stream, and sees that its messages are these.
+/// Takes the two parts of a stream, and checks that its messages are these.
 fn assert_cut(
     rt: &impl Abort,
     taker: &mut Taker,
@@ -84,7 +84,7 @@ fn any_cut(rt: HostRuntime) -> Result<(), Fail> {
     Ok(())
 }
 
-/// Takes bytes one by one, and sees that none shows a fault.
+/// Takes bytes one by one, and checks that none of them is a fault.
 fn assert_bytes_taken(rt: &impl Abort, taker: &mut Taker, bytes: &[u8]) -> Result<(), Fail> {
     for byte in bytes {
         assert_taken(rt, taker, &[*byte], None, byte)?;
@@ -101,7 +101,7 @@ fn byte_by_byte(rt: HostRuntime) -> Result<(), Fail> {
     Ok(())
 }
 
-/// Frames with a fault that their last byte shows, and no byte before it.
+/// Frames with a fault that their last byte shows, and no earlier byte.
 const FAULTS: [(&[u8], FrameError); 13] = [
     (b"\0\0\0\0", FrameError::Length),
     (b"\0\x02\0\x02", FrameError::Length),
@@ -118,7 +118,7 @@ const FAULTS: [(&[u8], FrameError); 13] = [
     (b"\0\x02\0\x01\x04", FrameError::Length),
 ];
 
-/// Takes a frame byte by byte and two pieces more, and sees where the fault is reported, and that there is no message.
+/// Takes a frame byte by byte and two more pieces, and checks where the fault is reported, and that there is no message.
 fn assert_fault(
     rt: &impl Abort,
     taker: &mut Taker,
@@ -139,7 +139,7 @@ fn assert_fault(
     Ok(())
 }
 
-// A fault is reported at the byte that shows it, and again for each piece from then on, with no message.
+// A fault is reported at the byte that shows it, and again for each piece from then on, without a message.
 #[test]
 fn frame_faults(rt: HostRuntime) -> Result<(), Fail> {
     for (frame, fault) in &FAULTS {
@@ -157,18 +157,18 @@ fn with_fault(alloc: Global, frame: &[u8]) -> Result<Vec<u8>, Fail> {
     Ok(piece)
 }
 
-/// What comes of one piece.
+/// The result of one piece.
 fn fed(alloc: Global, piece: &[u8]) -> Result<Fed, AllocError> {
     Framer::new(alloc).feed(piece)
 }
 
-/// Sees that these messages and this fault came of a piece with this frame.
+/// Checks that the result of a piece with this frame is these messages and this fault.
 fn assert_fed(rt: &impl Abort, fed: &Fed, wanted: &[Message], fault: FrameError, frame: &[u8]) {
     assert_messages(rt, &fed.messages, wanted, &frame);
     assert_same(rt, &fed.fault, &Some(fault), &frame);
 }
 
-// What is whole before a fault in one piece is given, and nothing after it.
+// The messages before a fault in one piece are returned, and nothing after it.
 #[test]
 fn messages_before_a_fault(rt: HostRuntime) -> Result<(), Fail> {
     let wanted = both(rt.alloc())?;
@@ -186,7 +186,7 @@ fn greatest(alloc: Global) -> Result<Vec<u8>, Fail> {
     Ok(frame)
 }
 
-/// Takes that frame in pieces of this size, and sees that no message comes before the last one.
+/// Takes that frame in pieces of this size, and checks that no message comes before the last one.
 fn assert_pieces(
     rt: &impl Abort,
     taker: &mut Taker,
@@ -201,7 +201,7 @@ fn assert_pieces(
     Ok(())
 }
 
-/// Sees that a lookup of what is after the frame's head is the only message.
+/// Checks that the only message is a lookup with the body of the frame.
 fn assert_lookup(rt: &impl Abort, alloc: Global, messages: &[Message]) -> Result<(), Fail> {
     assert_eq!(rt; messages.len(), 1);
     for message in messages {
@@ -232,7 +232,7 @@ fn is_worked(place: u8, message: &Message) -> bool {
     }
 }
 
-/// What comes of a piece, which is given again where it was refused.
+/// The result of a piece, which is fed again where memory was refused.
 fn fed_again(framer: &mut Framer, piece: &[u8]) -> Result<Fed, AllocError> {
     match framer.feed(piece) {
         Ok(fed) => Ok(fed),
@@ -240,7 +240,7 @@ fn fed_again(framer: &mut Framer, piece: &[u8]) -> Result<Fed, AllocError> {
     }
 }
 
-/// Sees that messages are those of the worked stream from this place on, and returns the place after them.
+/// Checks that messages are those of the worked stream from this place on, and returns the place after them.
 fn assert_worked(rt: &impl Abort, messages: &[Message], from: u8) -> u8 {
     let mut place = from;
     for message in messages {
@@ -250,7 +250,7 @@ fn assert_worked(rt: &impl Abort, messages: &[Message], from: u8) -> u8 {
     place
 }
 
-// Run with each allocation failing in turn: a piece that was refused is given again, and each message comes once.
+// Run with each allocation failing in turn: a piece that was refused is fed again, and each message comes once.
 #[test]
 fn refused_memory_keeps_the_stream(rt: HostRuntime) -> Result<(), Fail> {
     let bytes = stream();

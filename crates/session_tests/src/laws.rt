@@ -1,4 +1,4 @@
-//! The laws do nothing, and cost a caller nothing.
+//! The laws are functions that do nothing.
 
 use session_core::laws::{any_cut, lasting_fault, one_decoding, some_decoding};
 

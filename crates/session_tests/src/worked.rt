@@ -16,7 +16,7 @@ pub(crate) const REGISTER: [u8; 101] = [
     0x0a, 0x0b, 0x0c, 0x0d, 0x0e, 0x0f, 0x28, 0xc0, 0x0b, // a MAC, and the MTU
 ];
 
-/// The frame of a lookup of the segments between those.
+/// The frame of a lookup of the segments between these ASes.
 pub(crate) const LOOKUP: [u8; 21] = [
     0x00, 0x00, 0x00, 0x11, 0x02, // a length of 17, and a lookup
     0x08, 0x90, 0x82, 0x80, 0x80, 0x80, 0xe0, 0x7f, // from this AS

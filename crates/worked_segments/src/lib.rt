@@ -1,4 +1,4 @@
-//! Segments that were worked through by hand, byte by byte: what crates of tests register, look up and change.
+//! Segments that were worked through by hand, byte by byte. Crates of tests register, look up and change them.
 #![tactic(auto)]
 
 /// Two entries, from 1-ff00:0:110 to 1-ff00:0:111.
@@ -15,19 +15,19 @@ pub const SEGMENT: [u8; 88] = [
     0x0a, 0x0b, 0x0c, 0x0d, 0x0e, 0x0f, 0x28, 0xc0, 0x0b, // a MAC, and the MTU
 ];
 
-/// Its id: SHA-256 over `0001ff0000000110 0000 0001 0001ff0000000111 0002 0000`.
+/// The id of `SEGMENT`: SHA-256 over `0001ff0000000110 0000 0001 0001ff0000000111 0002 0000`.
 pub const ID: [u8; 32] = [
     0x8a, 0xdc, 0xea, 0x68, 0xdc, 0x57, 0xcb, 0xbe, 0x68, 0xda, 0x71, 0x42, 0xaf, 0x88, 0xb6, 0x8a,
     0x9d, 0x27, 0xa5, 0x90, 0xe1, 0xd5, 0x15, 0x7c, 0x53, 0xc2, 0xbb, 0x2c, 0x76, 0x23, 0x45, 0xff,
 ];
 
-/// The moment at which it expires, in half seconds since 1970: 2 * 1,700,000,000 + 64 * 675.
+/// The moment at which `SEGMENT` expires, in half seconds since 1970: 2 * 1,700,000,000 + 64 * 675.
 pub const EXPIRY: u64 = 3_400_043_200;
 
-/// Where in it the interface is by which its first AS is left. With another one its id is another.
+/// The offset in `SEGMENT` of the interface by which it leaves its first AS. With another interface its id is another.
 pub const EGRESS: usize = 39;
 
-/// Where in it the exp_time of its first hop entry is.
+/// The offset in `SEGMENT` of the exp_time of its first hop entry.
 pub const EXP_TIME: usize = 41;
 
 /// Two entries, from 2-64512 to 1-ff00:0:110.
