@@ -1,10 +1,10 @@
-//! The calls that the tests make of a device of four sectors, and what it then holds.
+//! The calls that the tests make of a device of four sectors, and the contents of the device after them.
 use crate::same::assert_same;
 use sector_dev::{DevError, Device, SECTOR};
 use std::fmt::Debug;
 use std::process::Abort;
 
-/// How many calls `call` has.
+/// The number of the calls of `call`.
 pub(crate) const CALLS: u64 = 6;
 
 /// One of the calls.
@@ -20,7 +20,7 @@ fn call<D: Device>(rt: &impl Abort, device: &mut D, number: u64) -> Result<(), D
     }
 }
 
-/// Makes one of the calls in a case, and sees whether it succeeds.
+/// Makes one of the calls in a case, and checks whether it succeeds.
 pub(crate) fn assert_answer<D: Device, C: Debug>(
     rt: &impl Abort,
     device: &mut D,
@@ -32,7 +32,7 @@ pub(crate) fn assert_answer<D: Device, C: Debug>(
     assert_same(rt, &answer.is_ok(), &is_ok, case);
 }
 
-/// Does so, and sees how many faults the device then reports.
+/// Makes one of the calls in a case, checks whether it succeeds, and checks how many faults the device then reports.
 pub(crate) fn assert_call<D: Device, C: Debug>(
     rt: &impl Abort,
     device: &mut D,
@@ -44,14 +44,14 @@ pub(crate) fn assert_call<D: Device, C: Debug>(
     assert_same(rt, &device.faults(), &faults, case);
 }
 
-/// Makes all calls in a case, and sees that each succeeds.
+/// Makes all calls in a case, and checks that each succeeds.
 pub(crate) fn assert_calls<D: Device, C: Debug>(rt: &impl Abort, device: &mut D, case: &C) {
     for number in 0..CALLS {
         assert_answer(rt, device, number, true, case);
     }
 }
 
-/// Sees that a sector holds these two bytes.
+/// Checks that a sector has these two bytes: the first byte, and the byte that all others are.
 fn assert_filled(rt: &impl Abort, at: u64, bytes: &[u8], (first, rest): (u8, u8)) {
     for (i, byte) in bytes.iter().enumerate() {
         let wanted = if i == 0 { first } else { rest };
@@ -59,7 +59,7 @@ fn assert_filled(rt: &impl Abort, at: u64, bytes: &[u8], (first, rest): (u8, u8)
     }
 }
 
-/// Reads a sector, and sees that it holds these two bytes.
+/// Reads a sector, and checks that it has these two bytes.
 fn assert_sector<D: Device>(rt: &impl Abort, device: &mut D, at: u64, wanted: (u8, u8)) {
     let mut bytes = [0; SECTOR];
     assert!(rt; at < 4);
@@ -68,7 +68,7 @@ fn assert_sector<D: Device>(rt: &impl Abort, device: &mut D, at: u64, wanted: (u
     assert_filled(rt, at, &bytes, wanted);
 }
 
-/// Sees that each sector holds its two bytes: the first one, and the one that all its others are.
+/// Checks that each sector has its two bytes: the first byte, and the byte that all others are.
 pub(crate) fn assert_sectors<D: Device>(rt: &impl Abort, device: &mut D, wanted: [(u8, u8); 4]) {
     let [zero, one, two, three] = wanted;
     assert_sector(rt, device, 0, zero);

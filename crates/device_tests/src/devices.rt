@@ -8,7 +8,7 @@ use std::io;
 use std::process::Abort;
 use std::test::Fail;
 
-// A file of the system that says it has four sectors: those two say that they have none.
+// A file of the system that reports four sectors. The two files report that they have none.
 #[derive(Drop)]
 struct FourSectors {
     file: SystemFile,
@@ -39,7 +39,7 @@ impl PositionedFile for FourSectors {
     }
 }
 
-// Whether each call succeeds, and how many faults there are then: the system has no sync of either device.
+// Whether each call succeeds, and the number of faults then: the system has no sync of either device.
 const FULL: [(bool, u64); 6] = [
     (false, 1),
     (false, 2),
@@ -58,14 +58,14 @@ const NULL: [(bool, u64); 6] = [
     (false, 3),
 ];
 
-// A device over this one.
+// A device over this file.
 fn device_over(rt: &HostRuntime, path: &str) -> Result<FileDevice<FourSectors>, Fail> {
     let file = OpenOptions::new().read(true).write(true).open(rt, path)?;
     let file = SystemFile::new(file);
     Ok(FileDevice::new(FourSectors { file })?)
 }
 
-// Makes all calls, and sees what each answers, and that the file counts what the device does.
+// Makes all calls, and checks the result of each, and that the file counts the same faults as the device.
 fn assert_answers(rt: &impl Abort, mut device: FileDevice<FourSectors>, wanted: &[(bool, u64); 6]) {
     for (number, wanted) in wanted.iter().enumerate() {
         assert_call(rt, &mut device, number as u64, *wanted, &number);

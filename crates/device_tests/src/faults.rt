@@ -4,7 +4,7 @@ use sector_dev::{DevError, FaultDevice, MemDevice};
 use std::process::Abort;
 use std::test::Fail;
 
-// Which call fails, and what is then in sectors 1, 2 and 3.
+// The number of the failing call, and the contents of the sectors 1, 2 and 3 then.
 const FAULTS: [(u64, [u8; 3]); 7] = [
     (0, [0x33, 0x22, 0x22]),
     (1, [0x33, 0x22, 0x22]),
@@ -15,7 +15,7 @@ const FAULTS: [(u64, [u8; 3]); 7] = [
     (6, [0x33, 0x22, 0x22]),
 ];
 
-// Makes the calls of a device of which this one fails, and sees what is then in sectors 1, 2 and 3.
+// Makes the calls of a device of which this one fails, and checks the contents of the sectors 1, 2 and 3 then.
 fn assert_one_fails(rt: &impl Abort, mut device: FaultDevice, failing: u64, sectors: [u8; 3]) {
     for number in 0..CALLS {
         let wanted = (number != failing, u64::from(failing <= number));

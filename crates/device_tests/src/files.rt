@@ -6,13 +6,13 @@ use std::alloc::Global;
 use std::process::Abort;
 use std::test::Fail;
 
-// A device over this number of sevens, of which this number at most are moved at a time.
+// A device over this number of sevens, of which one transfer moves at most `at_most`.
 fn device_of(alloc: Global, len: usize, at_most: usize) -> Result<FileDevice<MemFile>, Fail> {
     let bytes = vec![in alloc; 7; len]?;
     Ok(FileDevice::new(MemFile::new(bytes, at_most))?)
 }
 
-// Makes all calls, and sees what the sectors then are.
+// Makes all calls, and checks the contents of the sectors then.
 fn assert_written<D: Device>(rt: &impl Abort, device: &mut D, at_most: usize) {
     assert_calls(rt, device, &at_most);
     let wanted = [(7, 7), (0x33, 0x33), (0x22, 0x22), (0x22, 0x22)];
@@ -30,7 +30,7 @@ fn short_transfers_are_made_whole(rt: HostRuntime) -> Result<(), Fail> {
     Ok(())
 }
 
-// Whether each call succeeds, and how many faults there are then: a sync moves nothing.
+// Whether each call succeeds, and the number of faults then: a sync moves no bytes.
 const MOVES: [(bool, u64); 6] = [
     (false, 1),
     (true, 1),

@@ -1,14 +1,14 @@
-//! A fuse that stops at every call.
+//! A fuse that stops at each call in turn.
 use crate::calls::{CALLS, assert_answer, assert_sectors};
 use sector_dev::{Device, FuseDevice, MemDevice, Tear};
 use std::process::Abort;
 use std::test::Fail;
 
-// Represents the byte that fills what is torn off.
+// The byte that fills the torn part of a write.
 const FILL: u8 = 0xFF;
 
-// After how many calls a fuse stops, how many bytes of a torn write it keeps, and what is then in sectors 1, 2 and 3:
-// the first byte of each, and all its others.
+// After how many calls a fuse stops, how many bytes of a torn write it keeps, and the contents of the sectors 1, 2 and 3 then:
+// the first byte of each, and the byte that all others are.
 const STOPS: [(u64, usize, [(u8, u8); 3]); 21] = [
     (0, 0, [(FILL, FILL), (0, 0), (0, 0)]),
     (0, 1, [(0x11, FILL), (0, 0), (0, 0)]),
@@ -37,12 +37,12 @@ fn filled(byte: u8, fill: u8) -> u8 {
     if byte == FILL { fill } else { byte }
 }
 
-// The first byte of a sector and its others, with this byte in what is torn off.
+// The first byte of a sector and its others, where the torn part of a write is filled with this byte.
 fn torn((first, rest): (u8, u8), fill: u8) -> (u8, u8) {
     (filled(first, fill), filled(rest, fill))
 }
 
-// Makes the calls of a fuse that passes this number, and sees that the others fail, and what is then in sectors 1, 2 and 3.
+// Makes the calls of a fuse that passes this number, and checks that the others fail, and the contents of the sectors 1, 2 and 3 then.
 fn assert_stop(rt: &impl Abort, mut fuse: FuseDevice, calls: u64, wanted: [(u8, u8); 4]) {
     for number in 0..CALLS {
         assert_answer(rt, &mut fuse, number, number < calls, &(calls, wanted));
@@ -51,7 +51,7 @@ fn assert_stop(rt: &impl Abort, mut fuse: FuseDevice, calls: u64, wanted: [(u8, 
     assert_sectors(rt, &mut fuse.into_mem(), wanted);
 }
 
-// Sees so with this byte in what is torn off.
+// Checks the same where the torn part of a write is filled with this byte.
 fn assert_torn(
     rt: &impl Abort,
     memory: MemDevice,

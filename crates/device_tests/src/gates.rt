@@ -1,4 +1,4 @@
-//! A device whose syncs pass a gate first.
+//! A device with a gate before each sync.
 use crate::calls::{assert_answer, assert_sectors};
 use crate::same::assert_same;
 use sector_dev::{DevError, Device, FaultDevice, Gate, HeldDevice, MemDevice};
@@ -21,7 +21,7 @@ impl Gate for PassCounter {
     }
 }
 
-// Makes a call, of which the sixth one fails, and sees how often the gate was passed by then.
+// Makes a call, of which the sixth one fails, and checks how many times the gate was passed by then.
 fn assert_passes<D: Device>(
     rt: &impl Abort,
     device: &mut HeldDevice<D, PassCounter>,
@@ -32,7 +32,7 @@ fn assert_passes<D: Device>(
     assert_same(rt, &device.gate().passes, &passes, &number);
 }
 
-// Sees what the parts of the device are after the calls.
+// Checks the parts of the device after the calls.
 fn assert_parts(rt: &impl Abort, device: HeldDevice<FaultDevice, PassCounter>) {
     let (memory, counter) = device.into_parts();
     assert_eq!(rt; counter.passes, 2);
@@ -104,7 +104,7 @@ impl<'a> Gate for Witness<'a> {
     }
 }
 
-// Sees that a sync succeeds, and that this number of syncs was before it when the gate was passed.
+// Checks that a sync succeeds, and that this number of syncs came before it when the gate was passed.
 fn assert_sync<'a>(
     rt: &impl Abort,
     device: &mut HeldDevice<SyncCounter<'a, MemDevice>, Witness<'a>>,

@@ -13,13 +13,13 @@ fn make_file(rt: &HostRuntime, folder: &str, path: &str, bytes: &[u8]) -> Result
     Ok(fs::write(rt, path, bytes)?)
 }
 
-// Sees that a file isn't opened, for this reason.
+// Checks that a file isn't opened, with this kind of error.
 fn assert_not_opened(rt: &impl Abort, opened: io::Result<SystemFile>, wanted: ErrorKind) {
     let kind = opened.err().map(|error| error.kind());
     assert_eq!(rt; kind, Some(wanted));
 }
 
-// Sees that a file's bytes are just these.
+// Checks that a file's bytes are exactly these.
 fn assert_bytes(rt: &impl Abort, found: &[u8], wanted: &[u8]) {
     assert_eq!(rt; found, wanted);
 }

@@ -1,4 +1,4 @@
-//! Bytes as a device of sectors has them.
+//! Bytes in the sectors of a device.
 use byte_lists::{SECTOR, is_open, pad, read_u32, sector_count};
 use std::test::Fail;
 

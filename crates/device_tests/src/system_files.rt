@@ -31,18 +31,18 @@ fn device_over(
     Ok(FileDevice::new(SystemFile::new(file))?)
 }
 
-// A device over the file of this path, to be read and written.
+// A device over the file of this path, which is opened for reading and writing.
 fn open_device(rt: &HostRuntime, path: &str) -> Result<FileDevice<SystemFile>, Fail> {
     device_over(rt, path, OpenOptions::new().read(true).write(true))
 }
 
-// Makes all calls, and sees that none of the system's fails.
+// Makes all calls, and checks that no call of the system fails.
 fn assert_written(rt: &impl Abort, mut device: FileDevice<SystemFile>) {
     assert_calls(rt, &mut device, &"a file");
     assert_eq!(rt; device.into_file().failures(), 0);
 }
 
-// Sees that a file holds what the calls write, and its sevens.
+// Checks that a file has the bytes that the calls write, and its sevens.
 fn assert_kept(rt: &impl Abort, bytes: &[u8]) {
     assert_eq!(rt; bytes.len(), 2100);
     for (i, byte) in bytes.iter().enumerate() {
@@ -72,7 +72,7 @@ fn cut(rt: &HostRuntime, path: &str) -> Result<(), Fail> {
     Ok(file.set_len(600)?)
 }
 
-// Sees that reads of a device of four sectors fail, two of them in all.
+// Checks that reads of a device of four sectors fail, two of them in all.
 fn assert_cut(rt: &impl Abort, mut device: FileDevice<SystemFile>) {
     for faults in [1, 2] {
         assert_call(rt, &mut device, 2, (false, faults), &faults);
@@ -94,7 +94,7 @@ fn a_file_cut_short_is_a_fault(rt: HostRuntime) -> Result<(), Fail> {
     Ok(())
 }
 
-// Whether each call succeeds, and how many faults there are then: the writes fail.
+// Whether each call succeeds, and the number of faults then: the writes fail.
 const REFUSED: [(bool, u64); 6] = [
     (false, 1),
     (true, 1),
@@ -104,7 +104,7 @@ const REFUSED: [(bool, u64); 6] = [
     (true, 3),
 ];
 
-// Makes all calls, and sees that the writes fail, and change nothing.
+// Makes all calls, and checks that the writes fail, and change nothing.
 fn assert_refused(rt: &impl Abort, mut device: FileDevice<SystemFile>) {
     for (number, wanted) in REFUSED.iter().enumerate() {
         assert_call(rt, &mut device, number as u64, *wanted, &number);
@@ -113,7 +113,7 @@ fn assert_refused(rt: &impl Abort, mut device: FileDevice<SystemFile>) {
     assert_eq!(rt; device.into_file().failures(), 3);
 }
 
-// A file that is open for reading alone: its writes fail.
+// A file that is open for reading only: its writes fail.
 #[test]
 fn a_write_that_the_system_refuses_is_a_fault(rt: HostRuntime) -> Result<(), Fail> {
     let folder = "device_tests_refused";

@@ -1,4 +1,4 @@
-//! What a database shows of a lookup.
+//! The segments of a database that a lookup shows.
 
 use crate::same::assert_same;
 use crate::worked::{CORE_SEGMENT, EGRESS, EXP_TIME, SEGMENT, register, roster};
@@ -10,7 +10,7 @@ use std::alloc::Global;
 use std::process::Abort;
 use std::test::Fail;
 
-/// What a source and a destination ask for.
+/// The query of a source and a destination.
 fn query_of(cores: &Roster, source: &str, destination: &str) -> Result<Query, Fail> {
     Ok(classify(cores, parse(source)?, parse(destination)?)?)
 }
@@ -27,7 +27,7 @@ fn found(
     Ok(answer(db, &query, now)?)
 }
 
-/// Sees how many segments a lookup shows at a moment.
+/// Checks how many segments a lookup shows at a moment.
 fn assert_shown(
     rt: &impl Abort,
     db: &PathDb,
@@ -40,7 +40,7 @@ fn assert_shown(
     Ok(())
 }
 
-/// Sees how many segments each of these lookups shows at moment 0.
+/// Checks how many segments each of these lookups shows at moment 0.
 fn assert_all_shown(
     rt: &impl Abort,
     db: &PathDb,
@@ -69,7 +69,7 @@ const MOMENTS: [(u64, usize); 5] = [
     (u64::MAX, 0),
 ];
 
-/// Sees that a database shows this number of segments at each of those moments.
+/// Checks that a database shows this number of segments at each of those moments.
 fn assert_moments(rt: &impl Abort, db: &PathDb, cores: &Roster) -> Result<(), Fail> {
     for (now, shown) in &MOMENTS {
         let lookup = ("1-ff00:0:110", "1-ff00:0:111", *now);
@@ -144,19 +144,19 @@ fn all_rows(alloc: Global) -> Result<PathDb, Fail> {
     Ok(db)
 }
 
-/// The interface out of a segment's first AS.
+/// The interface by which a segment leaves its first AS.
 fn egress_of(segment: &Segment) -> Option<u16> {
     segment.entries().first().map(|entry| entry.egress)
 }
 
-/// Sees that segments are left by these interfaces.
+/// Checks that segments leave their first AS by these interfaces.
 fn assert_left_by(rt: &impl Abort, segments: &[Segment], egresses: &[u16]) {
     for (segment, egress) in segments.iter().zip(egresses) {
         assert_same(rt, &egress_of(segment), &Some(*egress), egress);
     }
 }
 
-// Of 65 rows that match the first 64 by key are shown.
+// Of 65 rows that match, the first 64 by key are shown.
 #[test]
 fn first_rows_are_shown(rt: HostRuntime) -> Result<(), Fail> {
     let cores = roster(rt.alloc(), &["1-ff00:0:110"])?;

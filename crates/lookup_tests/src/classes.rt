@@ -1,4 +1,4 @@
-//! What sources and destinations ask for.
+//! The queries of sources and destinations.
 
 use crate::same::assert_same;
 use crate::worked::roster;
@@ -8,7 +8,7 @@ use seg_lookup::{LookupError, Query, Roster, classify};
 use std::process::Abort;
 use std::test::Fail;
 
-/// The core ASes, with doubles and with members that have a zero part.
+/// The core ASes, with duplicates and with members that have a zero part.
 const CORES: [&str; 6] = [
     "2-64512",
     "1-0",
@@ -18,7 +18,7 @@ const CORES: [&str; 6] = [
     "1-ff00:0:110",
 ];
 
-/// Texts, and whether they say a member.
+/// Texts, and whether their AS is a member.
 const MEMBERS: [(&str, bool); 10] = [
     ("1-ff00:0:110", true),
     ("2-64512", true),
@@ -32,7 +32,7 @@ const MEMBERS: [(&str, bool); 10] = [
     ("65535-ffff:ffff:ffff", false),
 ];
 
-/// Sees whether a text says a member.
+/// Checks whether the AS of a text is a member.
 fn assert_member(rt: &impl Abort, cores: &Roster, text: &str, there: bool) -> Result<(), Fail> {
     let found = cores.contains(parse(text)?);
     assert_same(rt, &found, &there, &text);
@@ -49,7 +49,7 @@ fn members_are_counted_once(rt: HostRuntime) -> Result<(), Fail> {
     assert_member(&rt, &nobody, "1-0", false)
 }
 
-/// From which side to which, segments of which type, and from which AS to which.
+/// The source and the destination, the type of the segments, and the ASes from which and to which the segments lead.
 const SIDES: [(&str, &str, SegType, &str, &str); 10] = [
     (
         "1-ff00:0:110",
@@ -81,7 +81,7 @@ const SIDES: [(&str, &str, SegType, &str, &str); 10] = [
     ("3-0", "1-5", SegType::Down, "3-0", "1-5"),
 ];
 
-/// What a source and a destination ask for, or why they are refused.
+/// The query of a source and a destination, or why they are refused.
 fn classified(
     cores: &Roster,
     (source, destination): (&str, &str),
@@ -89,7 +89,7 @@ fn classified(
     Ok(classify(cores, parse(source)?, parse(destination)?))
 }
 
-/// Sees that a query asks for segments of this type, from this AS to that one.
+/// Checks that a query asks for segments of this type, from this AS to that one.
 fn assert_query(rt: &impl Abort, query: &Query, kind: SegType, (start, end): (&str, &str)) {
     assert_same(rt, &query.kind, &kind, &(start, end));
     assert_same(rt, &parse(start), &Ok(query.start), &(start, end));
@@ -106,7 +106,7 @@ fn sides_are_classified(rt: HostRuntime) -> Result<(), Fail> {
     Ok(())
 }
 
-/// From which side to which, and why it is refused. Of several refusals the first is answered.
+/// The source and the destination, and why they are refused. Of several refusals the first is the result.
 const REFUSED: [(&str, &str, LookupError); 7] = [
     ("0-0", "0-0", LookupError::NullDestination),
     ("0-ff00:0:110", "0-0", LookupError::IsdOnlyWildcard),
@@ -117,7 +117,7 @@ const REFUSED: [(&str, &str, LookupError); 7] = [
     ("1-ff00:0:111", "1-ff00:0:111", LookupError::NoCore),
 ];
 
-/// Sees why a source and a destination are refused.
+/// Checks why a source and a destination are refused.
 fn assert_refused(
     rt: &impl Abort,
     cores: &Roster,

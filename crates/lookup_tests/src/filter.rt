@@ -1,4 +1,4 @@
-//! What a database shows, beside a filter over all its rows.
+//! The segments that a database shows, compared with a filter over all its rows.
 
 use crate::same::assert_same;
 use crate::worked::register;
@@ -10,7 +10,7 @@ use std::alloc::Global;
 use std::process::Abort;
 use std::test::Fail;
 
-/// Three ASes in each of two ISDs, as they are in messages.
+/// The encodings of three ASes in each of two ISDs, as in messages.
 const ENDS: [[u8; 8]; 6] = [
     [0x90, 0x82, 0x80, 0x80, 0x80, 0xe0, 0xbf, 0x01], // 2-ff00:0:110
     [0x91, 0x82, 0x80, 0x80, 0x80, 0xe0, 0xbf, 0x01], // 2-ff00:0:111
@@ -33,10 +33,10 @@ const SIDES: [u64; 9] = [
     0x0000_ff00_0000_0110, // that AS of any ISD
 ];
 
-/// The moment at which the rows expire that are left by the interface 7, in half seconds since 1970: 2 * 1,700,000,000 + 675.
+/// The moment at which the rows with the interface 7 expire, in half seconds since 1970: 2 * 1,700,000,000 + 675.
 const EARLY: u64 = 3_400_000_675;
 
-/// A segment of two entries from one end to another, left by an interface below 128.
+/// A segment of two entries from one end to another, with an egress below 128.
 fn between(alloc: Global, start: &[u8], end: &[u8], egress: u8) -> Result<Vec<u8>, Fail> {
     let exp_time = if egress == 7 { 0 } else { 63 };
     let mut bytes = Vec::new(alloc);
@@ -102,8 +102,8 @@ fn add_between(alloc: Global, db: &mut PathDb) -> Result<(), Fail> {
     Ok(())
 }
 
-/// 200 rows: from each of the ASes to each other one that is up and expires early, and one that is core; and 14 that are down,
-/// from the first to each other and back.
+/// 200 rows: from each of the ASes to each other one an up segment that expires early, and a core segment; and 14 down segments,
+/// from the first AS to each other one and back.
 fn rows(alloc: Global) -> Result<PathDb, Fail> {
     let mut db = PathDb::new(alloc);
     add_between(alloc, &mut db)?;
@@ -113,7 +113,7 @@ fn rows(alloc: Global) -> Result<PathDb, Fail> {
     Ok(db)
 }
 
-/// Whether a side of a query represents an AS: each of its parts is the AS's or 0.
+/// Whether a side of a query covers an AS: each of its parts is the AS's or 0.
 fn stands_for(side: IsdAs, ia: IsdAs) -> bool {
     (side.isd == 0 || side.isd == ia.isd) && (side.asn == 0 || side.asn == ia.asn)
 }
@@ -133,7 +133,7 @@ fn is_wanted(row: &Row, query: &Query, now: u64) -> bool {
             .all(|entry| now < made + 675 * (1 + u64::from(entry.exp_time)))
 }
 
-/// The segments of the first 64 rows that are wanted, by a look at all rows.
+/// The segments of the first 64 rows that are wanted, found by a scan of all rows.
 fn filtered<'a>(
     alloc: Global,
     db: &'a PathDb,
@@ -154,7 +154,7 @@ fn shown(db: &PathDb, query: &Query, now: u64) -> Result<Vec<Segment>, Fail> {
     Ok(answer(db, query, now)?)
 }
 
-/// Sees that segments are those that are wanted.
+/// Checks that segments are the wanted ones.
 fn assert_wanted(rt: &impl Abort, query: &Query, shown: &[Segment], wanted: &[&Segment]) {
     let ends = (query.start, query.end);
     assert_same(rt, &shown.len(), &wanted.len(), &ends);
@@ -163,7 +163,7 @@ fn assert_wanted(rt: &impl Abort, query: &Query, shown: &[Segment], wanted: &[&S
     }
 }
 
-/// Sees that a query shows what the filter finds: how many segments.
+/// Checks that a query shows what the filter finds. Returns the number of segments.
 fn assert_filtered(
     rt: &impl Abort,
     alloc: Global,
@@ -177,7 +177,7 @@ fn assert_filtered(
     Ok(shown.len())
 }
 
-/// Sees so for all queries of six ASes and three wildcards on either side: the most segments that one shows.
+/// Checks the same for all queries of six ASes and three wildcards on either side. Returns the most segments that one shows.
 fn assert_all_filtered(
     rt: &impl Abort,
     alloc: Global,
@@ -199,7 +199,7 @@ fn assert_all_filtered(
     Ok(most)
 }
 
-/// Sees so for each type: the most segments that a query shows.
+/// Checks the same for each type. Returns the most segments that a query shows.
 fn assert_types_filtered(
     rt: &impl Abort,
     alloc: Global,
@@ -212,7 +212,7 @@ fn assert_types_filtered(
     Ok(up.max(down).max(core))
 }
 
-// While all rows are valid and when some have expired.
+// The queries while all rows are valid, and after some have expired.
 #[test]
 fn answers_are_those_of_a_filter(rt: HostRuntime) -> Result<(), Fail> {
     let db = rows(rt.alloc())?;

@@ -1,4 +1,4 @@
-//! The laws do nothing, and cost a caller nothing.
+//! The laws are functions that do nothing.
 
 use seg_lookup::{
     answers_are_complete, answers_are_short, answers_are_wanted, answers_rise,

@@ -1,4 +1,4 @@
-//! Tests of `seg_lookup`, a module for each subject. They hold what no clause says: values from outside, and that calls
+//! Tests of `seg_lookup`, a module for each subject. They check what no contract states: values from outside, and that calls
 //! succeed where memory suffices.
 #![tactic(auto)]
 

@@ -1,9 +1,9 @@
-//! What the tests of cases see, each in one call.
+//! Assertions on one case of a table, each in one call.
 
 use std::fmt::Debug;
 use std::process::Abort;
 
-/// Sees that what was found in a case is what was wanted.
+/// Checks that what was found in a case is what was wanted.
 pub(crate) fn assert_same<T: PartialEq + Debug, C: Debug>(
     rt: &impl Abort,
     found: &T,
