@@ -1,4 +1,4 @@
--- A checkpoint at rest, as its store sees it.
+-- A checkpoint at rest, by the views of its store.
 use Rattle.std.proofs.Common.{◌≡◌, ℕ, ◌+◌, ◌*◌, ◌≤◌, true, false, List, [], length, Some, None, Option, Ok, refl, sym, ◌∙◌, ap, subst, arith}
 use Rattle.byte_lists.specs.Sectors.{sectors_of}
 use Rattle.byte_lists.proofs.Padding.{length-padded}
@@ -50,7 +50,7 @@ no_tail opening image is unsealed = by_tail opening.tail is.tail
         true_is_false : true ≡ false → ⊥
         true_is_false same = cc
 
--- what it stands for without a tail
+-- the value of an opening without a tail
 value_by_tail : (opening : Opening (List RowView) Command) (tail : Option (Reading Command)) → tail ≡ None
     → value_of store_format (record opening { tail = tail }) ≡ record { db = db_at_seal store_format opening; place = opening.journal.place }
 value_by_tail opening None is = refl
@@ -59,7 +59,7 @@ value_by_tail opening (Some behind) is = absurd (some_is_none is)
     some_is_none : Some behind ≡ None → ⊥
     some_is_none same = cc
 
--- a checkpoint of these rows fits the area
+-- a checkpoint of these rows has room in the area
 fits_area : (epoch place area : ℕ) (rows : List RowView) (bytes : List ℕ) → bytes ≡ checkpoint_encoding rows_format (written_checkpoint epoch place rows) → WrittenRowsAreCounted
     → 32 + rows_len rows ≤ 512 * area → length bytes ≤ 512 * area
 fits_area epoch place area rows bytes spelled counted fits =
@@ -67,7 +67,7 @@ fits_area epoch place area rows bytes spelled counted fits =
     let size : length (checkpoint_bytes rows_format (written_checkpoint epoch place rows)) ≡ 32 + length (rows_encoding rows) = omega arith in
     omega (arith, long, size, counted rows, fits)
 
--- A store at rest that may make a checkpoint, and the bytes of that. What it was first is told as the view of its fields.
+-- A store at rest that may make a checkpoint, and the bytes of the checkpoint. The store before is given as the view of its fields.
 module _ (old : StoreView) (whole : IsStoreWhole old) (device : IsHonest old.disk → IsWhole old.disk) (view : StoreView) (view_is : old ≡ view) (may_view : MayCheckpoint view)
     (counted : WrittenRowsAreCounted) (bytes : List ℕ)
     (spelled : bytes ≡ checkpoint_encoding rows_format (written_checkpoint (old.head.epoch + 1) old.place old.rows))
@@ -133,7 +133,7 @@ module _ (old : StoreView) (whole : IsStoreWhole old) (device : IsHonest old.dis
     taken_same : taken opening.geometry opening.chosen bytes (reads_of old.disk) ≡ taken old.geometry old.chosen bytes (reads_of old.disk)
     taken_same = λ i. taken (tells.geometry i) (tells.chosen i) bytes (reads_of old.disk)
 
-    -- what a stop leaves meanwhile opens to the same rows
+    -- each image that a stop may leave in between opens to the same rows
     meanwhile : (content : List ℕ) → IsTakingOver old.geometry old.chosen bytes (reads_of old.disk) content → OpensToStore old content
     meanwhile content is =
         let after =
@@ -145,7 +145,7 @@ module _ (old : StoreView) (whole : IsStoreWhole old) (device : IsHonest old.dis
           since = omega (arith, after.since, ap (λ (h : Head). h.version) tells.head);
         }
 
-    -- and then the other half alone is there
+    -- and then the other half alone is open
     module _ (new : Disk) (settled : new.history.now.dirty ≡ []) (is : reads_of new ≡ taken old.geometry old.chosen bytes (reads_of old.disk)) where
       new_reads : reads_of new ≡ taken opening.geometry opening.chosen bytes (reads_of old.disk)
       new_reads = is ∙ sym taken_same
@@ -175,7 +175,7 @@ module _ (old : StoreView) (whole : IsStoreWhole old) (device : IsHonest old.dis
         unused = λ _ content image. subst (HasClosedGates old.geometry (other (other old.chosen))) (sym (image_is_reads new.history.now content settled image)) new_closed;
       }
 
-  -- at every moment, on any device
+  -- the images at every moment, on any device
   module _ (new : Disk) (moments : Stretch old.disk new (IsTakingOver old.geometry old.chosen bytes (reads_of old.disk))) where
     leaves_old : Stretch old.disk new (OpensToStore old)
     leaves_old = stretch_honest (IsTakingOver old.geometry old.chosen bytes (reads_of old.disk)) (OpensToStore old) old.disk new (λ honest content is. meanwhile honest content is) moments

@@ -1,4 +1,4 @@
--- What stands behind a store while it is made, and while one half takes over from the other.
+-- The sectors after a store, while the store is made, and while one half takes over from the other.
 use Rattle.std.proofs.Common.{◌≡◌, inl, inr, ℕ, ◌+◌, ◌*◌, ◌<◌, ◌≤◌, List, length, refl, ◌∙◌, ap, arith, Result}
 use Rattle.byte_lists.specs.Sectors.{padded, open_gate, closed_gate}
 use Rattle.byte_lists.specs.Content.{part}

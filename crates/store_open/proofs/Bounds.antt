@@ -1,4 +1,4 @@
--- What an honest device tells of a store is within its bounds.
+-- What a store on an honest device has is within the store's bounds.
 use Rattle.std.proofs.Common.{◌≡◌, ℕ, ◌+◌, ◌*◌, ◌≤◌, Bool, true, false, List, Option, Some, None, length, sym, ◌∙◌, ap, subst, arith}
 use Rattle.path_rows.specs.Database.{RowView}
 use Rattle.path_rows.specs.declared.command.Command.{Command}
@@ -42,7 +42,7 @@ opened_within reads view allowed room opened =
       known = omega (arith, opened.same.half.known, ap (λ (h : Head). h.version) tells.head);
     }
 
--- so it isn't told apart from one that is within them
+-- so the test of the bounds never fails on an honest device
 pub never_outside : (reads : List ℕ) (view : StoreView) (inside : Bool) → IsGeometry view.geometry → 512 * image_sectors view.geometry ≤ length reads → IsOpened reads view
     → (IsWithin view.geometry.journal view.gate view.head.version → inside ≡ true) → inside ≡ false → ⊥
 never_outside reads view inside allowed room opened is_inside outside =

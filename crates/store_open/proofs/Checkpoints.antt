@@ -52,7 +52,7 @@ rows_refused see (Pair e) bytes head count so =
 rows_refused see (Journal e) bytes head count so = so
 rows_refused see NoMemory bytes head count so = tt
 
--- rows that aren't as many
+-- rows with another count
 count_refused : {X : Type 0} (see : X → Checkpoint (List RowView)) (e : PairError) (head : Head) (found : Option (List RowView)) → Reads {X = List RowView} (λ rows. rows) (Err e) (or_bad found) → Reads see (Err e) (with_head head found)
 count_refused see e head None so = so
 count_refused see e head (Some rows) so = absurd so
@@ -81,7 +81,7 @@ module _ (geometry : Geometry) (half : Half) (reads sector : List ℕ) (at : ℕ
       ∙ sym (ap (λ (f : Result FrontView PairRefusal). with_rows_behind f (rows_behind (area_of geometry half reads)))
       (ap (λ (n : ℕ). front_in latest n sector) (sym long) ∙ by_front.front sector begins))
 
-  -- the rows, where they end within the area
+  -- the bytes of the rows, where they end within the area
   pub rows_there : (size : ℕ) → 32 + size ≤ 512 * geometry.checkpoint → part 32 size (area_of geometry half reads) ≡ part (512 * at + 32) size reads
   rows_there size fits =
       part_in_front 32 size (512 * geometry.checkpoint) (drop (512 * area_at geometry half) reads) fits
@@ -91,7 +91,7 @@ module _ (geometry : Geometry) (half : Half) (reads sector : List ℕ) (at : ℕ
   abbrev Area : List ℕ
   Area = area_of geometry half reads
 
-  -- a front that was read stands in the area
+  -- a front that was read is the front of the area
   pub front_stands : (front : FrontView) (n : ℕ) → n ≡ geometry.checkpoint → front_in latest (512 * n) sector ≡ Ok front → IsOk (front_in latest (512 * geometry.checkpoint) Area)
   front_stands front n size is_front =
       let by_front = law Area (omega (arith, long, allowed)) in

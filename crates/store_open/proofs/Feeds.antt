@@ -17,7 +17,7 @@ use Rattle.store_open.proofs.FirstSectors.{part_in_front}
 pub split_part : (at n m : ℕ) (xs : List ℕ) → part at (n + m) xs ≡ part at n xs ++ part (at + n) m xs
 split_part at n m xs = take-add n m (drop at xs) ∙ ap (λ (list : List ℕ). part at n xs ++ take m list) (drop-drop n at xs)
 
--- what was fed, and what of a piece is fed behind it
+-- the bytes that were fed, and the part of a piece that is fed after them
 pub fed_more : (reads now reader piece items : List ℕ) (area fed count to : ℕ) → 32 ≤ fed → fed ≤ 512 * (fed / 512) + to → to ≤ 512 * count
     → reader ≡ part (512 * area + 32) (fed - 32) reads → now ≡ reads → piece ≡ items → items ≡ part (512 * (area + fed / 512)) (512 * count) now
     → reader ++ take (to - (fed - 512 * (fed / 512))) (drop (fed - 512 * (fed / 512)) piece) ≡ part (512 * area + 32) (512 * (fed / 512) + to - 32) reads
@@ -41,7 +41,7 @@ fed_more reads now reader piece items area fed count to some forward fits reader
     whole : (fed - 32) + (to - (fed - 512 * (fed / 512))) ≡ 512 * (fed / 512) + to - 32
     whole = omega (arith, some, forward)
 
--- rows that are refused when so many of their bytes are fed are refused whole
+-- rows that are refused when this number of their bytes is fed are refused as a whole
 pub feed_refused : (e : PairError) (bytes : List ℕ) (at n size : ℕ) (reads : List ℕ) → n ≤ size → bytes ≡ part at n reads → (e ≢ pair.NoMemory → (e ≡ pair.BadCheckpoint) × AreNoRows bytes)
     → FeedsSo (part at size reads) (Err (error_of_pair e))
 feed_refused pair.NoMemory bytes at n size reads few is refused = tt

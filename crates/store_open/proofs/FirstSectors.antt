@@ -1,4 +1,4 @@
--- What sector 0 tells.
+-- The sizes in sector 0.
 use Rattle.std.proofs.Common.{◌≡◌, ℕ, ◌+◌, ◌-◌, ◌≤◌, Bool, true, cond, leb, List, take, drop, Some, None, sym, ◌∙◌, ap, arith, eq-eqb, le-leb}
 use Rattle.std.proofs.lemmas.Bool.{and_from}
 use Rattle.std.proofs.lemmas.List.{drop-take, take-take}

@@ -1,4 +1,4 @@
--- Heads and fronts of areas, by the bytes that areas begin with.
+-- Heads and fronts of areas, read from the first bytes of the areas.
 use Rattle.std.proofs.Common.{◌≡◌, ◌≢◌, ℕ, ◌*◌, ◌≤◌, eqb, leb, List, take, drop, Result, Ok, Err, refl, sym, ◌∙◌, ap, arith}
 use Rattle.std.specs.Int.{w32, w64, from_be_bytes}
 use Rattle.byte_lists.specs.Numbers.{four_at, eight_at}
@@ -15,7 +15,7 @@ use Rattle.ckpt_pair.specs.Refusals.{Reads}
 use Rattle.store_open.specs.Refusals.{error_of_pair, PairSo}
 use Rattle.store_open.proofs.FirstSectors.{part_in_front}
 
--- a head is read of the first 24 bytes
+-- a head is read from the first 24 bytes
 pub head_of_front : (latest size : ℕ) (xs : List ℕ) → 24 ≤ size → head_in latest (take size xs) ≡ head_in latest xs
 head_of_front latest size xs long = λ i.
     check (eqb (magic i) checkpoint_magic) BadCheckpoint
@@ -34,13 +34,13 @@ head_of_front latest size xs long = λ i.
     place : eight_at 16 (take size xs) ≡ eight_at 16 xs
     place = ap (from_be_bytes w64) (part_in_front 16 8 size xs (omega (arith, long)))
 
--- of an area, by its first sector
+-- the head of an area, read from its first sector
 pub head_of_sector : (latest : ℕ) (geometry : Geometry) (half : Half) (reads : List ℕ) → IsGeometry geometry → head_in latest (sector_at (area_at geometry half) reads) ≡ head_in latest (area_of geometry half reads)
 head_of_sector latest geometry half reads allowed =
     head_of_front latest 512 (drop (512 * area_at geometry half) reads) (omega arith)
     ∙ sym (head_of_front latest (512 * geometry.checkpoint) (drop (512 * area_at geometry half) reads) (omega (arith, allowed)))
 
--- a call that takes no memory told what it reads
+-- the result of a call that takes no memory is the reading
 pub pair_told : {X Y : Type 0} (view : X → Y) (x : X) (reading : Result Y PairRefusal) → Reads view (Ok x) reading → reading ≡ Ok (view x)
 pair_told {X} {Y} view x (Ok y) so = ap (λ (z : Y). let r : Result Y PairRefusal = Ok z in r) so
 pair_told view x (Err refusal) so = absurd so
@@ -54,7 +54,7 @@ pair_refused view pair.SealedNewer (Err refusal) so = (λ same. cc, record { ref
 pair_refused view (pair.NewerFormat version) (Err refusal) so = (λ same. cc, record { refusal = refusal; is = refl; told = so })
 pair_refused view e (Ok y) so = absurd so
 
--- of a call that takes memory want of memory says nothing, and else it told what it reads
+-- `NoMemory` from a call that takes memory does not depend on the reading, and any other result is the reading
 pub pair_given : {X Y : Type 0} (view : X → Y) (e : PairError) (reading : Result Y PairRefusal) → (e ≢ pair.NoMemory → Reads view (Err e) reading)
     → PairSo view (Err (error_of_pair e)) reading
 pair_given view pair.NoMemory reading so = tt
@@ -64,7 +64,7 @@ pair_given view pair.BadCheckpoint reading so = pair_refused view pair.BadCheckp
 pair_given view pair.SealedNewer reading so = pair_refused view pair.SealedNewer reading (so (λ same. cc))
 pair_given view (pair.NewerFormat version) reading so = pair_refused view (pair.NewerFormat version) reading (so (λ same. cc))
 
--- what was read of a half's gate and of its area's first sector
+-- the result of reading a half's gate and its area's first sector
 pub head_told : (latest : ℕ) (geometry : Geometry) (half : Half) (reads now gate area : List ℕ) (gate_sector area_sector : ℕ) → IsGeometry geometry → gate_sector ≡ gate_at geometry half → area_sector ≡ area_at geometry half
     → now ≡ reads → gate ≡ sector_at gate_sector reads → area ≡ sector_at area_sector now → head_behind (is_open_gate gate) (head_in latest area) ≡ head_of latest geometry half reads
 head_told latest geometry half reads now gate area gate_sector area_sector allowed place there same gate_is area_is =

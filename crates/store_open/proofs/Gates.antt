@@ -18,12 +18,12 @@ use Rattle.image_laws.specs.declared.half.Half.TheVariants.{First, Second}
 use Rattle.image_laws.specs.Layout.{Geometry, IsGeometry, image_sectors, gate_at, gate_of, journal_at, journal_of}
 use Rattle.store_open.specs.Closing.{IsClosing, HasClosedGates}
 
--- both gates stand in the image
+-- both gates are within the image
 pub gates_inside : (geometry : Geometry) (half : Half) → 1 ≤ geometry.journal → gate_at geometry half + 2 ≤ image_sectors geometry
 gates_inside geometry First some = omega arith
 gates_inside geometry Second some = omega arith
 
--- the first gate of a journal is the sector behind the half gate
+-- the first gate of a journal is the sector after the half gate
 pub first_gate : (geometry : Geometry) (half : Half) (content : List ℕ) → 1 ≤ geometry.journal → sector_at 0 (journal_of geometry half content) ≡ sector_at (gate_at geometry half + 1) content
 first_gate geometry half content some = take-take 512 (512 * geometry.journal) (drop (512 * journal_at geometry half) content) (omega (arith, some))
 
@@ -31,7 +31,7 @@ module _ (geometry : Geometry) (half : Half) (old : List ℕ) (inside : 512 * (g
   closing_none : IsClosing geometry half old old
   closing_none = record { size = refl; outside = λ at n apart. refl; gate = λ closed. refl }
 
-  -- whatever lands in both gates, where the half gate was open
+  -- whatever bytes land in both gates, where the half gate was open
   pub closing_both : IsOpenGate (gate_of geometry half old) → (torn : List ℕ) → length torn ≡ 1024 → IsClosing geometry half old (overwrite (512 * gate_at geometry half) torn old)
   closing_both opened torn size = record {
     size = length-overwrite (512 * gate_at geometry half) torn old (omega (arith, size));
@@ -42,7 +42,7 @@ module _ (geometry : Geometry) (half : Half) (old : List ℕ) (inside : 512 * (g
     gate = λ closed. absurd (closed opened);
   }
 
-  -- and whatever lands in the journal's first gate
+  -- and whatever bytes land in the journal's first gate
   closing_first : (torn : List ℕ) → length torn ≡ 512 → IsClosing geometry half old (overwrite (512 * (gate_at geometry half + 1)) torn old)
   closing_first torn size = record {
     size = length-overwrite (512 * (gate_at geometry half + 1)) torn old (omega (arith, size));
@@ -70,7 +70,7 @@ module _ (geometry : Geometry) (half : Half) (start : Disk) (allowed : IsGeometr
   long : IsHonest start → 512 * (gate_at geometry half + 2) ≤ length (reads_of start)
   long honest = omega (arith, (whole honest).size, room, gates_inside geometry half (omega (arith, allowed)))
 
-  -- what reads give was looked at
+  -- the bytes that reads return were read
   module _ (one : Disk) (keeps : Keeps start one) (same : IsHonest start → one.history ≡ start.history) where
     pub gates_read : Stretch start one Closes
     gates_read = record {
@@ -80,7 +80,7 @@ module _ (geometry : Geometry) (half : Half) (start : Disk) (allowed : IsGeometr
           (λ content image. subst Closes (sym (image_is_reads start.history.now content (clean honest) image)) (closing_none geometry half (reads_of start) (long honest))));
     }
 
-    -- a write after it, whatever lands
+    -- a write after that, whatever bytes land
     gates_written : {S F : Type 0} (answer : Result S F) (at : ℕ) (bytes : List ℕ) (two : Disk) → WriteCall at bytes answer one two → 512 * at + length bytes ≤ 512 * (gate_at geometry half + 2)
         → (IsHonest start → (torn : List ℕ) → length torn ≡ length bytes → Closes (overwrite (512 * at) torn (reads_of start))) → Stretch start two Closes
     gates_written answer at bytes two call below closes =
@@ -144,7 +144,7 @@ module _ (geometry : Geometry) (half : Half) (start : Disk) (allowed : IsGeometr
               (subst IsOpenGate (first_gate geometry half (reads_of two) (omega (arith, allowed))) opened));
         }
 
-    -- none, where both read closed
+    -- no gate, where both read closed
     pub none_closed : (IsHonest start → is_open_gate (gate_of geometry half (reads_of start)) ≡ false) → (IsHonest start → is_open_gate (sector_at (gate_at geometry half + 1) (reads_of start)) ≡ false)
         → IsHonest start → HasClosedGates geometry half (reads_of one)
     none_closed closed first honest =
@@ -164,6 +164,6 @@ module _ (geometry : Geometry) (half : Half) (start : Disk) (allowed : IsGeometr
       closed.journal
       (subst IsOpenGate (sym (first_gate geometry half (reads_of start) (omega (arith, allowed)))) (true_open (sector_at (gate_at geometry half + 1) (reads_of start)) (opened honest)))
 
--- what was told of a gate that was looked at, where reads still give the same
+-- the result of reading a gate, where reads still return the same bytes
 pub told : (sector at : ℕ) (reads now : List ℕ) (found answer : Bool) → sector ≡ at → now ≡ reads → found ≡ is_open_gate (sector_at sector now) → found ≡ answer → is_open_gate (sector_at at reads) ≡ answer
 told sector at reads now found answer place same so is = (λ i. is_open_gate (sector_at (sym place i) (sym same i))) ∙ sym so ∙ is

@@ -49,13 +49,13 @@ piece_there reads piece place start sectors first count first_there count_there 
     at : 512 * start + 512 * first ≡ 512 * (start + first)
     at = omega arith
 
--- what a piece that was taken leads to
+-- the state after a piece that was taken
 pub lead : (scanner : ScannerView) (piece : List ℕ) (result : Result Progress JournalError) (version : ℕ) (bytes : List ℕ) (start : ℕ) → TakesPiece scanner piece result → scanner.version ≡ version
     → AreBytes bytes → IsReadUpTo scanner bytes start → HasPiece scanner bytes piece → LeadsTo result (limits_of version) bytes start
 lead scanner piece result version bytes start takes is each read has =
     subst (λ (v : ℕ). LeadsTo result (limits_of v) bytes start) is (takes.leads bytes start each read has)
 
--- an error of a piece is the scan's
+-- the error of a piece is the error of the scan
 pub scans_refused : (e : JournalError) (limits : Limits) (bytes : List ℕ) (start : ℕ) → AreBytes bytes → 1 ≤ whole_sectors bytes → MeansError e limits bytes start
     → ScansSo (Err (error_of_journal e)) (journal_scan command_format limits bytes start)
 scans_refused NoMemory limits bytes start each some is = tt
@@ -64,7 +64,7 @@ scans_refused BadRecord limits bytes start each some is = (λ same. cc, journal_
 scans_refused (Gap place) limits bytes start each some is = (λ same. cc, journal_refused command_format limits bytes each start _ some is)
 scans_refused PastEnd limits bytes start each some is = (λ same. cc, journal_refused command_format limits bytes each start _ some is)
 
--- What a piece leads to that was read from a device on which all is as at the start.
+-- The state after a piece that was read from a device whose contents are those at the start.
 pub taken : (start mid : Disk) (geometry : Geometry) (half : Half) (scanner : ScannerView) (piece items : List ℕ) (result : Result Progress JournalError) (version place sector first count : ℕ)
     → IsWhole start → mid.history ≡ start.history → TakesPiece scanner piece result → scanner.version ≡ version → scanner.sectors ≡ geometry.journal
     → IsReadUpTo scanner (journal_of geometry half (reads_of start)) place

@@ -11,7 +11,7 @@ use Rattle.image_laws.specs.Journal.{IsJournal}
 use Rattle.image_laws.specs.Opening.{Opening, limits_in, HasOlderHead, IsTail, IsChosen, IsOpening}
 use Rattle.store_open.specs.Closing.{IsClosing, IsKeptByClosing}
 
--- What is before both gates of the other half, or behind them.
+-- The bytes before both gates of the other half, or after them.
 abbrev IsBesideGates : Geometry → Half → ℕ → ℕ → Type 0
 IsBesideGates geometry half at n = (at + n ≤ 512 * gate_at geometry half) ⊎ (512 * (gate_at geometry half + 2) ≤ at)
 

@@ -1,4 +1,4 @@
--- A new store is a formatted one, whatever its databases and commands are.
+-- A new store is a formatted one, for any databases and commands.
 use Rattle.std.proofs.Common.{◌≡◌, ℕ, ◌+◌, List, [], ◌++◌, length, take, get_or, sym, ◌∙◌, ap, arith}
 use Rattle.std.proofs.lemmas.List.{take-take}
 use Rattle.std.specs.Int.{w32, to_be_bytes}

@@ -1,4 +1,4 @@
--- Bytes that are written piece by piece: what a stop leaves meanwhile, and how much is written.
+-- Bytes that are written piece by piece: what a stop leaves in between, and how much is written.
 use Rattle.std.proofs.Common.{◌≡◌, inl, inr, ℕ, ◌+◌, ◌-◌, ◌*◌, ◌≤◌, List, [], ◌++◌, length, length-drop, get_or, take, drop, replicate, refl, sym, ◌∙◌, ap, subst, arith, append_assoc, length-append, Result, OnOk}
 use Rattle.std.specs.List.{copy_within}
 use Rattle.std.proofs.lemmas.Bool.{cases_lt}
@@ -19,7 +19,7 @@ use Rattle.store_open.specs.Pouring.{IsPoured}
 use Rattle.store_open.specs.TakingOver.{IsTornAt}
 use Rattle.store_open.proofs.TakingOver.{torn_nowhere}
 
--- what is torn in a range, and then within it, is torn in it
+-- a content that is torn in a range, and then torn within that range, is torn in the range
 torn_within : (at n from : ℕ) (old content piece : List ℕ) → at ≤ from → from + length piece ≤ at + n → at + n ≤ length old → IsTornAt at n old content → IsTornAt at n old (overwrite from piece content)
 torn_within at n from old content piece low high inside tear = record {
   torn = part at n new;
@@ -68,7 +68,7 @@ module _ (at n : ℕ) (start : Disk) (whole : IsHonest start → IsWhole start) 
   torn_here clean = stretch_here Torn start (λ honest content image.
       subst Torn (sym (image_is_reads start.history.now content (clean honest) image)) (torn_nowhere at n (reads_of start) (omega (arith, (whole honest).size, inside))))
 
-  -- a write within the range, whatever lands
+  -- a write within the range, whatever bytes land
   pub torn_on : {T E : Type 0} (sector : ℕ) (piece : List ℕ) (answer : Result T E) (now later : Disk) → (IsHonest now → IsWhole now) → at ≤ 512 * sector → 512 * sector + length piece ≤ at + n
       → Stretch start now (IsTornAt at n (reads_of start)) → WriteCall sector piece answer now later → Stretch start later (IsTornAt at n (reads_of start))
   torn_on sector piece answer now later whole_now low high so_far call =
@@ -80,7 +80,7 @@ module _ (at n : ℕ) (start : Disk) (whole : IsHonest start → IsWhole start) 
       (λ content torn same_size torn_size tear.
       torn_within at n (512 * sector) (reads_of start) content torn low (omega (arith, torn_size, size, high)) (omega (arith, (whole honest_start).size, inside)) tear))
 
--- two writes, one behind the other
+-- two writes, one after the other
 is_pasted : (at : ℕ) (bytes content : List ℕ) → overwrite at bytes content ≡ paste content at bytes (length bytes)
 is_pasted at bytes content =
     append_assoc (take at content) bytes (drop (at + length bytes) content) ∙ sym (paste_all content at bytes (length bytes) refl)
@@ -102,7 +102,7 @@ poured_none at bytes start whole inside = record {
   written = λ honest. sym (overwrite_same (512 * at) 0 (reads_of start) (omega (arith, (whole honest).size, inside)));
 }
 
--- with some rows more behind what is used of the buffer, that has room
+-- the same with some more rows after the used part of the buffer, which has room for them
 pub record HasRowMore (start now : Disk) (at sector used : ℕ) (buffer : List ℕ) (left : List RowView) (bytes : List ℕ) : Type 0 where
   pub poured : IsPoured start now at sector (take used buffer ++ rows_encoding left) bytes
   pub size : length (take used buffer) ≡ used
@@ -132,12 +132,12 @@ row_more start now at sector used more before after rows all left bytes so_far n
     size : length (take more after) ≡ more
     size = length-take-le more after fits
 
--- bytes that were left are put behind others
+-- bytes that were left are put after other bytes
 pub put_next : (before after bytes left rest : List ℕ) → after ≡ before ++ bytes → left ≡ bytes ++ rest → after ++ rest ≡ before ++ left
 put_next before after bytes left rest put is =
     ap (λ (list : List ℕ). list ++ rest) put ∙ append_assoc before bytes rest ∙ ap (λ (list : List ℕ). before ++ list) (sym is)
 
--- a piece that is written, and what is behind it is the rest
+-- a piece that is written, and the bytes after it are the rest
 pub poured_piece : {T E : Type 0} (at sector count : ℕ) (held piece rest left bytes : List ℕ) (answer : Result T E) (start now later : Disk) → IsPoured start now at sector (held ++ left) bytes → Keeps start now
     → piece ++ rest ≡ held → WriteCall sector piece answer now later → ((landed : List ℕ) → OnOk answer (landed ≡ piece) → landed ≡ piece) → length piece ≡ 512 * count
     → (IsHonest start → IsWhole start) → 512 * at ≤ 512 * start.sectors → IsPoured start later at (sector + count) (rest ++ left) bytes
@@ -153,7 +153,7 @@ poured_piece at sector count held piece rest left bytes answer start now later s
       ∙ overwrite_more (512 * at) so_far.front piece (reads_of start) (omega (arith, inside, (whole honest).size));
 }
 
--- what is behind a piece is moved to the front
+-- the bytes after a piece are moved to the front
 pub moved_behind : (piece used : ℕ) (old new : List ℕ) → piece ≤ used → used ≤ length old → new ≡ copy_within old piece used 0 → take piece old ++ take (used - piece) new ≡ take used old
 moved_behind piece used old new low high moved =
     let split : piece + (used - piece) ≡ used = omega arith in
@@ -162,11 +162,11 @@ moved_behind piece used old new low high moved =
     ∙ ap (λ (list : List ℕ). take piece old ++ list) (take-paste old 0 (drop piece old) (used - piece) (omega arith) (omega (arith, length-drop piece old)))
     ∙ sym (take-add piece (used - piece) old) ∙ ap (λ (k : ℕ). take k old) split
 
--- what was put to the front of the buffer stands there
+-- the bytes that were put to the front of the buffer are there
 pub put_first : (n : ℕ) (bytes content new : List ℕ) → length bytes ≡ n → n ≤ length content → new ≡ overwrite 0 bytes content → take n new ≡ bytes
 put_first n bytes content new size fits put = (λ i. take (sym size i) (put i)) ∙ part_new 0 bytes content (omega (arith, size, fits))
 
--- the rest, filled with zeros, ends all of the bytes, filled with zeros
+-- the rest, padded with zeros, is the end of all bytes, padded with zeros
 module _ (start now : Disk) (at sector : ℕ) (rest bytes : List ℕ) (so_far : IsPoured start now at sector rest bytes) where
   rest_padded : so_far.front ++ padded rest ≡ padded bytes
   rest_padded =

@@ -1,4 +1,4 @@
--- A device that is opened: what a stop leaves while it is brought to rest, and what it then tells.
+-- A device that is opened: what a stop leaves while the device is brought to rest, and what the store then has.
 use Rattle.std.proofs.Common.{◌≡◌, inl, inr, ℕ, ◌≤◌, Bool, true, false, List, [], Result, Ok, Err, Option, Some, None, OnOk, refl, sym, ◌∙◌, ap, subst, arith}
 use Rattle.byte_lists.specs.Content.{part}
 use Rattle.path_rows.specs.Database.{RowView}
@@ -32,7 +32,7 @@ use Rattle.store_open.specs.NewStore.{SameBehind}
 use Rattle.store_open.proofs.Gates.{gates_inside}
 use Rattle.store_open.proofs.Kept.{kept_opening}
 
--- A device on which nothing is dirty was only looked at: what a stop leaves is what reads give.
+-- A device on which nothing is dirty was only read: what a stop leaves is the bytes that reads return.
 pub stretch_looked : (P : List ℕ → Type 0) (start mid : Disk) → Keeps start mid → (IsHonest start → mid.history ≡ start.history) → (IsHonest start → start.history.now.dirty ≡ [])
     → (IsHonest start → P (reads_of start)) → Stretch start mid P
 stretch_looked P start mid keeps same clean holds = record {
@@ -41,7 +41,7 @@ stretch_looked P start mid keeps same clean holds = record {
       (leaves_here P start.history (λ content image. subst P (sym (image_is_reads start.history.now content (clean honest) image)) (holds honest)));
 }
 
--- what isn't changed opens alike
+-- an image that isn't changed opens alike
 pub alike_itself : (content : List ℕ) → OpensAlike content content
 alike_itself content = inl refl
 
@@ -51,7 +51,7 @@ module _ (geometry : Geometry) (chosen : Half) (sealed : Bool) (start : Disk) wh
   abbrev Unused : List ℕ → Type 0
   Unused = IsClosingUnused sealed geometry (other chosen) (reads_of start)
 
-  -- behind a seal nothing is closed
+  -- after a seal no gate is closed
   pub left_alone : {S F : Type 0} (answer : Result S F) (two : Disk) → sealed ≡ true → (IsHonest start → start.history.now.dirty ≡ []) → SyncCall answer start two → Stretch start two Unused
   left_alone answer two is clean call =
       stretch_sync Unused start start two answer
@@ -70,12 +70,12 @@ module _ (geometry : Geometry) (chosen : Half) (sealed : Bool) (start : Disk) wh
       → Stretch start two Unused
   closed_and_synced answer half one two same is so call = stretch_sync Unused start one two answer (being_closed half one same is so) call
 
--- what a sync leaves of the history, by what it answered
+-- the history after a sync, by its result
 pub history_by_sync : {S F : Type 0} (answer : Result S F) (old new : Disk) → SyncCall answer old new → IsHonest old → new.history ≡ synced_by answer old.history
 history_by_sync (Ok u) old new call honest = call.done honest
 history_by_sync (Err e) old new call honest = call.unchanged honest
 
--- where nothing is to be closed, nothing is written before the sync
+-- where no gate has to be closed, nothing is written before the sync
 module _ (geometry : Geometry) (chosen : Half) (sealed : Bool) (start one : Disk) (half : Half) (same : half ≡ other chosen) (unsealed : sealed ≡ false)
     (unwritten : IsHonest start → HasClosedGates geometry half (reads_of start) → one.history ≡ start.history) where
   pub nothing_closed : IsHonest start → HasNoGateToClose sealed geometry (other chosen) (reads_of start) → one.history ≡ start.history
@@ -93,7 +93,7 @@ pub settled_by_sync : {S F : Type 0} (answer : Result S F) (start one two : Disk
 settled_by_sync (Err _) start one two keeps call = tt
 settled_by_sync {S} {F} (Ok u) start one two keeps call = λ honest. ap (λ (h : History). h.now.dirty) (history_synced F u one two call (honest_after start one keeps honest))
 
--- and what was closed stays so
+-- and the gates that were closed stay closed
 pub closed_by_sync : {S F : Type 0} (answer : Result S F) (sealed : Bool) (geometry : Geometry) (half unused : Half) (start one two : Disk) → half ≡ unused → Keeps start one → SyncCall answer one two
     → (IsHonest start → HasClosedGates geometry half (reads_of one)) → OnOk answer (IsHonest start → sealed ≡ false → HasClosedGates geometry unused (reads_of two))
 closed_by_sync (Err _) sealed geometry half unused start one two same keeps call closed = tt
@@ -106,7 +106,7 @@ pub sealed_by_sync : {S F : Type 0} (answer : Result S F) (sealed : Bool) (geome
 sealed_by_sync (Err _) sealed geometry unused start two is = tt
 sealed_by_sync (Ok u) sealed geometry unused start two is = λ honest unsealed. absurd (let clash = sym is ∙ unsealed in cc)
 
--- ---- an opening while that is done
+-- ---- an opening in between
 
 -- a journal that isn't sealed has no tail
 no_tail_behind : (limits : Limits) (geometry : Geometry) (half : Half) (image : List ℕ) (journal : Reading Command) (tail : Option (Reading Command)) → journal.sealed ≡ false
@@ -114,7 +114,7 @@ no_tail_behind : (limits : Limits) (geometry : Geometry) (half : Half) (image : 
 no_tail_behind limits geometry half image journal None unsealed is = refl
 no_tail_behind limits geometry half image journal (Some behind) unsealed is = absurd (let clash = sym unsealed ∙ is.1.sealed in cc)
 
--- what stands behind the store is as it was
+-- the bytes after the store are unchanged
 beyond_unused : (sealed : Bool) (geometry : Geometry) (half : Half) (reads image : List ℕ) → 1 ≤ geometry.journal → IsClosingUnused sealed geometry half reads image → SameBehind geometry reads image
 beyond_unused false geometry half reads image some closing at n far = closing.outside at n (inr (omega (arith, gates_inside geometry half some, far)))
 beyond_unused true geometry half reads image some same at n far = ap (part at n) same
@@ -129,7 +129,7 @@ module _ (reads image : List ℕ) (opening : Opening (List RowView) Command) (is
   kept false so closing = kept_alone so closing
   kept true so same = subst (λ (content : List ℕ). IsOpening store_format latest content opening) (sym same) is
 
--- an image opens with one opening at most
+-- an image opens with at most one opening
 same_opening : (reads : List ℕ) (one two : Opening (List RowView) Command) → IsOpening store_format latest reads one → IsOpening store_format latest reads two → one ≡ two
 same_opening reads one two is_one is_two =
     let a = opening_read store_format latest reads one is_one in
@@ -150,14 +150,14 @@ alike reads image o geometry chosen sealed found its_geometry its_half its_seal 
       beyond = beyond_unused sealed o.geometry (other o.chosen) reads image (omega (arith, found.half.store.limits.least_journal)) so;
     })
 
--- whatever the one opens with, the other does
+-- whatever opening the one has, the other has
 opens_as_before : (before behind : List ℕ) → OpensAlike before behind → (opening : Opening (List RowView) Command) → IsOpening store_format latest before opening
     → IsOpening store_format latest behind opening
 opens_as_before before behind (inl same) opening is = subst (λ (content : List ℕ). IsOpening store_format latest content opening) (sym same) is
 opens_as_before before behind (inr both) opening is =
     subst (IsOpening store_format latest behind) (same_opening before both.opening opening both.opens_before is) both.opens_behind
 
--- and whatever the other opens with, the one did
+-- and whatever opening the other has, the one had
 pub opened_as_behind : (before behind : List ℕ) → OpensAlike before behind → (opening : Opening (List RowView) Command) → IsOpening store_format latest behind opening
     → IsOpening store_format latest before opening × SameBehind opening.geometry before behind
 opened_as_behind before behind (inl same) opening is = (subst (λ (content : List ℕ). IsOpening store_format latest content opening) same is, λ at n far. ap (part at n) same)

@@ -1,4 +1,4 @@
--- What an image opens with, step by step: each refusal of a step is the opening's.
+-- The opening of an image, step by step: each refusal of a step is the opening's.
 use Rattle.std.proofs.Common.{◌≡◌, ◌≢◌, ℕ, Bool, true, false, List, Result, Ok, Err, Option, Some, None, IfOk, refl, sym, ◌∙◌, ap, subst, arith}
 use Rattle.std.specs.Option.{option_map, is_some}
 use Rattle.path_rows.specs.Database.{RowView}
@@ -42,7 +42,7 @@ use Rattle.sector_dev.specs.Calls.{Keeps}
 use Rattle.sector_dev.proofs.Stretches.{honest_after, keeps_then}
 use Rattle.gate_journal.specs.Commands.{command_format}
 
--- a refusal of the halves is the opening's, where the step hands it on
+-- a refusal of the halves is the opening's, where the step returns it
 pub pair_so : {X Y W : Type 0} (view : X → Y) (e : OpenError) (step : Result Y PairRefusal → Result W OpenRefusal) (reading : Result Y PairRefusal)
     → ((refusal : PairRefusal) → step (Err refusal) ≡ Err (BadPair refusal)) → PairSo view (Err e) reading → RefusesOpening e (step reading)
 pair_so view NotAStore step reading on so = absurd so
@@ -52,7 +52,7 @@ pair_so view (Pair e) step reading on so =
 pair_so view (Journal e) step reading on so = absurd so
 pair_so view NoMemory step reading on so = tt
 
--- and so is one of a journal
+-- and so is a refusal of a journal
 pub scan_so : {W : Type 0} (e : OpenError) (step : Result (Reading Command) JournalRefusal → Result W OpenRefusal) (reading : Result (Reading Command) JournalRefusal)
     → ((refusal : JournalRefusal) → step (Err refusal) ≡ Err (BadJournal refusal)) → ScansSo (Err e) reading → RefusesOpening e (step reading)
 scan_so NotAStore step reading on so = absurd so
@@ -66,20 +66,20 @@ scan_so (Journal (journal.Gap place)) step reading on so =
 scan_so (Journal journal.PastEnd) step reading on so = record { refusal = BadJournal refusals.PastEnd; is = ap step so.1 ∙ on refusals.PastEnd; told = refl }
 scan_so NoMemory step reading on so = tt
 
--- what was refused is so of the same reading
+-- a refusal is a refusal of an equal reading too
 pub refused_same : (Y : Type 0) (e : OpenError) (one two : Result Y OpenRefusal) → one ≡ two → RefusesOpening e one → RefusesOpening e two
 refused_same Y e one two same so = subst (λ (r : Result Y OpenRefusal). RefusesOpening e r) same so
 
--- and what was found is
+-- and a result is a result of an equal reading too
 pub opens_same : {X Y : Type 0} (view : X → Y) (result : Result X OpenError) (one two : Result Y OpenRefusal) → one ≡ two → OpensSo view result one → OpensSo view result two
 opens_same {X} {Y} view result one two same so = subst (λ (r : Result Y OpenRefusal). OpensSo view result r) same so
 
--- an image with no sizes is no store's
+-- an image without sizes is no store's
 pub not_a_store : (reads : List ℕ) (found : Option Geometry) → found ≡ None → RefusesOpening NotAStore (by_geometry store_format latest reads (option_map geometry_view found))
 not_a_store reads found none =
     record { refusal = readings.NotAStore; is = ap (λ (f : Option Geometry). by_geometry store_format latest reads (option_map geometry_view f)) none; told = refl }
 
--- looking goes on
+-- a call that only reads, after another one
 pub looks_then : {T : Type 0} (result : Result T OpenError) (old mid new : Disk) → Keeps old mid → mid.faults ≡ old.faults → (IsHonest old → mid.history ≡ old.history) → LooksFor result mid new
     → LooksFor result old new
 looks_then result old mid new keeps faults history looks = record {
@@ -88,7 +88,7 @@ looks_then result old mid new keeps faults history looks = record {
   history = λ honest. looks.history (honest_after old mid keeps honest) ∙ history honest;
 }
 
--- a device keeps its room
+-- a device keeps its number of sectors
 pub room_kept : (geometry : laws.Geometry) (old new : Disk) → new.sectors ≡ old.sectors → HasRoomFor geometry old → HasRoomFor geometry new
 room_kept geometry old new same has = record { allowed = has.allowed; room = omega (arith, same, has.room) }
 
@@ -102,7 +102,7 @@ pub room_before : (result : Result Found OpenError) (old mid : Disk) → mid.sec
 room_before (Ok found) old mid same has = room_kept (geometry_view found.geometry) mid old (sym same) has
 room_before (Err e) old mid same has = tt
 
--- what holds where memory ran out
+-- what holds where memory was refused
 pub memory_from : {T : Type 0} (P : Type 0) (result : Result T OpenError) → P → OnOkOrNoMemory result P
 memory_from P (Ok x) holds = holds
 memory_from P (Err NotAStore) holds = tt
@@ -119,7 +119,7 @@ memory_then P Q (Err (Pair e)) follows holds = tt
 memory_then P Q (Err (Journal e)) follows holds = tt
 memory_then P Q (Err NoMemory) follows holds = follows holds
 
--- of an error it goes on in another result
+-- the same for a result that returns the error of another
 pub memory_on : (S T : Type 0) (P Q : Type 0) (e : OpenError) → (P → Q) → OnOkOrNoMemory {T = S} (Err e) P → OnOkOrNoMemory {T = T} (Err e) Q
 memory_on S T P Q NotAStore follows holds = tt
 memory_on S T P Q Device follows holds = tt
@@ -127,7 +127,7 @@ memory_on S T P Q (Pair e) follows holds = tt
 memory_on S T P Q (Journal e) follows holds = tt
 memory_on S T P Q NoMemory follows holds = follows holds
 
--- an error that isn't want of memory
+-- an error other than `NoMemory`
 pub memory_not : (T : Type 0) (P : Type 0) (e : OpenError) → e ≢ NoMemory → OnOkOrNoMemory {T = T} (Err e) P
 memory_not T P NotAStore not = tt
 memory_not T P Device not = tt
@@ -147,7 +147,7 @@ pub head_open : (geometry : laws.Geometry) (half : Half) (image : List ℕ) (hea
 head_open geometry First image heads has = seen_open (is_open_gate (gate_of geometry First image)) _ heads.first has.first
 head_open geometry Second image heads has = seen_open (is_open_gate (gate_of geometry Second image)) _ heads.second has.second
 
--- The tail: where it stands, and what it reads as.
+-- The tail: its half, and its reading.
 module _ (geometry : laws.Geometry) (half : Half) (checkpoint : Checkpoint (List RowView)) (front : Reading Command) (behind : Result (Reading Command) JournalRefusal) where
   abbrev alone : Opening (List RowView) Command
   alone = with_tail_seen geometry half checkpoint front None
@@ -163,11 +163,11 @@ module _ (geometry : laws.Geometry) (half : Half) (checkpoint : Checkpoint (List
   tail_half_refused e sealed seen opened same so =
       subst (λ (b : Bool). RefusesOpening (error_of_pair e) (behind_journal sealed b alone behind)) same (by_half_refused e sealed seen so)
 
-  -- without a seal there is none
+  -- without a seal there is no tail
   pub no_tail : (sealed opened : Bool) → sealed ≡ false → behind_journal sealed opened alone behind ≡ Ok alone
   no_tail sealed opened unsealed = ap (λ (b : Bool). behind_journal b opened alone behind) unsealed
 
-  -- behind one it is in the other half, which is closed
+  -- after a seal the tail is in the other half, which is closed
   by_half_there : (at : Half) (opened : Bool) → Reads (λ (h : Half). h) (Ok at) (tail_of half true opened) → (at ≡ other half) × (behind_journal true opened alone behind ≡ read_tail alone behind)
   by_half_there at true so = absurd so
   by_half_there at false so = (sym so, refl)
@@ -178,7 +178,7 @@ module _ (geometry : laws.Geometry) (half : Half) (checkpoint : Checkpoint (List
       let there = by_half_there at seen (subst (λ (b : Bool). Reads (λ (h : Half). h) (Ok at) (tail_of half b seen)) is so) in
       (there.0, (λ i. behind_journal (is i) (sym same i) alone behind) ∙ there.1)
 
-  -- and not sealed too
+  -- and the tail is not sealed too
   pub tail_sealed : (tail : Scan) → behind ≡ Ok (reading_of tail) → tail.sealed ≡ true → read_tail alone behind ≡ Err (BadPair SealedNewer)
   tail_sealed tail is sealed = ap (read_tail alone) is ∙ by_seal tail.sealed sealed
     where
@@ -189,7 +189,7 @@ module _ (geometry : laws.Geometry) (half : Half) (checkpoint : Checkpoint (List
   tail_found tail is sealed =
       ap (read_tail alone) is ∙ ap (λ (x : Bool). with_tail alone x (reading_of tail)) sealed
 
--- The tail of an image with these heads, whatever was answered.
+-- The tail of an image with these heads, for any result.
 module _ (geometry : laws.Geometry) (half : Half) (checkpoint : Checkpoint (List RowView)) (front : Reading Command) (reads : List ℕ) (heads : Heads) (has : HasHeads geometry reads heads) where
   abbrev sees : Option Scan → Opening (List RowView) Command
   sees tail = with_tail_seen geometry half checkpoint front tail

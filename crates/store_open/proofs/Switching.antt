@@ -1,4 +1,4 @@
--- At rest the other half takes over: what is there after each write, torn or whole, opens to the same.
+-- At rest the other half takes over: the image after each write, torn or whole, opens to the same value.
 use Rattle.std.proofs.Common.{◌≡◌, inl, inr, ℕ, ◌+◌, ◌*◌, ◌/◌, ◌<◌, ◌≤◌, List, length, get_or, refl, sym, ◌∙◌, ap, subst, arith, None, replicate}
 use Rattle.std.proofs.lemmas.Bool.{cases_eq}
 use Rattle.std.proofs.lemmas.List.{length-replicate}
@@ -17,7 +17,7 @@ use Rattle.store_open.specs.TakingOver.{laid, switched, taken, IsTakingOver}
 use Rattle.store_open.proofs.Gates.{gates_inside, first_gate, zero_there, closing_both}
 use Rattle.store_open.proofs.Kept.{kept_by_closing}
 
--- A store at rest: its image opens so, nothing is sealed, and the half that isn't used is closed; and a checkpoint for that half.
+-- A store at rest: its image has this opening, no journal is sealed, and the half that isn't used is closed; and a checkpoint for that half.
 pub record MayTakeOver {Db C : Type 0} (format : StoreFormat Db C) (latest : ℕ) (image : List ℕ) (opening : Opening Db C) (next : Checkpoint Db) (bytes : List ℕ) : Type 0 where
   pub is : IsOpening format latest image opening
   pub none : opening.tail ≡ None
@@ -54,7 +54,7 @@ module _ {Db C : Type 0} (format : StoreFormat Db C) (latest : ℕ) (image : Lis
   area_fits : area + length bytes ≤ length image
   area_fits = omega (arith, half_inside geometry new, room, may.fits)
 
-  -- whatever lands in the other half's area, the image opens as it did
+  -- whatever bytes land in the other half's area, the opening is unchanged
   laying : (torn : List ℕ) → length torn ≡ length bytes → IsOpening format latest (overwrite area torn image) opening
   laying torn size =
       let none_more : area + 0 ≡ area = omega arith in
@@ -85,7 +85,7 @@ module _ {Db C : Type 0} (format : StoreFormat Db C) (latest : ℕ) (image : Lis
   one_closed : IsOpenGate (sector_at 0 (journal_of geometry new one)) → ⊥
   one_closed opened = may.unused.journal (subst (λ (list : List ℕ). IsOpenGate (sector_at 0 list)) one_journal opened)
 
-  -- both openings stand for the same
+  -- both openings have the same value
   abbrev Switches : List ℕ → Type 0
   Switches gate =
       (IsOpenGate gate → IsOpening format latest (overwrite (512 * gate_at opening.geometry (other opening.chosen)) gate one) fresh)
@@ -132,7 +132,7 @@ module _ {Db C : Type 0} (format : StoreFormat Db C) (latest : ℕ) (image : Lis
         (subst IsOpenGate (first_gate geometry opening.chosen three (omega (arith, may.is.half.store.limits))) opened);
   })
 
-  -- an image opens to the same, by a half of this version or a later one
+  -- an image opens to the same value, by a half of this version or a later one
   pub record OpensAfter (content : List ℕ) : Type 0 where
     pub opens : OpensTo format latest content (value_of format opening)
     pub since : opening.checkpoint.head.version ≤ opens.opening.checkpoint.head.version
@@ -143,7 +143,7 @@ module _ {Db C : Type 0} (format : StoreFormat Db C) (latest : ℕ) (image : Lis
   by_new : (content : List ℕ) → IsOpening format latest content fresh → OpensAfter content
   by_new content is = record { opens = record { opening = fresh; is = is; stands_for = same_value }; since = may.folds.version }
 
-  -- and so does what a stop leaves meanwhile
+  -- and so does each image that a stop may leave in between
   pub opens_meanwhile : (content : List ℕ) → IsTakingOver geometry opening.chosen bytes image content → OpensAfter content
   opens_meanwhile content (inl tear) = subst OpensAfter (sym tear.is) (by_old (overwrite area tear.torn image) (laying tear.torn tear.size))
   opens_meanwhile content (inr (inl tear)) = subst OpensAfter (sym tear.is)

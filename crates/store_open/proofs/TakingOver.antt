@@ -13,7 +13,7 @@ use Rattle.image_laws.specs.Layout.{Geometry, other, area_at, gate_at}
 use Rattle.byte_lists.specs.Sectors.{open_gate}
 use Rattle.store_open.specs.TakingOver.{IsTornAt, laid, switched, taken, IsTakingOver}
 
--- what nothing was written to is torn nowhere
+-- a content that is unchanged satisfies `IsTornAt` too
 pub torn_nowhere : (at n : ℕ) (content : List ℕ) → at + n ≤ length content → IsTornAt at n content content
 torn_nowhere at n content inside = record {
   torn = part at n content;

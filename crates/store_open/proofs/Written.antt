@@ -1,4 +1,4 @@
--- Sectors that are written one behind the other, and what is then on a device.
+-- Sectors that are written one after the other, and the contents of the device then.
 use Rattle.std.proofs.Common.{◌≡◌, ℕ, ◌+◌, ◌*◌, ◌<◌, ◌≤◌, List, length, take, drop, sym, ◌∙◌, ap, subst, arith, refl, Result, Ok, Err, OnOk}
 use Rattle.std.proofs.lemmas.List.{take-take}
 use Rattle.byte_lists.specs.Content.{part, overwrite}
@@ -16,7 +16,7 @@ use Rattle.image_laws.specs.FirstSector.{first_sector}
 use Rattle.store_open.specs.NewStore.{first_checkpoint_bytes, IsNewStore, IsEmptyStore, HoldsNewStore, HasRoomFor}
 use Rattle.store_open.proofs.NewStores.{empty_store}
 
--- a sector is written: it has these bytes, and those before it stay as they were
+-- a sector is written: it has these bytes, and the sectors before it are unchanged
 record IsPut (at : ℕ) (bytes old new : List ℕ) : Type 0 where
   long : length new ≡ length old
   before : (sector : ℕ) → sector < at → sector_at sector new ≡ sector_at sector old
@@ -39,7 +39,7 @@ record HasNewSectors (geometry : Geometry) (content : List ℕ) : Type 0 where
   second_gate : sector_at (gate_at geometry Second) content ≡ closed_gate
   second_journal : sector_at (journal_at geometry Second) content ≡ closed_gate
 
--- they make one
+-- an image with these sectors is a new store
 new_store : (geometry : Geometry) (content : List ℕ) → IsGeometry geometry → HasNewSectors geometry content → IsNewStore geometry content
 new_store geometry content limits has = record {
   store = record {
@@ -59,7 +59,7 @@ new_store geometry content limits has = record {
     first : (at sectors : ℕ) → 1 ≤ sectors → sector_at 0 (part (512 * at) (512 * sectors) content) ≡ sector_at at content
     first at sectors some = take-take 512 (512 * sectors) (drop (512 * at) content) (omega (arith, some))
 
--- six sectors are written, each behind those before it
+-- six sectors are written, one after the other
 module _ (geometry : Geometry) (limits : IsGeometry geometry) (r0 r1 r2 r3 r4 r5 r6 : List ℕ) (room : 512 * image_sectors geometry ≤ length r0)
     (is1 : r1 ≡ overwrite (512 * 0) (first_sector geometry) r0)
     (is2 : r2 ≡ overwrite (512 * area_at geometry First) (padded first_checkpoint_bytes) r1)
@@ -85,7 +85,7 @@ module _ (geometry : Geometry) (limits : IsGeometry geometry) (r0 r1 r2 r3 r4 r5
   put6 : IsPut (journal_at geometry Second) closed_gate r5 r6
   put6 = put (journal_at geometry Second) closed_gate r5 r6 is6 refl (omega (arith, room, put1.long, put2.long, put3.long, put4.long, put5.long, limits))
 
-  -- what stands before the journal's first gate stays from there on
+  -- the sectors before the journal's first gate are unchanged from then on
   kept_behind : (sector : ℕ) → sector < journal_at geometry First → sector_at sector r6 ≡ sector_at sector r3
   kept_behind sector below =
       put6.before sector (omega (arith, below)) ∙ put5.before sector (omega (arith, below)) ∙ put4.before sector below
@@ -101,14 +101,14 @@ module _ (geometry : Geometry) (limits : IsGeometry geometry) (r0 r1 r2 r3 r4 r5
     second_journal = put6.there;
   }
 
--- what a write of an honest device did that succeeded
+-- the effect of a write of an honest device that succeeded
 written : {T : Type 0} (E : Type 0) (u : T) (sector at : ℕ) (bytes given : List ℕ) (old new : Disk) → WriteCall sector bytes (success E u) old new → sector ≡ at → bytes ≡ given → IsHonest old
     → reads_of new ≡ overwrite (512 * at) given (reads_of old)
 written E u sector at bytes given old new call place what honest =
     ap (λ (h : History). h.now.reads) (history_written E u sector bytes old new call honest)
     ∙ (λ i. overwrite (512 * place i) (what i) (reads_of old))
 
--- after a sync that succeeded what reads give has P, and so has every image
+-- after a sync that succeeded, the bytes that reads return have P, and so has every image
 synced_store : {T : Type 0} (E : Type 0) (u : T) (geometry : Geometry) (old new : Disk) → SyncCall (success E u) old new → IsHonest old → IsNewStore geometry (reads_of old) → HoldsNewStore geometry new
 synced_store E u geometry old new call honest is =
     let so = history_synced E u old new call honest in

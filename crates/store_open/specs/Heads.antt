@@ -1,4 +1,4 @@
--- Which half is chosen, by what reads give of both heads.
+-- The half that is chosen, by the heads that reads return.
 use Rattle.std.specs.Prelude.{◌≡◌, List, ℕ, Result, Ok}
 use Rattle.image_laws.specs.declared.half.Half.{Half}
 use Rattle.image_laws.specs.declared.half.Half.TheVariants.{First, Second}

@@ -1,9 +1,9 @@
--- What a call does that only reads a device.
+-- The effect of a call that only reads a device.
 use Rattle.std.specs.Prelude.{◌≡◌, Result}
 use Rattle.sector_dev.specs.Disk.{Disk, IsHonest}
 use Rattle.sector_dev.specs.Calls.{Keeps, count_after}
 
--- what is on the device stays as it is; it fails only where the device does
+-- the contents of the device are unchanged; the call fails only where the device does
 pub record LooksAt {T E : Type 0} (result : Result T E) (old new : Disk) : Type 0 where
   pub keeps : Keeps old new
   pub faults : new.faults ≡ count_after result old.faults

@@ -1,4 +1,4 @@
--- What a store is that was just made, to the byte, and what making one answers.
+-- The bytes of a new store, and the results of making one.
 use Rattle.std.specs.Prelude.{◌≡◌, ◌++◌, ℕ, ◌*◌, ◌≤◌, ◌<◌, List, [], Result, Ok, Err}
 use Rattle.std.specs.Int.{w32, to_be_bytes}
 use Rattle.byte_lists.specs.Content.{part}
@@ -25,8 +25,8 @@ first_head = record { version = latest; epoch = 1; place = 0 }
 abbrev pub first_checkpoint_bytes : List ℕ
 first_checkpoint_bytes = head_encoding first_head ++ (to_be_bytes w32 0 ++ to_be_bytes w32 0)
 
--- A new store: the first half is open, with no rows, and its journal's first gate is closed; both of the second half are closed.
--- Each of these sectors is as it was written, with zeros behind what counts in it.
+-- A new store: the first half is open, without rows, and its journal's first gate is closed; both gates of the second half are closed.
+-- Each of these sectors is as it was written, with zeros after the bytes that count.
 pub record IsNewStore (geometry : Geometry) (image : List ℕ) : Type 0 where
   pub store : IsStore geometry image
   pub title : sector_at 0 image ≡ first_sector geometry
@@ -46,7 +46,7 @@ pub record IsEmptyStore (geometry : Geometry) (image : List ℕ) : Type 0 where
   pub new : IsNewStore geometry image
   pub opens : IsStoreOf [] 0 image
 
--- whatever a stop leaves is such a store, and reads give one
+-- each image that a stop may leave is such a store, and so are the bytes that reads return
 pub record HoldsNewStore (geometry : Geometry) (disk : Disk) : Type 0 where
   pub every : EveryImage disk.history.now (IsEmptyStore geometry)
   pub reads : IsEmptyStore geometry (reads_of disk)
@@ -56,11 +56,11 @@ pub record HasRoomFor (geometry : Geometry) (disk : Disk) : Type 0 where
   pub allowed : IsGeometry geometry
   pub room : image_sectors geometry ≤ disk.sectors
 
--- what stands behind a store of these sizes is as it was
+-- the bytes after a store of these sizes are unchanged
 abbrev pub SameBehind : Geometry → List ℕ → List ℕ → Type 0
 SameBehind geometry old new = (at n : ℕ) → 512 * image_sectors geometry ≤ at → part at n new ≡ part at n old
 
--- What making a store answers: it is there; or the sizes aren't allowed, or they are and the device is too small, and nothing
+-- The result of making a store: the store is there; or the sizes aren't allowed, or they are and the device is too small, and nothing
 -- was done; or the device failed.
 abbrev pub Formats : Geometry → Result (Unit {0}) FormatError → Disk → Disk → Type 0
 Formats geometry (Ok done) old new = HasRoomFor geometry old × (new.faults ≡ old.faults) × (IsHonest old → HoldsNewStore geometry new)

@@ -1,4 +1,4 @@
--- What opening a device answers: by what is read of it, and what it leaves.
+-- The result of opening a device: by what is read of it, and what the call leaves.
 use Rattle.std.specs.Prelude.{◌≡◌, ◌≢◌, ◌⊎◌, ℕ, ◌*◌, List, Result, Ok, Err, IsOk, Option, Some}
 use Rattle.std.specs.Option.{option_map}
 use Rattle.path_rows.specs.Database.{RowView}
@@ -32,7 +32,7 @@ use Rattle.store_open.specs.PathStores.{store_format}
 use Rattle.store_open.specs.Refusals.{faults_after}
 use Rattle.store_open.specs.Store.{StoreView, IsAtRest}
 
--- what was found on a device, as what an image opens with
+-- what was found on a device, as the opening of an image
 abbrev pub opening_view : Found → Opening (List RowView) Command
 opening_view found = record {
   geometry = geometry_view found.geometry;
@@ -49,7 +49,7 @@ journal_error_of refusals.BadRecord = journal.BadRecord
 journal_error_of (refusals.Gap place) = journal.Gap place
 journal_error_of refusals.PastEnd = journal.PastEnd
 
--- and of an image's
+-- the error of an image's refusal
 abbrev pub open_error_of : OpenRefusal → OpenError
 open_error_of laws.NotAStore = NotAStore
 open_error_of (BadPair refusal) = Pair (error_of refusal)
@@ -61,7 +61,7 @@ pub record IsRefusedFor {Y : Type 0} (e : OpenError) (reading : Result Y OpenRef
   pub is : reading ≡ Err refusal
   pub told : e ≡ open_error_of refusal
 
--- an error that tells of the image, of an image that is read so; one that tells of the device or of memory says nothing of it
+-- an error of the image is the refusal of its reading; an error of the device or of memory does not depend on the image
 abbrev pub RefusesOpening : {Y : Type 0} → OpenError → Result Y OpenRefusal → Type 0
 RefusesOpening NotAStore reading = IsRefusedFor NotAStore reading
 RefusesOpening Device reading = Unit {0}
@@ -69,12 +69,12 @@ RefusesOpening (Pair e) reading = IsRefusedFor (Pair e) reading
 RefusesOpening (Journal e) reading = IsRefusedFor (Journal e) reading
 RefusesOpening NoMemory reading = Unit {0}
 
--- An image is read so, or is refused so, unless the device failed or memory ran out.
+-- An image has this reading, or this refusal, unless the device failed or memory was refused.
 abbrev pub OpensSo : {X Y : Type 0} → (X → Y) → Result X OpenError → Result Y OpenRefusal → Type 0
 OpensSo view (Ok x) reading = reading ≡ Ok (view x)
 OpensSo view (Err e) reading = RefusesOpening e reading
 
--- what is found with a tail or without one, once the chosen half's journal is read
+-- what is found, with a tail or without one, once the chosen half's journal is read
 abbrev pub with_tail_seen : Geometry → Half → Checkpoint (List RowView) → Reading Command → Option Scan → Opening (List RowView) Command
 with_tail_seen geometry half checkpoint journal tail = record {
   geometry = geometry;
@@ -84,14 +84,14 @@ with_tail_seen geometry half checkpoint journal tail = record {
   tail = option_map reading_of tail;
 }
 
--- A half is chosen by the heads, and the front of its checkpoint stands.
+-- A half is chosen by the heads, and the front of its checkpoint is valid.
 pub record HasFront (geometry : Geometry) (image : List ℕ) : Type 0 where
   pub half : Half
   pub chosen : choice_by_heads geometry image ≡ Ok half
   pub front : IsOk (front_in latest (512 * geometry.checkpoint) (area_of geometry half image))
 
--- What is judged without memory is in order: it is a store's image, a half is chosen by the heads, and the front of its
--- checkpoint stands.
+-- All that is checked without memory is valid: the image is a store's, a half is chosen by the heads, and the front of its
+-- checkpoint is valid.
 pub record WantsMemoryToOpen (image : List ℕ) : Type 0 where
   pub geometry : Geometry
   pub store : geometry_in image ≡ Some geometry
@@ -99,44 +99,44 @@ pub record WantsMemoryToOpen (image : List ℕ) : Type 0 where
   pub chosen : choice_by_heads geometry image ≡ Ok half
   pub front : IsOk (front_in latest (512 * geometry.checkpoint) (area_of geometry half image))
 
--- both open, and with the same, and what stands behind their store is the same
+-- both open with the same opening, and the bytes after their store are the same
 pub record OpenWithTheSame (before behind : List ℕ) : Type 0 where
   pub opening : Opening (List RowView) Command
   pub opens_before : IsOpening store_format latest before opening
   pub opens_behind : IsOpening store_format latest behind opening
   pub beyond : SameBehind opening.geometry before behind
 
--- the image is what it was, or opens with what it opened with: one that doesn't open isn't changed
+-- the image is unchanged, or opens with what it opened with before: an image that doesn't open isn't changed
 abbrev pub OpensAlike : List ℕ → List ℕ → Type 0
 OpensAlike before behind = (behind ≡ before) ⊎ OpenWithTheSame before behind
 
--- Nothing is to be closed: whatever the image opens with, the half that isn't chosen has both its gates closed, or is used.
+-- No gate has to be closed: for any opening of the image, the half that isn't chosen has both its gates closed, or is used.
 abbrev pub HasNothingToClose : List ℕ → Type 0
 HasNothingToClose image =
     (opening : Opening (List RowView) Command) → IsOpening store_format latest image opening
     → HasNoGateToClose opening.journal.sealed opening.geometry (other opening.chosen) image
 
--- An opening writes nothing: a device that is opened is synced twice, and one that isn't at most once.
+-- Such an opening writes nothing: a device that is opened is synced twice, and one that isn't opened at most once.
 abbrev pub OnlySyncs : {A E : Type 0} → Result A E → History → History → Type 0
 OnlySyncs (Ok _) old new = new ≡ after_sync (after_sync old)
 OnlySyncs (Err _) old new = (new ≡ old) ⊎ (new ≡ after_sync old)
 
--- an error that isn't that of a call of the device
+-- an error other than that of a call of the device
 abbrev pub IsNoFault : OpenError → Type 0
 IsNoFault e = e ≢ Device
 
--- A store was opened: it is at rest, and tells what reads gave then.
+-- A store was opened: it is at rest, and has what reads returned then.
 pub record IsOpened (reads : List ℕ) (view : StoreView) : Type 0 where
   pub rest : IsAtRest view
   pub same : IsOpening store_format latest reads rest.opening
 
--- A device that isn't opened comes back with an error; one that tells of the image tells of what reads gave.
+-- A device that isn't opened is returned with an error. An error of the image is that of the bytes that reads returned.
 pub record ComesBack (e : OpenError) (old new : Disk) : Type 0 where
   pub refused : IsHonest old → RefusesOpening e (opening_of store_format latest (reads_of old))
   pub memory : IsHonest old → e ≡ NoMemory → WantsMemoryToOpen (reads_of old)
   pub faults : new.faults ≡ faults_after {T = Unit {0}} (Err e) old.faults
 
--- the device afterwards, in the store or come back
+-- the device afterwards, in the store or returned
 abbrev pub disk_after : {A : Type 0} → (A → Disk) → Result StoreView (A × OpenError) → Disk
 disk_after disk (Ok store) = store.disk
 disk_after disk (Err back) = disk back.0

@@ -1,4 +1,4 @@
--- What the stores of path segments keep: databases of rows, and the commands of their journals.
+-- The contents of the stores of path segments: databases of rows, and the commands of their journals.
 use Rattle.std.specs.Prelude.{◌≡◌, ℕ, List, [], Some}
 use Rattle.std.proofs.Common.{refl}
 use Rattle.path_rows.specs.Database.{RowView}
@@ -11,15 +11,15 @@ use Rattle.gate_journal.specs.Commands.{command_format}
 use Rattle.ckpt_pair.specs.Heads.{latest}
 use Rattle.ckpt_pair.specs.Rows.{rows_format}
 
--- no bytes are no rows
+-- no bytes are the encoding of no rows
 pub no_bytes : rows_format.decoding 0 [] ≡ Some []
 unfolding rows_decoding rows_within
 no_bytes = refl
 
--- rows as checkpoints have them, commands as journals have them, and what each command makes of the rows
+-- rows as in checkpoints, commands as in journals, and the rows after each command
 abbrev pub store_format : StoreFormat (List RowView) Command
 store_format = record { rows = rows_format; commands = command_format; apply = database_after; empty = []; none = no_bytes }
 
--- the image opens to these rows at this place, by the versions that are known
+-- the image opens to these rows at this place, for the versions that are known
 abbrev pub IsStoreOf : List RowView → ℕ → List ℕ → Type 0
 IsStoreOf rows place image = OpensTo store_format latest image (record { db = rows; place = place })

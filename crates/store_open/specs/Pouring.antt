@@ -1,4 +1,4 @@
--- How a checkpoint is laid piece by piece.
+-- How a checkpoint is written piece by piece.
 use Rattle.std.specs.Prelude.{◌≡◌, ℕ, ◌+◌, ◌*◌, List, [], ◌++◌, length, Option, Some, None}
 use Rattle.byte_lists.specs.Content.{overwrite}
 use Rattle.path_rows.specs.Database.{RowView}
@@ -10,7 +10,7 @@ abbrev pub record_if_any : Option RowView → List ℕ
 record_if_any None = []
 record_if_any (Some row) = row_record row
 
--- Of these bytes, which are to stand at a sector, some front is written, and up to which sector; the rest isn't yet.
+-- Of these bytes, which have to be written from a sector on, a front is written, up to this sector; the rest isn't written yet.
 pub record IsPoured (old new : Disk) (at sector : ℕ) (rest bytes : List ℕ) : Type 0 where
   pub front : List ℕ
   pub parts : front ++ rest ≡ bytes

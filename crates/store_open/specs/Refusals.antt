@@ -1,4 +1,4 @@
--- Refusals of an opening: how lower errors become its own, and what each says of what is read.
+-- Refusals of an opening: how the errors of lower layers become its own, and what each states of what is read.
 use Rattle.std.specs.Prelude.{◌≡◌, ◌≢◌, ℕ, Result, Ok, Err}
 use Rattle.sector_dev.specs.Disk.{Disk, IsHonest}
 use Rattle.sector_dev.specs.Calls.{Keeps, one_more}
@@ -17,7 +17,7 @@ use Rattle.ckpt_pair.specs.declared.error.PairError.TheVariants as pair
 use Rattle.store_open.specs.declared.error.OpenError.{OpenError}
 use Rattle.store_open.specs.declared.error.OpenError.TheVariants.{NotAStore, Device, Pair, Journal, NoMemory}
 
--- want of memory is that, whoever wants it
+-- refused memory has one error, whichever layer was refused
 abbrev pub error_of_journal : JournalError → OpenError
 error_of_journal journal.NoMemory = NoMemory
 error_of_journal journal.BadHeader = Journal journal.BadHeader
@@ -33,7 +33,7 @@ error_of_pair pair.BadCheckpoint = Pair pair.BadCheckpoint
 error_of_pair pair.SealedNewer = Pair pair.SealedNewer
 error_of_pair (pair.NewerFormat version) = Pair (pair.NewerFormat version)
 
--- a call of the device failed just where this is the refusal
+-- a call of the device failed exactly where this is the refusal
 abbrev pub faults_after : {T : Type 0} → Result T OpenError → ℕ → ℕ
 faults_after (Ok done) faults = faults
 faults_after (Err NotAStore) faults = faults
@@ -42,7 +42,7 @@ faults_after (Err (Pair e)) faults = faults
 faults_after (Err (Journal e)) faults = faults
 faults_after (Err NoMemory) faults = faults
 
--- what is on the device was looked at, and stays as it is
+-- the contents of the device were read, and are unchanged
 pub record LooksFor {T : Type 0} (result : Result T OpenError) (old new : Disk) : Type 0 where
   pub keeps : Keeps old new
   pub faults : new.faults ≡ faults_after result old.faults
@@ -54,7 +54,7 @@ pub record Refused {Y : Type 0} (e : PairError) (reading : Result Y PairRefusal)
   pub is : reading ≡ Err refusal
   pub told : e ≡ error_of refusal
 
--- A journal is scanned: it has this reading, or is refused so, unless the device failed or memory ran out.
+-- A journal is scanned: it has this reading, or this refusal, unless the device failed or memory was refused.
 abbrev pub ScansSo : Result Scan OpenError → Result (Reading Command) JournalRefusal → Type 0
 ScansSo (Ok scan) reading = reading ≡ Ok (reading_of scan)
 ScansSo (Err NotAStore) reading = ⊥
@@ -63,7 +63,7 @@ ScansSo (Err (Pair e)) reading = ⊥
 ScansSo (Err (Journal e)) reading = (e ≢ journal.NoMemory) × Refuses e reading
 ScansSo (Err NoMemory) reading = Unit {0}
 
--- A part of a pair of halves is read so, or is refused so, unless the device failed or memory ran out.
+-- A part of a pair of halves has this reading, or this refusal, unless the device failed or memory was refused.
 abbrev pub PairSo : {X Y : Type 0} → (X → Y) → Result X OpenError → Result Y PairRefusal → Type 0
 PairSo view (Ok x) reading = reading ≡ Ok (view x)
 PairSo view (Err NotAStore) reading = ⊥
@@ -72,7 +72,7 @@ PairSo view (Err (Pair e)) reading = (e ≢ pair.NoMemory) × Refused e reading
 PairSo view (Err (Journal e)) reading = ⊥
 PairSo view (Err NoMemory) reading = Unit {0}
 
--- what holds of a call that came to its end, or for which memory ran out on the way
+-- what holds for a call that came to its end, or for which memory was refused on the way
 abbrev pub OnOkOrNoMemory : {T : Type 0} → Result T OpenError → Type 0 → Type 0
 OnOkOrNoMemory (Ok x) P = P
 OnOkOrNoMemory (Err NotAStore) P = Unit {0}

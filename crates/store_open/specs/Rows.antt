@@ -1,4 +1,4 @@
--- What is read of the rows of a checkpoint.
+-- The reading of the rows of a checkpoint.
 use Rattle.std.specs.Prelude.{◌≡◌, ℕ, List, None, Result, Ok, Err}
 use Rattle.path_db.specs.RowRecord.{rows_decoding}
 use Rattle.ckpt_pair.specs.Rows.{as_counted}
@@ -6,7 +6,7 @@ use Rattle.ckpt_pair.specs.declared.error.PairError.TheVariants as pair
 use Rattle.store_open.specs.declared.error.OpenError.{OpenError}
 use Rattle.store_open.specs.declared.error.OpenError.TheVariants.{NotAStore, Device, Pair, Journal, NoMemory}
 
--- A reader was fed with all of these bytes, or they are no rows, however many they are to be.
+-- A reader was fed all of these bytes, or they are no rows, for any count.
 abbrev pub FeedsSo : List ℕ → Result (List ℕ) OpenError → Type 0
 FeedsSo bytes (Ok fed) = fed ≡ bytes
 FeedsSo bytes (Err NotAStore) = ⊥

@@ -1,4 +1,4 @@
--- What a half is read as whose journal a seal ends: its checkpoint, with the commands of that journal folded into the rows.
+-- The reading of a half whose journal ends with a seal: its checkpoint, with the commands of that journal folded into the rows.
 use Rattle.std.specs.Prelude.{◌≡◌, ℕ, Bool, true, false, List, Option, Some, None, Result, Ok, Err}
 use Rattle.path_rows.specs.Database.{RowView}
 use Rattle.path_rows.specs.declared.command.Command.{Command}
@@ -27,46 +27,46 @@ pub record SealedHalf : Type 0 where
   pub place : ℕ
   pub rows : List RowView
 
--- a journal folded into the rows of a checkpoint: none where no seal ends it
+-- a journal folded into the rows of a checkpoint; `None` where no seal ends it
 abbrev pub folded_by : Bool → Checkpoint (List RowView) → Reading Command → Option SealedHalf
 folded_by false checkpoint journal = None
 folded_by true checkpoint journal =
     Some (record { head = checkpoint.head; place = journal.place; rows = db_after store_format checkpoint.db journal.commands })
 
--- and none where the journal is refused
+-- and `None` where the journal is refused
 abbrev pub folded_behind : Checkpoint (List RowView) → Result (Reading Command) JournalRefusal → Option SealedHalf
 folded_behind checkpoint (Err refusal) = None
 folded_behind checkpoint (Ok journal) = folded_by journal.sealed checkpoint journal
 
--- or the area is
+-- or where the area is refused
 abbrev pub folded_in : Geometry → Half → List ℕ → Result (Checkpoint (List RowView)) PairRefusal → Option SealedHalf
 folded_in geometry half image (Err refusal) = None
 folded_in geometry half image (Ok checkpoint) =
     folded_behind checkpoint (journal_from store_format checkpoint geometry half image checkpoint.head.place)
 
--- what a half of an image is read as: none where its area is no checkpoint, or its journal is refused, or isn't sealed
+-- the reading of a half of an image; `None` where its area is no checkpoint, or its journal is refused, or isn't sealed
 abbrev pub sealed_half : Geometry → Half → List ℕ → Option SealedHalf
 sealed_half geometry half image = folded_in geometry half image (checkpoint_in rows_format latest (area_of geometry half image))
 
--- what was read, as such a half
+-- a half that was read, as such a reading
 abbrev pub sealed_view : Sealed → SealedHalf
 sealed_view sealed = record { head = head_view sealed.head; place = sealed.place; rows = sealed.db }
 
--- The half is read so, or isn't such a half, unless the device failed or memory ran out.
+-- The half has this reading, or isn't such a half, unless the device failed or memory was refused.
 abbrev pub ReadsSealed : Result Sealed SealedError → Option SealedHalf → Type 0
 ReadsSealed (Ok sealed) reading = reading ≡ Some (sealed_view sealed)
 ReadsSealed (Err Fault) reading = Unit {0}
 ReadsSealed (Err NoMemory) reading = Unit {0}
 ReadsSealed (Err Damaged) reading = reading ≡ None
 
--- a call of the device failed just where this is the error
+-- a call of the device failed exactly where this is the error
 abbrev pub faults_behind : {T : Type 0} → Result T SealedError → ℕ → ℕ
 faults_behind (Ok done) faults = faults
 faults_behind (Err Fault) faults = one_more faults
 faults_behind (Err NoMemory) faults = faults
 faults_behind (Err Damaged) faults = faults
 
--- what is on the device was looked at, and stays as it is
+-- the contents of the device were read, and are unchanged
 pub record LooksAtHalf {T : Type 0} (result : Result T SealedError) (old new : Disk) : Type 0 where
   pub keeps : Keeps old new
   pub faults : new.faults ≡ faults_behind result old.faults

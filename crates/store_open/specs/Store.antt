@@ -1,4 +1,4 @@
--- What contracts see of a store that was opened, and what its device holds.
+-- A store that was opened as contracts see it, and the contents of its device.
 use Rattle.std.specs.Prelude.{◌≡◌, ℕ, ◌+◌, ◌*◌, ◌^◌, ◌-◌, ◌<◌, ◌≤◌, min, Bool, true, false, List, [], Result, Ok, Err}
 use Rattle.path_rows.specs.Database.{RowView, rows_len}
 use Rattle.path_rows.specs.declared.command.Command.{Command}
@@ -16,9 +16,9 @@ use Rattle.store_open.specs.PathStores.{store_format, IsStoreOf}
 use Rattle.store_open.specs.declared.store_error.StoreError.{StoreError}
 use Rattle.store_open.specs.declared.store_error.StoreError.TheVariants.{Fault, Sealed, NoMemory, Exhausted, Unfit, Broken}
 
--- The device; the sizes; the half that is chosen, and its head; whether its journal is sealed, so that the tail goes on in the
+-- The device; the sizes; the half that is chosen, and its head; whether its journal is sealed, so that the tail is in the
 -- other half; the gate at which the last journal ends, in sectors from that journal's start; the place reached, and the rows;
--- the bytes of the rows that the chosen half stands for; and whether a checkpoint has failed.
+-- the bytes of the rows of the chosen half, up to the end of its journal; and whether a checkpoint has failed.
 pub record StoreView : Type 0 where
   pub disk : Disk
   pub geometry : Geometry
@@ -31,16 +31,16 @@ pub record StoreView : Type 0 where
   pub sealed_len : ℕ
   pub broken : Bool
 
--- the half in which the last journal is
+-- the half of the last journal
 abbrev pub half_of_tail : Half → Bool → Half
 half_of_tail chosen false = chosen
 half_of_tail chosen true = other chosen
 
--- bytes of rows, as they are counted
+-- the bytes of rows, capped at 2^64 - 1
 abbrev pub counted_len : List RowView → ℕ
 counted_len rows = min (rows_len rows) (2 ^ 64 - 1)
 
--- the store tells what an image opens with
+-- the store has what an image opens with
 pub record Tells (view : StoreView) (opening : Opening (List RowView) Command) : Type 0 where
   pub geometry : opening.geometry ≡ view.geometry
   pub chosen : opening.chosen ≡ view.chosen
@@ -50,8 +50,8 @@ pub record Tells (view : StoreView) (opening : Opening (List RowView) Command) :
   pub value : value_of store_format opening ≡ record { db = view.rows; place = view.place }
   pub sealed_len : counted_len (db_at_seal store_format opening) ≡ view.sealed_len
 
--- At rest nothing is dirty, whatever a stop leaves opens with what the store tells, and the half that isn't used is closed, and
--- so is its journal's first gate.
+-- At rest nothing is dirty, each image that a stop may leave opens with what the store has, and the half that isn't used is closed,
+-- and so is its journal's first gate.
 pub record IsAtRest (view : StoreView) : Type 0 where
   pub opening : Opening (List RowView) Command
   pub tells : Tells view opening
@@ -64,8 +64,8 @@ pub record OpensToStore (view : StoreView) (image : List ℕ) : Type 0 where
   pub opens : IsStoreOf view.rows view.place image
   pub since : view.head.version ≤ opens.opening.checkpoint.head.version
 
--- What an honest device holds of a store: it is at rest, unless a checkpoint has failed; and whatever a stop leaves opens to its
--- rows at its place.
+-- What an honest device has of a store: it is at rest, unless a checkpoint has failed; and each image that a stop may leave opens to
+-- the store's rows at its place.
 pub record IsSound (view : StoreView) : Type 0 where
   pub rest : view.broken ≡ false → IsAtRest view
   pub every : EveryImage view.disk.history.now (OpensToStore view)
@@ -74,7 +74,7 @@ pub record IsSound (view : StoreView) : Type 0 where
 abbrev pub HasNoRoomInArea : StoreView → Type 0
 HasNoRoomInArea view = 512 * view.geometry.checkpoint < 32 + rows_len view.rows
 
--- a store that may make a checkpoint: none has failed, no journal is sealed, an epoch is left, and the rows fit the area
+-- a store that may make a checkpoint: none has failed, no journal is sealed, a next epoch exists, and the rows fit the area
 pub record MayCheckpoint (view : StoreView) : Type 0 where
   pub whole : view.broken ≡ false
   pub unsealed : view.sealed ≡ false
@@ -91,8 +91,8 @@ checkpointed old disk = record old {
   sealed_len = counted_len old.rows;
 }
 
--- What a checkpoint at rest answers. Where it is refused without a call of the device nothing has changed; where the device
--- fails the store is broken for good.
+-- The result of a checkpoint at rest. Where it is refused without a call of the device, nothing has changed; where the device
+-- fails, the store is broken for good.
 abbrev pub Checkpoints : Result (Unit {0}) StoreError → StoreView → StoreView → Type 0
 Checkpoints (Ok done) old new =
     MayCheckpoint old × (new ≡ checkpointed old new.disk) × (new.disk.faults ≡ old.disk.faults) × (IsHonest old.disk → IsAtRest new)

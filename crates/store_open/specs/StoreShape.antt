@@ -1,4 +1,4 @@
--- What holds of a store whatever its device does.
+-- What holds for a store on any device.
 use Rattle.std.specs.Prelude.{◌≡◌, ℕ, ◌+◌, ◌≤◌, true, false}
 use Rattle.path_rows.specs.Database.{IsDatabase}
 use Rattle.sector_dev.specs.Disk.{IsHonest}
@@ -6,13 +6,13 @@ use Rattle.ckpt_pair.specs.Heads.{latest}
 use Rattle.store_open.specs.NewStore.{HasRoomFor}
 use Rattle.store_open.specs.Store.{StoreView, IsSound}
 
--- the last gate and a seal behind it are inside their journal, and the version is one that is known
+-- the last gate and a seal after it are inside their journal, and the version is known
 pub record IsWithin (journal last version : ℕ) : Type 0 where
   pub seal : last + 2 ≤ journal
   pub known : version ≤ latest
 
--- its rows are a database, its sizes are allowed and its device has room for them, what it tells is within these, its journal isn't
--- sealed where a checkpoint has failed, and an honest device holds it
+-- its rows are a database, its sizes are allowed and its device has room for them, its fields are within these sizes, its journal isn't
+-- sealed where a checkpoint has failed, and an honest device has its contents
 pub record IsStoreWhole (view : StoreView) : Type 0 where
   pub rows : IsDatabase view.rows
   pub room : HasRoomFor view.geometry view.disk

@@ -1,18 +1,18 @@
--- How one half takes over from the other on a device: three writes, with a sync behind each.
+-- How one half takes over from the other on a device: three writes, with a sync after each.
 use Rattle.std.specs.Prelude.{◌≡◌, ◌⊎◌, ℕ, ◌*◌, List, length, replicate}
 use Rattle.byte_lists.specs.Content.{overwrite}
 use Rattle.image_laws.specs.declared.half.Half.{Half}
 use Rattle.image_laws.specs.Layout.{Geometry, other, area_at, gate_at}
 use Rattle.byte_lists.specs.Sectors.{open_gate}
 
--- the content is the old one, but for any n bytes at an offset
+-- the content is the old one, except for any n bytes at an offset
 pub record IsTornAt (at n : ℕ) (old content : List ℕ) : Type 0 where
   pub torn : List ℕ
   pub size : length torn ≡ n
   pub is : content ≡ overwrite at torn old
 
 -- the other half's area is written; then its gate is open; and then the old half's gate is closed, and so is the first gate of
--- its journal, in the sector behind it
+-- its journal, in the next sector
 abbrev pub laid : Geometry → Half → List ℕ → List ℕ → List ℕ
 laid geometry half bytes image = overwrite (512 * area_at geometry (other half)) bytes image
 
@@ -22,7 +22,7 @@ switched geometry half bytes image = overwrite (512 * gate_at geometry (other ha
 abbrev pub taken : Geometry → Half → List ℕ → List ℕ → List ℕ
 taken geometry half bytes image = overwrite (512 * gate_at geometry half) (replicate 1024 0) (switched geometry half bytes image)
 
--- what a stop may leave meanwhile: one of the three writes is torn, and those before it are whole
+-- what a stop may leave in between: one of the three writes is torn, and those before it are whole
 abbrev pub IsTakingOver : Geometry → Half → List ℕ → List ℕ → List ℕ → Type 0
 IsTakingOver geometry half bytes image content =
     IsTornAt (512 * area_at geometry (other half)) (length bytes) image content

@@ -15,15 +15,15 @@ use path_db::written_rows_are_counted;
 use sector_dev::{Device, SECTOR};
 
 impl<D: Device> Store<D> {
-    /// Writes all rows to the other half, with the next epoch, in the version that is written, piece by piece; syncs, opens that
-    /// half, syncs, closes the old one and its journal in one write, and syncs. A store whose device fails meanwhile is broken for good.
+    /// Writes all rows to the other half, with the next epoch, in version `LATEST`, piece by piece; syncs, opens that
+    /// half, syncs, closes the old half and its journal in one write, and syncs. A store whose device fails in between is broken for good.
     pub fn checkpoint(&mut self) -> Result<(), StoreError>
         ensures answer { Checkpoints result self.old self.new }
 
-        // At every moment what a stop leaves opens to these rows at this place.
+        // At every moment each image that a stop may leave opens to these rows at this place.
         ensures any_moment { Stretch self.old.disk self.new.disk (OpensToStore self.old) }
 
-        // At every moment what stands behind the store is as it was.
+        // At every moment the bytes after the store are unchanged.
         ensures behind { Stretch self.old.disk self.new.disk (IsFromImage self.old.disk.history.now (SameBehind self.old.geometry)) }
     {
         written_rows_are_counted();

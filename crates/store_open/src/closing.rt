@@ -16,8 +16,8 @@ use byte_lists::is_open;
 use image_laws::{Geometry, Half};
 use sector_dev::{DevError, Device, SECTOR};
 
-/// Closes what of a half's two gates reads open: both in one write where the half gate does, and else the journal's first gate
-/// alone. Nothing may be dirty.
+/// Closes those of a half's two gates that read open: both in one write where the half gate does, and else the journal's first gate
+/// alone. Nothing may be dirty before the call.
 pub(crate) fn close_half<D: Device>(
     device: &mut D,
     geometry: Geometry,
@@ -27,7 +27,7 @@ pub(crate) fn close_half<D: Device>(
     requires room { image_sectors (geometry_view geometry) ≤ (D.disk device.old).sectors }
     requires clean { IsHonest (D.disk device.old) → (D.disk device.old).history.now.dirty ≡ [] }
 
-    // At every moment all but these gates is as it was, and a half gate that is closed too.
+    // At every moment all but these gates is unchanged, and a half gate that is closed is unchanged too.
     ensures any_moment { Stretch (D.disk device.old) (D.disk device.new) (IsClosing (geometry_view geometry) half (reads_of (D.disk device.old))) }
 
     ensures closed { OnOk result (IsHonest (D.disk device.old) → HasClosedGates (geometry_view geometry) half (reads_of (D.disk device.new))) }
@@ -36,7 +36,7 @@ pub(crate) fn close_half<D: Device>(
     ensures unwritten { IsHonest (D.disk device.old) → HasClosedGates (geometry_view geometry) half (reads_of (D.disk device.old))
         → (D.disk device.new).history ≡ (D.disk device.old).history }
 
-    // It fails only where the device does.
+    // The call fails only where the device does.
     ensures faults { (D.disk device.new).faults ≡ count_after result (D.disk device.old).faults }
 {
     let gate = geometry.gate_at(half);
@@ -49,7 +49,8 @@ pub(crate) fn close_half<D: Device>(
     Ok(())
 }
 
-/// Closes what of the half that isn't chosen reads open, unless the tail is in it behind a seal, and syncs. Nothing may be dirty.
+/// Closes the gates that read open of the half that isn't chosen, unless this half has the tail, after a seal, and syncs. Nothing may be
+/// dirty before the call.
 pub(crate) fn close_unused<D: Device>(
     device: &mut D,
     geometry: Geometry,

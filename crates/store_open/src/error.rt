@@ -10,22 +10,22 @@ use sector_dev::DevError;
 use std::alloc::{AllocError, AllocFailed};
 use thiserror::Error;
 
-/// Why a device isn't opened. They are numbered from 1 in this order.
+/// Why a device isn't opened. The variants are numbered from 1 in this order.
 #[derive(Clone, Copy, Debug, PartialEq, Eq, Error)]
 pub enum OpenError {
-    /// The device is too small for a store, or its sector 0 is none of a store.
+    /// The device is too small for a store, or its sector 0 is not that of a store.
     #[error("the device is no store")]
     NotAStore,
-    /// The device failed. It says nothing of the store.
+    /// A call of the device failed. The store may be valid or not.
     #[error("the device failed")]
     Device,
-    /// The halves are refused. Want of memory is never here.
+    /// The halves are refused. `NoMemory` never occurs here.
     #[error("{}", *.0)]
     Pair(PairError),
-    /// A journal is refused. Want of memory is never here.
+    /// A journal is refused. `NoMemory` never occurs here.
     #[error("{}", *.0)]
     Journal(JournalError),
-    /// Memory ran out. It says nothing of the store.
+    /// Memory was refused. The store may be valid or not.
     #[error("out of memory")]
     NoMemory,
 }
@@ -33,7 +33,7 @@ pub enum OpenError {
 impl OpenError {
     ghost use Rattle.store_open.specs.ErrorNumbers.{number_of};
 
-    /// Its number.
+    /// The number of the error.
     pub fn number(self) -> u8
         ensures { result ≡ number_of self }
     {

@@ -17,7 +17,8 @@ use byte_lists::{read_u32, read_u64};
 use image_laws::Geometry;
 use sector_dev::{DevError, Device, SECTOR};
 
-/// The sizes of the store on a device, in sector 0: none where what reads give is no store. The device stays as it is.
+/// The sizes of the store on a device, from its sector 0; `None` where the bytes that reads return are no store. The device is
+/// unchanged.
 pub fn read_geometry<D: Device>(device: &mut D) -> Result<Option<Geometry>, DevError>
     ensures keeps { Keeps (D.disk device.old) (D.disk device.new) }
     ensures faults { (D.disk device.new).faults ≡ count_after result (D.disk device.old).faults }
@@ -34,7 +35,7 @@ pub fn read_geometry<D: Device>(device: &mut D) -> Result<Option<Geometry>, DevE
     Ok(geometry_of(&sector, sectors))
 }
 
-/// The sizes that sector 0 tells, where it is that of a store that so many sectors have room for.
+/// The sizes in sector 0, where it is that of a store for which this number of sectors is enough.
 fn geometry_of(sector: &[u8], sectors: u64) -> Option<Geometry>
     requires { length sector.now ≡ 512 }
     ensures room { IfSome result (λ geometry. IsGeometry (geometry_view geometry) × (image_sectors (geometry_view geometry) ≤ sectors)) }
@@ -53,7 +54,7 @@ fn geometry_of(sector: &[u8], sectors: u64) -> Option<Geometry>
     Some(geometry)
 }
 
-/// Whether the name and the number of the layout stand there.
+/// Whether the name and the number of the layout are at the front.
 fn is_named(sector: &[u8]) -> bool
     requires { length sector.now ≡ 512 }
     ensures { IsTrue result ↔ ((eight_at 0 sector.now ≡ store_magic) × (four_at 8 sector.now ≡ layout_number)) }

@@ -8,7 +8,7 @@ ghost use Rattle.store_open.specs.PathStores.{store_format};
 use path_db::{Command, PathDb};
 use std::alloc::AllocError;
 
-/// Applies commands one after the other. Where memory runs out some of them may be applied.
+/// Applies commands one after the other. Where memory is refused, some of them may be applied.
 pub(crate) fn fold(db: &mut PathDb, commands: &[Command]) -> Result<(), AllocError>
     requires { IsDatabase db.old }
     ensures folded { OnOk result (db.new ≡ db_after store_format db.old commands.now) }

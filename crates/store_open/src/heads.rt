@@ -17,7 +17,7 @@ use ckpt_pair::{Head, Heads, choose, read_head};
 use image_laws::{Geometry, Half};
 use sector_dev::Device;
 
-/// The head of a half: none where its gate reads closed, and then its area isn't read. It takes no memory.
+/// The head of a half; `None` where its gate reads closed, and then its area isn't read. The call takes no memory.
 pub(crate) fn head_at<D: Device>(
     device: &mut D,
     geometry: Geometry,
@@ -37,7 +37,7 @@ pub(crate) fn head_at<D: Device>(
     Ok(read_head(&gate, &area)?)
 }
 
-/// The half that is chosen, with both heads. The first half's head is judged before the second's.
+/// The half that is chosen, with both heads. The first half's head is checked before the second's.
 pub(crate) fn choose_half<D: Device>(
     device: &mut D,
     geometry: Geometry,

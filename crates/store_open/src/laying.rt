@@ -1,4 +1,4 @@
-//! A checkpoint is laid in its area, piece by piece.
+//! Writing a checkpoint to its area, piece by piece.
 
 ghost use Rattle.std.specs.Prelude.{◌≡◌, ◌≤◌, ◌<◌, ◌+◌, ◌-◌, ◌*◌, ◌∷◌, ◌++◌, [], length, take, OnOk, IfOk};
 ghost use Rattle.std.specs.Option.{option_map, ForSome};
@@ -20,17 +20,17 @@ use ckpt_pair::BEFORE_ROWS;
 use path_db::{PathDb, ROW_HEAD, Row, Rows, row_head};
 use sector_dev::{DevError, Device, SECTOR};
 
-/// The bytes that are written at once.
+/// The bytes of one write.
 const PIECE: usize = 131_072;
 
-/// The sectors that are written at once.
+/// The sectors of one write.
 const PIECE_SECTORS: u64 = 256;
 
-/// The bytes of the buffer: those of a piece, and of the seven greatest rows, in whole sectors.
+/// The length of the buffer in bytes: a piece and the seven greatest rows, in whole sectors.
 pub(crate) const BUFFER: usize = 246_272;
 
-/// Writes what a checkpoint begins with and its rows from a sector on, filled with zeros to whole sectors, piece by piece from one
-/// buffer; then syncs. Nothing may be dirty.
+/// Writes the front of a checkpoint and its rows from a sector on, padded with zeros to whole sectors, piece by piece from one
+/// buffer; then syncs. Nothing may be dirty before the call.
 pub(crate) fn lay<D: Device>(
     device: &mut D,
     at: u64,
@@ -42,7 +42,7 @@ pub(crate) fn lay<D: Device>(
     requires buffer { length buffer.old ≡ BUFFER }
     requires clean { IsHonest (D.disk device.old) → (D.disk device.old).history.now.dirty ≡ [] }
 
-    // At every moment all but these sectors is as it was.
+    // At every moment all but these sectors is unchanged.
     ensures any_moment { Stretch (D.disk device.old) (D.disk device.new)
         (IsTornAt (512 * at) (length (padded (head.now ++ rows_encoding db.now))) (reads_of (D.disk device.old))) }
 
@@ -50,7 +50,7 @@ pub(crate) fn lay<D: Device>(
     ensures written { OnOk result (IsHonest (D.disk device.old)
         → reads_of (D.disk device.new) ≡ overwrite (512 * at) (padded (head.now ++ rows_encoding db.now)) (reads_of (D.disk device.old))) }
 
-    // It fails only where the device does.
+    // The call fails only where the device does.
     ensures faults { (D.disk device.new).faults ≡ count_after result (D.disk device.old).faults }
 {
     put(buffer, 0, head);
@@ -59,8 +59,8 @@ pub(crate) fn lay<D: Device>(
     device.sync()
 }
 
-/// Writes what is used of the buffer, and rows behind it, in whole pieces. Tells at which sector the rest is to stand, and how many
-/// bytes of the buffer it is.
+/// Writes the used part of the buffer, and rows after it, in whole pieces. Returns the sector from which the rest has to be written,
+/// and how many bytes of the buffer the rest has.
 fn pour<D: Device>(
     device: &mut D,
     at: u64,
@@ -94,7 +94,7 @@ fn pour<D: Device>(
     Ok((sector, used))
 }
 
-/// Writes the piece at the front of the buffer, and moves what is used behind it to the front.
+/// Writes the piece at the front of the buffer, and moves the used bytes after it to the front.
 fn write_piece<D: Device>(
     device: &mut D,
     sector: u64,
@@ -113,7 +113,7 @@ fn write_piece<D: Device>(
     Ok(())
 }
 
-/// Writes what is used of the buffer, filled with zeros to whole sectors.
+/// Writes the used part of the buffer, padded with zeros to whole sectors.
 fn write_rest<D: Device>(
     device: &mut D,
     sector: u64,
@@ -130,8 +130,8 @@ fn write_rest<D: Device>(
     device.write(sector, &buffer[..end])
 }
 
-/// Puts the records of a row and of the next six behind what is used of the buffer, and tells how much of it is used then. They are
-/// looked at together, before any is copied: so the memory of each is waited for beside that of the others.
+/// Puts the records of a row and of the next six after the used part of the buffer, and returns the length of the used part then. All
+/// seven are read before any is copied, so that the processor waits for their memory at the same time.
 fn put_seven(buffer: &mut [u8], used: usize, first: &Row, rows: &mut Rows<'_>) -> usize
     requires buffer { length buffer.old ≡ BUFFER }
     requires used { used < PIECE }
@@ -168,7 +168,7 @@ fn next_seen<'a>(rows: &mut Rows<'a>) -> Option<(&'a Row, &'a [u8])>
     }
 }
 
-/// Puts the record of a row, where there is one, behind what is used of the buffer, and tells how much of it is used then.
+/// Puts the record of a row, where there is one, after the used part of the buffer, and returns the length of the used part then.
 fn put_seen(buffer: &mut [u8], used: usize, seen: Option<(&Row, &[u8])>) -> usize
     requires room { used + 16389 ≤ length buffer.old }
     requires seen { ForSome seen (λ seen. seen.1.now ≡ segment_encoding seen.0.now.segment) }
@@ -182,7 +182,7 @@ fn put_seen(buffer: &mut [u8], used: usize, seen: Option<(&Row, &[u8])>) -> usiz
     }
 }
 
-/// Puts the record of a row behind what is used of the buffer, and tells how much of it is used then.
+/// Puts the record of a row after the used part of the buffer, and returns the length of the used part then.
 fn put_row(buffer: &mut [u8], used: usize, row: &Row, encoding: &[u8]) -> usize
     requires room { used + 16389 ≤ length buffer.old }
     requires encoding { encoding.now ≡ segment_encoding row.now.segment }

@@ -24,18 +24,18 @@ pub enum FormatError {
     /// The device has fewer sectors than a store of these sizes takes.
     #[error("the device is too small")]
     TooSmall,
-    /// The device failed. What is on it may be no store: it is to be formatted again.
+    /// A call of the device failed. The device may have no store, and has to be formatted again.
     #[error("the device failed")]
     Fault,
 }
 
-/// Makes a store of these sizes, with no rows and at place 0, of whatever stood on the device. It takes no memory.
+/// Makes a store of these sizes, without rows and at place 0, whatever was on the device before. The call takes no memory.
 #[tactic(auto, using(crate::proofs::Behind::kept_here))]
 pub fn format<D: Device>(device: &mut D, geometry: Geometry) -> Result<(), FormatError>
     ensures keeps { Keeps (D.disk device.old) (D.disk device.new) }
     ensures answer { Formats (geometry_view geometry) result (D.disk device.old) (D.disk device.new) }
 
-    // At every moment what stands behind the store is as it was.
+    // At every moment the bytes after the store are unchanged.
     ensures behind { Stretch (D.disk device.old) (D.disk device.new)
         (IsFromImage (D.disk device.old).history.now (SameBehind (geometry_view geometry))) }
 {

@@ -20,21 +20,21 @@ use gate_journal::JournalError;
 use sector_dev::Device;
 use std::alloc::Global;
 
-/// Opens a device that holds a store, after any stop: syncs, reads what the image opens with, folds it, closes what of the half
-/// that isn't used reads open, and syncs. No more of the device is read than counts, in pieces of at most 1 MiB. A device that
-/// isn't opened comes back.
+/// Opens a device with a store, after any stop: syncs, reads what the image opens with, folds it, closes the gates that read open of
+/// the half that isn't used, and syncs. Only the parts of the device that count are read, in pieces of at most 1 MiB. A device that
+/// isn't opened is returned with the error.
 pub fn open<D: Device>(alloc: Global, device: D) -> Result<Store<D>, (D, OpenError)>
     ensures opened { IfOk result (λ store. IsHonest (D.disk device) → IsOpened (reads_of (D.disk device)) store) }
     ensures faults { IfOk result (λ store. store.disk.faults ≡ (D.disk device).faults) }
     ensures whole { IfOk result (λ store. store.broken ≡ false) }
     ensures refused { IfErr result (λ back. ComesBack back.1 (D.disk device) (D.disk back.0)) }
 
-    // Nothing is written where nothing is to be closed, and nothing before a refusal that isn't the device's.
+    // Nothing is written where no gate has to be closed, nor before a refusal that isn't the device's.
     ensures unwritten { IsHonest (D.disk device) → HasNothingToClose (reads_of (D.disk device))
         → OnlySyncs result (D.disk device).history (disk_after D.disk result).history }
     ensures untouched { IfErr result (λ back. IsHonest (D.disk device) → IsNoFault back.1 → (D.disk back.0).history ≡ after_sync (D.disk device).history) }
 
-    // At every moment what a stop leaves is an image of the start, or opens with what one of the start opens with.
+    // At every moment each image that a stop may leave is an image of the start, or opens with what an image of the start opens with.
     ensures any_moment { Stretch (D.disk device) (disk_after D.disk result) (IsFromImage (D.disk device).history.now OpensAlike) }
 {
     let mut device = device;
@@ -60,7 +60,7 @@ pub fn open<D: Device>(alloc: Global, device: D) -> Result<Store<D>, (D, OpenErr
     })
 }
 
-/// Syncs, so that what a stop leaves is what reads give, and brings that to rest.
+/// Syncs, so that a stop leaves the bytes that reads return, and brings the device to rest.
 fn settle<D: Device>(alloc: Global, device: &mut D) -> Result<Folded, OpenError>
     ensures opened { IfOk result (λ folded. IsHonest (D.disk device.old) →
         IsOpened (reads_of (D.disk device.old)) (store_on (D.disk device.new) folded)) }

@@ -1,4 +1,4 @@
-//! What is found on a device that is to be opened.
+//! What is found on a device when it is opened.
 
 ghost use Rattle.std.specs.Prelude.{◌≡◌, None, Ok, IfOk};
 ghost use Rattle.path_rows.specs.Database.{IsDatabase};
@@ -29,8 +29,8 @@ use image_laws::{Geometry, Half};
 use sector_dev::Device;
 use std::alloc::Global;
 
-/// What is found: the sizes, the half that is chosen, its checkpoint and its journal, and where that is sealed the journal that
-/// goes on in the other half.
+/// What is found: the sizes, the half that is chosen, its checkpoint and its journal, and where that is sealed the journal of the
+/// other half, which continues it.
 #[derive(Drop)]
 pub(crate) struct Found {
     pub(crate) geometry: Geometry,
@@ -52,7 +52,7 @@ pub(crate) fn read_opening<D: Device>(alloc: Global, device: &mut D) -> Result<F
     read_sized(alloc, device, found)
 }
 
-/// Reads what an image opens with in which these sizes were found.
+/// Reads what an image opens with, given the sizes that were found.
 fn read_sized<D: Device>(
     alloc: Global,
     device: &mut D,
@@ -92,7 +92,7 @@ fn read_store<D: Device>(
     read_journals(alloc, device, geometry, choice, checkpoint)
 }
 
-/// Reads the journals behind the checkpoint of the half that is chosen.
+/// Reads the journals after the checkpoint of the half that is chosen.
 fn read_journals<D: Device>(
     alloc: Global,
     device: &mut D,
@@ -128,7 +128,8 @@ fn read_journals<D: Device>(
     })
 }
 
-/// Reads the journal that goes on in the other half: none where the chosen half's isn't sealed. It is not to be sealed too.
+/// Reads the journal of the other half that continues the chosen half's; `None` where the chosen half's isn't sealed. A second seal is
+/// refused.
 fn read_tail<D: Device>(
     alloc: Global,
     device: &mut D,

@@ -34,10 +34,10 @@ pub enum SealedError {
     /// The device failed.
     #[error("the device failed")]
     Fault,
-    /// Memory ran out.
+    /// Memory was refused.
     #[error("out of memory")]
     NoMemory,
-    /// The half is no checkpoint behind which a journal ends with a seal.
+    /// The half is not a checkpoint with a journal that ends with a seal.
     #[error("the half is damaged")]
     Damaged,
 }
@@ -62,8 +62,8 @@ impl From<AllocError> for SealedError {
     }
 }
 
-/// Reads a half whose journal is sealed, and folds that journal into the rows of its checkpoint. Nothing is written, and no more
-/// is read than counts. The half's gate isn't read.
+/// Reads a half whose journal is sealed, and folds that journal into the rows of its checkpoint. Nothing is written, and only the parts
+/// that count are read. The half's gate isn't read.
 pub fn read_sealed<D: Device>(
     alloc: Global,
     device: &mut D,

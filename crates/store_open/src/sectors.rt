@@ -11,13 +11,13 @@ use ckpt_pair::{CHECKPOINT_MAGIC, LATEST};
 use image_laws::Geometry;
 use sector_dev::SECTOR;
 
-/// The eight letters SCPATHDB, as one number.
+/// The eight letters SCPATHDB as one big-endian number.
 pub(crate) const STORE_MAGIC: u64 = 0x5343504154484442;
 
 /// The number of the layout.
 pub(crate) const LAYOUT: u32 = 1;
 
-/// Sector 0: the name and the number of the layout, and the sizes, big-endian.
+/// Sector 0: the name (8 bytes) and the number of the layout (4), and the two sizes (4 each), big-endian.
 pub(crate) fn first_sector(geometry: Geometry) -> [u8; 512]
     ensures { result ≡ laws.first_sector (geometry_view geometry) }
 {

@@ -72,7 +72,7 @@ impl<D: Device> Store<D> {
         &self.db
     }
 
-    /// How many commands have made these rows.
+    /// The number of commands that have made these rows.
     pub fn place(&self) -> u64
         ensures { result ≡ self.now.place }
     {
@@ -86,7 +86,7 @@ impl<D: Device> Store<D> {
         self.head.epoch
     }
 
-    /// The version of the format that counts: that of the half that is chosen.
+    /// The version of the format of the half that is chosen.
     pub fn version(&self) -> u32
         ensures version { result ≡ self.now.head.version }
         ensures sound { IsStoreWhole self.now }
@@ -94,21 +94,21 @@ impl<D: Device> Store<D> {
         self.head.version
     }
 
-    /// The sizes of both halves.
+    /// The sizes of both halves, in sectors.
     pub fn geometry(&self) -> Geometry
         ensures { geometry_view result ≡ self.now.geometry }
     {
         self.geometry
     }
 
-    /// Whether the chosen half's journal is sealed, and waits for its checkpoint.
+    /// Whether the chosen half's journal is sealed, so that the half waits for its checkpoint.
     pub fn is_sealed(&self) -> bool
         ensures { result ≡ self.now.sealed }
     {
         self.sealed
     }
 
-    /// The half in which the last journal is: the chosen one, and behind a seal the other one.
+    /// The half of the last journal: the chosen one, or the other one after a seal.
     pub fn tail_half(&self) -> Half
         ensures { result ≡ half_of_tail self.now.chosen self.now.sealed }
     {
@@ -118,15 +118,15 @@ impl<D: Device> Store<D> {
         self.chosen
     }
 
-    /// The gate at which that journal ends, in sectors from its start.
+    /// The gate at which the last journal ends, in sectors from its start.
     pub fn tail_gate(&self) -> u64
         ensures { result ≡ self.now.gate }
     {
         self.gate
     }
 
-    /// The bytes, as records, of the rows that the chosen half stands for, up to the end of its journal. A greater count is
-    /// told as 2^64 - 1.
+    /// The bytes of the chosen half's rows as records, up to the end of its journal. The result is 2^64 - 1 for a greater
+    /// count.
     pub fn sealed_len(&self) -> u64
         ensures { result ≡ self.now.sealed_len }
     {

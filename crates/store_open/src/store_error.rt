@@ -2,17 +2,17 @@
 
 use thiserror::Error;
 
-/// Why no checkpoint is made at rest. The first that holds is answered, in this order: `Broken`, `Sealed`, `Exhausted`,
+/// Why no checkpoint is made at rest. The error is the first that applies, in this order: `Broken`, `Sealed`, `Exhausted`,
 /// `Unfit`, and then `Fault` or `NoMemory`.
 #[derive(Clone, Copy, Debug, PartialEq, Eq, Error)]
 pub enum StoreError {
-    /// The device failed. The store is broken for good: its device is to be opened again.
+    /// A call of the device failed. The store is broken for good: its device has to be opened again.
     #[error("the device failed")]
     Fault = 1,
-    /// The journal is sealed: only a checkpointer at work folds it.
+    /// The journal is sealed: only a checkpointer at work folds a sealed journal.
     #[error("the journal is sealed")]
     Sealed = 2,
-    /// Memory ran out, and nothing was written.
+    /// Memory was refused, and nothing was written.
     #[error("out of memory")]
     NoMemory = 3,
     /// The epoch is 2^64 - 1.

@@ -18,8 +18,8 @@ use image_laws::{Geometry, Half};
 use path_db::PathDb;
 use sector_dev::{DevError, Device, SECTOR};
 
-/// Lays a checkpoint in the other half's area, opens that half, and closes the old one and its journal in one write. Each of the
-/// three is synced before the next one. Nothing may be dirty.
+/// Writes a checkpoint to the other half's area, opens that half, and closes the old half and its journal in one write. Each of the
+/// three writes is synced before the next one. Nothing may be dirty before the call.
 pub(crate) fn take_over<D: Device>(
     device: &mut D,
     geometry: Geometry,
@@ -34,7 +34,7 @@ pub(crate) fn take_over<D: Device>(
     requires buffer { length buffer.old ≡ BUFFER }
     requires clean { IsHonest (D.disk device.old) → (D.disk device.old).history.now.dirty ≡ [] }
 
-    // At every moment one of the three may be torn, and those before it are whole.
+    // At every moment one of the three writes may be torn, and those before it are whole.
     ensures any_moment { Stretch (D.disk device.old) (D.disk device.new)
         (IsTakingOver (geometry_view geometry) half (padded (head.now ++ rows_encoding db.now)) (reads_of (D.disk device.old))) }
 
@@ -42,7 +42,7 @@ pub(crate) fn take_over<D: Device>(
     ensures taken { OnOk result (IsHonest (D.disk device.old)
         → reads_of (D.disk device.new) ≡ taken (geometry_view geometry) half (padded (head.now ++ rows_encoding db.now)) (reads_of (D.disk device.old))) }
 
-    // It fails only where the device does.
+    // The call fails only where the device does.
     ensures faults { (D.disk device.new).faults ≡ count_after result (D.disk device.old).faults }
 {
     let new = half.other();
@@ -51,13 +51,13 @@ pub(crate) fn take_over<D: Device>(
     write_through(device, geometry.gate_at(half), &[0; 2 * SECTOR])
 }
 
-/// Writes whole sectors, and syncs. Nothing may be dirty.
+/// Writes whole sectors, and syncs. Nothing may be dirty before the call.
 fn write_through<D: Device>(device: &mut D, at: u64, bytes: &[u8]) -> Result<(), DevError>
     requires whole { length bytes.now % 512 ≡ 0 }
     requires inside { 512 * at + length bytes.now ≤ 512 * (D.disk device.old).sectors }
     requires clean { IsHonest (D.disk device.old) → (D.disk device.old).history.now.dirty ≡ [] }
 
-    // At every moment all but these sectors is as it was.
+    // At every moment all but these sectors is unchanged.
     ensures any_moment { Stretch (D.disk device.old) (D.disk device.new)
         (IsTornAt (512 * at) (length bytes.now) (reads_of (D.disk device.old))) }
 
@@ -65,7 +65,7 @@ fn write_through<D: Device>(device: &mut D, at: u64, bytes: &[u8]) -> Result<(),
     ensures written { OnOk result (IsHonest (D.disk device.old)
         → reads_of (D.disk device.new) ≡ overwrite (512 * at) bytes.now (reads_of (D.disk device.old))) }
 
-    // It fails only where the device does.
+    // The call fails only where the device does.
     ensures faults { (D.disk device.new).faults ≡ count_after result (D.disk device.old).faults }
 {
     device.write(at, bytes)?;

@@ -1,4 +1,4 @@
--- Each way out: a look or two, and a write.
+-- Each way out: one read or two, and a write.
 use Rattle.std.proofs.Common.{ℕ, ◌+◌, ◌∙◌, arith, refl, ap}
 use Rattle.sector_dev.specs.Disk.{History}
 use Rattle.sector_dev.proofs.Stretches.{keeps_then, honest_after}

@@ -1,4 +1,4 @@
--- Each way out: nothing is closed behind a seal, or the gates are, and then a sync.
+-- Each way out: after a seal nothing is closed, or else the gates are; and then a sync.
 use Rattle.std.proofs.Common.{◌∙◌, sym, ap, Result}
 use Rattle.std.proofs.lemmas.Result.{err_from_is_err_and}
 use Rattle.sector_dev.specs.declared.device.DevError.{DevError}

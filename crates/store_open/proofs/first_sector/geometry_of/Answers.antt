@@ -1,4 +1,4 @@
--- The sizes that stand there.
+-- The sizes at their offsets in sector 0.
 use Rattle.std.proofs.Common.{arith, refl}
 use Rattle.store_open.proofs.FirstSectors.{geometry_told}
 use Rattle.store_open.proofs.first_sector.geometry_of.Goals as goal

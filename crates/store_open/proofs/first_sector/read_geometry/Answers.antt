@@ -1,4 +1,4 @@
--- What sector 0 tells is what the image has.
+-- The sizes in sector 0 are those of the image.
 use Rattle.std.proofs.Common.{◌≡◌, ℕ, length, sym, ◌∙◌, ap, arith}
 use Rattle.byte_lists.specs.Content.{part}
 use Rattle.sector_dev.specs.Disk.{reads_of}

@@ -1,4 +1,4 @@
--- The head behind an open gate.
+-- The head of a half with an open gate.
 use Rattle.std.proofs.Common.{◌≡◌, ◌∙◌, ap, subst, sym, Result, Err, Option}
 use Rattle.std.proofs.lemmas.Result.{err_from_is_err_and}
 use Rattle.sector_dev.specs.Disk.{History, reads_of}

@@ -1,4 +1,4 @@
--- Nothing is written at first, and each piece goes on.
+-- Nothing is written at first, and each piece is written after those before it.
 use Rattle.std.proofs.Common.{rules, ◌≡◌, ◌∷◌, ◌++◌, take, ◌∙◌, arith}
 use Rattle.std.proofs.lemmas.List.{length-take-le}
 use Rattle.path_rows.specs.Row.{row_view}

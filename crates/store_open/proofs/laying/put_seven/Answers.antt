@@ -1,4 +1,4 @@
--- Each of the seven stands behind those before it.
+-- Each of the seven records is after those before it.
 use Rattle.std.proofs.Common.{◌∙◌}
 use Rattle.std.proofs.lemmas.List.Concat.{flat_map-cons}
 use Rattle.path_rows.specs.Row.{row_view}

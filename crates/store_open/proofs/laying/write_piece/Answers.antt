@@ -1,4 +1,4 @@
--- The front of the buffer is one piece, and what is behind it comes to the front.
+-- The front of the buffer is one piece, and the bytes after it are moved to the front.
 use Rattle.std.proofs.Common.{sym, arith}
 use Rattle.std.proofs.lemmas.List.{length-take-le}
 use Rattle.store_open.proofs.Pouring.{moved_behind}

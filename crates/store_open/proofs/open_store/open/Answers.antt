@@ -1,4 +1,4 @@
--- A store that was opened is whole, and an honest device tells what is within its bounds.
+-- A store that was opened is whole, and on an honest device it is within its bounds.
 use Rattle.std.proofs.Common.{◌≡◌, true, false, arith}
 use Rattle.sector_dev.specs.Disk.{reads_of}
 use Rattle.sector_dev.proofs.Stretches.{honest_before}

@@ -1,4 +1,4 @@
--- The chosen half's journal, and the one that goes on behind it.
+-- The chosen half's journal, and the journal that continues it.
 use Rattle.std.proofs.Common.{◌≡◌, refl, sym, ◌∙◌, ap, subst, Result, Ok, Err, None}
 use Rattle.std.proofs.lemmas.Result.{err_from_is_err_and}
 use Rattle.byte_lists.specs.Sectors.{is_open_gate}

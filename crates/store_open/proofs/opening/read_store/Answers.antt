@@ -1,4 +1,4 @@
--- The half that is chosen, its checkpoint, and what stands behind it.
+-- The half that is chosen, its checkpoint, and its journals.
 use Rattle.std.proofs.Common.{◌≡◌, ◌*◌, IsOk, refl, sym, ◌∙◌, ap, subst, List, Result, Ok, Err}
 use Rattle.std.proofs.lemmas.Result.{err_from_is_err_and}
 use Rattle.path_rows.specs.Database.{RowView}

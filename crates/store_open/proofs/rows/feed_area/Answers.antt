@@ -1,4 +1,4 @@
--- A piece more, and rows that are refused.
+-- One more piece, and rows that are refused.
 use Rattle.std.proofs.Common.{◌≡◌, ◌+◌, ◌-◌, ◌*◌, ◌/◌, ◌∙◌, ap, subst, sym, arith, Err}
 use Rattle.std.proofs.lemmas.Result.{err_from_is_err_and}
 use Rattle.byte_lists.specs.Content.{part}

@@ -5,7 +5,7 @@ use Rattle.sector_dev.specs.Disk.{IsHonest, reads_of}
 use Rattle.sector_dev.specs.Calls.{Keeps}
 use Rattle.store_open.proofs.rows.feed_area.Given as goal
 
--- The device is as it was, and the reader was fed with the bytes up to here.
+-- The device is unchanged, and the reader was fed the bytes up to here.
 abbrev pub invariant-pieces : goal.invariant-pieces
 invariant-pieces g l = record {
   keeps : Keeps (g.D.Device.disk l.fn.device) (g.D.Device.disk l.device);

@@ -1,4 +1,4 @@
--- A piece more, the end, and a refusal.
+-- One more piece, the end, and a refusal.
 use Rattle.std.proofs.Common.{◌≡◌, ◌∙◌, ap, subst, sym, arith, Ok, Err, Result}
 use Rattle.std.proofs.lemmas.Result.{err_from_is_err_and}
 use Rattle.byte_lists.proofs.Contents.{bytes-part}

@@ -7,7 +7,7 @@ use Rattle.gate_journal.specs.Scanning.{pieces_left, IsReadUpTo}
 use Rattle.image_laws.specs.Geometry.{geometry_view}
 use Rattle.store_open.proofs.scanning.scan_journal.Given as goal
 
--- The device is as it was, and the journal is read up to the scanner's gate, by the version.
+-- The device is unchanged, and the journal is read up to the scanner's gate, by the version.
 abbrev pub invariant-pieces : goal.invariant-pieces
 invariant-pieces g l = record {
   keeps : Keeps (g.D.Device.disk l.fn.device) (g.D.Device.disk l.device);

@@ -1,4 +1,4 @@
--- The four numbers, each behind the other.
+-- The four numbers, one after the other.
 use Rattle.std.proofs.Common.{◌∙◌, replicate}
 use Rattle.byte_lists.specs.Content.{overwrite}
 use Rattle.store_open.proofs.sectors.first_sector.Goals as goal
