@@ -26,7 +26,7 @@ module _ (old new : StateView) where
   so : {view : StateView} → new ≡ view → bookkeeping_of new ≡ bookkeeping_of view
   so is = ap bookkeeping_of is
 
-  -- the events that do no more to the books than a refusal may
+  -- the events that change the books no more than a refusal may
   flushed : (from to failed : Flush) (r : Reply) → FlushEvent from to failed r old new → bookkeeping_of new ≡ stopped_by r (bookkeeping_of old)
   flushed from to failed reply.Done step = so step.3
   flushed from to failed (reply.StepRefused why.Stopped) step = so step.2
@@ -58,7 +58,7 @@ module _ (old new : StateView) where
   looked_up query now reply.AnswerRefused step = so step.1
   looked_up query now _ step = absurd step
 
-  -- those that do more
+  -- the events that change more
   abbrev Keeps : Event → Reply → Type 0
   Keeps e r = KeepsBooks e r (machine_of old) (bookkeeping_of old) (bookkeeping_of new)
 
@@ -130,7 +130,7 @@ books_kept event.SyncClose r old new step = checked old.state new.state _ (half_
 books_kept (event.Lookup query now) r old new step = looked_up old.state new.state query now r step.1
 books_kept event.Halt r old new step = halted_so old.state new.state r step.1
 
--- no reply takes a stop back
+-- no reply undoes a stop
 module _ (old new : Bookkeeping) (stopped : old.stopped ≡ true) where
   still : (r : Reply) → new ≡ stopped_by r old → new.stopped ≡ true
   still (reply.StepRefused why.Fault) is = ap (λ (b : Bookkeeping). b.stopped) is

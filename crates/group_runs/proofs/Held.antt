@@ -1,4 +1,4 @@
--- Between its events a run holds what is its state's.
+-- Between its events a run holds the values of its state.
 use Rattle.std.proofs.Common.{◌≡◌, ◌≢◌, inl, inr, ℕ, ◌+◌, ◌*◌, ◌==◌, Bool, true, false, List, [], length, Option, IsSome, refl, sym, ◌∙◌, ap, subst, arith}
 use Rattle.std.proofs.lemmas.List.{append-nil}
 use Rattle.path_rows.specs.declared.outcome.Outcome.{Outcome}
@@ -29,7 +29,7 @@ use Rattle.group_runs.specs.RunSteps.{HasPlanAt, HasPlanned, FlushEvent, CheckEv
 use Rattle.group_runs.specs.Holding.{HoldsGroup, HoldsPlan, SealWaits, HoldsTickets, IsHolding}
 use Rattle.group_runs.proofs.Prefix.{Moves}
 
--- What of a state stays: what tickets are of, what the flusher's value is of, what the checkpointer's is of, and what a seal awaits.
+-- The parts of a state that stay: those that tickets, the flusher's value, the checkpointer's value and a seal depend on.
 pub record TicketsStay (old new : StateView) : Type 0 where
   pub home : new.home ≡ old.home
   pub next : next_place new ≡ next_place old
@@ -106,7 +106,7 @@ module _ {old new : StateView} (stays : PlanStays old new) where
   plan_stays (plan.Live value) holds = (plan_out_so holds.0, check_turn_so holds.1)
   plan_stays (plan.Closing value) holds = (plan_out_so holds.0, check_turn_so holds.1)
 
--- nothing that is committed or pending changes, nor do the sizes
+-- the committed rows, the pending commands and the sizes stay
 pub record Still (old new : StateView) : Type 0 where
   pub value : new.value ≡ old.value
   pub pending : new.pending ≡ old.pending
@@ -124,7 +124,7 @@ moves_none {old} {new} still = record {
     same : old.value.place ≡ old.value.place + 0
     same = omega arith
 
--- A step of the flusher, and what it leaves as it is.
+-- A step of the flusher, and the parts that it leaves unchanged.
 pub record FlushRest (old new : StateView) : Type 0 where
   pub still : Still old new
   pub tickets : TicketsStay old new
@@ -231,7 +231,7 @@ module _ (old : StateView) where
       subst (CheckRest old) (sym step.4) (check_touched new.disk old.check old.plan old.checkpoint old.written old.epoch old.version true (λ is. is))
   begin_rest _ new step = absurd step
 
--- what a run holds, by what an event leaves
+-- the values that a run holds, by what an event leaves
 pub flush_holding : {tickets : List (Option Ticket)} {held after : HeldGroup} {planned : HeldPlan} {old new : StateView} → FlushRest old new → IsHolding old tickets held planned
     → HoldsGroup after new → IsHolding new tickets after planned
 flush_holding {planned = planned} rest holding holds = record {

@@ -22,7 +22,7 @@ flushed e r old new step is = stays_still (flush_leaves e r old new step is).sti
 checked : (e : Event) (r : Reply) (old new : RunView) → IsStep e r old new → IsCheckers e → machine_of new.state ≡ machine_of old.state
 checked e r old new step is = stays_still (check_leaves e r old new step is).still
 
--- nothing is committed of a seal
+-- a seal commits no command
 none_committed : (machine : Machine) (taken : ℕ) → taken ≡ 0 → machine ≡ committed_front machine taken
 none_committed machine taken none =
     let same : machine.place ≡ machine.place + 0 = omega arith in

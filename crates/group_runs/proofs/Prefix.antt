@@ -19,8 +19,8 @@ use Rattle.group_laws.specs.HeldSteps.{OpensAroundCall}
 use Rattle.group_core.specs.StateView.{StateView, setting_of, standing_of, MayOpen, StepLeaves}
 use Rattle.group_runs.specs.RunLeaves.{IsCommitted, OpensToPrefix, RunLeaves}
 
--- What a step makes of what is committed and pending: the first of these, so many, are committed, and more are accepted. The
--- sizes stay.
+-- The effect of a step on the committed and the pending commands: a number of the first pending commands are committed, and more
+-- commands are accepted. The sizes stay.
 pub record Moves (more : List Command) (old new : StateView) : Type 0 where
   pub shown : ℕ
   pub inside : shown ≤ length old.pending
@@ -42,7 +42,7 @@ then_front : (value : StoreValue (List RowView)) (order : List Command) (done n 
 then_front value order done n =
     in_parts value (take done order) (take n (drop done order)) ∙ ap (λ (l : List Command). value_after store_format value l) (sym (take-add done n order))
 
--- a front of what is pending, behind what is committed
+-- a front of the pending commands, after the committed ones
 module _ (start mid : StateView) (order : List Command) (is : IsCommitted start order mid) where
   to_prefix : (image : List ℕ) → MayOpen mid image → OpensToPrefix start order is.done image
   to_prefix image opens =
@@ -56,7 +56,7 @@ module _ (start mid : StateView) (order : List Command) (is : IsCommitted start 
         opens = subst (λ (v : StoreValue (List RowView)). OpensTo store_format latest image v) same opens.opens.opens;
       }
 
-  -- a step more
+  -- one more step
   committed_then : (new : StateView) (more : List Command) → Moves more mid new → IsCommitted start (order ++ more) new
   committed_then new more moves =
       let long : length mid.pending + is.done ≡ length order = ap (λ (l : List Command). length l + is.done) is.pending ∙ length_drop is.done order is.inside in
@@ -76,7 +76,7 @@ module _ (start mid : StateView) (order : List Command) (is : IsCommitted start 
             ∙ sym (drop-append-le (is.done + moves.shown) order more within);
       }
 
--- fewer at least, and a longer order
+-- a smaller lower bound, and a longer order
 less_prefix : (start : StateView) (order : List Command) (least fewer : ℕ) → fewer ≤ least → (image : List ℕ) → OpensToPrefix start order least image → OpensToPrefix start order fewer image
 less_prefix start order least fewer less image opens = record { kept = opens.kept; enough = omega (arith, less, opens.enough); inside = opens.inside; opens = opens.opens }
 
@@ -88,7 +88,7 @@ longer_prefix start order more least image opens = record {
   opens = subst (λ (l : List Command). OpensTo store_format latest image (value_after store_format start.value l)) (sym (take-append-le opens.kept order more opens.inside)) opens.opens;
 }
 
--- how many are committed is told by the places
+-- the places determine how many commands are committed
 done_is : (start end : StateView) (order : List Command) (is : IsCommitted start order end) → end.value.place - start.value.place ≡ is.done
 done_is start end order is =
     let place : end.value.place ≡ start.value.place + length (take is.done order) = ap (λ (v : StoreValue (List RowView)). v.place) is.value in
@@ -99,7 +99,7 @@ exit_so : (start end : StateView) (order : List Command) → IsCommitted start o
 exit_so start end order is exit honest image left =
     subst (λ (n : ℕ). OpensToPrefix start order n image) (sym (done_is start end order is)) (to_prefix start end order is image (exit honest image left))
 
--- what stands behind the store, from the state at the start on
+-- the bytes after the store, compared with the state at the start
 abbrev Behind : StateView → List ℕ → Type 0
 Behind view = IsFromImage view.disk.history.now (SameBehind view.geometry)
 
@@ -132,7 +132,7 @@ leaves_at_first start stays = record {
         same : start.value.place ≡ start.value.place + 0
         same = omega arith
 
--- and after a step more
+-- and after one more step
 pub leaves_then : (start mid new : StateView) (order more : List Command) → RunLeaves start order mid → Moves more mid new → StepLeaves mid new → RunLeaves start (order ++ more) new
 leaves_then start mid new order more so_far moves leaves = record {
   committed = after;

@@ -1,4 +1,4 @@
--- What opening a device that holds a store answers.
+-- The result of opening a device with a store.
 use Rattle.std.proofs.Common.{◌≡◌, inl, inr, ℕ, List, [], Ok, refl, sym, ◌∙◌, subst}
 use Rattle.path_rows.specs.Database.{RowView}
 use Rattle.path_rows.specs.declared.command.Command.{Command}
@@ -25,7 +25,7 @@ use Rattle.group_runs.specs.Reopening.{OpensToMachine, HasValueOf, IsReopened, R
 use Rattle.group_runs.proofs.BooksKept.{fronts_reopened}
 
 module _ (image : List ℕ) where
-  -- the store is what the image opens to, which is one value at most
+  -- the store has the value of the image, and an image has at most one value
   module _ (store : StoreView) (opened : IsOpened image store) where
     opens : OpensTo store_format latest image (value_in store)
     opens = record { opening = opened.rest.opening; is = opened.same; stands_for = opened.rest.tells.value }
@@ -36,7 +36,7 @@ module _ (image : List ℕ) where
     pub reopens_machines : ReopensMachines image store
     reopens_machines machine so = record { kept = so.kept; inside = so.inside; value = has_value _ so.opens }
 
-  -- an image that opens is refused for no reason of its own
+  -- an image that opens is never refused for its contents
   never_refused : {e : OpenError} {opening : Opening (List RowView) Command} → opening_of store_format latest image ≡ Ok opening
       → IsRefusedFor e (opening_of store_format latest image) → ⊥
   never_refused read refused = let both = sym read ∙ refused.is in cc
@@ -52,7 +52,7 @@ module _ (image : List ℕ) where
   pub refuses_no_store : (e : OpenError) → RefusesOpening e (opening_of store_format latest image) → RefusesNoStore e image
   refuses_no_store e refused value so = by_error e (opening_read store_format latest image so.opening so.is) refused
 
--- what opens alike opens to the same value
+-- images that open alike open to the same value
 alike_opens : (value : StoreValue (List RowView)) (before behind : List ℕ) → OpensTo store_format latest before value → OpensAlike before behind → OpensTo store_format latest behind value
 alike_opens value before behind opens (inl same) = subst (λ (image : List ℕ). OpensTo store_format latest image value) (sym same) opens
 alike_opens value before behind opens (inr both) = record {
@@ -63,7 +63,7 @@ alike_opens value before behind opens (inr both) = record {
       (record { opening = both.opening; is = both.opens_before; stands_for = refl }) opens;
 }
 
--- A state, whose device is handed out as it is.
+-- A state, whose device is taken out unchanged.
 module _ (state : StateView) (leaves : StepLeaves state state) where
   machines : IsHonest state.disk → EveryImage state.disk.history.now (OpensToMachine (machine_of state))
   machines honest image left = fronts_reopened state image (leaves.exit honest image left)

@@ -1,4 +1,4 @@
--- What each event of a run does to what is committed and pending, and runs of one event more.
+-- The effect of each event of a run on the committed and the pending commands, and runs with one more event.
 use Rattle.std.proofs.Common.{◌≡◌, ◌⊎◌, inl, inr, ℕ, zero, suc, ◌+◌, ◌≤◌, true, false, List, [], ◌∷◌, ◌++◌, length, take, drop, get_or, ◌<◌, Option, Result, Ok, Err, IsOk, is_ok, if◌then◌else◌, refl, sym, ◌∙◌, ap, subst, arith, append_assoc, length-drop}
 use Rattle.std.proofs.lemmas.List.{append-nil, length-take-le, take_more}
 use Rattle.path_rows.specs.declared.command.Command.{Command}
@@ -30,7 +30,7 @@ pub none_or_some : (n : ℕ) → (n ≡ 0) ⊎ (1 ≤ n)
 none_or_some zero = inl refl
 none_or_some (suc n) = inr (omega arith)
 
--- Publishing a group commits it; a seal, and every refusal, leave all as it is.
+-- Publishing a group commits it; publishing a seal, and every refusal, change nothing.
 publish_moves : (reply : Reply) (old new : StateView) → old.taken ≤ length old.pending → PublishEvent reply old new → Moves [] old new
 publish_moves reply.Done old new inside step = by (none_or_some old.taken)
   where
@@ -71,7 +71,7 @@ redeem_moves k (reply.Unknown place) old new step = moves_none (record { value =
 redeem_moves k reply.NoValue old new step = still_so (ap (λ (r : RunView). r.state) step.1)
 redeem_moves k _ old new step = absurd step
 
--- the checkpointer's events, and those that leave what it has
+-- the checkpointer's events, and the events that leave the checkpointer's phase unchanged
 abbrev pub IsCheckers : Event → Type 0
 IsCheckers event.Begin = Unit {0}
 IsCheckers event.WriteChunk = Unit {0}
@@ -118,7 +118,7 @@ flush_moves e r old new step is = moves_none (flush_leaves e r old new step is).
 check_moves : (e : Event) (r : Reply) (old new : RunView) → IsStep e r old new → IsCheckers e → Moves [] old.state new.state
 check_moves e r old new step is = moves_none (check_leaves e r old new step is).still
 
--- what each event makes of what is committed and pending
+-- the effect of each event on the committed and the pending commands
 pub step_moves : (e : Event) (r : Reply) (old new : RunView) → old.state.taken ≤ length old.state.pending → IsStep e r old new → Moves (accepted_by e r) old.state new.state
 step_moves (event.Submit command) r old new inside step = submit_moves command r old new step
 step_moves event.Stage r old new inside step = flush_moves event.Stage r old new step tt
@@ -139,7 +139,7 @@ step_moves (event.Lookup query now) r old new inside step = flush_moves (event.L
 step_moves event.Halt r old new inside step = flush_moves event.Halt r old new step tt
 
 -- what a run holds, after the events that touch more
--- behind a seal the other half awaits its checkpoint
+-- after a seal the other half waits for its checkpoint
 seal_plan : (old : StateView) (held : HeldPlan) → old.check ≡ check.Ready → HoldsPlan held old → HoldsPlan held (with_seal old)
 seal_plan old plan.None ready plans = plans
 seal_plan old (plan.Plan value) ready plans = absurd (let at = plans.1.at in cc)
@@ -229,14 +229,14 @@ others_holding {held = held} {planned = planned} stay holding holds = record {
   seal = stay.seal holding.seal;
 }
 
--- a call that leaves what it may was made on the device that was there
+-- a call that satisfies `StepLeaves` was made on the same device
 device_goes_on : {old new : StateView} → StepLeaves old new → DeviceGoesOn old.disk new.disk
 device_goes_on leaves = record {
   keeps = leaves.moments.keeps;
   goes_on = λ honest. let its = leaves.moments.leaves honest in record { later = its.later; are = its.goes_on };
 }
 
--- a run of one event more
+-- a run with one more event
 pub run_then : (events : List Event) (replies : List Reply) (e : Event) (r : Reply) (old mid new : RunView) → IsRun events replies old mid → IsStep e r mid new
     → DeviceGoesOn mid.state.disk new.state.disk → IsRun (events ++ e ∷ []) (replies ++ r ∷ []) old new
 run_then [] [] e r old mid new is step on = (new, subst (λ (o : RunView). IsStep e r o new) is step, subst (λ (o : RunView). DeviceGoesOn o.state.disk new.state.disk) is on, refl)
@@ -252,7 +252,7 @@ accepted_then (e' ∷ events) [] e r old mid is = absurd is
 accepted_then (e' ∷ events) (r' ∷ replies) e r old mid is =
     ap (λ (l : List Command). accepted_by e' r' ++ l) (accepted_then events replies e r is.0 mid is.3) ∙ sym (append_assoc (accepted_by e' r') (accepted_in events replies) (accepted_by e r))
 
--- a run so far, and what it leaves
+-- a run until now, and what a stop leaves of it
 pub record RunSoFar (events : List Event) (replies : List Reply) (start now : RunView) : Type 0 where
   pub runs : IsRun events replies start now
   pub leaves : RunLeaves start.state (lock_order start.state events replies) now.state
@@ -276,17 +276,17 @@ so_far_first events replies start no_events no_replies stays =
     subst (λ (l : List Event). RunSoFar l replies start start) (sym no_events)
     (subst (λ (l : List Reply). RunSoFar [] l start start) (sym no_replies) (record { runs = refl; leaves = leaves_at_first start.state stays }))
 
--- a stop of the state leaves what is held
+-- when the state stops, what is held stays
 pub halt_holding : {tickets : List (Option Ticket)} {held : HeldGroup} {planned : HeldPlan} {old new : StateView} → new ≡ halted old → IsHolding old tickets held planned → IsHolding new tickets held planned
 halt_holding {held = held} {old = old} {new = new} is holding =
     flush_holding (halt_rest old reply.Done new is) holding (group_stays (subst (GroupStays old) (sym is) (record { home = refl; flush = refl; group = refl })) held holding.group)
 
--- a reply is put behind the others where there is room
+-- a reply is put after the others where there is room
 pub pushed_so : {T E : Type 0} (result : Result T E) (items pushed : List Reply) (r : Reply) → IsOk result → pushed ≡ (if is_ok result then items ++ r ∷ [] else items) → pushed ≡ items ++ r ∷ []
 pushed_so (Ok done) items pushed r ok is = is
 pushed_so (Err e) items pushed r ok is = absurd (cc)
 
--- an event more
+-- one more event
 pub so_far_more : (events : List Event) (i : ℕ) (e : Event) (replies pushed : List Reply) (r : Reply) (start mid new : RunView) → i < length events → e ≡ get_or events i e → pushed ≡ replies ++ r ∷ []
     → RunSoFar (take i events) replies start mid → mid.state.taken ≤ length mid.state.pending → IsStep e r mid new → StepLeaves mid.state new.state → RunSoFar (take (i + 1) events) pushed start new
 so_far_more events i e replies pushed r start mid new inside is pushed_is so_far taken step leaves =
@@ -301,7 +301,7 @@ pub record GoneBy (events : List Event) (start now : RunView) : Type 0 where
 pub gone_first : (start : RunView) → StepLeaves start.state start.state → GoneBy [] start start
 gone_first start stays = record { replies = []; so_far = so_far_first [] [] start refl refl stays }
 
--- an event of these more, which is read of a list of them
+-- one more of these events, which is read from a list of them
 pub gone_ending : (list : List Event) (i : ℕ) (item : Event) (r : Reply) (start mid new : RunView) → list ≡ ending_events → i < 12 → item ≡ get_or list i item → GoneBy (take i ending_events) start mid
     → mid.state.taken ≤ length mid.state.pending → IsStep (get_or list i item) r mid new → StepLeaves mid.state new.state → GoneBy (take (i + 1) ending_events) start new
 gone_ending list i item r start mid new are inside is gone taken step leaves = record {
@@ -311,11 +311,11 @@ gone_ending list i item r start mid new are inside is gone taken step leaves = r
       (subst (λ (e : Event). IsStep e r mid new) (sym is) step) leaves;
 }
 
--- all of these
+-- all of these events
 pub gone_to_the_end : (i : ℕ) (start now : RunView) → 12 ≤ i → i ≤ 12 → GoneBy (take i ending_events) start now → GoneBy (winding_events 0) start now
 gone_to_the_end i start now least most gone = let all : i ≡ 12 = omega arith in subst (λ (n : ℕ). GoneBy (take n ending_events) start now) all gone
 
--- a ticket more
+-- one more ticket
 pub gone_redeeming : (k : ℕ) (r : Reply) (start mid new : RunView) → GoneBy (winding_events k) start mid → mid.state.taken ≤ length mid.state.pending → IsStep (event.Redeem k) r mid new
     → StepLeaves mid.state new.state → GoneBy (winding_events (k + 1)) start new
 gone_redeeming k r start mid new gone taken step leaves =

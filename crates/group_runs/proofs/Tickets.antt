@@ -1,4 +1,4 @@
--- The tickets that a run holds: one more, and one less.
+-- The tickets that a run holds, with one more and with one less.
 use Rattle.std.proofs.Common.{◌≡◌, ◌≢◌, ◌⊎◌, inl, inr, ℕ, zero, suc, ◌+◌, ◌<◌, ◌≤◌, true, false, List, [], ◌∷◌, ◌++◌, length, map, Option, Some, None, IsSome, Ok, eqb, refl, sym, ◌∙◌, ap, subst, arith, get_or-set_same, get_or-set_other, length-append}
 use Rattle.std.specs.Prelude.{slice_set}
 use Rattle.std.proofs.Math.ListN.{get_or-append}
@@ -36,7 +36,7 @@ below_or_past (suc i) (suc n) = elim (below_or_past i n) [ inl less ↦ inl (ome
 no_ticket : {ticket : Ticket} → (let none : Option Ticket = None in none) ≡ Some ticket → ⊥
 no_ticket is = cc
 
--- a ticket is there only below the end
+-- there is a ticket only below the end of the list
 inside : (tickets : List (Option Ticket)) (k : ℕ) (ticket : Ticket) → held_at k tickets ≡ Some ticket → k < length tickets
 inside tickets k ticket at = by (below_or_past k (length tickets))
   where
@@ -56,7 +56,7 @@ back_again [] k back at = refl
 back_again (t ∷ tickets) zero back at = ap (λ (x : Option Ticket). x ∷ tickets) (sym at)
 back_again (t ∷ tickets) (suc k) back at = ap (λ (l : List (Option Ticket)). t ∷ l) (back_again tickets k back at)
 
--- where nothing is kept no ticket is left
+-- where no outcome is kept, no ticket is left
 pub all_redeemed : (tickets : List (Option Ticket)) (view : StateView) → HoldsTickets tickets view → view.kept ≡ [] → AllRedeemed tickets
 all_redeemed tickets view holds none k = by (held_at k tickets) refl
   where
@@ -69,7 +69,7 @@ all_redeemed tickets view holds none k = by (held_at k tickets) refl
     by None at = at
     by (Some ticket) at = absurd (nothing_kept ticket (holds.each k ticket at).kept)
 
--- the k-th is taken out: the others are there
+-- the k-th ticket is taken out, and the others stay
 module _ (tickets : List (Option Ticket)) (k : ℕ) where
   still_there : (i : ℕ) (ticket : Ticket) → held_at i (slice_set tickets k None) ≡ Some ticket → (i ≢ k) × (held_at i tickets ≡ Some ticket)
   still_there i ticket at = by (same_or_not i k)
@@ -102,7 +102,7 @@ module _ (tickets : List (Option Ticket)) (k : ℕ) where
   pub places_without : (ticket : Ticket) (view : StateView) → run_view (redeemed ticket view) (slice_set tickets k None) ≡ redeemed_at k ticket.place (run_view view tickets)
   places_without ticket view = λ i. record { state = redeemed ticket view; tickets = map-set place_of tickets k None i }
 
--- one more, behind them
+-- one more ticket, after the others
 module _ (tickets : List (Option Ticket)) (last : Ticket) where
   abbrev more : List (Option Ticket)
   more = tickets ++ Some last ∷ []
@@ -172,7 +172,7 @@ module _ (tickets : List (Option Ticket)) (last : Ticket) where
   pub places_more : map place_of more ≡ map place_of tickets ++ Some last.place ∷ []
   places_more = map-append place_of tickets (Some last ∷ [])
 
--- A ticket that was taken out, and what redeeming it answered.
+-- A ticket that was taken out, and the result of redeeming it.
 module _ (tickets left : List (Option Ticket)) (k : ℕ) (ticket : Ticket) (old new : StateView) (here : Some ticket ≡ held_at k tickets) (left_is : left ≡ slice_set tickets k None) where
   redeemed_holds : new ≡ redeemed ticket old → HoldsTickets tickets old → HoldsTickets left new
   redeemed_holds is holds =
@@ -214,7 +214,7 @@ module _ (tickets left : List (Option Ticket)) (k : ℕ) (ticket : Ticket) (old 
           subst (λ (p : ℕ). RedeemEvent k (reply.Waiting p) (run_view old tickets) (run_view new again)) (sym (place_is ∙ ap (λ (t : Ticket). t.place) step.3))
           (ticket_here, step.1, step.2, λ i. run_view (step.4 i) (again_same step.3 i))
 
--- a command that was accepted, and its ticket behind the others
+-- a command that was accepted, and its ticket, after the others
 module _ (tickets more_tickets : List (Option Ticket)) (ticket : Ticket) (command copy : Command) (old new : StateView) (more_is : more_tickets ≡ tickets ++ Some ticket ∷ []) (copy_is : copy ≡ command)
     (submits : Submits copy (Ok ticket) old new) where
   step : Submits command (Ok ticket) old new

@@ -1,4 +1,4 @@
--- What a state keeps beside its machine, and what each event of a run does to it, by its reply.
+-- What a state keeps beside its machine, and the effect of each event of a run on it, by the event's reply.
 use Rattle.std.specs.Prelude.{◌≡◌, ℕ, ◌+◌, ◌<◌, ◌≤◌, ◌⊎◌, Bool, true, List, length, Some}
 use Rattle.std.specs.Ordering.{nat_cmp}
 use Rattle.std.specs.BTreeMap.{insert_entry}
@@ -32,25 +32,25 @@ pub record Bookkeeping : Type 0 where
 abbrev pub bookkeeping_of : StateView → Bookkeeping
 bookkeeping_of view = record { outcomes = view.kept; taken = view.taken; stopped = view.stopped; version = view.version }
 
--- the place of the next command that is accepted, and the rows that its outcome is of: those after all commands before it
+-- the place of the next command that is accepted, and the rows before its outcome: those after all commands before it
 abbrev pub next_in : Machine → ℕ
 next_in machine = machine.place + length machine.pending
 
 abbrev pub rows_before_next : Machine → List RowView
 rows_before_next machine = db_after store_format machine.committed machine.pending
 
--- an outcome more, and one less
+-- one more outcome, and one less
 abbrev pub with_outcome : ℕ → Outcome → Bookkeeping → Bookkeeping
 with_outcome place outcome books = record books { outcomes = insert_entry nat_cmp books.outcomes place outcome }
 
 abbrev pub without_outcome : ℕ → Bookkeeping → Bookkeeping
 without_outcome place books = record books { outcomes = kept_without place books.outcomes }
 
--- so many commands are in flight: the longest front of the pending ones that fits a group of this version, or none, for a seal
+-- the number of commands in flight: the longest front of the pending ones that fits a group of this version, or 0, for a seal
 abbrev pub IsInFlight : ℕ → Machine → ℕ → Type 0
 IsInFlight version machine taken = IsLongestFront (limits_of version) machine.pending taken ⊎ (taken ≡ 0)
 
--- a device that fails stops the state, and so does a half that isn't as the state left it; any other reply leaves all as it is
+-- a device that fails stops the state, and so does a half that isn't as the state left it; any other reply changes nothing
 abbrev pub stopped_by : Reply → Bookkeeping → Bookkeeping
 stopped_by (reply.StepRefused why.Fault) books = record books { stopped = true }
 stopped_by (reply.StepRefused why.Damaged) books = record books { stopped = true }
@@ -58,7 +58,7 @@ stopped_by (reply.BeginRefused begin.Fault) books = record books { stopped = tru
 stopped_by (reply.BeginRefused begin.Damaged) books = record books { stopped = true }
 stopped_by _ books = books
 
--- What an event does to it, where the machine was this one. A command is accepted at the next place, and its outcome is kept until
+-- The effect of an event, for this machine before it. A command is accepted at the next place, and its outcome is kept until
 -- its ticket is redeemed; a group or a seal is staged, and published; a new half counts, in the version that is written.
 abbrev pub KeepsBooks : Event → Reply → Machine → Bookkeeping → Bookkeeping → Type 0
 KeepsBooks (event.Submit command) (reply.Accepted place) machine old new =
@@ -79,7 +79,7 @@ EventsKeepTheBooks =
     (e : Event) (r : Reply) (old new : RunView) → IsStep e r old new
     → KeepsBooks e r (machine_of old.state) (bookkeeping_of old.state) (bookkeeping_of new.state)
 
--- what has stopped stays so
+-- a state that has stopped stays stopped
 abbrev pub StopsAreForGood : Type 0
 StopsAreForGood =
     (e : Event) (r : Reply) (old new : RunView) → IsStep e r old new → old.state.stopped ≡ true → new.state.stopped ≡ true

@@ -1,4 +1,4 @@
--- What a run holds, and how that stands to its state: each commit value that is out, and no other.
+-- What a run holds, and how that relates to its state: each commit value that is out, and no other.
 use Rattle.std.specs.Prelude.{◌≡◌, ℕ, ◌<◌, true, false, List, map, Option, Some, None, IsSome, slice_index_or}
 use Rattle.group_laws.specs.declared.phases.Flush.TheVariants as flush
 use Rattle.group_laws.specs.declared.phases.Check.TheVariants as check
@@ -26,13 +26,13 @@ step_reply (step.Stranger value) = reply.StepRefused why.Stranger
 step_reply (step.NoMemory value) = reply.StepRefused why.NoMemory
 step_reply step.Damaged = reply.StepRefused why.Damaged
 
--- a step that spends its value: a run's own is never refused otherwise
+-- an error that spends the value: no other error comes for a run's own value
 abbrev pub SpendsValue : {P : Type 0} → StepError P → Type 0
 SpendsValue step.Fault = Unit {0}
 SpendsValue step.Stopped = Unit {0}
 SpendsValue _ = ⊥
 
--- the flusher's value is held just where it is out, and it is its turn
+-- the flusher's value is held exactly where it is out, and its phase is the state's
 abbrev pub HoldsGroup : HeldGroup → StateView → Type 0
 HoldsGroup group.None view = view.group.out ≡ false
 HoldsGroup (group.Staged value) view = (view.group.out ≡ true) × IsFlushTurn flush.Staged value view
@@ -41,7 +41,7 @@ HoldsGroup (group.Stable value) view = (view.group.out ≡ true) × IsFlushTurn 
 HoldsGroup (group.Opened value) view = (view.group.out ≡ true) × IsFlushTurn flush.Opened value view
 HoldsGroup (group.Durable value) view = (view.group.out ≡ true) × IsFlushTurn flush.Durable value view
 
--- and the checkpointer's
+-- the same for the checkpointer's value
 abbrev pub HoldsPlan : HeldPlan → StateView → Type 0
 HoldsPlan plan.None view = view.plan.out ≡ false
 HoldsPlan (plan.Plan value) view = (view.plan.out ≡ true) × IsPlanTurn value view
@@ -50,11 +50,11 @@ HoldsPlan (plan.Switched value) view = (view.plan.out ≡ true) × IsCheckTurn c
 HoldsPlan (plan.Live value) view = (view.plan.out ≡ true) × IsCheckTurn check.Live value view
 HoldsPlan (plan.Closing value) view = (view.plan.out ≡ true) × IsCheckTurn check.Closing value view
 
--- a seal that is in flight waits for a half that is ready
+-- a seal in flight waits for a half that is ready
 abbrev pub SealWaits : StateView → Type 0
 SealWaits view = view.group.out ≡ true → view.taken ≡ 0 → view.check ≡ check.Ready
 
--- a ticket of the state's own, for whose place an outcome is kept
+-- a ticket of this state, for whose place an outcome is kept
 pub record IsOwnTicket (view : StateView) (ticket : Ticket) : Type 0 where
   pub home : ticket.home ≡ view.home
   pub before : ticket.place < next_place view
@@ -64,7 +64,7 @@ pub record IsOwnTicket (view : StateView) (ticket : Ticket) : Type 0 where
 abbrev pub held_at : ℕ → List (Option Ticket) → Option Ticket
 held_at k tickets = slice_index_or tickets k None
 
--- each ticket is the state's own, and no two have one place
+-- each ticket is of this state, and no two have the same place
 pub record HoldsTickets (tickets : List (Option Ticket)) (view : StateView) : Type 0 where
   pub each : (k : ℕ) (ticket : Ticket) → held_at k tickets ≡ Some ticket → IsOwnTicket view ticket
   pub apart : (i k : ℕ) (ticket other : Ticket) → held_at i tickets ≡ Some ticket → held_at k tickets ≡ Some other → ticket.place ≡ other.place → i ≡ k
@@ -78,11 +78,11 @@ place_of (Some ticket) = Some ticket.place
 abbrev pub AllRedeemed : List (Option Ticket) → Type 0
 AllRedeemed tickets = (k : ℕ) → held_at k tickets ≡ None
 
--- what a run is seen as
+-- a run as contracts see it
 abbrev pub run_view : StateView → List (Option Ticket) → RunView
 run_view state tickets = record { state = state; tickets = map place_of tickets }
 
--- What holds of a run between its events: what it holds is its state's, and each value that is out it holds.
+-- What holds for a run between its events: what it holds is of its state, and it holds each value that is out.
 pub record IsHolding (view : StateView) (held : List (Option Ticket)) (held_group : HeldGroup) (held_plan : HeldPlan) : Type 0 where
   pub tickets : HoldsTickets held view
   pub group : HoldsGroup held_group view

@@ -1,4 +1,4 @@
--- What each event of a run does to the machine, by its reply.
+-- The effect of each event of a run on the machine, by the event's reply.
 use Rattle.std.specs.Prelude.{◌≡◌, ℕ}
 use Rattle.group_runs.specs.declared.events.Event.{Event}
 use Rattle.group_runs.specs.declared.events.Event.TheVariants as event
@@ -7,7 +7,7 @@ use Rattle.group_runs.specs.declared.events.Reply.TheVariants as reply
 use Rattle.group_runs.specs.Machine.{Machine, machine_of, accepted, committed_front}
 use Rattle.group_runs.specs.RunSteps.{RunView, IsStep}
 
--- a command that is accepted is pending; what is published of a group that is in flight is committed; and nothing else changes it
+-- a command that is accepted is pending; the group in flight is committed when it is published; and no other event changes the machine
 abbrev pub machine_after : Event → Reply → ℕ → Machine → Machine
 machine_after (event.Submit command) (reply.Accepted place) taken machine = accepted machine command
 machine_after event.Publish reply.Done taken machine = committed_front machine taken

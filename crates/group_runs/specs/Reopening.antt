@@ -1,4 +1,4 @@
--- What an image opens to, as a machine; and what opening a device that holds it answers.
+-- The value of an image, as a machine; and the result of opening a device with this image.
 use Rattle.std.specs.Prelude.{◌≡◌, ℕ, ◌≤◌, List, length, Result, Ok, Err}
 use Rattle.path_rows.specs.Database.{RowView}
 use Rattle.path_rows.specs.declared.command.Command.{Command}
@@ -18,7 +18,7 @@ use Rattle.group_runs.specs.declared.reopening.NotReopened.TheVariants.{InUse, R
 use Rattle.group_runs.specs.Machine.{Machine, machine_of, reopened}
 use Rattle.group_runs.specs.RunLeaves.{OpensToPrefix}
 
--- the rows that are committed and the place that is reached
+-- the committed rows, and the place that is reached
 abbrev pub value_of : Machine → StoreValue (List RowView)
 value_of machine = record { db = machine.committed; place = machine.place }
 
@@ -42,21 +42,21 @@ PrefixesAreReopened =
 abbrev pub FrontsAreReopened : Type 0
 FrontsAreReopened = (view : StateView) (image : List ℕ) → MayOpen view image → OpensToMachine (machine_of view) image
 
--- a store stands for what the image opens to
+-- the store has the value of the image
 abbrev pub HasValueOf : List ℕ → StoreView → Type 0
 HasValueOf image store = (value : StoreValue (List RowView)) → OpensTo store_format latest image value → value_in store ≡ value
 
--- it stands for this machine, reopened with a front of its pending commands
+-- the store is this machine, reopened with a front of its pending commands
 pub record IsReopened (machine : Machine) (store : StoreView) : Type 0 where
   pub kept : ℕ
   pub inside : kept ≤ length machine.pending
   pub value : value_in store ≡ value_of (reopened machine kept)
 
--- and does so for every machine to which the image opens
+-- the same for every machine to which the image opens
 abbrev pub ReopensMachines : List ℕ → StoreView → Type 0
 ReopensMachines image store = (machine : Machine) → OpensToMachine machine image → IsReopened machine store
 
--- the device failed, or memory ran out: nothing is said of what it holds
+-- the device failed, or memory was refused: the error does not depend on the image
 abbrev pub SaysNothingOfTheImage : OpenError → Type 0
 SaysNothingOfTheImage NotAStore = ⊥
 SaysNothingOfTheImage Device = Unit {0}
@@ -64,18 +64,18 @@ SaysNothingOfTheImage (Pair e) = ⊥
 SaysNothingOfTheImage (Journal e) = ⊥
 SaysNothingOfTheImage NoMemory = Unit {0}
 
--- an image that opens isn't refused for what it is
+-- an image that opens isn't refused for its contents
 abbrev pub RefusesNoStore : OpenError → List ℕ → Type 0
 RefusesNoStore e image = (value : StoreValue (List RowView)) → OpensTo store_format latest image value → SaysNothingOfTheImage e
 
--- Why a state isn't opened again: it is in use, and comes back; or its device comes back as one that isn't opened does, which is for
--- no reason of what an honest one holds.
+-- Why a state isn't opened again: it is in use, and is returned; or its device is returned as one that isn't opened, which for
+-- an honest device is not because of its contents.
 abbrev pub IsNotReopened : {D S N : Type 0} → (D → Disk) → NotReopened D S N → StateView → Type 0
 IsNotReopened disk_of (InUse back) state = (¬ IsSettled state) × (back ≡ state)
 IsNotReopened disk_of (Refused device e) state =
     IsSettled state × ComesBack e state.disk (disk_of device) × (IsHonest state.disk → SaysNothingOfTheImage e)
 
--- the device afterwards: in the store, in the state, or come back
+-- the device afterwards: in the store, in the state, or returned
 abbrev pub disk_left : {D S N : Type 0} → (D → Disk) → Result StoreView (NotReopened D S N) → Disk
 disk_left disk_of (Ok store) = store.disk
 disk_left disk_of (Err (InUse back)) = back.disk

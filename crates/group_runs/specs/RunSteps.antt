@@ -1,4 +1,4 @@
--- What an event of a run does, by its reply: the call of the state that the event names, with a value that the run holds.
+-- The effect of an event of a run, by its reply: the call of the state that the event names, with a value that the run holds.
 use Rattle.std.specs.Prelude.{◌≡◌, ℕ, ◌<◌, ◌≤◌, Bool, true, false, List, [], ◌∷◌, ◌++◌, length, Option, Some, None, Ok, Err, slice_index_or, slice_set}
 use Rattle.path_rows.specs.declared.command.Command.{Command}
 use Rattle.path_rows.specs.Answer.{segments_of}
@@ -28,16 +28,16 @@ use Rattle.group_core.specs.Redeeming.{outcome_at, kept_without, halted}
 use Rattle.group_core.specs.Submitting.{MayBeSubmitted, HasRoom, IsRefusedFor, next_place, with_command}
 use Rattle.group_runs.specs.SameDevice.{DeviceGoesOn}
 
--- a state, and the places of the commands that the run accepted, in their order: none once its ticket is redeemed
+-- a state, and the places of the commands that the run accepted, in their order; `None` once a ticket is redeemed
 pub record RunView : Type 0 where
   pub state : StateView
   pub tickets : List (Option ℕ)
 
--- the place of the k-th
+-- the place of the k-th ticket
 abbrev pub ticket_at : ℕ → RunView → Option ℕ
 ticket_at k run = slice_index_or run.tickets k None
 
--- the flusher's value is out, at a phase; the checkpointer's is; and its plan is, whole or not
+-- the flusher's value is out, at this phase; the same for the checkpointer's value; and for its plan, complete or not
 abbrev pub HasGroup : Flush → StateView → Type 0
 HasGroup phase view = (view.group.out ≡ true) × (view.flush ≡ phase)
 
@@ -47,7 +47,7 @@ HasPlanAt phase view = (view.plan.out ≡ true) × (view.check ≡ phase)
 abbrev pub HasPlanned : Bool → StateView → Type 0
 HasPlanned whole view = (view.plan.out ≡ true) × (view.check ≡ check.Planned) × (is_whole view ≡ whole)
 
--- A step of the flusher, from a phase to the next, or to another where the device fails. A state that had stopped, and a device
+-- A step of the flusher, from one phase to the next, or to another one where the device fails. A state that had stopped, and a device
 -- that fails, spend the value.
 abbrev pub FlushEvent : Flush → Flush → Flush → Reply → StateView → StateView → Type 0
 FlushEvent from to failed reply.Done old new =
@@ -61,8 +61,8 @@ FlushEvent from to failed (reply.StepRefused why.Fault) old new =
 FlushEvent from to failed reply.NoValue old new = (¬ HasGroup from old) × (new ≡ old)
 FlushEvent from to failed _ old new = ⊥
 
--- A step of the checkpointer, where its value is out as `has` says: the state after it but for the device, and the phase where the
--- device fails.
+-- A step of the checkpointer, where its value is out as `has` states: the state after it except for the device, and the phase where
+-- the device fails.
 abbrev pub CheckEvent : Type 0 → StateView → Check → Reply → StateView → StateView → Type 0
 CheckEvent has after failed reply.Done old new =
     has × (old.stopped ≡ false) × (new.disk.faults ≡ old.disk.faults) × (new ≡ record after { disk = new.disk })
@@ -97,7 +97,7 @@ abbrev pub HaltEvent : Reply → StateView → StateView → Type 0
 HaltEvent reply.Done old new = new ≡ halted old
 HaltEvent _ old new = ⊥
 
--- A lookup is answered from what is committed. Memory runs out only where something is to be shown.
+-- The answer of a lookup is from the committed rows. Memory is refused only where there are segments to show.
 abbrev pub LookupEvent : Query → ℕ → Reply → StateView → StateView → Type 0
 LookupEvent query now (reply.Answer found) old new = (found.items ≡ segments_of (served (machine_of old) (query_view query) now)) × (new ≡ old)
 LookupEvent query now reply.AnswerRefused old new = (1 ≤ length (served (machine_of old) (query_view query) now)) × (new ≡ old)
@@ -111,15 +111,15 @@ SubmitEvent command (reply.Accepted place) old new =
 SubmitEvent command (reply.Refused e) old new = IsRefusedFor e command old.state × (new ≡ old)
 SubmitEvent command _ old new = ⊥
 
--- the k-th ticket is redeemed, and the outcome of its place is kept no longer
+-- the k-th ticket is redeemed, and the outcome of its place is no longer kept
 abbrev pub redeemed_at : ℕ → ℕ → RunView → RunView
 redeemed_at k place old = record {
   state = record old.state { kept = kept_without place old.state.kept };
   tickets = slice_set old.tickets k None;
 }
 
--- A ticket is redeemed for the outcome that is kept for its place, where that is committed; before that it stays, unless the state
--- has stopped.
+-- A ticket is redeemed for the outcome that is kept for its place, where the command is committed. Before that the ticket stays,
+-- unless the state has stopped.
 abbrev pub RedeemEvent : ℕ → Reply → RunView → RunView → Type 0
 RedeemEvent k (reply.Committed place outcome) old new =
     (ticket_at k old ≡ Some place) × (place < old.state.value.place) × (outcome_at place old.state.kept ≡ Some outcome)
@@ -131,7 +131,7 @@ RedeemEvent k (reply.Unknown place) old new =
 RedeemEvent k reply.NoValue old new = (ticket_at k old ≡ None) × (new ≡ old)
 RedeemEvent k _ old new = ⊥
 
--- an event that leaves the tickets
+-- an event that leaves the tickets unchanged
 abbrev pub OnState : (StateView → StateView → Type 0) → RunView → RunView → Type 0
 OnState step old new = (new.tickets ≡ old.tickets) × step old.state new.state
 

@@ -1,4 +1,4 @@
--- What making a run of a state answers.
+-- The result of making a run of a state.
 use Rattle.std.specs.Prelude.{◌≡◌, [], Result, Ok, Err}
 use Rattle.group_core.specs.StateView.{StateView}
 use Rattle.group_core.specs.Reading.{IsFree}

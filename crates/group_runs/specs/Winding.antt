@@ -16,16 +16,16 @@ ending_events =
     event.Halt ∷ event.WriteGroup ∷ event.SyncGroup ∷ event.OpenGate ∷ event.SyncGate ∷ event.Publish
     ∷ event.WriteChunk ∷ event.SyncChunks ∷ event.OpenHalf ∷ event.SyncHalf ∷ event.CloseHalf ∷ event.SyncClose ∷ []
 
--- the first tickets are redeemed, so many, each once
+-- this number of the first tickets are redeemed, each once
 abbrev pub redeeming_events : ℕ → List Event
 redeeming_events zero = []
 redeeming_events (suc n) = redeeming_events n ++ event.Redeem n ∷ []
 
--- the events that wind a run of so many tickets up
+-- the events that wind up a run with this number of tickets
 abbrev pub winding_events : ℕ → List Event
 winding_events tickets = ending_events ++ redeeming_events tickets
 
--- the run went on by these events, which accept no command
+-- the run has done these events, which accept no command
 pub record HasWound (old new : RunView) : Type 0 where
   pub events : List Event
   pub replies : List Reply
@@ -38,13 +38,13 @@ pub record HasWound (old new : RunView) : Type 0 where
 abbrev pub OpensAtRest : StateView → Disk → Type 0
 OpensAtRest view disk = IsHonest disk → view.pending ≡ [] → HoldsStoreOf view.value disk
 
--- the device of a state in which nothing is kept and no value is out, or the run, where something is left
+-- the device of a state in which no outcome is kept and no value is out, or the run, where something is left
 abbrev pub HandsOutDevice : {D : Type 0} → (D → Disk) → Result D RunView → RunView → Type 0
 HandsOutDevice disk_of (Ok device) run =
     IsSettled run.state × (disk_of device ≡ run.state.disk) × OpensAtRest run.state (disk_of device)
 HandsOutDevice disk_of (Err back) run = (¬ IsSettled run.state) × (back ≡ run)
 
--- after the run went on
+-- the same after more events of the run
 pub record WindsUp {D : Type 0} (disk_of : D → Disk) (result : Result D RunView) (old : RunView) : Type 0 where
   pub new : RunView
   pub wound : HasWound old new

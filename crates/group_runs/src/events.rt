@@ -1,4 +1,4 @@
-//! What a run is told to do, and what it replies.
+//! The events of a run, and the replies to them.
 
 use group_core::{BeginError, StageError, SubmitError};
 use path_db::{Command, Outcome};
@@ -12,33 +12,33 @@ pub enum Event {
     Submit(Command),
     /// Stages a group or a seal.
     Stage,
-    /// Writes what is staged.
+    /// Writes the staged group or seal.
     WriteGroup,
-    /// Syncs it.
+    /// Syncs the write.
     SyncGroup,
     /// Writes the tail's gate open.
     OpenGate,
     /// Syncs the gate.
     SyncGate,
-    /// Publishes what is durable.
+    /// Publishes the durable group or seal.
     Publish,
     /// Redeems the ticket of the k-th command that this run accepted, counted from 0.
     Redeem(usize),
     /// Begins a checkpoint.
     Begin,
-    /// Writes its next sectors.
+    /// Writes the next sectors of the checkpoint.
     WriteChunk,
-    /// Syncs them.
+    /// Syncs the sectors of the checkpoint.
     SyncChunks,
     /// Writes the new half's gate open.
     OpenHalf,
-    /// Syncs that gate.
+    /// Syncs the new half's gate.
     SyncHalf,
     /// Writes the old half's gates closed.
     CloseHalf,
-    /// Syncs them.
+    /// Syncs the old half's gates.
     SyncClose,
-    /// Looks up what a query shows at a moment, in half seconds since 1970.
+    /// Looks up the segments that a query shows at a moment, in half seconds since 1970.
     Lookup(Query, u64),
     /// Stops the state.
     Halt,
@@ -47,33 +47,33 @@ pub enum Event {
 /// Why a step with a value was refused.
 #[derive(Clone, Copy, Debug, PartialEq, Eq)]
 pub enum StepRefusal {
-    /// The device failed.
+    /// A call of the device failed.
     Fault = 1,
     /// The state had stopped.
     Stopped = 2,
-    /// It wasn't this value's turn.
+    /// The value is not the one whose turn it is.
     Stranger = 3,
-    /// Memory ran out.
+    /// Memory was refused.
     NoMemory = 4,
-    /// What was read back is no half or journal of a store.
+    /// The sectors that were read back are no half or journal of a store.
     Damaged = 5,
 }
 
 /// Why publishing was refused.
 #[derive(Clone, Copy, Debug, PartialEq, Eq)]
 pub enum PublishRefusal {
-    /// Memory ran out: the same group is owed.
+    /// Memory was refused. The same group can be published again.
     NoMemory = 1,
-    /// It wasn't this value's turn.
+    /// The value is not the one whose turn it is.
     Stranger = 2,
 }
 
-/// What an event was answered with.
+/// The reply to an event.
 #[derive(Drop)]
 pub enum Reply {
     /// The command was accepted, and has this place.
     Accepted(u64),
-    /// It was refused.
+    /// The command was refused.
     Refused(SubmitError),
     /// The step was made.
     Done,
@@ -85,16 +85,16 @@ pub enum Reply {
     StepRefused(StepRefusal),
     /// Nothing was published.
     PublishRefused(PublishRefusal),
-    /// The command of this place is committed, and did this.
+    /// The command of this place is committed, with this outcome.
     Committed(u64, Outcome),
-    /// It isn't yet.
+    /// The command of this place is not committed yet.
     Waiting(u64),
-    /// The state has stopped before it was.
+    /// The state has stopped before the command of this place was committed.
     Unknown(u64),
-    /// What a lookup shows.
+    /// The segments that a lookup shows.
     Answer(Vec<Segment>),
-    /// Memory ran out for a lookup.
+    /// Memory was refused for a lookup.
     AnswerRefused,
-    /// The run has no ticket or value of the kind that the event takes, or a plan that isn't as the call wants it: nothing changes.
+    /// The run has no ticket or value of the kind that the event takes, or a plan in another state than the call needs: nothing changes.
     NoValue,
 }

@@ -43,7 +43,7 @@ pub(crate) fn stage<D: Device, S: Showcase>(held: &mut HeldGroup, state: &mut St
     }
 }
 
-/// Writes what is staged.
+/// Writes the staged group or seal.
 pub(crate) fn write_group<D: Device, S: Showcase>(
     held: &mut HeldGroup,
     state: &mut State<D, S>,
@@ -69,7 +69,7 @@ pub(crate) fn write_group<D: Device, S: Showcase>(
     }
 }
 
-/// Syncs it.
+/// Syncs the write.
 pub(crate) fn sync_group<D: Device, S: Showcase>(
     held: &mut HeldGroup,
     state: &mut State<D, S>,
@@ -147,7 +147,7 @@ pub(crate) fn sync_gate<D: Device, S: Showcase>(
     }
 }
 
-/// Publishes what is durable.
+/// Publishes the durable group or seal.
 pub(crate) fn publish<D: Device, S: Showcase>(
     held: &mut HeldGroup,
     state: &mut State<D, S>,

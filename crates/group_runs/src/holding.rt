@@ -1,4 +1,4 @@
-//! The commit values that a run holds: at most one of each actor.
+//! The commit values that a run holds: at most one of the flusher's and one of the checkpointer's.
 
 ghost use Rattle.std.specs.Prelude.{◌≡◌};
 ghost use Rattle.group_runs.specs.declared.holding.HeldGroup.TheVariants.{None as no_group};
@@ -30,7 +30,7 @@ pub(crate) enum HeldPlan {
 }
 
 impl HeldGroup {
-    /// Holds this, where none is out.
+    /// Holds this value, where none is out.
     pub(crate) fn put(&mut self, held: HeldGroup)
         requires { self.old ≡ no_group }
         ensures { self.new ≡ held }
@@ -38,7 +38,7 @@ impl HeldGroup {
         mem::replace(self, held).end();
     }
 
-    /// It is none.
+    /// Consumes a slot without a value.
     pub(crate) fn end(self)
         requires { self ≡ no_group }
     {
@@ -49,7 +49,7 @@ impl HeldGroup {
 }
 
 impl HeldPlan {
-    /// Holds this, where none is out.
+    /// Holds this value, where none is out.
     pub(crate) fn put(&mut self, held: HeldPlan)
         requires { self.old ≡ no_plan }
         ensures { self.new ≡ held }
@@ -57,7 +57,7 @@ impl HeldPlan {
         mem::replace(self, held).end();
     }
 
-    /// It is none.
+    /// Consumes a slot without a value.
     pub(crate) fn end(self)
         requires { self ≡ no_plan }
     {

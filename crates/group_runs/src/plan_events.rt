@@ -124,7 +124,7 @@ pub(crate) fn open_half<D: Device, S: Showcase>(
     }
 }
 
-/// Syncs that gate.
+/// Syncs the new half's gate.
 pub(crate) fn sync_half<D: Device, S: Showcase>(
     held: &mut HeldPlan,
     state: &mut State<D, S>,
@@ -176,7 +176,7 @@ pub(crate) fn close_half<D: Device, S: Showcase>(
     }
 }
 
-/// Syncs them.
+/// Syncs the old half's gates.
 pub(crate) fn sync_close<D: Device, S: Showcase>(
     held: &mut HeldPlan,
     state: &mut State<D, S>,

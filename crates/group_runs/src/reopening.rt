@@ -15,18 +15,18 @@ use sector_dev::Device;
 use std::alloc::Global;
 use store_open::{OpenError, Store, open};
 
-/// Opens a device, after any stop. The store stands for what the stop left: an image opens to one pair of rows and a place at most.
+/// Opens a device, after any stop. The store has the value that the stop left: an image has at most one list of rows and place.
 pub fn reopen<D: Device>(alloc: Global, device: D) -> Result<Store<D>, (D, OpenError)>
     ensures value { IfOk result (λ store. IsHonest (D.disk device) → HasValueOf (reads_of (D.disk device)) store) }
     ensures machine { IfOk result (λ store. IsHonest (D.disk device) → ReopensMachines (reads_of (D.disk device)) store) }
     ensures faults { IfOk result (λ store. store.disk.faults ≡ (D.disk device).faults) }
     ensures whole { IfOk result (λ store. store.broken ≡ false) }
 
-    // What opens is refused only where the device fails or memory runs out.
+    // A device that opens is refused only where the device fails or memory is refused.
     ensures refused { IfErr result (λ back. ComesBack back.1 (D.disk device) (D.disk back.0)) }
     ensures no_store { IfErr result (λ back. IsHonest (D.disk device) → RefusesNoStore back.1 (reads_of (D.disk device))) }
 
-    // At every moment what a stop leaves is an image of the start, or opens with what one of the start opens with.
+    // At every moment each image that a stop may leave is an image of the start, or opens with what an image of the start opens with.
     ensures any_moment { Stretch (D.disk device) (disk_after D.disk result) (IsFromImage (D.disk device).history.now OpensAlike) }
 {
     open(alloc, device)
@@ -34,14 +34,14 @@ pub fn reopen<D: Device>(alloc: Global, device: D) -> Result<Store<D>, (D, OpenE
 
 /// Why the device of a state isn't opened again.
 pub enum NotReopened<D: Device, S: Showcase> {
-    /// An outcome is still kept, or a commit value is still out: here is the state.
+    /// An outcome is still kept, or a commit value is still out. The state is returned.
     InUse(State<D, S>),
-    /// The device isn't opened: here it is.
+    /// The device isn't opened. It is returned with the error.
     Refused(D, OpenError),
 }
 
-/// Hands the device of a state out, and opens it. With nothing pending the store stands for the rows that are committed, at their
-/// place; and else for what a front of the pending commands makes of them.
+/// Takes the device out of a state, and opens it. Where nothing is pending, the store has the committed rows, at their
+/// place; else it has the committed rows after a front of the pending commands.
 pub fn reopen_state<D: Device, S: Showcase>(
     alloc: Global,
     state: State<D, S>,
@@ -54,7 +54,7 @@ where
     ensures settled { OnOk result (IsSettled state) }
     ensures refused { IfErr result (λ e. IsNotReopened D.disk e state) }
 
-    // At every moment what a stop leaves opens to the rows that are committed, with a front of the pending commands.
+    // At every moment each image that a stop may leave opens to the committed rows, with a front of the pending commands.
     ensures any_moment { Stretch state.disk (disk_left D.disk result) (OpensToMachine (machine_of state)) }
 {
     state.stops_leave_fronts();

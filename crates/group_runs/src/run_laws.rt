@@ -1,21 +1,21 @@
-//! Laws of runs.
+//! Laws of runs. Each law is the contract of a function that does nothing.
 
 ghost use Rattle.group_runs.specs.Bookkeeping.{EventsKeepTheBooks, StopsAreForGood};
 ghost use Rattle.group_runs.specs.MachineSteps.{EventsMakeMachineSteps};
 ghost use Rattle.group_runs.specs.Reopening.{FrontsAreReopened, PrefixesAreReopened};
 
-/// Each event of a run makes the step of the machine that its reply tells.
+/// Each event of a run makes the step of the machine that its reply determines.
 pub fn events_make_machine_steps()
     ensures { EventsMakeMachineSteps }
 {}
 
-/// And it does to what the state keeps beside its machine what its reply tells; what has stopped stays so.
+/// Each event changes what the state keeps beside its machine as its reply determines; a state that has stopped stays stopped.
 pub fn events_keep_the_books()
     ensures books { EventsKeepTheBooks }
     ensures stopped { StopsAreForGood }
 {}
 
-/// What a stop leaves, of a run or of a state, is a machine that is reopened.
+/// What a stop leaves of a run or of a state is a machine that is reopened.
 pub fn stops_reopen_machines()
     ensures run { PrefixesAreReopened }
     ensures state { FrontsAreReopened }

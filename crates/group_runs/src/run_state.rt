@@ -1,4 +1,4 @@
-//! A run of a state: what its events do, with the values and the tickets that they give and take.
+//! A run of a state: its events, with the values and the tickets that they return and take.
 
 ghost use Rattle.std.specs.Prelude.{◌≡◌, ◌≤◌, length};
 ghost use Rattle.group_core.specs.StateView.{StepLeaves};
@@ -38,7 +38,7 @@ impl<D: Device> Model for Run<D> {
 }
 
 impl<D: Device> Run<D> {
-    /// A run of this state, of which no commit value is out; else the state comes back.
+    /// A run of this state, where none of its commit values is out; else the state is returned.
     pub fn new(alloc: Global, state: State<D, PlainShow>) -> Result<Run<D>, State<D, PlainShow>>
         ensures { StartsRun result state }
     {
@@ -53,7 +53,7 @@ impl<D: Device> Run<D> {
         })
     }
 
-    /// Nothing is done: a stop leaves what it may leave of the state, of which no more is in flight than is pending.
+    /// Does nothing: a stop leaves what it may leave of the state, which has no more commands in flight than are pending.
     pub(crate) fn stops_leave_fronts(&self)
         ensures leaves { StepLeaves self.now.state self.now.state }
         ensures taken { self.now.state.taken ≤ length self.now.state.pending }
@@ -61,19 +61,19 @@ impl<D: Device> Run<D> {
         self.state.stops_leave_fronts();
     }
 
-    /// What the run takes memory of.
+    /// The allocator of the run.
     pub(crate) fn alloc(&self) -> Global {
         *self.tickets.allocator()
     }
 
-    /// How many commands it accepted.
+    /// The number of commands that the run accepted.
     pub(crate) fn count(&self) -> usize
         ensures { result ≡ length self.now.tickets }
     {
         self.tickets.len()
     }
 
-    /// Hands the device out, where nothing is kept and no value is out: the values and tickets that are left are no more.
+    /// The device, where no outcome is kept and no value is out: then no values and tickets are left. Else the run is returned.
     pub(crate) fn into_device(self) -> Result<D, Run<D>>
         ensures { HandsOutDevice D.disk result self }
     {
@@ -99,7 +99,7 @@ impl<D: Device> Run<D> {
         }
     }
 
-    /// What an event does, and the reply to it.
+    /// Makes an event, and returns the reply to it.
     pub(crate) fn step(&mut self, alloc: Global, event: &Event) -> Reply
         ensures step { IsStep event.now result self.old self.new }
         ensures any_moment { StepLeaves self.old.state self.new.state }

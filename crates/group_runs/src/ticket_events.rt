@@ -11,7 +11,7 @@ use path_db::Command;
 use sector_dev::Device;
 use std::alloc::Global;
 
-/// Submits a copy of a command, and keeps its ticket behind the others. No memory is taken where a refusal is judged that takes none.
+/// Submits a copy of a command, and keeps its ticket after the others. Where the command is refused without memory, none is taken.
 pub(crate) fn submit<D: Device, S: Showcase>(
     alloc: Global,
     tickets: &mut Vec<Option<Ticket>>,
@@ -75,7 +75,7 @@ pub(crate) fn redeem<D: Device, S: Showcase>(
     }
 }
 
-/// Keeps a ticket behind the others.
+/// Keeps a ticket after the others.
 fn keep(tickets: &mut Vec<Option<Ticket>>, ticket: Ticket)
     requires { vec_len tickets.old < vec_capacity tickets.old }
     ensures { tickets.new.items ≡ tickets.old.items ++ Some ticket ∷ [] }
@@ -108,7 +108,7 @@ fn put_back(tickets: &mut Vec<Option<Ticket>>, k: usize, ticket: Ticket)
     }
 }
 
-/// There is none.
+/// Consumes a slot without a ticket.
 fn end(ticket: Option<Ticket>)
     requires { ticket ≡ None }
 {
@@ -117,7 +117,7 @@ fn end(ticket: Option<Ticket>)
     };
 }
 
-/// There are none.
+/// Consumes slots without tickets.
 pub(crate) fn end_all(tickets: Vec<Option<Ticket>>)
     requires { AllRedeemed tickets.items }
 {

@@ -2,7 +2,7 @@ use Rattle.std.proofs.Common.{◌+◌, ◌-◌, ◌≤◌, length, take, vec_len
 use Rattle.group_runs.proofs.Runs.{RunSoFar}
 use Rattle.group_runs.proofs.running.run.Given as goal
 
--- The events so far were done, and there is room for the replies to the others.
+-- The events before this one were done, and there is room for the replies to the others.
 abbrev pub invariant-loop-event : goal.invariant-loop-event
 invariant-loop-event g l = record {
   so_far : RunSoFar (take l.event-index l.events) l.replies.items l.fn.run l.run;

@@ -2,7 +2,7 @@ use Rattle.std.proofs.Common.{vec_len}
 use Rattle.group_runs.specs.Holding.{AllRedeemed}
 use Rattle.group_runs.proofs.ticket_events.end_all.Given as goal
 
--- what is left is redeemed
+-- the tickets that are left are redeemed
 abbrev pub invariant-loop-ticket : goal.invariant-loop-ticket
 invariant-loop-ticket l = record { redeemed : AllRedeemed l.tickets.items }
 

@@ -3,7 +3,7 @@ use Rattle.group_runs.specs.Winding.{ending_events, winding_events}
 use Rattle.group_runs.proofs.Runs.{GoneBy}
 use Rattle.group_runs.proofs.run_state.Run.wind_up.Given as goal
 
--- The run went on by the events so far.
+-- The run has done the events before this one.
 abbrev pub invariant-loop-event : goal.invariant-loop-event
 invariant-loop-event g l = record { gone : GoneBy (take l.event-index ending_events) l.fn.self l.run }
 
