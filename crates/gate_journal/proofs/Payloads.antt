@@ -62,7 +62,7 @@ module _ (p : List ℕ) where
       ∙ ap (λ (size : ℕ). header_test wanted few many longest (get_or p 0 0) (get_or p 1 0) (get_or p 2 0) (get_or p 3 0) size (place_in first)) front_size
       ∙ ap (λ (place : ℕ). header_test wanted few many longest (get_or p 0 0) (get_or p 1 0) (get_or p 2 0) (get_or p 3 0) (size_in p) place) front_place
 
--- what a header reads as, by what it is of, and the numbers that are judged
+-- the reading of a header, by its kind and by the numbers that are checked
 abbrev reading_by : Bool → Bool → ℕ → ℕ → ℕ → Bool → ℕ → ℕ → ℕ → Result Header JournalRefusal
 reading_by group seal count size there zeros gate place sectors =
     cond group (check (eqb there place) (Gap place) (check (leb (gate + 1 + payload_sectors size + 2) sectors) PastEnd (Ok (Group count size))))

@@ -41,7 +41,7 @@ found_in_records None = Err IsBadRecord
 found_in_records (Some x) = Ok x
 
 -- The header in the first sector of the payload after a gate, where this place is expected and the journal has this number of
--- sectors; of a seal its padding is judged too.
+-- sectors; the padding of a seal is checked too.
 abbrev pub header_reading : Limits → List ℕ → ℕ → ℕ → ℕ → Result Header JournalRefusal
 header_reading limits sector gate place sectors =
     if is_group_header limits sector then

@@ -77,8 +77,8 @@ impl LoneStore {
         }
     }
 
-    /// What a query shows at a moment, in half seconds since 1970. Memory runs out only where something is to be shown, or where it
-    /// had run out for an earlier command.
+    /// The segments that a query shows at a moment, in half seconds since 1970. Memory is refused only where there are segments to show,
+    /// or where it was refused for an earlier command.
     pub fn look_up(&mut self, query: &Query, now: u64) -> Result<Vec<Segment>, AllocError>
         ensures answer { IfOk result (λ found. found.items ≡ segments_of (answer_to self.old.rows (query_view query.now) now)) }
         ensures few { IfOk result (λ found. length found.items ≤ ANSWER_LIMIT) }

@@ -52,7 +52,7 @@ RefusesList list fault.Hex = ⊥
 RefusesList list (fault.Frame e) = ⊥
 RefusesList list fault.Output = ⊥
 
--- why a list is refused that is judged without memory
+-- why a list is refused by the checks that take no memory
 abbrev pub RefusesTexts : List ℕ → Fault → Type 0
 RefusesTexts list (fault.Text e) = FirstRefusal (texts_of list) e
 RefusesTexts list fault.Memory = ⊥

@@ -53,7 +53,7 @@ pub record IsAnsweredText (start : Served) (text : List ℕ) (output output_left
   pub answered : AreAnsweredInLines start bytes output output_left outcome
   pub said : result ≡ answer_for outcome
 
--- The input was read whole, and judged as a text before anything was answered.
+-- The input was read to its end, and checked as a text before anything was answered.
 pub record IsReadText (start : Served) (text : List ℕ) (input_left output output_left : Option (List ℕ)) (result : Result ℕ Fault) : Type 0 where
   pub end : IsAtEnd input_left
   pub ended : IsNoText text output output_left result ⊎ IsAnsweredText start text output output_left result

@@ -11,7 +11,7 @@ use std::alloc::Global;
 use std::io::Write;
 
 /// Answers the messages of one session, from no rows and place 0, in at most `turns` reads, and returns how many replies
-/// were written: a count that stays at 2^64 - 1. Signatures are judged by `checker`, and `now`, in half seconds since
+/// were written, capped at 2^64 - 1. Signatures are checked by `checker`, and `now`, in half seconds since
 /// 1970, is the moment at which segments are valid or not.
 pub fn once<R: Source, W: Write, V: Verifier>(
     alloc: Global,

@@ -120,7 +120,7 @@ module _ (opening : StoreValue (List RowView)) where
 
   -- ---- messages
 
-  -- One message, read, checked or classified, and handed to the hub: the first refusal is the reply.
+  -- One message, which is read, checked or classified, and passed to the hub: the first refusal is the reply.
   unfoldable pub IsAnswered : Serving → MessageView → ReplyView → Serving → Type 0
   IsAnswered old (Register body) reply new = AnswersRegistration old (registration_decoding body) reply new
   IsAnswered old (Lookup body) reply new = AnswersLookup old (request_decoding body) reply new

@@ -41,7 +41,7 @@ same_roster cores sorted moved =
 comparison_rises : (a b n : ℕ) → a ≤ b → ordering_index (nat_cmp a n) ≤ ordering_index (nat_cmp b n)
 comparison_rises a b n le = grind (arith, nat_tests)
 
--- a comparison the other way round is equal just where this is
+-- a comparison with its sides exchanged is equal exactly when the comparison is
 turned : (a n : ℕ) (o : Ordering) → nat_cmp a n ≡ o → is_eq (nat_cmp n a) ≡ is_eq (ordering_reverse o)
 turned a n o e = ap is_eq (nat_cmp_total.antisymm n a ∙ ap ordering_reverse e)
 
@@ -54,7 +54,7 @@ none_among cores n i parted =
       | inr behind ↦ turned (number_of (get_or cores k d)) n Greater (parted.1 k d behind lt)
     ])
 
--- a binary search by number among numbers that do not fall finds it just where it is among them
+-- a binary search by number among numbers that do not fall finds a number exactly when it is among them
 search_tells : (cores : List IsdAs) (n : ℕ) (r : Result ℕ ℕ) → IsNonDecreasingBy number_of cores → IsSearchInRange r (length cores) → IsBinarySearchResult (λ core. nat_cmp (number_of core) n) cores r → is_ok r ≡ is_among n cores
 search_tells [] n (Ok at) rising in_range equal = absurd (omega arith)
 search_tells (core ∷ cores) n (Ok at) rising in_range equal =
