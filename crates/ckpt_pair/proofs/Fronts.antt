@@ -12,7 +12,8 @@ use Rattle.path_db.specs.RowRecord.{rows_decoding, HasOutline}
 use Rattle.ckpt_pair.specs.declared.error.PairError.{PairError}
 use Rattle.ckpt_pair.specs.declared.reading.Front.{Front}
 use Rattle.ckpt_pair.specs.Refusals.{Reads}
-use Rattle.ckpt_pair.specs.Heads.{latest, head_view}
+use Rattle.ckpt_pair.specs.Heads.{head_view}
+use Rattle.ckpt_pair.specs.Versions.{latest}
 use Rattle.ckpt_pair.specs.Rows.{as_counted, rows_format}
 use Rattle.ckpt_pair.specs.Reading.{FrontView, front_view, with_room, front_in, or_bad, HasRowsToRead, with_head, with_rows_behind, rows_behind, AreReadByTheirFronts}
 

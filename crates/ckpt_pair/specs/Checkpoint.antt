@@ -6,7 +6,7 @@ use Rattle.image_laws.specs.Checkpoint.{CanBeHead, CanBeCheckpoint}
 use Rattle.image_laws.specs.CheckpointReading.{checkpoint_in}
 use Rattle.image_laws.specs.StoreFormat.{IsStorable}
 use Rattle.path_rows.specs.Database.{RowView, IsDatabase, rows_len}
-use Rattle.ckpt_pair.specs.Heads.{latest}
+use Rattle.ckpt_pair.specs.Versions.{latest}
 use Rattle.ckpt_pair.specs.Rows.{rows_format}
 
 -- the checkpoint that is written for a database

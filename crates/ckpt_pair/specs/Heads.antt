@@ -1,5 +1,5 @@
 -- Heads as values, and the half that has the tail of a store.
-use Rattle.std.specs.Prelude.{◌≡◌, ℕ, Bool, true, false, Result, Ok, Err, Option}
+use Rattle.std.specs.Prelude.{◌≡◌, Bool, true, false, Result, Ok, Err, Option}
 use Rattle.std.specs.Option.{option_map}
 use Rattle.image_laws.specs.declared.half.Half.{Half}
 use Rattle.image_laws.specs.declared.half.Half.TheVariants.{First, Second}
@@ -12,10 +12,6 @@ use Rattle.image_laws.specs.Opening.{Opening}
 use Rattle.image_laws.specs.OpeningReading.{BadPair, read_tail, behind_journal}
 use Rattle.ckpt_pair.specs.declared.head.Head.{Head}
 use Rattle.ckpt_pair.specs.declared.head.Heads.{Heads}
-
--- the greatest version that is known; checkpoints are written in this version
-abbrev pub latest : ℕ
-latest = 2
 
 -- the numbers of a head
 abbrev pub head_view : Head → laws.Head

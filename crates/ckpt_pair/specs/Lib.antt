@@ -1,5 +1,6 @@
 pub mod Refusals
 pub mod Heads
+pub mod Versions
 pub mod Rows
 pub mod Checkpoint
 pub mod Reading

@@ -7,7 +7,8 @@ use Rattle.path_rows.specs.Database.{RowView}
 use Rattle.path_db.specs.RowRecord.{rows_decoding, HasOutline}
 use Rattle.ckpt_pair.specs.declared.reading.Front.{Front}
 use Rattle.ckpt_pair.specs.declared.reading.Checkpoint.{Checkpoint}
-use Rattle.ckpt_pair.specs.Heads.{latest, head_view}
+use Rattle.ckpt_pair.specs.Heads.{head_view}
+use Rattle.ckpt_pair.specs.Versions.{latest}
 use Rattle.ckpt_pair.specs.Rows.{rows_format, as_counted}
 
 -- the front of a checkpoint: the head, the length of the rows' records, and the number of rows

@@ -7,7 +7,7 @@ use Rattle.path_db.specs.RowRecord.{rows_decoding}
 use Rattle.path_db.specs.RowWalk.{WalkView, HasGiven}
 use Rattle.path_db.specs.RowsReader.{AreRefused}
 use Rattle.ckpt_pair.specs.declared.row_stream.RowStream.TheInside.{Inside}
-use Rattle.ckpt_pair.specs.Heads.{latest}
+use Rattle.ckpt_pair.specs.Versions.{latest}
 use Rattle.ckpt_pair.specs.Rows.{rows_format, as_counted}
 use Rattle.ckpt_pair.specs.Reading.{FrontView, front_in, with_head}
 

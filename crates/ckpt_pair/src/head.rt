@@ -5,7 +5,8 @@ ghost use Rattle.byte_lists.specs.Sectors.{is_open_gate};
 ghost use Rattle.image_laws.specs.CheckpointReading.{head_in};
 ghost use Rattle.image_laws.specs.OpeningReading.{head_behind};
 ghost use Rattle.ckpt_pair.specs.Refusals.{Reads};
-ghost use Rattle.ckpt_pair.specs.Heads.{latest, head_view, head_seen};
+ghost use Rattle.ckpt_pair.specs.Heads.{head_view, head_seen};
+ghost use Rattle.ckpt_pair.specs.Versions.{latest};
 
 use crate::error::PairError;
 use crate::format::{CHECKPOINT_MAGIC, LATEST};

@@ -7,7 +7,7 @@ ghost use Rattle.path_db.specs.RowRecord.{rows_decoding, HasOutline};
 ghost use Rattle.image_laws.specs.CheckpointReading.{checkpoint_in};
 ghost use Rattle.ckpt_pair.specs.declared.error.PairError.TheVariants.{NoMemory};
 ghost use Rattle.ckpt_pair.specs.Refusals.{Reads, Gives};
-ghost use Rattle.ckpt_pair.specs.Heads.{latest};
+ghost use Rattle.ckpt_pair.specs.Versions.{latest};
 ghost use Rattle.ckpt_pair.specs.Rows.{rows_format, as_counted};
 ghost use Rattle.ckpt_pair.specs.Reading.{front_view, front_in, checkpoint_view, or_bad, HasRowsToRead};
 

@@ -3,12 +3,9 @@ use Rattle.std.specs.Prelude.{◌≡◌, Result, Ok, Err, Some}
 use Rattle.std.specs.Result.{result_ok}
 use Rattle.std.proofs.Common.{ap}
 use Rattle.path_rows.specs.declared.command.Command.{Command}
-use Rattle.path_rows.specs.Command.{HasWholeSegments}
-use Rattle.path_db.specs.CommandRecord.{IsWithinLimits, command_encoding, command_decoding}
-use Rattle.path_db.specs.RecordLaws.{HasWidths, IsAllowedBy}
+use Rattle.path_db.specs.CommandRecord.{command_encoding, command_decoding}
 use Rattle.path_db.proofs.Exports.{command_spelled, command_read_on}
-use Rattle.image_laws.specs.Limits.{Limits}
-use Rattle.image_laws.specs.CommandFormat.{CommandFormat, IsAllowed}
+use Rattle.image_laws.specs.CommandFormat.{CommandFormat}
 
 -- a reading that gives a command didn't refuse it
 pub read_from : {T E : Type 0} (reading : Result T E) (value : T) → result_ok reading ≡ Some value → reading ≡ Ok value
@@ -26,9 +23,3 @@ command_format = record {
       ap result_ok (command_read_on small.removals large.removals bytes command larger.removals
       (read_from (command_decoding small.removals bytes) command is));
 }
-
--- The limits of a journal allow each command within its own limits, a removal where they allow these.
-abbrev pub CommandsAreAllowed : Type 0
-CommandsAreAllowed =
-    (limits : Limits) (command : Command) → IsWithinLimits command → HasWholeSegments command → HasWidths command → IsAllowedBy limits.removals command
-    → IsAllowed command_format limits command

@@ -1,4 +1,5 @@
 pub mod Commands
+pub mod AllowedCommands
 pub mod Payload
 pub mod RecordError
 pub mod Reading

@@ -18,10 +18,10 @@ use Rattle.image_laws.specs.StoreFormat.{db_after}
 use Rattle.image_laws.specs.Checkpoint.{Checkpoint, checkpoint_bytes, checkpoint_encoding}
 use Rattle.image_laws.proofs.Exports.{checkpoint_read, journal_read, store_journal}
 use Rattle.gate_journal.specs.Commands.{command_format}
-use Rattle.ckpt_pair.specs.Heads.{latest}
+use Rattle.ckpt_pair.specs.Versions.{latest}
 use Rattle.ckpt_pair.specs.Rows.{rows_format}
 use Rattle.store_open.specs.PathStores.{store_format}
-use Rattle.store_open.specs.NewStore.{SameBehind}
+use Rattle.store_open.specs.Behind.{SameBehind}
 use Rattle.store_open.specs.Sealed.{SealedHalf, sealed_half, folded_in, folded_behind, ReadsSealed, LooksAtHalf}
 use Rattle.store_open.specs.declared.sealed.SealedError.{SealedError}
 use Rattle.store_open.specs.declared.sealed.SealedError.TheVariants as half
@@ -36,7 +36,8 @@ use Rattle.group_laws.specs.HeldSteps.{OpensAroundCall}
 use Rattle.group_laws.specs.HeldChecks.{checked}
 use Rattle.group_laws.specs.HeldTurns.{behind_plan}
 use Rattle.group_laws.proofs.Exports.{reads_by_its_part, held_when_plan_begins}
-use Rattle.group_core.specs.StateView.{StateView, setting_of, standing_of, StepLeaves}
+use Rattle.group_core.specs.StateView.{StateView}
+use Rattle.group_core.specs.Stops.{setting_of, standing_of, StepLeaves}
 use Rattle.group_core.specs.Invariant.{Hidden, CountsAt, Sound, IsState}
 use Rattle.group_core.specs.declared.bookkeeping.Turn.{Turn}
 use Rattle.group_core.specs.declared.beginning.BeginError.TheVariants.{Damaged}

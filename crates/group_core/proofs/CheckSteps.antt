@@ -14,7 +14,7 @@ use Rattle.image_laws.specs.Layout.{Geometry, other, area_at, gate_at}
 use Rattle.image_laws.specs.Checkpoint.{checkpoint_encoding}
 use Rattle.image_laws.proofs.Exports.{later_allow_more}
 use Rattle.gate_journal.specs.Commands.{command_format}
-use Rattle.ckpt_pair.specs.Heads.{latest}
+use Rattle.ckpt_pair.specs.Versions.{latest}
 use Rattle.ckpt_pair.specs.Rows.{rows_format}
 use Rattle.group_laws.specs.declared.phases.Check.{Check}
 use Rattle.group_laws.specs.declared.phases.Check.TheVariants.{Ready, Planned, Laid, Switched, SwitchFailed, Live, Closing, CloseFailed}
@@ -27,7 +27,8 @@ use Rattle.group_core.specs.declared.bookkeeping.Turn.{Turn}
 use Rattle.group_core.specs.declared.error.StepError.{StepError}
 use Rattle.group_core.specs.declared.phases.AtPlan.{AtPlan}
 use Rattle.group_core.specs.declared.values.Commit.{Commit}
-use Rattle.group_core.specs.StateView.{StateView, setting_of, standing_of}
+use Rattle.group_core.specs.StateView.{StateView}
+use Rattle.group_core.specs.Stops.{setting_of, standing_of}
 use Rattle.group_core.specs.Steps.{is_whole, TakesPlanTurn, TakesChunkTurn}
 use Rattle.group_core.specs.Invariant.{Hidden, FitsLoad, MayBePending, HasPlan, HasNextEpoch, CountsAt, Shape, Sound, IsState}
 use Rattle.group_core.proofs.Soundness.{sound_at_work, either_stays}

@@ -18,7 +18,8 @@ use Rattle.group_laws.proofs.Exports.{held_while_load_is_written, held_while_gat
 use Rattle.group_core.specs.declared.bookkeeping.Turn.{Turn}
 use Rattle.group_core.specs.declared.error.StepError.{StepError}
 use Rattle.group_core.specs.declared.values.Commit.{Commit}
-use Rattle.group_core.specs.StateView.{StateView, setting_of, standing_of}
+use Rattle.group_core.specs.StateView.{StateView}
+use Rattle.group_core.specs.Stops.{setting_of, standing_of}
 use Rattle.group_core.specs.Steps.{TakesGroupTurn}
 use Rattle.group_core.specs.Invariant.{Hidden, Shape, Sound, IsState}
 use Rattle.group_core.proofs.Regions.{load_inside}

@@ -11,10 +11,10 @@ use Rattle.image_laws.specs.Layout.{other}
 use Rattle.image_laws.specs.StoreFormat.{db_after}
 use Rattle.image_laws.specs.Checkpoint.{Checkpoint}
 use Rattle.image_laws.specs.Opening.{StoreValue}
-use Rattle.image_laws.specs.StoreGrowth.{value_after}
+use Rattle.image_laws.specs.StoreValues.{value_after}
 use Rattle.image_laws.proofs.Exports.{folds_in_parts}
 use Rattle.gate_journal.specs.Commands.{command_format}
-use Rattle.ckpt_pair.specs.Heads.{latest}
+use Rattle.ckpt_pair.specs.Versions.{latest}
 use Rattle.store_open.specs.PathStores.{store_format}
 use Rattle.group_laws.specs.declared.phases.Flush.{Flush}
 use Rattle.group_laws.specs.declared.phases.Flush.TheVariants.{Resting, Durable}
@@ -27,7 +27,8 @@ use Rattle.group_laws.specs.Standing.{load_by, load_of, seals, tail_of, base_of}
 use Rattle.group_laws.specs.HeldTurns.{behind_group, behind_seal}
 use Rattle.group_laws.proofs.Exports.{held_when_group_is_published, held_when_seal_is_published, length-load}
 use Rattle.group_core.specs.declared.bookkeeping.Turn.{Turn}
-use Rattle.group_core.specs.StateView.{StateView, setting_of, standing_of}
+use Rattle.group_core.specs.StateView.{StateView}
+use Rattle.group_core.specs.Stops.{setting_of, standing_of}
 use Rattle.group_core.specs.Steps.{spent}
 use Rattle.group_core.specs.Publishing.{with_group}
 use Rattle.group_core.specs.Invariant.{Hidden, FitsLoad, MayBePending, FitArea, CountsAt, Shape, Sound, IsState}

@@ -16,7 +16,8 @@ use Rattle.group_laws.specs.Standing.{load_by, IsHeldBy}
 use Rattle.group_laws.specs.HeldCommands.{staged}
 use Rattle.group_laws.proofs.Exports.{held_when_group_is_staged, held_when_seal_is_staged}
 use Rattle.group_core.specs.declared.bookkeeping.Turn.{Turn}
-use Rattle.group_core.specs.StateView.{StateView, setting_of, standing_of}
+use Rattle.group_core.specs.StateView.{StateView}
+use Rattle.group_core.specs.Stops.{setting_of, standing_of}
 use Rattle.group_core.specs.Staging.{FitOneGroup, IsLongestFront, MayStage, TakesFront, TakesSeal, Takes}
 use Rattle.group_core.specs.Invariant.{Hidden, FitsLoad, MayBePending, Shape, Sound, IsState}
 use Rattle.group_core.specs.Showing.{IsFront}

@@ -14,7 +14,7 @@ use Rattle.image_laws.specs.StoreFormat.{db_after}
 use Rattle.image_laws.specs.Checkpoint.{Head, Checkpoint, checkpoint_size}
 use Rattle.image_laws.specs.Opening.{Opening, limits_in, IsTail, IsOpening, db_at_seal, tail_half}
 use Rattle.gate_journal.specs.Commands.{command_format}
-use Rattle.ckpt_pair.specs.Heads.{latest}
+use Rattle.ckpt_pair.specs.Versions.{latest}
 use Rattle.ckpt_pair.specs.Rows.{rows_format}
 use Rattle.store_open.specs.Closing.{HasClosedGates}
 use Rattle.store_open.specs.PathStores.{store_format}
@@ -25,7 +25,8 @@ use Rattle.group_laws.specs.Setting.{Setting}
 use Rattle.group_laws.specs.Standing.{Standing, Behind, IsHeldBy}
 use Rattle.group_laws.specs.HeldOpened as opened
 use Rattle.group_laws.proofs.Exports.{checkpoint_inside, held_at_rest, held_behind_seal}
-use Rattle.group_core.specs.StateView.{StateView, setting_of, standing_of, MayOpen}
+use Rattle.group_core.specs.StateView.{StateView}
+use Rattle.group_core.specs.Stops.{setting_of, standing_of, MayOpen}
 use Rattle.group_core.specs.Invariant.{Hidden, FitArea, HasNextEpoch, CountsAt, Shape, Sound, IsBroken, IsState}
 use Rattle.group_core.specs.Starting.{value_in, GoesOn, check_in, started}
 use Rattle.group_core.proofs.States.{may_open}

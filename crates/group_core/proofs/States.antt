@@ -9,14 +9,15 @@ use Rattle.sector_dev.specs.Calls.{WriteCall, SyncCall}
 use Rattle.sector_dev.specs.Stretch.{Stretch}
 use Rattle.sector_dev.proofs.Stretches.{stretch_here, from_write}
 use Rattle.image_laws.specs.Layout.{Geometry, image_sectors}
-use Rattle.ckpt_pair.specs.Heads.{latest}
+use Rattle.ckpt_pair.specs.Versions.{latest}
 use Rattle.store_open.specs.PathStores.{store_format}
-use Rattle.store_open.specs.NewStore.{SameBehind}
+use Rattle.store_open.specs.Behind.{SameBehind}
 use Rattle.store_open.proofs.Behind.{kept_here, kept_synced}
 use Rattle.group_laws.specs.Standing.{IsHeld}
 use Rattle.group_laws.specs.HeldSteps.{OpensAroundCall}
 use Rattle.group_laws.proofs.Exports.{opens_by_both_parts, writes_leave_fronts, sync_moments}
-use Rattle.group_core.specs.StateView.{StateView, setting_of, standing_of, MayOpen, StepLeaves}
+use Rattle.group_core.specs.StateView.{StateView}
+use Rattle.group_core.specs.Stops.{setting_of, standing_of, MayOpen, StepLeaves}
 use Rattle.group_core.specs.Invariant.{Hidden, Sound, IsBroken, IsState}
 use Rattle.group_core.proofs.Soundness.{AtWork, sound_at_work}
 

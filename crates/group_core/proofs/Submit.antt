@@ -17,7 +17,8 @@ use Rattle.store_open.specs.PathStores.{store_format}
 use Rattle.group_laws.specs.Tail.{Commands, load_bytes}
 use Rattle.group_laws.specs.Standing.{load_by, load_of}
 use Rattle.group_laws.proofs.Exports.{held_when_accepted}
-use Rattle.group_core.specs.StateView.{StateView, setting_of, standing_of}
+use Rattle.group_core.specs.StateView.{StateView}
+use Rattle.group_core.specs.Stops.{setting_of, standing_of}
 use Rattle.group_core.specs.Invariant.{Hidden, FitsLoad, MayBePending, FitArea, Shape, IsState}
 use Rattle.group_core.specs.Keeping.{Outcomes}
 use Rattle.group_core.specs.Showing.{IsFront}

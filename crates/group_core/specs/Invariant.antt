@@ -13,7 +13,7 @@ use Rattle.image_laws.specs.Layout.{Geometry, IsGeometry, image_sectors}
 use Rattle.image_laws.specs.StoreFormat.{db_after}
 use Rattle.image_laws.specs.Checkpoint.{Checkpoint, checkpoint_encoding, checkpoint_size}
 use Rattle.gate_journal.specs.Commands.{command_format}
-use Rattle.ckpt_pair.specs.Heads.{latest}
+use Rattle.ckpt_pair.specs.Versions.{latest}
 use Rattle.ckpt_pair.specs.Rows.{rows_format}
 use Rattle.store_open.specs.PathStores.{store_format}
 use Rattle.group_laws.specs.declared.phases.Flush.TheVariants.{Resting}
@@ -21,7 +21,8 @@ use Rattle.group_laws.specs.declared.phases.Check.{Check}
 use Rattle.group_laws.specs.declared.phases.Check.TheVariants.{Ready, Sealed, Planned, Laid, Switched, SwitchFailed, Live, Closing, CloseFailed}
 use Rattle.group_laws.specs.Tail.{Load, Commands, Seal, load_bytes}
 use Rattle.group_laws.specs.Standing.{load_of, Behind, IsHeldBy}
-use Rattle.group_core.specs.StateView.{StateView, setting_of, standing_of, MayOpen}
+use Rattle.group_core.specs.StateView.{StateView}
+use Rattle.group_core.specs.Stops.{setting_of, standing_of, MayOpen}
 use Rattle.group_core.specs.Keeping.{KeepsOutcomes}
 use Rattle.group_core.specs.Showing.{IsFront}
 

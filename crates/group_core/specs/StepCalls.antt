@@ -10,7 +10,8 @@ use Rattle.group_laws.specs.Tail.{load_bytes}
 use Rattle.group_laws.specs.Standing.{load_of}
 use Rattle.group_core.specs.declared.error.StepError.{StepError}
 use Rattle.group_core.specs.declared.error.StepError.TheVariants.{Fault, Stopped, Stranger, NoMemory, Damaged}
-use Rattle.group_core.specs.StateView.{StateView, standing_of}
+use Rattle.group_core.specs.StateView.{StateView}
+use Rattle.group_core.specs.Stops.{standing_of}
 use Rattle.group_core.specs.Steps.{next_sectors}
 
 -- a call that writes these bytes from a sector on, or one that syncs

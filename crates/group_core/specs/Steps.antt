@@ -2,7 +2,7 @@
 use Rattle.std.specs.Prelude.{◌≡◌, ℕ, ◌+◌, ◌-◌, ◌*◌, ◌==◌, min, Bool, true, false, length, Result, Ok, Err}
 use Rattle.byte_lists.specs.Sectors.{whole_sectors}
 use Rattle.sector_dev.specs.Calls.{one_more}
-use Rattle.ckpt_pair.specs.Heads.{latest}
+use Rattle.ckpt_pair.specs.Versions.{latest}
 use Rattle.group_laws.specs.declared.phases.Flush.{Flush}
 use Rattle.group_laws.specs.declared.phases.Check.{Check}
 use Rattle.group_laws.specs.declared.phases.Check.TheVariants.{Ready, Planned, Laid, Switched, Live, Closing}

@@ -3,7 +3,7 @@
 ghost use Rattle.std.specs.Prelude.{◌≡◌, true, false};
 ghost use Rattle.group_laws.specs.declared.phases.Check.TheVariants.{Laid as laid, Switched as switched, SwitchFailed as switch_failed};
 ghost use Rattle.group_laws.specs.declared.phases.Check.TheVariants.{Live as live, Closing as closing, CloseFailed as close_failed};
-ghost use Rattle.group_core.specs.StateView.{StepLeaves};
+ghost use Rattle.group_core.specs.Stops.{StepLeaves};
 ghost use Rattle.group_core.specs.Steps.{WritesChunk, SyncsChunks, WritesGate, SyncsHalf, SyncsClose, TakesPlanTurn, TakesChunkTurn};
 ghost use Rattle.group_core.specs.StepCalls.{StepCall, Sync, chunk_write, half_write, close_write};
 

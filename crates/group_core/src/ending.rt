@@ -3,7 +3,7 @@
 ghost use Rattle.sector_dev.specs.Disk.{IsHonest};
 ghost use Rattle.sector_dev.specs.Image.{EveryImage};
 ghost use Rattle.std.specs.Prelude.{◌≡◌, [], IfOk, OnOk};
-ghost use Rattle.group_core.specs.StateView.{MayOpen, StepLeaves};
+ghost use Rattle.group_core.specs.Stops.{MayOpen, StepLeaves};
 ghost use Rattle.group_core.specs.Ending.{Abandons, HandsOut, HoldsStoreOf};
 
 use crate::showcase::Showcase;

@@ -2,7 +2,7 @@
 
 ghost use Rattle.group_laws.specs.declared.phases.Flush.TheVariants.{Staged as staged, Written as written, Stable as stable};
 ghost use Rattle.group_laws.specs.declared.phases.Flush.TheVariants.{Opened as opened, Doubtful as doubtful, Durable as durable};
-ghost use Rattle.group_core.specs.StateView.{StepLeaves};
+ghost use Rattle.group_core.specs.Stops.{StepLeaves};
 ghost use Rattle.group_core.specs.Steps.{FlushStep, TakesGroupTurn};
 ghost use Rattle.group_core.specs.StepCalls.{StepCall, Sync, load_write, gate_write};
 

@@ -1,6 +1,6 @@
 //! Publishing what is durable.
 
-ghost use Rattle.group_core.specs.StateView.{StepLeaves};
+ghost use Rattle.group_core.specs.Stops.{StepLeaves};
 ghost use Rattle.group_core.specs.Publishing.{PublishStep};
 
 use crate::error::PublishError;

@@ -10,7 +10,7 @@ ghost use Rattle.seg_lookup.specs.declared.answers.TheConstants.{ANSWER_LIMIT};
 ghost use Rattle.group_laws.specs.declared.phases.Check.TheVariants.{Sealed as sealed};
 ghost use Rattle.group_core.specs.Keeping.{KeepsOutcomes};
 ghost use Rattle.group_core.specs.Reading.{IsFree};
-ghost use Rattle.group_core.specs.StateView.{StepLeaves};
+ghost use Rattle.group_core.specs.Stops.{StepLeaves};
 
 use crate::plain_show::PlainShow;
 use crate::showcase::Showcase;

@@ -1,6 +1,6 @@
 //! Redeeming tickets.
 
-ghost use Rattle.group_core.specs.StateView.{StepLeaves};
+ghost use Rattle.group_core.specs.Stops.{StepLeaves};
 ghost use Rattle.group_core.specs.Redeeming.{Redeems};
 
 use crate::showcase::Showcase;

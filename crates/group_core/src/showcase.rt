@@ -5,7 +5,7 @@ ghost use Rattle.path_rows.specs.Database.{RowView};
 ghost use Rattle.path_rows.specs.declared.command.Command.{Command as CommandView};
 ghost use Rattle.image_laws.specs.Group.{last_place};
 ghost use Rattle.image_laws.specs.Opening.{StoreValue};
-ghost use Rattle.image_laws.specs.StoreGrowth.{value_after};
+ghost use Rattle.image_laws.specs.StoreValues.{value_after};
 ghost use Rattle.store_open.specs.PathStores.{store_format};
 ghost use Rattle.group_core.specs.Showing.{IsFront};
 

@@ -9,7 +9,7 @@ ghost use Rattle.gate_journal.specs.Commands.{command_format};
 ghost use Rattle.gate_journal.specs.Payload.{IsWithinGroupLimits};
 ghost use Rattle.group_laws.specs.Tail.{Commands, Seal, load_bytes};
 ghost use Rattle.group_core.specs.declared.staging.StageError.TheVariants.{NoMemory};
-ghost use Rattle.group_core.specs.StateView.{StepLeaves};
+ghost use Rattle.group_core.specs.Stops.{StepLeaves};
 ghost use Rattle.group_core.specs.Staging.{IsLongestFront, Takes, IsRefused, Stages};
 
 use crate::bookkeeping::Turn;

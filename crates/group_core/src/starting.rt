@@ -3,7 +3,7 @@
 ghost use Rattle.std.specs.Prelude.{◌≡◌, ◌↔◌, [], IsTrue};
 ghost use Rattle.sector_dev.specs.Disk.{IsHonest};
 ghost use Rattle.sector_dev.specs.Image.{EveryImage};
-ghost use Rattle.group_core.specs.StateView.{MayOpen};
+ghost use Rattle.group_core.specs.Stops.{MayOpen};
 ghost use Rattle.group_core.specs.Starting.{value_in, GoesOn, IsStarted, check_in};
 
 use crate::bookkeeping::Turn;

@@ -4,7 +4,7 @@ ghost use Rattle.std.specs.Prelude.{◌≡◌, ◌↔◌, IsTrue, OnOk};
 ghost use Rattle.path_db.specs.RecordLaws.{IsAllowedBy};
 ghost use Rattle.image_laws.specs.Limits.{limits_of};
 ghost use Rattle.group_core.specs.Invariant.{MayBePending};
-ghost use Rattle.group_core.specs.StateView.{StepLeaves};
+ghost use Rattle.group_core.specs.Stops.{StepLeaves};
 ghost use Rattle.group_core.specs.Submitting.{Judges, Submits, next_place};
 
 use crate::accepting::accept;

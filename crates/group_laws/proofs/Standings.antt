@@ -2,7 +2,7 @@
 use Rattle.std.proofs.Common.{◌≡◌, inl, inr, ℕ, zero, suc, ◌+◌, false, List, [], length, take, refl, sym, ◌∙◌, ap, subst, arith}
 use Rattle.image_laws.specs.Journal.{Reading, all_of}
 use Rattle.image_laws.specs.StoreFormat.{db_after}
-use Rattle.image_laws.specs.StoreGrowth.{value_after}
+use Rattle.image_laws.specs.StoreValues.{value_after}
 use Rattle.image_laws.specs.Limits.{limits_of}
 use Rattle.image_laws.proofs.Exports.{folds_in_parts}
 use Rattle.group_laws.specs.declared.phases.Flush.{Flush}

@@ -7,7 +7,7 @@ use Rattle.image_laws.specs.Journal.{all_of}
 use Rattle.image_laws.specs.StoreFormat.{db_after}
 use Rattle.image_laws.specs.Checkpoint.{Checkpoint}
 use Rattle.image_laws.specs.Opening.{StoreValue, OpensTo}
-use Rattle.image_laws.specs.StoreGrowth.{value_after}
+use Rattle.image_laws.specs.StoreValues.{value_after}
 use Rattle.group_laws.specs.declared.phases.Flush.{Flush}
 use Rattle.group_laws.specs.declared.phases.Flush.TheVariants.{Resting, Staged, Written, Stable, Opened, Doubtful, Durable}
 use Rattle.group_laws.specs.declared.phases.Check.{Check}

@@ -10,13 +10,14 @@ use Rattle.sector_dev.specs.Stretch.{Stretch}
 use Rattle.sector_dev.proofs.Stretches.{honest_before, at_exit, stretch_weaker, stretch_then, stretch_here, stretch_honest}
 use Rattle.image_laws.specs.Layout.{Geometry}
 use Rattle.image_laws.specs.Opening.{StoreValue, OpensTo}
-use Rattle.image_laws.specs.StoreGrowth.{value_after}
+use Rattle.image_laws.specs.StoreValues.{value_after}
 use Rattle.image_laws.proofs.Exports.{folds_in_parts}
-use Rattle.ckpt_pair.specs.Heads.{latest}
-use Rattle.store_open.specs.NewStore.{SameBehind}
+use Rattle.ckpt_pair.specs.Versions.{latest}
+use Rattle.store_open.specs.Behind.{SameBehind}
 use Rattle.store_open.specs.PathStores.{store_format}
 use Rattle.group_laws.specs.HeldSteps.{OpensAroundCall}
-use Rattle.group_core.specs.StateView.{StateView, setting_of, standing_of, MayOpen, StepLeaves}
+use Rattle.group_core.specs.StateView.{StateView}
+use Rattle.group_core.specs.Stops.{setting_of, standing_of, MayOpen, StepLeaves}
 use Rattle.group_runs.specs.RunLeaves.{IsCommitted, OpensToPrefix, RunLeaves}
 
 -- The effect of a step on the committed and the pending commands: a number of the first pending commands are committed, and more

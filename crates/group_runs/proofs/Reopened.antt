@@ -10,7 +10,7 @@ use Rattle.sector_dev.proofs.Stretches.{stretch_here, stretch_honest}
 use Rattle.image_laws.specs.Opening.{StoreValue, Opening, OpensTo, value_of}
 use Rattle.image_laws.specs.OpeningReading.{opening_of}
 use Rattle.image_laws.proofs.Exports.{has_one_value, opening_read}
-use Rattle.ckpt_pair.specs.Heads.{latest}
+use Rattle.ckpt_pair.specs.Versions.{latest}
 use Rattle.store_open.specs.Open.{RefusesOpening, IsRefusedFor, OpensAlike, IsOpened, ComesBack}
 use Rattle.store_open.specs.PathStores.{store_format}
 use Rattle.store_open.specs.Store.{StoreView}
@@ -18,7 +18,8 @@ use Rattle.store_open.specs.declared.error.OpenError.{OpenError}
 use Rattle.store_open.specs.declared.error.OpenError.TheVariants.{NotAStore, Device, Pair, Journal, NoMemory}
 use Rattle.group_core.specs.Ending.{IsSettled}
 use Rattle.group_core.specs.Starting.{value_in}
-use Rattle.group_core.specs.StateView.{StateView, StepLeaves}
+use Rattle.group_core.specs.StateView.{StateView}
+use Rattle.group_core.specs.Stops.{StepLeaves}
 use Rattle.group_runs.specs.Machine.{machine_of}
 use Rattle.group_runs.specs.Winding.{OpensAtRest}
 use Rattle.group_runs.specs.Reopening.{OpensToMachine, HasValueOf, IsReopened, ReopensMachines, RefusesNoStore, SaysNothingOfTheImage}

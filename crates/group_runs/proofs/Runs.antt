@@ -14,7 +14,8 @@ use Rattle.group_runs.specs.declared.holding.HeldGroup.{HeldGroup}
 use Rattle.group_runs.specs.declared.holding.HeldPlan.{HeldPlan}
 use Rattle.group_runs.specs.declared.holding.HeldPlan.TheVariants as plan
 use Rattle.group_core.specs.declared.ticket.Ticket.{Ticket}
-use Rattle.group_core.specs.StateView.{StateView, StepLeaves}
+use Rattle.group_core.specs.StateView.{StateView}
+use Rattle.group_core.specs.Stops.{StepLeaves}
 use Rattle.group_core.specs.Publishing.{with_group, with_seal}
 use Rattle.group_core.specs.Submitting.{next_place}
 use Rattle.group_core.specs.Redeeming.{halted}

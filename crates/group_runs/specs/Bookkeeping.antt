@@ -7,7 +7,7 @@ use Rattle.path_rows.specs.Command.{outcome_of}
 use Rattle.path_rows.specs.declared.outcome.Outcome.{Outcome}
 use Rattle.image_laws.specs.Limits.{limits_of}
 use Rattle.image_laws.specs.StoreFormat.{db_after}
-use Rattle.ckpt_pair.specs.Heads.{latest}
+use Rattle.ckpt_pair.specs.Versions.{latest}
 use Rattle.store_open.specs.PathStores.{store_format}
 use Rattle.group_core.specs.declared.beginning.BeginError.TheVariants as begin
 use Rattle.group_core.specs.StateView.{StateView}

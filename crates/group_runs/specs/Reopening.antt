@@ -4,7 +4,7 @@ use Rattle.path_rows.specs.Database.{RowView}
 use Rattle.path_rows.specs.declared.command.Command.{Command}
 use Rattle.sector_dev.specs.Disk.{Disk, IsHonest}
 use Rattle.image_laws.specs.Opening.{StoreValue, OpensTo}
-use Rattle.ckpt_pair.specs.Heads.{latest}
+use Rattle.ckpt_pair.specs.Versions.{latest}
 use Rattle.store_open.specs.Open.{ComesBack}
 use Rattle.store_open.specs.PathStores.{store_format}
 use Rattle.store_open.specs.Store.{StoreView}
@@ -12,7 +12,8 @@ use Rattle.store_open.specs.declared.error.OpenError.{OpenError}
 use Rattle.store_open.specs.declared.error.OpenError.TheVariants.{NotAStore, Device, Pair, Journal, NoMemory}
 use Rattle.group_core.specs.Ending.{IsSettled}
 use Rattle.group_core.specs.Starting.{value_in}
-use Rattle.group_core.specs.StateView.{StateView, MayOpen}
+use Rattle.group_core.specs.StateView.{StateView}
+use Rattle.group_core.specs.Stops.{MayOpen}
 use Rattle.group_runs.specs.declared.reopening.NotReopened.{NotReopened}
 use Rattle.group_runs.specs.declared.reopening.NotReopened.TheVariants.{InUse, Refused}
 use Rattle.group_runs.specs.Machine.{Machine, machine_of, reopened}

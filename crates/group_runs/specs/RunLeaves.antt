@@ -5,9 +5,9 @@ use Rattle.sector_dev.specs.Disk.{IsHonest}
 use Rattle.sector_dev.specs.Image.{EveryImage, IsFromImage}
 use Rattle.sector_dev.specs.Stretch.{Stretch}
 use Rattle.image_laws.specs.Opening.{OpensTo}
-use Rattle.image_laws.specs.StoreGrowth.{value_after}
-use Rattle.ckpt_pair.specs.Heads.{latest}
-use Rattle.store_open.specs.NewStore.{SameBehind}
+use Rattle.image_laws.specs.StoreValues.{value_after}
+use Rattle.ckpt_pair.specs.Versions.{latest}
+use Rattle.store_open.specs.Behind.{SameBehind}
 use Rattle.store_open.specs.PathStores.{store_format}
 use Rattle.group_runs.specs.declared.events.Event.{Event}
 use Rattle.group_runs.specs.declared.events.Event.TheVariants as event

@@ -3,7 +3,7 @@
 ghost use Rattle.std.specs.Prelude.{◌≡◌};
 ghost use Rattle.group_laws.specs.declared.phases.Flush.TheVariants.{Staged as staged, Written as written, Stable as stable};
 ghost use Rattle.group_laws.specs.declared.phases.Flush.TheVariants.{Opened as opened, Doubtful as doubtful, Durable as durable};
-ghost use Rattle.group_core.specs.StateView.{StepLeaves};
+ghost use Rattle.group_core.specs.Stops.{StepLeaves};
 ghost use Rattle.group_runs.specs.Holding.{HoldsGroup, SpendsValue, step_reply};
 ghost use Rattle.group_runs.specs.RunSteps.{FlushEvent, PublishEvent, StageEvent};
 

@@ -4,7 +4,7 @@ ghost use Rattle.std.specs.Prelude.{◌≡◌, true, false};
 ghost use Rattle.group_laws.specs.declared.phases.Check.TheVariants.{Planned as planned, Laid as laid, Switched as switched};
 ghost use Rattle.group_laws.specs.declared.phases.Check.TheVariants.{SwitchFailed as switch_failed, Live as live};
 ghost use Rattle.group_laws.specs.declared.phases.Check.TheVariants.{Closing as closing, CloseFailed as close_failed};
-ghost use Rattle.group_core.specs.StateView.{StepLeaves};
+ghost use Rattle.group_core.specs.Stops.{StepLeaves};
 ghost use Rattle.group_core.specs.Steps.{chunk_written, at_phase, half_counts, half_ready};
 ghost use Rattle.group_runs.specs.Holding.{HoldsPlan};
 ghost use Rattle.group_runs.specs.RunSteps.{BeginEvent, CheckEvent, HasPlanAt, HasPlanned};

@@ -1,7 +1,7 @@
 //! A run of a state: its events, with the values and the tickets that they return and take.
 
 ghost use Rattle.std.specs.Prelude.{◌≡◌, ◌≤◌, length};
-ghost use Rattle.group_core.specs.StateView.{StepLeaves};
+ghost use Rattle.group_core.specs.Stops.{StepLeaves};
 ghost use Rattle.group_runs.specs.RunSteps.{IsStep};
 ghost use Rattle.group_runs.specs.StartsRun.{StartsRun};
 ghost use Rattle.group_runs.specs.Winding.{HandsOutDevice};

@@ -1,7 +1,7 @@
 //! Submitting and redeeming, with the tickets of a run.
 
 ghost use Rattle.std.specs.Prelude.{◌≡◌, ◌<◌, ◌++◌, ◌∷◌, [], None, Some, length, slice_set, vec_len, vec_capacity};
-ghost use Rattle.group_core.specs.StateView.{StepLeaves};
+ghost use Rattle.group_core.specs.Stops.{StepLeaves};
 ghost use Rattle.group_runs.specs.Holding.{AllRedeemed, HoldsTickets, held_at, run_view};
 ghost use Rattle.group_runs.specs.RunSteps.{SubmitEvent, RedeemEvent};
 

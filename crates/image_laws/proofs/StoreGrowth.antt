@@ -12,7 +12,8 @@ use Rattle.image_laws.specs.Layout.{Geometry, other, journal_at, area_of, gate_o
 use Rattle.image_laws.specs.StoreFormat.{StoreFormat, db_after}
 use Rattle.image_laws.specs.Checkpoint.{Checkpoint, IsCheckpoint}
 use Rattle.image_laws.specs.Opening.{Opening, limits_in, HasOlderHead, IsTail, IsChosen, IsOpening, tail_half, last_journal, value_of}
-use Rattle.image_laws.specs.StoreGrowth.{FoldsInParts, last_half, last_reading, start_of, last_start, last_gate, with_last, value_after, StoreGoesByItsLastJournal, StoreIsMadeReady, StoreGrowsByItsGate}
+use Rattle.image_laws.specs.StoreGrowth.{FoldsInParts, last_half, last_reading, start_of, last_start, last_gate, with_last, StoreGoesByItsLastJournal, StoreIsMadeReady, StoreGrowsByItsGate}
+use Rattle.image_laws.specs.StoreValues.{value_after}
 use Rattle.image_laws.proofs.Growth.{grows_by_its_gate}
 use Rattle.image_laws.proofs.Staged.{length-group_encoding, made_ready}
 use Rattle.image_laws.proofs.Places.{half_inside, journal_long}

@@ -23,5 +23,6 @@ pub mod WhatCountsLaws
 pub mod TakeOver
 pub mod WorkedImages
 pub mod OpeningRefusals
+pub mod StoreValues
 pub mod StoreGrowth
 pub mod Switch

@@ -9,8 +9,9 @@ use Rattle.image_laws.specs.Journal.{Reading, HasSeal, IsJournal, with_group, wi
 use Rattle.image_laws.specs.JournalLaws.{IsReadyFor}
 use Rattle.image_laws.specs.Layout.{other, journal_at, gate_of, journal_of}
 use Rattle.image_laws.specs.StoreFormat.{StoreFormat, db_after}
-use Rattle.image_laws.specs.Opening.{Opening, limits_in, IsOpening, tail_half, last_journal, StoreValue, value_of}
+use Rattle.image_laws.specs.Opening.{Opening, limits_in, IsOpening, tail_half, last_journal, value_of}
 use Rattle.image_laws.specs.TakeOver.{empty_journal}
+use Rattle.image_laws.specs.StoreValues.{value_after}
 
 -- commands in two parts, one after the other
 abbrev pub FoldsInParts : Type 0 → Type 0 → Type 0
@@ -62,10 +63,6 @@ StoreIsMadeReady Db C =
     → let written = overwrite (512 * (last_gate opening + 1)) (group_encoding format.commands (last_reading opening).place group ++ gate) image in
     IsOpening format latest written opening
     × IsReadyFor format.commands (limits_in opening.checkpoint) (journal_of opening.geometry (last_half opening) written) (last_reading opening) group
-
--- the value of a store after commands
-abbrev pub value_after : {Db C : Type 0} → StoreFormat Db C → StoreValue Db → List C → StoreValue Db
-value_after format value commands = record { db = db_after format value.db commands; place = value.place + length commands }
 
 -- The last journal is ready for a group, and its last gate is written with any bytes: where these open it, the value of the image
 -- is the old value after the commands of the group; else the opening is unchanged.

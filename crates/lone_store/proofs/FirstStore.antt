@@ -11,7 +11,7 @@ use Rattle.image_laws.specs.OpeningReading.{opening_of}
 use Rattle.image_laws.specs.TakeOver.{IsFormatted, empty_journal}
 use Rattle.image_laws.proofs.Exports.{empty_read}
 use Rattle.image_laws.proofs.Opened.{is_opened_so}
-use Rattle.ckpt_pair.specs.Heads.{latest}
+use Rattle.ckpt_pair.specs.Versions.{latest}
 use Rattle.store_open.specs.NewStore.{IsNewStore}
 use Rattle.store_open.specs.PathStores.{store_format}
 use Rattle.store_open.specs.Store.{StoreView, Tells}

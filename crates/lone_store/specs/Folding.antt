@@ -1,6 +1,6 @@
 -- Folding a sealed half.
 use Rattle.std.specs.Prelude.{◌≡◌, ◌⊎◌, ℕ, ◌+◌, ◌-◌, ◌*◌, ◌^◌, ◌<◌, ◌≤◌, false, length}
-use Rattle.ckpt_pair.specs.Heads.{latest}
+use Rattle.ckpt_pair.specs.Versions.{latest}
 use Rattle.group_laws.specs.declared.phases.Check.TheVariants.{Ready, Sealed}
 use Rattle.group_core.specs.StateView.{StateView}
 use Rattle.group_core.specs.Steps.{spent}

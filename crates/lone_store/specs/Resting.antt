@@ -3,7 +3,7 @@ use Rattle.std.specs.Prelude.{◌≡◌, ◌+◌, ◌<◌, ◌≤◌, false, [],
 use Rattle.path_rows.specs.declared.command.Command.{Command}
 use Rattle.image_laws.specs.Layout.{Geometry}
 use Rattle.image_laws.specs.Group.{last_place}
-use Rattle.ckpt_pair.specs.Heads.{latest}
+use Rattle.ckpt_pair.specs.Versions.{latest}
 use Rattle.group_laws.specs.declared.phases.Check.{Check}
 use Rattle.group_laws.specs.declared.phases.Check.TheVariants.{Ready, Sealed, Planned, Laid, Switched, SwitchFailed, Live, Closing, CloseFailed}
 use Rattle.group_core.specs.declared.ticket.Ticket.{Ticket}

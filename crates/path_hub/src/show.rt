@@ -2,7 +2,7 @@
 
 ghost use Rattle.std.specs.Prelude.{◌≡◌, ◌+◌, ◌<◌, ◌≤◌, [], length, take, drop, IfSome, MatchResult, OnOk, OnErr};
 ghost use Rattle.image_laws.specs.Group.{last_place};
-ghost use Rattle.image_laws.specs.StoreGrowth.{value_after};
+ghost use Rattle.image_laws.specs.StoreValues.{value_after};
 ghost use Rattle.store_open.specs.PathStores.{store_format};
 ghost use Rattle.group_core.specs.Showing.{IsFront};
 ghost use Rattle.left_right.specs.Sides.{view};

@@ -6,7 +6,7 @@ use Rattle.sector_dev.specs.Stretch.{Stretch}
 use Rattle.sector_dev.proofs.Stretches.{honest_before, at_exit, stretch_here, stretch_then, stretch_weaker, stretch_both, from_here, stretch_honest}
 use Rattle.image_laws.specs.Layout.{Geometry}
 use Rattle.image_laws.specs.Opening.{value_of}
-use Rattle.store_open.specs.NewStore.{SameBehind}
+use Rattle.store_open.specs.Behind.{SameBehind}
 use Rattle.store_open.specs.Open.{OpensAlike, IsOpened}
 use Rattle.store_open.specs.PathStores.{store_format}
 use Rattle.store_open.specs.Store.{StoreView, IsAtRest, OpensToStore}

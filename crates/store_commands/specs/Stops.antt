@@ -4,7 +4,7 @@ use Rattle.sector_dev.specs.Disk.{Disk}
 use Rattle.sector_dev.specs.Image.{IsFromImage}
 use Rattle.sector_dev.specs.Stretch.{Stretch}
 use Rattle.path_rows.specs.Database.{RowView}
-use Rattle.store_open.specs.NewStore.{SameBehind}
+use Rattle.store_open.specs.Behind.{SameBehind}
 use Rattle.store_open.specs.PathStores.{IsStoreOf}
 
 -- both open to the same rows at the same place, and what stands behind their store is the same

@@ -4,7 +4,7 @@ ghost use Rattle.sector_dev.specs.Calls.{Keeps};
 ghost use Rattle.sector_dev.specs.Image.{IsFromImage};
 ghost use Rattle.sector_dev.specs.Stretch.{Stretch};
 ghost use Rattle.image_laws.specs.Geometry.{geometry_view};
-ghost use Rattle.store_open.specs.NewStore.{SameBehind};
+ghost use Rattle.store_open.specs.Behind.{SameBehind};
 ghost use Rattle.store_commands.specs.Formatting.{FormatsAndPrints};
 
 use crate::error::Fault;

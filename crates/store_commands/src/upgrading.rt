@@ -5,7 +5,7 @@ ghost use Rattle.std.specs.Io.KnownBytes.{Appends};
 ghost use Rattle.sector_dev.specs.Disk.{IsHonest};
 ghost use Rattle.sector_dev.specs.Image.{IsFromImage};
 ghost use Rattle.sector_dev.specs.Stretch.{Stretch};
-ghost use Rattle.store_open.specs.NewStore.{SameBehind};
+ghost use Rattle.store_open.specs.Behind.{SameBehind};
 ghost use Rattle.store_open.specs.Store.{OpensToStore};
 ghost use Rattle.store_commands.specs.Devices.{device_after, faults_left};
 ghost use Rattle.store_commands.specs.Stops.{KeepsItsStore};

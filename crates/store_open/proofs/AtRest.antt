@@ -14,12 +14,13 @@ use Rattle.image_laws.specs.Checkpoint.{Head, Checkpoint, CanBeCheckpoint, check
 use Rattle.image_laws.specs.Opening.{Opening, limits_in, IsTail, IsOpening, StoreValue, value_of, db_at_seal}
 use Rattle.image_laws.specs.TakeOver.{taken_over, empty_journal}
 use Rattle.store_open.specs.Closing.{HasClosedGates}
-use Rattle.store_open.specs.NewStore.{HasRoomFor, SameBehind}
+use Rattle.store_open.specs.NewStore.{HasRoomFor}
+use Rattle.store_open.specs.Behind.{SameBehind}
 use Rattle.path_rows.specs.Database.{RowView, rows_len}
 use Rattle.path_db.specs.RowRecord.{rows_encoding}
 use Rattle.path_db.specs.RecordLaws.{WrittenRowsAreCounted}
 use Rattle.path_rows.specs.declared.command.Command.{Command}
-use Rattle.ckpt_pair.specs.Heads.{latest}
+use Rattle.ckpt_pair.specs.Versions.{latest}
 use Rattle.ckpt_pair.specs.Rows.{rows_format}
 use Rattle.ckpt_pair.specs.Checkpoint.{written_checkpoint}
 use Rattle.store_open.specs.PathStores.{store_format}

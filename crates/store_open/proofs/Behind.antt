@@ -12,7 +12,8 @@ use Rattle.image_laws.specs.declared.half.Half.{Half}
 use Rattle.image_laws.specs.declared.half.Half.TheVariants.{First, Second}
 use Rattle.image_laws.specs.Layout.{Geometry, IsGeometry, image_sectors, other, area_at, gate_at, journal_at}
 use Rattle.image_laws.specs.FirstSector.{first_sector}
-use Rattle.store_open.specs.NewStore.{first_checkpoint_bytes, HasRoomFor, SameBehind}
+use Rattle.store_open.specs.NewStore.{first_checkpoint_bytes, HasRoomFor}
+use Rattle.store_open.specs.Behind.{SameBehind}
 use Rattle.store_open.specs.TakingOver.{IsTornAt, laid, switched, IsTakingOver}
 use Rattle.store_open.proofs.Gates.{gates_inside}
 

@@ -14,7 +14,7 @@ use Rattle.image_laws.specs.CheckpointReading.{PairRefusal, BadCheckpoint, head_
 use Rattle.image_laws.specs.Layout.{Geometry, IsGeometry, image_sectors, area_at, area_of}
 use Rattle.ckpt_pair.specs.declared.error.PairError.{PairError}
 use Rattle.ckpt_pair.specs.declared.error.PairError.TheVariants as pair
-use Rattle.ckpt_pair.specs.Heads.{latest}
+use Rattle.ckpt_pair.specs.Versions.{latest}
 use Rattle.ckpt_pair.specs.Reading.{FrontView, front_in, with_room, or_bad, with_head, with_rows_behind, rows_behind, AreReadByTheirFronts}
 use Rattle.ckpt_pair.specs.Refusals.{Reads}
 use Rattle.ckpt_pair.specs.Rows.{rows_format, as_counted}

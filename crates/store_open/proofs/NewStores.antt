@@ -9,7 +9,7 @@ use Rattle.image_laws.specs.Layout.{Geometry, area_of}
 use Rattle.image_laws.specs.Checkpoint.{head_encoding, first_checkpoint, IsCheckpoint, CanBeCheckpoint}
 use Rattle.image_laws.specs.StoreFormat.{StoreFormat}
 use Rattle.store_open.specs.NewStore.{first_head, IsNewStore, IsEmptyStore, IsFormattedInAny}
-use Rattle.ckpt_pair.specs.Heads.{latest}
+use Rattle.ckpt_pair.specs.Versions.{latest}
 use Rattle.image_laws.proofs.TakeOver.{opens_empty}
 use Rattle.path_rows.specs.Database.{RowView}
 use Rattle.path_rows.specs.declared.command.Command.{Command}

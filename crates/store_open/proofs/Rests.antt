@@ -20,7 +20,7 @@ use Rattle.image_laws.specs.OpeningReading.{opening_of}
 use Rattle.image_laws.proofs.Exports.{opening_read, opening_from}
 use Rattle.gate_journal.specs.Commands.{command_format}
 use Rattle.image_laws.specs.Checkpoint.{Head}
-use Rattle.ckpt_pair.specs.Heads.{latest}
+use Rattle.ckpt_pair.specs.Versions.{latest}
 use Rattle.store_open.specs.Closing.{IsClosing, IsClosingUnused, HasClosedGates, HasNoGateToClose, synced_by}
 use Rattle.store_open.specs.declared.folded.Folded.{Folded}
 use Rattle.store_open.specs.Folded.{store_on, TellsOnAny}
@@ -28,7 +28,7 @@ use Rattle.image_laws.specs.Geometry.{geometry_view}
 use Rattle.store_open.specs.Open.{OpensAlike, IsOpened, HasNothingToClose}
 use Rattle.store_open.specs.PathStores.{store_format}
 use Rattle.store_open.specs.Store.{StoreView, IsAtRest, IsSound}
-use Rattle.store_open.specs.NewStore.{SameBehind}
+use Rattle.store_open.specs.Behind.{SameBehind}
 use Rattle.store_open.proofs.Gates.{gates_inside}
 use Rattle.store_open.proofs.Kept.{kept_opening}
 

@@ -25,7 +25,8 @@ use Rattle.ckpt_pair.specs.declared.error.PairError.{PairError}
 use Rattle.ckpt_pair.specs.declared.error.PairError.TheVariants as pair
 use Rattle.ckpt_pair.specs.declared.head.Head.{Head}
 use Rattle.ckpt_pair.specs.declared.head.Heads.{Heads}
-use Rattle.ckpt_pair.specs.Heads.{latest, head_seen, head_at, tail_of}
+use Rattle.ckpt_pair.specs.Heads.{head_seen, head_at, tail_of}
+use Rattle.ckpt_pair.specs.Versions.{latest}
 use Rattle.ckpt_pair.specs.Refusals.{Reads}
 use Rattle.store_open.specs.declared.error.OpenError.{OpenError}
 use Rattle.store_open.specs.declared.error.OpenError.TheVariants.{NotAStore, Device, Pair, Journal, NoMemory}

@@ -5,7 +5,8 @@ use Rattle.image_laws.specs.declared.half.Half.TheVariants.{First, Second}
 use Rattle.image_laws.specs.CheckpointReading.{PairRefusal}
 use Rattle.image_laws.specs.Layout.{Geometry}
 use Rattle.image_laws.specs.OpeningReading.{head_of, choice_of}
-use Rattle.ckpt_pair.specs.Heads.{latest, head_seen}
+use Rattle.ckpt_pair.specs.Heads.{head_seen}
+use Rattle.ckpt_pair.specs.Versions.{latest}
 use Rattle.ckpt_pair.specs.declared.head.Heads.{Heads}
 use Rattle.store_open.specs.declared.heads.Choice.{Choice}
 

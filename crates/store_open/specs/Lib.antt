@@ -3,6 +3,7 @@ pub mod Looking
 pub mod Closing
 pub mod Refusals
 pub mod NewStore
+pub mod Behind
 pub mod Heads
 pub mod Rows
 pub mod Sealed

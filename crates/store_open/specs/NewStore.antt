@@ -1,7 +1,6 @@
 -- The bytes of a new store, and the results of making one.
-use Rattle.std.specs.Prelude.{◌≡◌, ◌++◌, ℕ, ◌*◌, ◌≤◌, ◌<◌, List, [], Result, Ok, Err}
+use Rattle.std.specs.Prelude.{◌≡◌, ◌++◌, ℕ, ◌≤◌, ◌<◌, List, [], Result, Ok, Err}
 use Rattle.std.specs.Int.{w32, to_be_bytes}
-use Rattle.byte_lists.specs.Content.{part}
 use Rattle.byte_lists.specs.Sectors.{sector_at, padded, open_gate, closed_gate}
 use Rattle.sector_dev.specs.Disk.{Disk, IsHonest, reads_of}
 use Rattle.sector_dev.specs.Image.{EveryImage}
@@ -12,7 +11,7 @@ use Rattle.image_laws.specs.FirstSector.{IsStore, first_sector}
 use Rattle.image_laws.specs.Checkpoint.{Head, head_encoding}
 use Rattle.image_laws.specs.StoreFormat.{StoreFormat}
 use Rattle.image_laws.specs.TakeOver.{IsFormatted}
-use Rattle.ckpt_pair.specs.Heads.{latest}
+use Rattle.ckpt_pair.specs.Versions.{latest}
 use Rattle.store_open.specs.PathStores.{IsStoreOf}
 use Rattle.store_open.specs.declared.new_store.FormatError.{FormatError}
 use Rattle.store_open.specs.declared.new_store.FormatError.TheVariants.{BadGeometry, TooSmall, Fault}
@@ -55,10 +54,6 @@ pub record HoldsNewStore (geometry : Geometry) (disk : Disk) : Type 0 where
 pub record HasRoomFor (geometry : Geometry) (disk : Disk) : Type 0 where
   pub allowed : IsGeometry geometry
   pub room : image_sectors geometry ≤ disk.sectors
-
--- the bytes after a store of these sizes are unchanged
-abbrev pub SameBehind : Geometry → List ℕ → List ℕ → Type 0
-SameBehind geometry old new = (at n : ℕ) → 512 * image_sectors geometry ≤ at → part at n new ≡ part at n old
 
 -- The result of making a store: the store is there; or the sizes aren't allowed, or they are and the device is too small, and nothing
 -- was done; or the device failed.

@@ -18,7 +18,7 @@ use Rattle.gate_journal.specs.declared.error.JournalError.{JournalError}
 use Rattle.gate_journal.specs.declared.error.JournalError.TheVariants as journal
 use Rattle.gate_journal.specs.declared.scanner.Scan.{Scan}
 use Rattle.gate_journal.specs.Scanning.{reading_of}
-use Rattle.ckpt_pair.specs.Heads.{latest}
+use Rattle.ckpt_pair.specs.Versions.{latest}
 use Rattle.ckpt_pair.specs.Reading.{checkpoint_view, front_in}
 use Rattle.ckpt_pair.specs.Refusals.{error_of}
 use Rattle.store_open.specs.declared.opening.Found.{Found}
@@ -27,7 +27,7 @@ use Rattle.store_open.specs.declared.error.OpenError.TheVariants.{NotAStore, Dev
 use Rattle.store_open.specs.Closing.{HasNoGateToClose}
 use Rattle.image_laws.specs.Geometry.{geometry_view}
 use Rattle.store_open.specs.Heads.{choice_by_heads}
-use Rattle.store_open.specs.NewStore.{SameBehind}
+use Rattle.store_open.specs.Behind.{SameBehind}
 use Rattle.store_open.specs.PathStores.{store_format}
 use Rattle.store_open.specs.Refusals.{faults_after}
 use Rattle.store_open.specs.Store.{StoreView, IsAtRest}

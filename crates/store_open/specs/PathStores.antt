@@ -8,7 +8,7 @@ use Rattle.path_rows.specs.Command.{database_after}
 use Rattle.image_laws.specs.StoreFormat.{StoreFormat}
 use Rattle.image_laws.specs.Opening.{OpensTo}
 use Rattle.gate_journal.specs.Commands.{command_format}
-use Rattle.ckpt_pair.specs.Heads.{latest}
+use Rattle.ckpt_pair.specs.Versions.{latest}
 use Rattle.ckpt_pair.specs.Rows.{rows_format}
 
 -- no bytes are the encoding of no rows

@@ -12,7 +12,8 @@ use Rattle.image_laws.specs.StoreFormat.{db_after}
 use Rattle.image_laws.specs.Checkpoint.{Head, Checkpoint}
 use Rattle.image_laws.specs.CheckpointReading.{PairRefusal, checkpoint_in}
 use Rattle.image_laws.specs.OpeningReading.{journal_from}
-use Rattle.ckpt_pair.specs.Heads.{latest, head_view}
+use Rattle.ckpt_pair.specs.Heads.{head_view}
+use Rattle.ckpt_pair.specs.Versions.{latest}
 use Rattle.ckpt_pair.specs.Rows.{rows_format}
 use Rattle.store_open.specs.PathStores.{store_format}
 use Rattle.store_open.specs.declared.error.OpenError.{OpenError}

@@ -10,7 +10,7 @@ use Rattle.image_laws.specs.Layout.{Geometry, other}
 use Rattle.image_laws.specs.Checkpoint.{Head}
 use Rattle.image_laws.specs.Opening.{Opening, IsOpening, db_at_seal, value_of}
 use Rattle.image_laws.specs.StoreGrowth.{last_reading}
-use Rattle.ckpt_pair.specs.Heads.{latest}
+use Rattle.ckpt_pair.specs.Versions.{latest}
 use Rattle.store_open.specs.Closing.{HasClosedGates}
 use Rattle.store_open.specs.PathStores.{store_format, IsStoreOf}
 use Rattle.store_open.specs.declared.store_error.StoreError.{StoreError}

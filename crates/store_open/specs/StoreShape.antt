@@ -2,7 +2,7 @@
 use Rattle.std.specs.Prelude.{◌≡◌, ℕ, ◌+◌, ◌≤◌, true, false}
 use Rattle.path_rows.specs.Database.{IsDatabase}
 use Rattle.sector_dev.specs.Disk.{IsHonest}
-use Rattle.ckpt_pair.specs.Heads.{latest}
+use Rattle.ckpt_pair.specs.Versions.{latest}
 use Rattle.store_open.specs.NewStore.{HasRoomFor}
 use Rattle.store_open.specs.Store.{StoreView, IsSound}
 

@@ -3,7 +3,7 @@
 ghost use Rattle.sector_dev.specs.Image.{IsFromImage};
 ghost use Rattle.sector_dev.specs.Stretch.{Stretch};
 ghost use Rattle.store_open.specs.Allowing.{AllowsCheckpoint};
-ghost use Rattle.store_open.specs.NewStore.{SameBehind};
+ghost use Rattle.store_open.specs.Behind.{SameBehind};
 ghost use Rattle.store_open.specs.Store.{Checkpoints, OpensToStore};
 
 use crate::laying::BUFFER;

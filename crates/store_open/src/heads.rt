@@ -4,7 +4,8 @@ ghost use Rattle.std.specs.Prelude.{◌≡◌, ◌≢◌, ◌≤◌, IfOk, IfErr
 ghost use Rattle.sector_dev.specs.Disk.{IsHonest, reads_of};
 ghost use Rattle.image_laws.specs.Layout.{IsGeometry, image_sectors};
 ghost use Rattle.image_laws.specs.OpeningReading.{head_of};
-ghost use Rattle.ckpt_pair.specs.Heads.{latest, head_seen};
+ghost use Rattle.ckpt_pair.specs.Heads.{head_seen};
+ghost use Rattle.ckpt_pair.specs.Versions.{latest};
 ghost use Rattle.store_open.specs.declared.error.OpenError.TheVariants.{NoMemory};
 ghost use Rattle.image_laws.specs.Geometry.{geometry_view};
 ghost use Rattle.store_open.specs.Refusals.{LooksFor, PairSo};

@@ -7,7 +7,8 @@ ghost use Rattle.sector_dev.specs.Image.{IsFromImage};
 ghost use Rattle.sector_dev.specs.Stretch.{Stretch};
 ghost use Rattle.image_laws.specs.Layout.{IsGeometry, image_sectors};
 ghost use Rattle.image_laws.specs.Geometry.{geometry_view};
-ghost use Rattle.store_open.specs.NewStore.{Formats, HoldsNewStore, HasRoomFor, SameBehind};
+ghost use Rattle.store_open.specs.NewStore.{Formats, HoldsNewStore, HasRoomFor};
+ghost use Rattle.store_open.specs.Behind.{SameBehind};
 
 use crate::sectors::{first_checkpoint, first_sector};
 use byte_lists::{closed_gate, open_gate};

@@ -6,7 +6,7 @@ ghost use Rattle.sector_dev.specs.Disk.{IsHonest, reads_of};
 ghost use Rattle.path_rows.specs.Database.{IsDatabase};
 ghost use Rattle.image_laws.specs.CheckpointReading.{checkpoint_in};
 ghost use Rattle.image_laws.specs.Layout.{IsGeometry, image_sectors, area_of};
-ghost use Rattle.ckpt_pair.specs.Heads.{latest};
+ghost use Rattle.ckpt_pair.specs.Versions.{latest};
 ghost use Rattle.ckpt_pair.specs.Reading.{checkpoint_view, front_in};
 ghost use Rattle.ckpt_pair.specs.Rows.{rows_format};
 ghost use Rattle.image_laws.specs.Geometry.{geometry_view};

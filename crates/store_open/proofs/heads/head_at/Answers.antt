@@ -5,7 +5,8 @@ use Rattle.sector_dev.specs.Disk.{History, reads_of}
 use Rattle.sector_dev.proofs.Stretches.{honest_after}
 use Rattle.image_laws.specs.OpeningReading.{head_of}
 use Rattle.ckpt_pair.specs.declared.head.Head.{Head}
-use Rattle.ckpt_pair.specs.Heads.{latest, head_seen}
+use Rattle.ckpt_pair.specs.Heads.{head_seen}
+use Rattle.ckpt_pair.specs.Versions.{latest}
 use Rattle.ckpt_pair.specs.Refusals.{Reads}
 use Rattle.image_laws.specs.Geometry.{geometry_view}
 use Rattle.store_open.specs.declared.error.OpenError.{OpenError}

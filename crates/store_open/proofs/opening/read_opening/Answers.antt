@@ -5,7 +5,7 @@ use Rattle.sector_dev.proofs.Stretches.{honest_after, honest_before}
 use Rattle.image_laws.specs.FirstSector.{geometry_in}
 use Rattle.image_laws.specs.Layout as laws
 use Rattle.image_laws.specs.OpeningReading.{by_geometry}
-use Rattle.ckpt_pair.specs.Heads.{latest}
+use Rattle.ckpt_pair.specs.Versions.{latest}
 use Rattle.store_open.specs.PathStores.{store_format}
 use Rattle.store_open.specs.Open.{opening_view, OpensSo, WantsMemoryToOpen}
 use Rattle.store_open.specs.Refusals.{OnOkOrNoMemory}

@@ -10,7 +10,7 @@ use Rattle.image_laws.specs.Layout.{area_of}
 use Rattle.image_laws.specs.Opening.{Opening}
 use Rattle.image_laws.specs.OpeningReading.{by_choice, by_checkpoint}
 use Rattle.ckpt_pair.specs.declared.reading.Checkpoint.{Checkpoint}
-use Rattle.ckpt_pair.specs.Heads.{latest}
+use Rattle.ckpt_pair.specs.Versions.{latest}
 use Rattle.ckpt_pair.specs.Reading.{checkpoint_view, front_in}
 use Rattle.ckpt_pair.specs.Rows.{rows_format}
 use Rattle.image_laws.specs.Geometry.{geometry_view}

@@ -1,0 +1,14 @@
+-- Which commands a journal allows.
+use Rattle.path_rows.specs.declared.command.Command.{Command}
+use Rattle.path_rows.specs.Command.{HasWholeSegments}
+use Rattle.path_db.specs.CommandRecord.{IsWithinLimits}
+use Rattle.path_db.specs.RecordLaws.{HasWidths, IsAllowedBy}
+use Rattle.image_laws.specs.Limits.{Limits}
+use Rattle.image_laws.specs.CommandFormat.{IsAllowed}
+use Rattle.gate_journal.specs.Commands.{command_format}
+
+-- The limits of a journal allow each command within its own limits, a removal where they allow these.
+abbrev pub CommandsAreAllowed : Type 0
+CommandsAreAllowed =
+    (limits : Limits) (command : Command) → IsWithinLimits command → HasWholeSegments command → HasWidths command → IsAllowedBy limits.removals command
+    → IsAllowed command_format limits command

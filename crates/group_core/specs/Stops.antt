@@ -1,0 +1,43 @@
+-- What a stop may leave of a state's device, and what each call leaves.
+use Rattle.std.specs.Prelude.{ℕ, List}
+use Rattle.path_rows.specs.Database.{RowView}
+use Rattle.path_rows.specs.declared.command.Command.{Command}
+use Rattle.sector_dev.specs.Disk.{IsHonest}
+use Rattle.sector_dev.specs.Image.{EveryImage, IsFromImage}
+use Rattle.sector_dev.specs.Stretch.{Stretch}
+use Rattle.ckpt_pair.specs.Versions.{latest}
+use Rattle.store_open.specs.PathStores.{store_format}
+use Rattle.store_open.specs.Behind.{SameBehind}
+use Rattle.group_laws.specs.Setting.{Setting}
+use Rattle.group_laws.specs.Standing.{Standing, OpensToFront}
+use Rattle.group_laws.specs.HeldSteps.{OpensAroundCall}
+use Rattle.group_core.specs.StateView.{StateView}
+
+-- what doesn't change, and what counts for the device
+abbrev pub setting_of : StateView → Setting (List RowView) Command
+setting_of view = record { format = store_format; latest = latest; geometry = view.geometry }
+
+abbrev pub standing_of : StateView → Standing (List RowView) Command
+standing_of view = record {
+  value = view.value;
+  pending = view.pending;
+  taken = view.taken;
+  flush = view.flush;
+  check = view.check;
+  half = view.half;
+  gate = view.gate;
+  version = view.version;
+  written = view.written;
+}
+
+-- what a stop may leave of a state: it opens to what is committed, with a front of the pending commands as long as the flusher's
+-- phase allows, and by a half of the state's version or a later one
+abbrev pub MayOpen : StateView → List ℕ → Type 0
+MayOpen view image = OpensToFront (setting_of view) (standing_of view) image
+
+-- What a call leaves: at each moment since its entry what a stop may leave of the state before it or after it, and at its exit
+-- what one may leave of the state after it; and at every moment what stands behind the store is as it was.
+pub record StepLeaves (old new : StateView) : Type 0 where
+  pub moments : Stretch old.disk new.disk (OpensAroundCall (setting_of old) (standing_of old) (standing_of new))
+  pub exit : IsHonest new.disk → EveryImage new.disk.history.now (MayOpen new)
+  pub behind : Stretch old.disk new.disk (IsFromImage old.disk.history.now (SameBehind old.geometry))
