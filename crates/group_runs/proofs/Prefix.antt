@@ -133,7 +133,7 @@ leaves_at_first start stays = record {
         same : start.value.place ≡ start.value.place + 0
         same = omega arith
 
--- and after one more step
+-- what a run leaves after one more step
 pub leaves_then : (start mid new : StateView) (order more : List Command) → RunLeaves start order mid → Moves more mid new → StepLeaves mid new → RunLeaves start (order ++ more) new
 leaves_then start mid new order more so_far moves leaves = record {
   committed = after;

@@ -158,7 +158,7 @@ module _ (latest : ℕ) (area : List ℕ) where
   refused_from_magic false other SealedNewer is = cc
   refused_from_magic false other (NewerFormat version) is = cc
 
-  -- and an area is refused where the definition of the refusal holds
+  -- an area is refused where the definition of the refusal holds
   pub refused_head : (refusal : PairRefusal) → IsHeadRefusal refusal latest area → head_in latest area ≡ Err refusal
   refused_head NoHalf never = absurd never
   refused_head SameEpoch never = absurd never

@@ -73,7 +73,7 @@ module _ (latest : ℕ) (geometry : Geometry) (image : List ℕ) where
   half_chosen half head opened is known older =
       by_half half head (own_head half head opened is known) (passed_over (other half) head.epoch (is_open_gate (gate_of geometry (other half) image)) refl older)
 
--- and the chosen half's checkpoint is read
+-- the chosen half's checkpoint is read
 pub chosen_read : {Db C : Type 0} (format : StoreFormat Db C) (latest : ℕ) (image : List ℕ) (geometry : Geometry) (half : Half) (checkpoint : Checkpoint Db)
     → IsChosen format latest image geometry half checkpoint → opening_of format latest image ≡ by_checkpoint format geometry half image (Ok checkpoint)
 chosen_read format latest image geometry half checkpoint is =

@@ -144,7 +144,7 @@ module _ {Db C : Type 0} (format : StoreFormat Db C) (latest : ℕ) (image : Lis
   refused_where (BadPair refusal) is = store_refused is.geometry is.store (BadPair refusal) is.wrong
   refused_where (BadJournal refusal) is = store_refused is.geometry is.store (BadJournal refusal) is.wrong
 
--- and is refused nowhere else
+-- an image is refused nowhere else
 module _ {Db C : Type 0} (format : StoreFormat Db C) (latest : ℕ) (image : List ℕ) (each : AreBytes image) where
   module _ (geometry : Geometry) (store : IsStore geometry image) where
     -- the meaning of a result

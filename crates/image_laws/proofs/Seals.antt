@@ -56,7 +56,7 @@ module _ {Db C : Type 0} (format : StoreFormat Db C) (latest : ℕ) (image : Lis
         (journal_kept opening.geometry image is.half.store.room opening.chosen at bytes inside (other opening.chosen) (λ same. halves_differ opening.chosen (sym same))) opened);
   }
 
-  -- and leaves the opening unchanged, where it leaves the journal unchanged
+  -- the opening is unchanged, where a write leaves the journal unchanged
   kept_with : (at : ℕ) (bytes : List ℕ) → at + length bytes ≤ 512 * opening.geometry.journal
       → IsJournal format.commands (limits_in opening.checkpoint) (overwrite at bytes bytes_of) opening.checkpoint.head.place opening.journal → IsOpening format latest (image_with at bytes) opening
   kept_with at bytes inside read = record {
@@ -84,7 +84,7 @@ module _ {Db C : Type 0} (format : StoreFormat Db C) (latest : ℕ) (image : Lis
         (sym (journal_written opening.geometry image is.half.store.room opening.chosen (512 * (opening.journal.tail + 1)) (seal_encoding opening.journal.place) seal_inside)) placed.1,
   )
 
-  -- and then the last gate is written
+  -- the last gate is written after the seal
   module _ (gate : List ℕ) (has : HasSeal bytes_of opening.journal.tail opening.journal.place) (long : length gate ≡ 512) where
     gate_inside : 512 * opening.journal.tail + length gate ≤ 512 * opening.geometry.journal
     gate_inside = omega (arith, has.room, sectors_are)

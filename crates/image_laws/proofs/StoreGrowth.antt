@@ -196,7 +196,7 @@ module _ {Db C : Type 0} (format : StoreFormat Db C) (latest : ℕ) (image : Lis
           × IsReadyFor format.commands (limits_in opening.checkpoint) (overwrite at bytes last_bytes) (last_reading opening) group
       ready = made_ready C format.commands (limits_in opening.checkpoint) last_bytes (last_start opening) (last_reading opening) group gate last_so unsealed_so can enough long closed
 
-  -- and then the last gate is written
+  -- the last gate is written after the group
   module _ (group : List C) (gate : List ℕ) (ready : IsReadyFor format.commands (limits_in opening.checkpoint) last_bytes (last_reading opening) group) (long : length gate ≡ 512) where
     gate_inside : 512 * (last_reading opening).tail + length gate ≤ 512 * opening.geometry.journal
     gate_inside = omega (arith, ready.has.room, sectors_are)

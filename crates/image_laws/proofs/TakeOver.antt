@@ -25,7 +25,7 @@ pub same_value : {Db C : Type 0} (format : StoreFormat Db C) (opening : Opening 
 same_value format opening next behind tail_is folds =
     λ i. record { db = db_after format (folds.db i) (tail_commands (sym tail_is i)); place = (last_journal opening.journal (sym tail_is i)).place }
 
--- and so they do without a tail
+-- without a tail, both openings have the same value
 pub same_value_at_rest : {Db C : Type 0} (format : StoreFormat Db C) (opening : Opening Db C) (next : Checkpoint Db) → opening.tail ≡ None → FoldsJournal format opening next
     → value_of format (taken_over opening next (empty_journal next.head.place)) ≡ value_of format opening
 same_value_at_rest {Db} {C} format opening next none folds = (λ i. record { db = folds.db i; place = folds.place i }) ∙ (λ i. record {

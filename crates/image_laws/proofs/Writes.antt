@@ -18,7 +18,7 @@ in_half geometry half Area = record { from = omega arith; to = omega arith }
 in_half geometry half Gate = record { from = omega arith; to = omega arith }
 in_half geometry half Journal = record { from = omega arith; to = omega arith }
 
--- so two regions of one half do not overlap
+-- two regions of one half do not overlap
 pieces_apart : (geometry : Geometry) (half : Half) (one two : Piece) → (one ≡ two → ⊥)
     → (region_end geometry (InHalf half one) ≤ region_at geometry (InHalf half two)) ⊎ (region_end geometry (InHalf half two) ≤ region_at geometry (InHalf half one))
 pieces_apart geometry half Area Area others = absurd (others refl)

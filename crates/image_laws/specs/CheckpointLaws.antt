@@ -12,7 +12,7 @@ use Rattle.image_laws.specs.CheckpointReading.{PairRefusal, head_in, IsHeadRefus
 abbrev pub IsStoreReadSo : Type 0
 IsStoreReadSo = (image : List ℕ) (geometry : Geometry) → AreBytes image → (geometry_in image ≡ Some geometry) ↔ IsStore geometry image
 
--- an image whose sector 0 is written so is a store's
+-- after sector 0 is written, an image is a store's
 abbrev pub FirstSectorMakesStore : Type 0
 FirstSectorMakesStore =
     (image : List ℕ) (geometry : Geometry) → IsGeometry geometry → image_sectors geometry ≤ whole_sectors image

@@ -95,7 +95,7 @@ by_geometry format latest image (Some geometry) =
 abbrev pub opening_of : {Db C : Type 0} → StoreFormat Db C → ℕ → List ℕ → Result (Opening Db C) OpenRefusal
 opening_of format latest image = by_geometry format latest image (geometry_in image)
 
--- and the value of that opening
+-- the value of an opening
 abbrev pub value_in : {Db C : Type 0} → StoreFormat Db C → Result (Opening Db C) OpenRefusal → Result (StoreValue Db) OpenRefusal
 value_in format (Err refusal) = Err refusal
 value_in format (Ok opening) = Ok (value_of format opening)

@@ -20,7 +20,7 @@ WritesLeaveRegionsApart =
     → (at + length bytes ≤ 512 * region_at geometry region) ⊎ (512 * region_end geometry region ≤ at)
     → region_of geometry region (overwrite at bytes image) ≡ region_of geometry region image
 
--- so a write within one region leaves the others unchanged
+-- a write within one region leaves the others unchanged
 abbrev pub WritesLeaveOtherRegions : Type 0
 WritesLeaveOtherRegions =
     (geometry : Geometry) (written region : Region) (image : List ℕ) (at : ℕ) (bytes : List ℕ) → region ≢ written
@@ -28,7 +28,7 @@ WritesLeaveOtherRegions =
     → 512 * region_at geometry written ≤ at → at + length bytes ≤ 512 * region_end geometry written
     → region_of geometry region (overwrite at bytes image) ≡ region_of geometry region image
 
--- and a write within a region changes only the bytes that it writes
+-- a write within a region changes only the bytes that it writes
 abbrev pub WritesChangeTheirRegion : Type 0
 WritesChangeTheirRegion =
     (geometry : Geometry) (region : Region) (image : List ℕ) (at : ℕ) (bytes : List ℕ) → image_sectors geometry ≤ whole_sectors image

@@ -36,7 +36,7 @@ open_sector = 0xA7 ∷ replicate 511 0
 abbrev pub closed_sector : List ℕ
 closed_sector = replicate 512 0
 
--- that payload with another last byte
+-- the payload of the group with another last byte
 abbrev pub marked_payload : List ℕ
 marked_payload = take 511 purge_payload ++ 1 ∷ []
 

@@ -53,7 +53,7 @@ hex_group_fits text n h =
     let most : 16 ^ length text ≤ 16 ^ 4 = pow-le-pow_right (omega arith) h.short in
     omega (arith, h.number_is)
 
--- so each group is parsed without an error
+-- each group of hexadecimal digits is parsed without an error
 pub hex_group_read : {E : Type 0} (text : List ℕ) (r : Result ℕ E) (o : Option ℕ) → ParsesUnsigned 16 16 text r → o ≡ result_ok r → IfNone o ((n : ℕ) → ¬ IsHexGroup text n)
 hex_group_read text (Ok x) o p e = subst (λ v. IfNone v ((n : ℕ) → ¬ IsHexGroup text n)) (sym e) tt
 hex_group_read text (Err x) o p e =

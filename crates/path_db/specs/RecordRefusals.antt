@@ -38,7 +38,7 @@ BadRecordIsExact = (bytes : List ℕ) → AreBytes bytes → (rows_decoding byte
 abbrev pub OrderIsExact : Type 0
 OrderIsExact = (bytes : List ℕ) → AreBytes bytes → (rows_decoding bytes ≡ Err Order) ↔ HasLowerRow bytes
 
--- No bytes are refused for want of memory by the definition.
+-- No bytes are refused with NoMemory by the definition.
 abbrev pub RowsWantNoMemory : Type 0
 RowsWantNoMemory = (bytes : List ℕ) → AreBytes bytes → rows_decoding bytes ≢ Err NoMemory
 

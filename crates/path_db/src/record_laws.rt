@@ -41,7 +41,7 @@ pub fn read_rows_are_spelled()
 {}
 
 /// Bytes are refused as rows exactly where, after the records of a database, there are bytes that begin with no row's record
-/// (`BadRecord`), or the record of a row whose key is not above the last one's (`Order`); and never for want of memory.
+/// (`BadRecord`), or the record of a row whose key is not above the last one's (`Order`). They are never refused with `NoMemory`.
 pub fn row_refusals_are_exact()
     ensures bad { BadRecordIsExact }
     ensures order { OrderIsExact }

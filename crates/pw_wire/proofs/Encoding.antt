@@ -9,7 +9,7 @@ abbrev pub limit : ℕ → ℕ
 limit zero = 2
 limit (suc left) = 128 * limit left
 
--- after i bytes that go on
+-- after i continuation bytes
 pub record EncodedSoFar (start out : List ℕ) (n rest i : ℕ) : Type 0 where
   pub so_far : out ++ encoding_within (9 - i) rest ≡ start ++ varint_encoding n
   pub small : rest < limit (9 - i)
@@ -30,7 +30,7 @@ pub at_start : (start : List ℕ) (n : ℕ) → n < limit 9 → EncodedSoFar sta
 unfolding varint_encoding
 at_start start n lt = record { so_far = refl; small = lt }
 
--- another byte that goes on
+-- another continuation byte
 pub goes_on : (start out : List ℕ) (n rest i : ℕ) → EncodedSoFar start out n rest i → i < 9 → 128 ≤ rest → EncodedSoFar start (out ++ (rest % 128 + 128) ∷ []) n (rest / 128) (i + 1)
 goes_on start out n rest i encoded lt le =
     let left : 9 - i ≡ suc (8 - i) = omega arith in

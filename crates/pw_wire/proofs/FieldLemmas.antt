@@ -250,7 +250,7 @@ tagged : (bytes : List ℕ) (tag : ℕ) (rest : List ℕ) (begins : BeginsWithVa
 unfolding field_at
 tagged bytes tag rest begins = ap (λ r. r >>= λ t. field_behind t bytes) (begins_again bytes tag rest begins).0
 
--- and then the value after the tag is read
+-- the value after the tag is read
 tagged_well : (bytes : List ℕ) (tag : ℕ) (rest : List ℕ) (begins : BeginsWithVarint bytes tag rest) → HasNumber tag → field_at bytes ≡ (value_at (tag % 8) rest >>= field_of (tag, length begins.front))
 tagged_well bytes tag rest begins good =
     tagged bytes tag rest begins ∙ behind-good (tag, length begins.front) bytes good
@@ -350,7 +350,7 @@ fault_is bytes d fits some e =
           ]
     ]
 
--- and the fault of bytes is found
+-- the fault of bytes is found
 pub fault_again : (bytes : List ℕ) (d : WireError) → IsFieldFault bytes d → field_at bytes ≡ Err d
 unfolding field_at
 fault_again bytes d (in_tag some h) = ap (λ r. r >>= λ tag. field_behind tag bytes) (varint_fault_again bytes d h)

@@ -13,7 +13,7 @@ use Rattle.pw_wire.proofs.Varints.{ok_is, err_is}
 use Rattle.pw_wire.proofs.FieldLemmas.{field_again, field_took, fault_again, fault_is}
 use Rattle.pw_wire.proofs.Messages.{fields-nil, fault-nil, nothing_read, fields-read, fault-read, fields-failed, fault-failed, not_nothing}
 
--- the call answers what is read at the front
+-- the call returns what is read at the front
 abbrev pub Answers : List ℕ → Result (Option (Field × ℕ)) WireError → Type 0
 Answers bytes (Ok None) = bytes ≡ []
 Answers bytes (Ok (Some next)) = field_at bytes ≡ Ok (field_view next.0, next.1)

@@ -15,7 +15,7 @@ abbrev pub whole_varint : ℕ → ℕ → ℕ → Result (ℕ × ℕ) WireError 
 whole_varint i low shift (Ok high) = Ok (low + high.0 * 2 ^ shift, i + high.1)
 whole_varint i low shift (Err e) = Err e
 
--- after i bytes that go on
+-- after i continuation bytes
 pub record ReadSoFar (bytes : List ℕ) (i low shift : ℕ) : Type 0 where
   pub small : low < 2 ^ shift
   pub shift_is : shift ≡ 7 * i
@@ -32,7 +32,7 @@ pub within-last : (left b : ℕ) (bytes : List ℕ) → b < 128 → varint_withi
 unfolding varint_within
 within-last left b bytes lt = rw (lt-ltb b 128 lt) refl
 
--- a byte that goes on
+-- a continuation byte
 pub within-goes_on : (left b : ℕ) (bytes : List ℕ) → 128 ≤ b → varint_within (suc left) (b ∷ bytes) ≡ (varint_within left bytes >>= λ high. Ok (b - 128 + 128 * high.0, suc high.1))
 unfolding varint_within
 within-goes_on left b bytes le = rw (le-ltb b 128 le) refl
@@ -98,9 +98,9 @@ low-fits b low shift i small is lt less =
     let room : 2 ^ (shift + 7) ≤ 2 ^ 64 = pow-le-pow_right (omega arith) within in
     rw (shift-seven b shift i lt is less) (omega (arith, digit_fits low b shift small lt))
 
--- ---- a byte that goes on
+-- ---- a continuation byte
 
--- the value of a byte that goes on, with its shift
+-- the value of a continuation byte, with its shift
 shift_in : (i b low shift : ℕ) (high : Result (ℕ × ℕ) WireError) → 128 ≤ b
     → whole_varint i low shift (high >>= λ h. Ok (b - 128 + 128 * h.0, suc h.1)) ≡ whole_varint (i + 1) (low + (b - 128) * 2 ^ shift) (shift + 7) high
 shift_in i b low shift (Ok h) le =
@@ -108,7 +108,7 @@ shift_in i b low shift (Ok h) le =
     rw (seven_more shift, shifted low (b - 128) h.0 (2 ^ shift), count) refl
 shift_in i b low shift (Err e) le = refl
 
--- the next byte goes on
+-- the next byte is a continuation byte
 pub goes_on : (bytes : List ℕ) (i low shift : ℕ) → ReadSoFar bytes i low shift → i < 9 → i < length bytes → 128 ≤ get_or bytes i 0 → get_or bytes i 0 < 256
     → ReadSoFar bytes (i + 1) (low + (get_or bytes i 0 - 128) * 2 ^ shift) (shift + 7)
 goes_on bytes i low shift read lt within large fits = record {
@@ -122,7 +122,7 @@ goes_on bytes i low shift read lt within large fits = record {
       ∙ ap (λ k. whole_varint (i + 1) (low + (get_or bytes i 0 - 128) * 2 ^ shift) (shift + 7) (varint_within k (drop (i + 1) bytes))) left;
 }
 
--- nine bytes went on
+-- nine bytes were continuation bytes
 pub after_nine : (bytes : List ℕ) (i low shift : ℕ) → ReadSoFar bytes i low shift → i ≤ 9 → 9 ≤ i → ReadSoFar bytes 9 low shift
 after_nine bytes i low shift read le ge =
     let nine : i ≡ 9 = omega arith in

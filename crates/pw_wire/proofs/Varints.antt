@@ -45,7 +45,7 @@ one_number (b ∷ c ∷ bytes) m n first second =
 
 -- ---- a varint is read
 
--- a byte that goes on is read with the bytes after it
+-- a continuation byte is read with the bytes after it
 goes_on_again : (left b : ℕ) (bytes : List ℕ) (n high k : ℕ) → 128 ≤ b → b - 128 + 128 * high ≡ n → varint_within left bytes ≡ Ok (high, k) → varint_within (suc left) (b ∷ bytes) ≡ Ok (n, suc k)
 goes_on_again left b bytes n high k large number read =
     within-goes_on left b bytes large ∙ ap (λ r. r >>= λ h. Ok (b - 128 + 128 * h.0, suc h.1)) read ∙ ap (λ (m : ℕ). Ok (m, suc k)) number
@@ -83,7 +83,7 @@ pub encodes_before : (b low : ℕ) (bytes : List ℕ) (n high : ℕ) → b ≡ 1
 encodes_before b low [] n high byte lt number encoded = absurd encoded
 encodes_before b low (c ∷ bytes) n high byte lt number encoded = record { low = low; high = high; byte_is = byte; seven_bits = lt; number_is = number; above = encoded }
 
--- a byte that goes on, before a varint
+-- a continuation byte, before a varint
 goes_before : (left b : ℕ) (bytes : List ℕ) (n k : ℕ) → 128 ≤ b → TookVarint left bytes (n, k) → TookVarint (suc left) (b ∷ bytes) (b - 128 + 128 * n, suc k)
 goes_before left b bytes n k le took = record {
   encoded = λ fits. encodes_before b (b - 128) (take k bytes) (b - 128 + 128 * n) n (omega arith) (omega (arith, fits 0)) refl (took.encoded (rest_bytes b bytes fits));

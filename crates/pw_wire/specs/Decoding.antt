@@ -1,4 +1,4 @@
--- Readings that go on, or stop at the first fault.
+-- Readings that continue, or stop at the first fault.
 use Rattle.std.specs.Prelude.{ℕ, ◌<◌, List, Result, Ok, Err, slice_index}
 use Rattle.pw_wire.specs.declared.error.WireError.{WireError}
 

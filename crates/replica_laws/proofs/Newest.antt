@@ -26,7 +26,7 @@ module _ (rows : List RowView) (newest : RowView) (is : IsNewest rows newest) wh
   at_most_before : (other : RowView) → Contains is.before other → other.1.timestamp ≤ newest.1.timestamp
   at_most_before other found = let less = at_member (λ row. row.1.timestamp < newest.1.timestamp) is.before other is.older found in omega (arith, less)
 
-  -- and no member is newer
+  -- no member is newer
   pub at_most : (other : RowView) → Contains rows other → other.1.timestamp ≤ newest.1.timestamp
   at_most other found =
       ⊎_elim (at_most_before other) (at_most_behind other)

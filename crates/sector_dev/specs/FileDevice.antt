@@ -40,7 +40,7 @@ FailsWithFile result old new = new.failures ≡ count_after result old.failures
 abbrev pub file_of : {F : Type 0} {G : Ghosts F} → FileDevice F G → F
 file_of device = device.file
 
--- that file as contracts see it
+-- the file under a device, as contracts see it
 abbrev pub file_state : {F : Type 0} {G : Ghosts F} → FileDevice F G → FileState
 file_state {F} {G} device = G.state device.file
 

@@ -87,7 +87,7 @@ impl Model for Trail {
     ghost also_owns = { λ _. ftrue };
 }
 
-// It owns nothing.
+// A trail owns nothing.
 unsafe impl Send for Trail {}
 
 const _: () = prove!(size_of::<Trail>() == 0);

@@ -55,7 +55,7 @@ least-le_all [] k d lt = absurd (omega arith)
 least-le_all (e ∷ entries) zero d lt = least-below_first e.exp_time (exp_times entries)
 least-le_all (e ∷ entries) (suc k) d lt = least-below e.exp_time entries k d (omega arith)
 
--- and one entry has the least
+-- one entry has the least exp_time
 least-of_one : (entries : List EntryView) → 1 ≤ length entries → Any (λ e. e.exp_time ≡ least_exp_time entries) entries
 least-of_one [] some = absurd (omega arith)
 least-of_one (e ∷ entries) some =

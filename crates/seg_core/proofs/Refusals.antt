@@ -1,4 +1,4 @@
--- The refusals of the parts of a reading: no part is refused for want of memory, and the parts up to the entries, and the entries
+-- The refusals of the parts of a reading: no part is refused with `NoMemory`, and the parts up to the entries, and the entries
 -- alone, are not refused for their path. For the readers of segments and registrations, and the laws on decodings.
 use Rattle.std.proofs.Common.{◌≡◌, ◌≢◌, ℕ, zero, suc, ◌+◌, Bool, true, false, List, [], ◌∷◌, ◌++◌, Result, Ok, Err, Option, Some, None, refl, sym, ap, ◌∙◌, arith}
 use Rattle.std.specs.Prelude.{nat_le, nat_lt, ok_or, if◌then◌else◌, not, ◌&&◌, is_some}
@@ -18,7 +18,7 @@ use Rattle.seg_core.specs.Request.{request_decoding}
 use Rattle.seg_core.specs.declared.seg_type.SegType.TheVariants.{Up, Down, Core}
 use Rattle.seg_core.specs.Entry.{hop_field_decoding, hop_entry_decoding, peer_entry_decoding, body_decoding, header_and_body_decoding, as_entry_decoding}
 
--- Refusals in three ranks: for want of memory, for a path, and all others.
+-- Refusals in three ranks: `NoMemory`, those of a path, and all others.
 abbrev rank : SegError → ℕ
 rank NoMemory = 0
 rank (Wire e) = 2
@@ -32,7 +32,7 @@ rank Entries = 2
 rank BadType = 2
 rank TooLarge = 2
 
--- a refusal neither for want of memory nor for a path
+-- a refusal other than `NoMemory` and those of a path
 abbrev pub is_plain : SegError → Bool
 is_plain e = nat_lt 1 (rank e)
 
@@ -152,9 +152,9 @@ pub plain_registration_outline : (message : List ℕ) → FailsWithin is_plain (
 unfolding registration_outline
 plain_registration_outline message = search (step, given, plain_message_fields, plain_check) depth 16
 
--- ---- want of memory
+-- ---- `NoMemory`
 
--- a plain refusal is not want of memory
+-- a plain refusal is not `NoMemory`
 pub never_memory : {A : Type 0} (r : Result A SegError) (e : SegError) → FailsWithin is_plain r → r ≡ Err e → e ≢ NoMemory
 never_memory r e within is memory = false≢true (sym (ap is_plain memory) ∙ within.passes e is)
 

@@ -146,7 +146,7 @@ module _ (old : StoreView) (whole : IsStoreWhole old) (device : IsHonest old.dis
           since = omega (arith, after.since, ap (λ (h : Head). h.version) tells.head);
         }
 
-    -- and then the other half alone is open
+    -- the other half alone is open afterwards
     module _ (new : Disk) (settled : new.history.now.dirty ≡ []) (is : reads_of new ≡ taken old.geometry old.chosen bytes (reads_of old.disk)) where
       new_reads : reads_of new ≡ taken opening.geometry opening.chosen bytes (reads_of old.disk)
       new_reads = is ∙ sym taken_same

@@ -42,7 +42,7 @@ module _ (geometry : Geometry) (half : Half) (old : List ℕ) (inside : 512 * (g
     gate = λ closed. absurd (closed opened);
   }
 
-  -- and whatever bytes land in the journal's first gate
+  -- whatever bytes land in the journal's first gate
   closing_first : (torn : List ℕ) → length torn ≡ 512 → IsClosing geometry half old (overwrite (512 * (gate_at geometry half + 1)) torn old)
   closing_first torn size = record {
     size = length-overwrite (512 * (gate_at geometry half + 1)) torn old (omega (arith, size));

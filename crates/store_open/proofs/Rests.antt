@@ -93,7 +93,7 @@ pub settled_by_sync : {S F : Type 0} (answer : Result S F) (start one two : Disk
 settled_by_sync (Err _) start one two keeps call = tt
 settled_by_sync {S} {F} (Ok u) start one two keeps call = λ honest. ap (λ (h : History). h.now.dirty) (history_synced F u one two call (honest_after start one keeps honest))
 
--- and the gates that were closed stay closed
+-- the gates that were closed stay closed
 pub closed_by_sync : {S F : Type 0} (answer : Result S F) (sealed : Bool) (geometry : Geometry) (half unused : Half) (start one two : Disk) → half ≡ unused → Keeps start one → SyncCall answer one two
     → (IsHonest start → HasClosedGates geometry half (reads_of one)) → OnOk answer (IsHonest start → sealed ≡ false → HasClosedGates geometry unused (reads_of two))
 closed_by_sync (Err _) sealed geometry half unused start one two same keeps call closed = tt
@@ -157,7 +157,7 @@ opens_as_before before behind (inl same) opening is = subst (λ (content : List 
 opens_as_before before behind (inr both) opening is =
     subst (IsOpening store_format latest behind) (same_opening before both.opening opening both.opens_before is) both.opens_behind
 
--- and whatever opening the other has, the one had
+-- whatever opening the other has, the one had
 pub opened_as_behind : (before behind : List ℕ) → OpensAlike before behind → (opening : Opening (List RowView) Command) → IsOpening store_format latest behind opening
     → IsOpening store_format latest before opening × SameBehind opening.geometry before behind
 opened_as_behind before behind (inl same) opening is = (subst (λ (content : List ℕ). IsOpening store_format latest content opening) same is, λ at n far. ap (part at n) same)

@@ -53,7 +53,7 @@ pair_so view (Pair e) step reading on so =
 pair_so view (Journal e) step reading on so = absurd so
 pair_so view NoMemory step reading on so = tt
 
--- and so is a refusal of a journal
+-- a refusal of a journal is the opening's, where the step returns it
 pub scan_so : {W : Type 0} (e : OpenError) (step : Result (Reading Command) JournalRefusal → Result W OpenRefusal) (reading : Result (Reading Command) JournalRefusal)
     → ((refusal : JournalRefusal) → step (Err refusal) ≡ Err (BadJournal refusal)) → ScansSo (Err e) reading → RefusesOpening e (step reading)
 scan_so NotAStore step reading on so = absurd so
@@ -71,7 +71,7 @@ scan_so NoMemory step reading on so = tt
 pub refused_same : (Y : Type 0) (e : OpenError) (one two : Result Y OpenRefusal) → one ≡ two → RefusesOpening e one → RefusesOpening e two
 refused_same Y e one two same so = subst (λ (r : Result Y OpenRefusal). RefusesOpening e r) same so
 
--- and a result is a result of an equal reading too
+-- a result is a result of an equal reading too
 pub opens_same : {X Y : Type 0} (view : X → Y) (result : Result X OpenError) (one two : Result Y OpenRefusal) → one ≡ two → OpensSo view result one → OpensSo view result two
 opens_same {X} {Y} view result one two same so = subst (λ (r : Result Y OpenRefusal). OpensSo view result r) same so
 
@@ -179,7 +179,7 @@ module _ (geometry : laws.Geometry) (half : Half) (checkpoint : Checkpoint (List
       let there = by_half_there at seen (subst (λ (b : Bool). Reads (λ (h : Half). h) (Ok at) (tail_of half b seen)) is so) in
       (there.0, (λ i. behind_journal (is i) (sym same i) alone behind) ∙ there.1)
 
-  -- and the tail is not sealed too
+  -- a tail that is sealed is refused
   pub tail_sealed : (tail : Scan) → behind ≡ Ok (reading_of tail) → tail.sealed ≡ true → read_tail alone behind ≡ Err (BadPair SealedNewer)
   tail_sealed tail is sealed = ap (read_tail alone) is ∙ by_seal tail.sealed sealed
     where

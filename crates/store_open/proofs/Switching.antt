@@ -64,7 +64,7 @@ module _ {Db C : Type 0} (format : StoreFormat Db C) (latest : ℕ) (image : Lis
   one_opens : IsOpening format latest one opening
   one_opens = laying bytes refl
 
-  -- and then the checkpoint is there
+  -- the checkpoint is in the area then
   one_begins : IsCheckpoint format.rows (area_of geometry new one) next
   one_begins =
       let none_more : area + 0 ≡ area = omega arith in
@@ -143,7 +143,7 @@ module _ {Db C : Type 0} (format : StoreFormat Db C) (latest : ℕ) (image : Lis
   by_new : (content : List ℕ) → IsOpening format latest content fresh → OpensAfter content
   by_new content is = record { opens = record { opening = fresh; is = is; stands_for = same_value }; since = may.folds.version }
 
-  -- and so does each image that a stop may leave in between
+  -- each image that a stop may leave in between opens to the same value
   pub opens_meanwhile : (content : List ℕ) → IsTakingOver geometry opening.chosen bytes image content → OpensAfter content
   opens_meanwhile content (inl tear) = subst OpensAfter (sym tear.is) (by_old (overwrite area tear.torn image) (laying tear.torn tear.size))
   opens_meanwhile content (inr (inl tear)) = subst OpensAfter (sym tear.is)

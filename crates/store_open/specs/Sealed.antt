@@ -34,12 +34,12 @@ folded_by false checkpoint journal = None
 folded_by true checkpoint journal =
     Some (record { head = checkpoint.head; place = journal.place; rows = db_after store_format checkpoint.db journal.commands })
 
--- and `None` where the journal is refused
+-- the folded half, given the reading of its journal; `None` where the journal is refused
 abbrev pub folded_behind : Checkpoint (List RowView) → Result (Reading Command) JournalRefusal → Option SealedHalf
 folded_behind checkpoint (Err refusal) = None
 folded_behind checkpoint (Ok journal) = folded_by journal.sealed checkpoint journal
 
--- or where the area is refused
+-- the folded half, given its checkpoint; `None` where the area is refused
 abbrev pub folded_in : Geometry → Half → List ℕ → Result (Checkpoint (List RowView)) PairRefusal → Option SealedHalf
 folded_in geometry half image (Err refusal) = None
 folded_in geometry half image (Ok checkpoint) =
