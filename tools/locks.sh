@@ -1,7 +1,7 @@
 #!/usr/bin/env bash
 # Runs the commands of the built program over a file on which another process holds the system's lock. `format`, `show`,
-# `upgrade` and `run` are refused beside any lock, `show --layout` beside an exclusive one, and a command that is refused leaves the
-# file as it is. Then two `show` at once: while the first one waits in its sync, the second is refused, and the first goes on.
+# `upgrade` and `run` are refused beside any lock, `show --layout` and `status` beside an exclusive one, and a command that is refused
+# leaves the file as it is. Then two `show` at once: while the first one waits in its sync, the second is refused, and the first goes on.
 # It needs Python and Debian's strace, and is no part of the gate.
 #
 #     tools/locks.sh [PROGRAM]
@@ -64,7 +64,9 @@ for lock in LOCK_EX LOCK_SH; do
   refused show "$store"
   refused upgrade "$store"
   refused run "$store" --listen 127.0.0.1:0
-  if [ "$lock" = LOCK_EX ]; then refused show "$store" --layout; else ends 0 "" show "$store" --layout; fi
+  for words in "show $store --layout" "status $store"; do
+    if [ "$lock" = LOCK_EX ]; then refused $words; else ends 0 "" $words; fi
+  done
   release
 done
 

@@ -1,5 +1,5 @@
 #!/usr/bin/env python3
-"""Runs `format`, `show`, `upgrade` and a served session, once for each allocation and for each call on the store's file, which is refused in that run.
+"""Runs `format`, `show`, `status`, `upgrade` and a served session, once for each allocation and for each call on the store's file, which is refused in that run.
 
     tools/refusals.py [--program PROGRAM] [--every N] [--jobs N] [--only COMMAND]
 
@@ -7,7 +7,7 @@ A preloaded library (tools/refused_calls.c) refuses: an allocation; a read, a wr
 moves a part of its bytes, or none, or a part with EIO. What has to come of it:
 
 - a transfer that is interrupted or moves a part is made again, and nothing else is seen of it;
-- `format`, `show` and `upgrade` end with the status 1 and the line of that refusal, and what a store held before it still shows;
+- `format`, `show`, `status` and `upgrade` end with the status 1 and the line of that refusal, and what a store held before it still shows;
 - a server ends so while it opens its store. Later it reports that the store has stopped, answers commands by 0x62 and 0x54, and lookups as before. What it
   acknowledged is there when the file is opened again, and beyond that at most what had no other reply than 0x62;
 - an allocation ends a command with `error: memory`, or the reply to a request is 0x01, or its session ends; the next requests are answered as before.
@@ -40,7 +40,7 @@ HOWS = {
     "sync": ["EIO", "ENOSPC", "EIO+", "EINTR"],
     "length": ["EIO", "ENOSPC"],
 }
-COMMANDS = ["format", "show", "upgrade", "run"]
+COMMANDS = ["format", "show", "status", "upgrade", "run"]
 STOPPED = "the store has stopped"
 SECONDS = 60
 GROUPS = 252

@@ -90,6 +90,14 @@ read
 print
 LINES
 
+makes status "$store" <<'LINES'
+open O_RDONLY
+lock LOCK_SH|LOCK_NB
+advise POSIX_FADV_DONTNEED
+read
+print
+LINES
+
 # A store as at line 9: the second half is open beside the first one, with epoch 2. The first half's gates are closed.
 put 520 0 'PCKP\0\0\0\2\0\0\0\0\0\0\0\2'
 put 522 0 '\xa7'

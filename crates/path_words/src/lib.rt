@@ -1,7 +1,7 @@
 //! The words of the program's command line, as `clap` reads them.
 //!
 //! To the layer above, `command` is the program's command with those within it that have the names of `ONCE`, `FORMAT`, `SHOW`,
-//! `UPGRADE` and `RUN`, and `read` reads words by it; what their options say is `clap`'s to tell, but that numbers are decimal digits
+//! `STATUS`, `UPGRADE` and `RUN`, and `read` reads words by it; what their options say is `clap`'s to tell, but that numbers are decimal digits
 //! alone.
 #![tactic(auto)]
 
@@ -36,6 +36,9 @@ pub const FORMAT: &str = "format";
 
 /// The name of the command that prints what a store has.
 pub const SHOW: &str = "show";
+
+/// The name of the command that prints the status of a store.
+pub const STATUS: &str = "status";
 
 /// The name of the command that has a store in the version that is written.
 pub const UPGRADE: &str = "upgrade";
@@ -75,12 +78,13 @@ const KEY_HELP: &str = "Check signatures by this key of a test profile; without 
 
 /// The program's commands and their options.
 pub fn command<'a>(alloc: Global) -> Result<Command<'a>, AllocError>
-    ensures { IfOk result (λ command. subcommand_names command ≡ codes "once" ∷ codes "format" ∷ codes "show" ∷ codes "upgrade" ∷ codes "run" ∷ []) }
+    ensures { IfOk result (λ command. subcommand_names command ≡ codes "once" ∷ codes "format" ∷ codes "show" ∷ codes "status" ∷ codes "upgrade" ∷ codes "run" ∷ []) }
 {
     let command = bare_command(alloc)?;
     let command = with_subcommand(command, once_command(alloc)?)?;
     let command = with_subcommand(command, format_command(alloc)?)?;
     let command = with_subcommand(command, show_command(alloc)?)?;
+    let command = with_subcommand(command, status_command(alloc)?)?;
     let command = with_subcommand(command, upgrade_command(alloc)?)?;
     with_subcommand(command, run_command(alloc)?)
 }
@@ -144,6 +148,15 @@ fn show_command<'a>(alloc: Global) -> Result<Command<'a>, AllocError>
         .about("Opens a store, and prints its rows and its place")
         .arg(device_argument(alloc))?
         .arg(flag(alloc, LAYOUT, layout))
+}
+
+/// The command that prints the status of a store.
+fn status_command<'a>(alloc: Global) -> Result<Command<'a>, AllocError>
+    ensures { IfOk result (λ command. (out-Command command).name.now ≡ codes "status") }
+{
+    Command::new(alloc, STATUS)
+        .about("Prints the numbers of a store, a line each, and changes nothing")
+        .arg(device_argument(alloc))
 }
 
 /// The command that has a store in the version that is written.

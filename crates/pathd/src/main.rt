@@ -11,12 +11,12 @@ mod stores;
 
 use crate::listening::Listens;
 use crate::serving::serve_file;
-use crate::stores::{format_file, show_file, upgrade_file};
+use crate::stores::{format_file, show_file, status_of_file, upgrade_file};
 use clap::error::ErrorKind;
 use clap::{ArgMatches, Error};
 use path_commands::{Fault, cores_of, key_of, once, once_in_hex};
 use path_server::MOST_READS;
-use path_words::{CORES, FORMAT, HEX, KEY, NOW, ONCE, RUN, SHOW, UPGRADE, read};
+use path_words::{CORES, FORMAT, HEX, KEY, NOW, ONCE, RUN, SHOW, STATUS, UPGRADE, read};
 use seg_check::{TrustAll, Verifier};
 use seg_lookup::Roster;
 use std::env;
@@ -93,6 +93,8 @@ fn run<R: System, I: Read, O: Write + Drop>(
         format_file(rt, options, &mut output)?;
     } else if let Some(options) = matches.subcommand_matches(UPGRADE) {
         upgrade_file(rt, options, &mut output)?;
+    } else if let Some(options) = matches.subcommand_matches(STATUS) {
+        status_of_file(rt, options, &mut output)?;
     } else if let Some(options) = matches.subcommand_matches(SHOW) {
         show_file(rt, options, output)?;
     } else if let Some(options) = matches.subcommand_matches(ONCE) {

@@ -8,7 +8,7 @@ use std::fs::File;
 use std::io;
 use std::io::{BufWriter, Write};
 use std::rt::Files;
-use store_commands::{Fault, format, show, show_layout, upgrade};
+use store_commands::{Fault, format, show, show_layout, status, upgrade};
 use store_open::Geometry;
 
 /// Makes a file, of which nothing stays where it is there, and a store on it. On a block device the store is made as it is.
@@ -54,6 +54,16 @@ pub(crate) fn show_file<R: AllocGlobal + Files<File = File>, O: Write + Drop>(
     let flushed = output.flush();
     shown?;
     flushed.map_err(|_| Fault::Output)
+}
+
+/// Prints the status of a file's store. The file is opened for reading alone.
+pub(crate) fn status_of_file<R: AllocGlobal + Files<File = File>, O: Write>(
+    rt: &R,
+    options: &ArgMatches<'_>,
+    output: &mut O,
+) -> Result<(), Fault> {
+    let mut device = device_over(open_to_read(rt, path_of(options)))?;
+    status(rt.alloc(), &mut device, output)
 }
 
 /// Has a file's store in the version that is written.

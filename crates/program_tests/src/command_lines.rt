@@ -1,7 +1,7 @@
 //! Numbers on the command line, and what is printed of one that is refused.
 
 use clap::Error;
-use path_words::{CHECKPOINT, FORMAT, JOURNAL, NOW, ONCE, read};
+use path_words::{CHECKPOINT, DEVICE, FORMAT, JOURNAL, NOW, ONCE, STATUS, read};
 use std::alloc::Global;
 use std::process::Abort;
 
@@ -98,6 +98,26 @@ fn sizes_are_digits(rt: HostRuntime) {
             .err()
             .map(|error| error.exit_code());
         assert!(rt; status == Some(2), "{checkpoint} {journal}");
+    }
+}
+
+#[test]
+fn a_status_is_of_one_device(rt: HostRuntime) {
+    let alloc = rt.alloc();
+    let words = kept(&rt, alloc, &["pathd", STATUS, "dev"]);
+    let matches = read(alloc, words.as_slice()).expect(&rt, "a status");
+    let options = matches.subcommand_matches(STATUS).expect(&rt, "a status");
+    assert!(rt; options.get_str(DEVICE) == Some("dev"));
+    for words in [
+        ["pathd", STATUS].as_slice(),
+        ["pathd", STATUS, "dev", "other"].as_slice(),
+        ["pathd", STATUS, "dev", "--layout"].as_slice(),
+    ] {
+        let words = kept(&rt, alloc, words);
+        let status = read(alloc, words.as_slice())
+            .err()
+            .map(|error| error.exit_code());
+        assert!(rt; status == Some(2));
     }
 }
 

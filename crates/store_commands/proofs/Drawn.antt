@@ -1,7 +1,8 @@
 -- A drawing begins with its title, and what ends it behind the device's last call is of writing it.
 use Rattle.std.proofs.Common.{◌≡◌, ℕ, List, ◌++◌, Result, Ok, Err, IfOk, IfErr, refl, ap, ◌∙◌}
 use Rattle.image_laws.specs.Layout.{Geometry}
-use Rattle.store_commands.specs.Drawing.{title_line, BeginsWithTitle, faults_after_drawing}
+use Rattle.store_commands.specs.Devices.{faults_after_command}
+use Rattle.store_commands.specs.Drawing.{title_line, BeginsWithTitle}
 use Rattle.store_commands.specs.Writing.{IsOfWriting}
 use Rattle.store_commands.specs.declared.error.Fault.{Fault}
 use Rattle.store_commands.specs.declared.error.Fault.TheVariants.{Format, Open, Checkpoint, File, Memory, Output}
@@ -11,11 +12,11 @@ pub begins : {T E : Type 0} (bytes : T → List ℕ) (geometry : Geometry) (titl
 begins bytes geometry title behind (Ok text) is so = record { behind = behind; is = so ∙ ap (λ (list : List ℕ). list ++ behind) is }
 begins bytes geometry title behind (Err e) is so = so
 
-pub no_faults_by_drawing : (r : Result (Unit {0}) Fault) (faults : ℕ) → IfErr r IsOfWriting → faults ≡ faults_after_drawing r faults
-no_faults_by_drawing (Ok done) faults of_writing = refl
-no_faults_by_drawing (Err (Format e)) faults of_writing = absurd of_writing
-no_faults_by_drawing (Err (Open e)) faults of_writing = absurd of_writing
-no_faults_by_drawing (Err (Checkpoint e)) faults of_writing = absurd of_writing
-no_faults_by_drawing (Err File) faults of_writing = absurd of_writing
-no_faults_by_drawing (Err Memory) faults of_writing = refl
-no_faults_by_drawing (Err Output) faults of_writing = refl
+pub no_faults_by_writing : (r : Result (Unit {0}) Fault) (faults : ℕ) → IfErr r IsOfWriting → faults ≡ faults_after_command r faults
+no_faults_by_writing (Ok done) faults of_writing = refl
+no_faults_by_writing (Err (Format e)) faults of_writing = absurd of_writing
+no_faults_by_writing (Err (Open e)) faults of_writing = absurd of_writing
+no_faults_by_writing (Err (Checkpoint e)) faults of_writing = absurd of_writing
+no_faults_by_writing (Err File) faults of_writing = absurd of_writing
+no_faults_by_writing (Err Memory) faults of_writing = refl
+no_faults_by_writing (Err Output) faults of_writing = refl

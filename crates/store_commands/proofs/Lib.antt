@@ -3,3 +3,4 @@ mod Upgraded
 mod Stops
 mod Drawn
 mod PartlyShown
+mod Reported

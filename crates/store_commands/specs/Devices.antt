@@ -52,6 +52,10 @@ abbrev pub faults_left : {D : Type 0} → Result D (D × Fault) → ℕ → ℕ
 faults_left (Ok device) faults = faults
 faults_left (Err back) faults = faults_after_fault back.1 faults
 
+abbrev pub faults_after_command : Result (Unit {0}) Fault → ℕ → ℕ
+faults_after_command (Ok done) faults = faults
+faults_after_command (Err fault) faults = faults_after_fault fault faults
+
 -- The device isn't opened for this reason, which says of what reads gave what it says there; nothing was written.
 pub record IsNotOpened (e : OpenError) (disk : Disk) (output output_left : Option (List ℕ)) : Type 0 where
   pub refused : IsHonest disk → RefusesOpening e (opening_of store_format latest (reads_of disk))

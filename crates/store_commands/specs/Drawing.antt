@@ -4,7 +4,6 @@ use Rattle.std.specs.Fmt.{decimal}
 use Rattle.std.specs.Io.KnownBytes.{Appends}
 use Rattle.image_laws.specs.Layout.{Geometry}
 use Rattle.store_open.specs.declared.error.OpenError.TheVariants.{Device}
-use Rattle.store_commands.specs.Devices.{faults_after_fault}
 use Rattle.whole_writes.specs.Written.{IsWrittenInPart}
 use Rattle.store_commands.specs.declared.error.Fault.{Fault}
 use Rattle.store_commands.specs.declared.error.Fault.TheVariants.{Format, Open, Checkpoint, File, Memory, Output}
@@ -49,8 +48,3 @@ DrawsSo (Err (Checkpoint e)) sizes output output_left = ⊥
 DrawsSo (Err File) sizes output output_left = ⊥
 DrawsSo (Err Memory) sizes output output_left = IsSome sizes × Appends output output_left []
 DrawsSo (Err Output) sizes output output_left = IsDrawnInPart sizes output output_left
-
--- how many calls of the device have failed behind it
-abbrev pub faults_after_drawing : Result (Unit {0}) Fault → ℕ → ℕ
-faults_after_drawing (Ok done) faults = faults
-faults_after_drawing (Err fault) faults = faults_after_fault fault faults

@@ -8,3 +8,5 @@ pub mod Showing
 pub mod Upgrading
 pub mod Walking
 pub mod Drawing
+pub mod Status
+pub mod FoldedStatus

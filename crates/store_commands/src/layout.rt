@@ -6,8 +6,8 @@ ghost use Rattle.image_laws.specs.FirstSector.{geometry_in};
 ghost use Rattle.image_laws.specs.Layout.{IsGeometry, image_sectors};
 ghost use Rattle.image_laws.specs.Geometry.{geometry_view};
 ghost use Rattle.store_open.specs.Looking.{LooksAt};
-ghost use Rattle.store_commands.specs.Devices.{LeavesDevice};
-ghost use Rattle.store_commands.specs.Drawing.{DrawsSo, faults_after_drawing};
+ghost use Rattle.store_commands.specs.Devices.{LeavesDevice, faults_after_command};
+ghost use Rattle.store_commands.specs.Drawing.{DrawsSo};
 
 use crate::drawing::draw_store;
 use crate::error::Fault;
@@ -30,7 +30,7 @@ pub fn show_layout<D: Device, W: Write>(
     ensures drawn { IsHonest (D.disk device.old) → DrawsSo result (geometry_in (reads_of (D.disk device.old))) (W.contents writer.old) (W.contents writer.new) }
 
     // It answers that the device failed just where it did.
-    ensures faults { (D.disk device.new).faults ≡ faults_after_drawing result (D.disk device.old).faults }
+    ensures faults { (D.disk device.new).faults ≡ faults_after_command result (D.disk device.old).faults }
 {
     let sectors = device.sectors();
     match read_geometry(device) {

@@ -1,7 +1,8 @@
 //! The commands of the program over a device with a store: what each does and prints.
 //!
 //! To the layer above, `format` makes a store, `show` prints the rows and the place that a device opens to, `upgrade` has the
-//! store in the version that is written, and `show_layout` draws what stands on a device and changes nothing.
+//! store in the version that is written, and `show_layout` and `status` change nothing: the one draws what stands on a device, and
+//! the other prints the numbers of what the device opens with.
 #![tactic(auto)]
 
 mod drawing;
@@ -9,6 +10,7 @@ mod error;
 mod formatting;
 mod halves;
 mod layout;
+mod reporting;
 mod showing;
 mod text;
 mod upgrading;
@@ -18,5 +20,6 @@ mod writing;
 pub use error::Fault;
 pub use formatting::format;
 pub use layout::show_layout;
+pub use reporting::status;
 pub use showing::show;
 pub use upgrading::upgrade;

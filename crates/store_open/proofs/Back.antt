@@ -96,3 +96,14 @@ module _ (start mid new : Disk) {S F : Type 0} (answer : Result S F) (call : Syn
       → IfErr result (λ e. IsHonest start → IsNoFault e → new.history ≡ after_sync start.history)
   untouched_since (Ok folded) synced same = tt
   untouched_since (Err e) synced same = λ honest other. same (honest_then honest) other ∙ synced honest
+
+-- ---- what is looked at alone
+
+pub memory_alike : (result : Result Folded OpenError) (e : OpenError) (P : Type 0) → result ≡ Err e → OnOkOrNoMemory {T = Found} (Err e) P → OnOkOrNoMemory result P
+memory_alike result e P is so = subst (λ (r : Result Folded OpenError). OnOkOrNoMemory r P) (sym is) (alike_in e so) where
+  alike_in : (e : OpenError) → OnOkOrNoMemory {T = Found} (Err e) P → OnOkOrNoMemory {T = Folded} (Err e) P
+  alike_in NotAStore so = tt
+  alike_in Device so = tt
+  alike_in (Pair e) so = tt
+  alike_in (Journal e) so = tt
+  alike_in NoMemory so = so

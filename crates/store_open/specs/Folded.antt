@@ -2,11 +2,12 @@
 use Rattle.std.specs.Prelude.{false, List}
 use Rattle.path_rows.specs.Database.{RowView}
 use Rattle.path_rows.specs.declared.command.Command.{Command}
-use Rattle.sector_dev.specs.Disk.{Disk}
-use Rattle.image_laws.specs.Opening.{Opening}
-use Rattle.ckpt_pair.specs.Heads.{head_view}
+use Rattle.sector_dev.specs.Disk.{Disk, IsHonest, reads_of}
+use Rattle.image_laws.specs.Opening.{Opening, IsOpening}
+use Rattle.ckpt_pair.specs.Heads.{latest, head_view}
 use Rattle.store_open.specs.declared.folded.Folded.{Folded}
 use Rattle.image_laws.specs.Geometry.{geometry_view}
+use Rattle.store_open.specs.PathStores.{store_format}
 use Rattle.store_open.specs.Store.{StoreView, Tells}
 
 -- the store that it is on a device
@@ -27,3 +28,9 @@ store_on disk folded = record {
 -- on any device it tells what an image opens with
 abbrev pub TellsOnAny : Folded → Opening (List RowView) Command → Type 0
 TellsOnAny folded opening = (disk : Disk) → Tells (store_on disk folded) opening
+
+-- it was seen on a device: it tells what reads of the device open with
+pub record IsSeenOn (disk : Disk) (folded : Folded) : Type 0 where
+  pub opening : Opening (List RowView) Command
+  pub opens : IsHonest disk → IsOpening store_format latest (reads_of disk) opening
+  pub tells : TellsOnAny folded opening

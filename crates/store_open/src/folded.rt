@@ -16,15 +16,15 @@ use std::alloc::AllocError;
 /// A store but for its device: the sizes, the half that is chosen and its head, whether its journal is sealed, the gate at which
 /// the last journal ends, the place reached, all rows, and the bytes of the rows that the chosen half stands for.
 #[derive(Drop)]
-pub(crate) struct Folded {
-    pub(crate) geometry: Geometry,
-    pub(crate) half: Half,
-    pub(crate) head: Head,
-    pub(crate) sealed: bool,
-    pub(crate) gate: u64,
-    pub(crate) place: u64,
-    pub(crate) db: PathDb,
-    pub(crate) sealed_len: u64,
+pub struct Folded {
+    pub geometry: Geometry,
+    pub half: Half,
+    pub head: Head,
+    pub sealed: bool,
+    pub gate: u64,
+    pub place: u64,
+    pub db: PathDb,
+    pub sealed_len: u64,
 }
 
 impl Folded {

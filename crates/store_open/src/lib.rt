@@ -2,7 +2,7 @@
 //!
 //! To the layer above: after `format` every image of the device is a new store, `read_geometry` tells the sizes of a store just
 //! where an image is one, and `open` answers what the image opens with, and leaves at every moment what is there, or what opens
-//! as it did.
+//! as it did. `look` answers what the image opens with, and leaves the device as it is.
 #![tactic(auto)]
 
 mod checkpoint;
@@ -14,6 +14,7 @@ mod folded;
 mod folding;
 mod heads;
 mod laying;
+mod looking;
 mod new_store;
 mod new_store_laws;
 mod open_store;
@@ -30,7 +31,9 @@ mod taking_over;
 pub use closing_laws::openings_are_kept_by_closing;
 pub use error::OpenError;
 pub use first_sector::read_geometry;
+pub use folded::Folded;
 pub use image_laws::Geometry;
+pub use looking::look;
 pub use new_store::{FormatError, format};
 pub use new_store_laws::new_stores_are_formatted;
 pub use open_store::open;

@@ -4,7 +4,7 @@ use crate::writers::with_room;
 use sector_dev::{Device, FaultDevice, MemDevice, SECTOR};
 use std::alloc::Global;
 use std::test::Fail;
-use store_commands::{Fault, format, show, show_layout, upgrade};
+use store_commands::{Fault, format, show, show_layout, status, upgrade};
 use store_open::{Geometry, OpenError};
 
 // The least sizes that are allowed: a store of them takes 1,039 sectors.
@@ -155,5 +155,123 @@ fn layouts_are_drawn(rt: HostRuntime) -> Result<(), Fail> {
 half 1 is chosen, and the tail is in journal 1, at sector 4
 "
     );
+    Ok(())
+}
+
+// The status of a new store, counted by hand: its areas take 2 * 512 - 32 bytes of rows.
+const NEW_STATUS: &str = "\
+version 2
+epoch 1
+place 0
+rows 0
+bytes 0 of 992
+journal 0 of 516
+sealed no
+";
+
+#[test]
+fn statuses_are_printed(rt: HostRuntime) -> Result<(), Fail> {
+    let alloc = rt.alloc();
+    let mut device = formatted(alloc)?;
+    let mut output = with_room(alloc, 200);
+    assert_eq!(rt; status(alloc, &mut device, &mut output), Ok(()));
+    assert_eq!(rt; output.text()?, NEW_STATUS);
+    // Zeros are no store.
+    let mut device = MemDevice::new(alloc, SECTORS)?;
+    let mut output = with_room(alloc, 200);
+    let refused = Err(Fault::Open(OpenError::NotAStore));
+    assert_eq!(rt; status(alloc, &mut device, &mut output), refused);
+    assert_eq!(rt; output.text()?, "");
+    Ok(())
+}
+
+#[test]
+fn full_writers_have_a_front_of_a_status(rt: HostRuntime) -> Result<(), Fail> {
+    let alloc = rt.alloc();
+    let mut device = formatted(alloc)?;
+    for room in 0..NEW_STATUS.len() {
+        let mut output = with_room(alloc, room);
+        let answer = status(alloc, &mut device, &mut output);
+        assert_eq!(rt; answer, Err(Fault::Output), "{room}");
+        assert_eq!(rt;
+            output.taken.as_slice(),
+            NEW_STATUS.as_bytes().split_at(room).0
+        );
+    }
+    Ok(())
+}
+
+#[test]
+fn statuses_of_devices_that_fail(rt: HostRuntime) -> Result<(), Fail> {
+    let alloc = rt.alloc();
+    for number in 0..4 {
+        let mut output = with_room(alloc, 200);
+        let mut failing = FaultDevice::new(formatted(alloc)?, number);
+        let refused = Err(Fault::Open(OpenError::Device));
+        assert_eq!(rt;
+            status(alloc, &mut failing, &mut output),
+            refused,
+            "{number}"
+        );
+        assert_eq!(rt; output.text()?, "");
+        let mut device = failing.into_mem();
+        assert_eq!(rt; status(alloc, &mut device, &mut output), Ok(()), "{number}");
+        assert_eq!(rt; output.text()?, NEW_STATUS);
+    }
+    Ok(())
+}
+
+// A store whose second half has a checkpoint of epoch 2, and whose first half isn't closed yet.
+fn with_both_open(alloc: Global) -> Result<MemDevice, Fail> {
+    let mut output = with_room(alloc, 100);
+    let mut device = done(upgrade(alloc, formatted_old(alloc)?, &mut output))?;
+    let mut gate = read_sector(&mut device, 3);
+    gate[0] = 0xa7;
+    if 3 < device.sectors() {
+        device.write(3, &gate)?;
+    }
+    Ok(device)
+}
+
+#[test]
+fn the_status_of_two_open_halves(rt: HostRuntime) -> Result<(), Fail> {
+    let alloc = rt.alloc();
+    let mut device = with_both_open(alloc)?;
+    let mut output = with_room(alloc, 200);
+    assert_eq!(rt; status(alloc, &mut device, &mut output), Ok(()));
+    assert_eq!(rt;
+        output.text()?,
+        "\
+version 2
+epoch 2
+place 0
+rows 0
+bytes 0 of 992
+journal 0 of 516
+sealed no
+"
+    );
+    // An opening would have closed the first half.
+    assert_eq!(rt; read_sector(&mut device, 3)[0], 0xa7);
+    let mut device = done(show(alloc, device, &mut output))?;
+    assert_eq!(rt; read_sector(&mut device, 3)[0], 0);
+    Ok(())
+}
+
+// The test is run with each of its allocations refused in turn. The status wants memory before it prints, and the writer while it
+// does; and then it is printed.
+#[test]
+fn refused_memory_of_a_status(rt: HostRuntime) -> Result<(), Fail> {
+    let alloc = rt.alloc();
+    let mut device = formatted(alloc)?;
+    let mut output = with_room(alloc, 200);
+    match status(alloc, &mut device, &mut output) {
+        Ok(()) => assert_eq!(rt; output.text()?, NEW_STATUS),
+        Err(Fault::Memory) => assert_eq!(rt; output.text()?, ""),
+        Err(fault) => assert_eq!(rt; fault, Fault::Output),
+    }
+    let mut output = with_room(alloc, 200);
+    assert_eq!(rt; status(alloc, &mut device, &mut output), Ok(()));
+    assert_eq!(rt; output.text()?, NEW_STATUS);
     Ok(())
 }
