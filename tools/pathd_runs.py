@@ -214,6 +214,26 @@ def make_rows(keys: int) -> list[tuple[int, list[model.Hop]]]:
     return rows
 
 
+def segment_of_size(hops: list[model.Hop], timestamp: int, size: int) -> bytes:
+    """A segment of just this number of bytes, most of them those of the last entry's signature."""
+    info, *entries = [content for _, content in model.read_fields(model.make_segment(hops, timestamp))]
+    signed = [model.last_of(entry, 1, b"") for entry in entries]
+
+    def written(first: int, last: int) -> bytes:
+        lengths = [first] + [0] * (len(signed) - 2) + [last]
+        bodies = [model.bytes_field(1, it + (model.bytes_field(2, bytes(length)) if length else b"")) for it, length in zip(signed, lengths)]
+        return model.bytes_field(1, info) + b"".join(model.bytes_field(2, body) for body in bodies)
+
+    # The first signature has some bytes of those that the lengths of the last one's fields leave over.
+    for first in range(8):
+        most = size - len(written(first, 1))
+        for last in range(max(1, most - 12), most + 2):
+            segment = written(first, last)
+            if len(segment) == size:
+                return segment
+    raise ValueError(f"there is no such segment of {size} bytes")
+
+
 class Commands:
     """Random commands over a fixed number of keys."""
 
