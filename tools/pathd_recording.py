@@ -14,6 +14,8 @@ import pathd_runs as runs
 SECTOR = model.SECTOR
 SESSIONS = 6
 KEYS = 60
+# The share of the segments that take up more than a sector or two.
+SHARE = 0.5
 HEAD = struct.Struct("<cIiQI")
 
 
@@ -66,7 +68,7 @@ class Recorded:
 
 def hold_session(server: runs.Server, seed: str, requests: int, faults: list) -> None:
     """Sends random requests, a few at once, and reads their replies."""
-    commands = runs.Commands(seed, KEYS)
+    commands = runs.Commands(seed, KEYS, SHARE)
     connection = server.connect()
     replies = runs.Replies(connection)
     left = requests
