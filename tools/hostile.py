@@ -3,9 +3,9 @@
 
     tools/hostile.py [--program PROGRAM] [--seed N] [--frames N] [--images N] [--jobs N]
 
-Frames are mutated bytewise, and field by field with the lengths around a field set right. Each reply has to be, to the byte, that of tools/pathd_reading.py and
-tools/pathd_model.py: its code, the place, the counts, the segments found. Each session ends with a frame that is none: the status and the line have to be those
-of its fault. Images come from recorded stores of both versions, with and without seals; what `show` prints of a mutated one, or the line by which it refuses it,
+Frames are mutated bytewise, and field by field with the lengths around a field set right; among them are registrations, segments and lookups' replies of the greatest
+sizes, and some sessions begin by filling the store. Each reply has to be, to the byte, that of tools/pathd_reading.py and tools/pathd_model.py: its code, the place,
+the counts, the segments found. Each session ends with a frame that is none: the status and the line have to be those of its fault. Images come from recorded stores of both versions, with and without seals; what `show` prints of a mutated one, or the line by which it refuses it,
 has to be that of the model.
 
 It needs Python 3 and gcc. It ends with the status 1 where an answer is another one, and prints the first ones.
@@ -21,6 +21,7 @@ import subprocess
 import sys
 import time
 from collections import Counter
+from functools import lru_cache
 from pathlib import Path
 
 import pathd_model as model
@@ -31,6 +32,16 @@ from pathd_recording import Disk, record
 SESSION = 2_000
 ONCE_WORDS = ["--cores", "1-ff00:0:110,2-64512"]
 SMALL = model.Layout(8, 516)
+# The greatest body of a frame; how many bytes of rows the store of `once` holds, and the code of what exceeds them.
+MOST_BODY = 131_072
+ROOM = 2_097_120
+FULL = 0x52
+# How many requests are made of the greatest ones, and which sessions begin with a full store.
+OF_GREATEST = 0.015
+FILLED_EVERY = 20
+# The ends of the greatest segments, and the lookup that finds them all.
+FAR = (0x0001_FF00_0000_0900, 0x0001_FF00_0000_0901)
+FAR_QUERY = (1 << 48, FAR[1])
 INTERESTING = [0, 1, 2, 0x7F, 0x80, 0x81, 0xA7, 0xFE, 0xFF]
 
 
@@ -66,6 +77,57 @@ def full_registration(number: int) -> bytes:
         signed = bytes_field(1, bytes_field(1, b"header") + bytes_field(2, body)) + bytes_field(2, bytes(64))
         segment += bytes_field(2, bytes_field(1, signed) + (bytes_field(2, b"unsigned") if number % 2 else b""))
     return bytes_field(1, number_field(1, 1 + number % 3) + bytes_field(2, bytes_field(1, segment) + bytes_field(1, segment)))
+
+
+def far_segment(number: int, size: int, entries: int = 2) -> bytes:
+    """A segment of this number of bytes, with an id of its own for each number."""
+    between = [model.Hop(FAR[1] + 1 + it, 5, 6) for it in range(entries - 2)]
+    return runs.segment_of_size([model.Hop(FAR[0], 0, 1 + number), *between, model.Hop(FAR[1], 1, 0)], runs.MADE + number, size)
+
+
+def far_registration(segments: list[bytes]) -> bytes:
+    """The body that registers segments as down."""
+    return bytes_of_type(model.DOWN, b"".join(model.bytes_field(1, segment) for segment in segments))
+
+
+def bytes_of_type(kind: int, listed: bytes) -> bytes:
+    """The body that registers what is listed as one type."""
+    return model.bytes_field(1, model.number_field(1, kind) + model.bytes_field(2, listed))
+
+
+def filled_registration(first: int, count: int, size: int, length: int = MOST_BODY) -> bytes:
+    """A registration whose body has just this length: all segments but the last have a size."""
+    segments = [far_segment(first + it, size) for it in range(count - 1)]
+    last = far_segment(first + count, length - len(far_registration(segments)) - 16)
+    left = length - len(far_registration([*segments, last]))
+    return far_registration([*segments, far_segment(first + count, len(last) + left)])
+
+
+@lru_cache(maxsize=None)
+def greatest_bodies() -> list[tuple[int, bytes]]:
+    """Kinds and bodies of requests at the limits of sizes and counts, and just beyond them."""
+    small = [far_segment(900 + it, 300) for it in range(17)]
+    bodies = [filled_registration(0, 16, 8_180), filled_registration(100, 8, 16_384), filled_registration(200, 9, 16_384 - 1_900)]
+    bodies += [far_registration([far_segment(300, size)]) for size in (16_383, 16_384, 16_385)]
+    bodies += [far_registration([far_segment(310 + it, 16_384) for it in range(count)]) for count in (2, 7)]
+    bodies += [far_registration(small[:count]) for count in (15, 16, 17)]
+    bodies += [far_registration([far_segment(400 + it, 16_384, it)]) for it in (63, 64, 65)]
+    bodies.append(far_registration([far_segment(500 + it, 6_000, 64) for it in range(16)]))
+    bodies.append(far_registration([*(far_segment(600 + it, 8_000) for it in range(15)), far_segment(620, 16_385)])[:MOST_BODY])
+    requests = [(model.REGISTER, body) for body in bodies]
+    requests += [(model.LOOKUP, model.lookup_frame(*FAR_QUERY)[5:])] * 2
+    requests.append((model.LOOKUP, model.lookup_frame(*FAR_QUERY)[5:] + model.bytes_field(9, bytes(MOST_BODY - 40))))
+    return requests
+
+
+@lru_cache(maxsize=None)
+def filling_requests() -> list[tuple[int, bytes]]:
+    """Registrations that fill the store of `once` to the byte, some that don't fit, and the lookup of the greatest reply."""
+    bodies = [filled_registration(2_000 + 100 * it, 8, 16_384) for it in range(15)]
+    # The records of each of these have 131,071 bytes: 131,055 are left, which the third of the next ones takes.
+    bodies += [filled_registration(4_000 + 100 * less, 8, 16_384, MOST_BODY - less) for less in (0, 15, 16)]
+    bodies.append(far_registration([far_segment(9_000, 700)]))
+    return [*((model.REGISTER, body) for body in bodies), (model.LOOKUP, model.lookup_frame(*FAR_QUERY)[5:])]
 
 
 def mutated_bytes(data: bytes, others: list[bytes], chance: random.Random) -> bytes:
@@ -146,19 +208,20 @@ def spelled(number: int, wire: int, value: int | bytes, chance: random.Random) -
 
 def mutated_request(bodies: list[tuple[int, bytes]], chance: random.Random) -> tuple[int, bytes]:
     """A kind and a body, whose length is one that the kind may have."""
-    kind, body = chance.choice(bodies)
+    is_greatest = chance.random() < OF_GREATEST
+    kind, body = chance.choice(greatest_bodies() if is_greatest else bodies)
     if kind == model.PURGE:
         return kind, struct.pack(">Q", chance.choice((0, chance.getrandbits(64), 2 * runs.MADE + chance.randrange(250_000))))
     if kind == model.REMOVE:
         at = chance.randrange(33)
         return kind, body[:at] + bytes([chance.randrange(5)]) + body[at + 1 :] if chance.random() < 0.5 else body
-    if chance.random() < 0.1:
+    if chance.random() < (0.5 if is_greatest else 0.1):
         return kind, body
     for _ in range(chance.choice((1, 1, 2))):
         body = mutated_fields(body, chance) if chance.random() < 0.6 else mutated_bytes(body, [it for _, it in bodies], chance)
     if kind == model.REGISTER and chance.random() < 0.002:
-        body = model.bytes_field(1, model.number_field(1, 2) + model.bytes_field(2, body * (1 + 140_000 // (1 + len(body)))))
-    return kind, body[:131_072]
+        body = bytes_of_type(model.DOWN, body * (1 + 140_000 // (1 + len(body))))
+    return kind, body[:MOST_BODY]
 
 
 def broken_frame(bodies: list[tuple[int, bytes]], chance: random.Random) -> tuple[bytes, bytes]:
@@ -183,6 +246,8 @@ class Session:
     def __init__(self) -> None:
         self.db: dict = {}
         self.place = 0
+        # At least as many bytes as the records of all rows have.
+        self.most_bytes = 0
 
     def reply(self, kind: int, body: bytes) -> bytes:
         """The content of the reply to a request."""
@@ -199,8 +264,22 @@ class Session:
                 command = ("remove", body[0], body[1:])
         except reading.Refused as refused:
             return bytes([model.REFUSED, refused.args[0]])
+        if not self._fits(command):
+            return bytes([model.REFUSED, FULL])
         place, self.place = self.place, self.place + 1
         return struct.pack(">BQIIII", 0x80 + kind, place, *model.apply(self.db, command))
+
+    def _fits(self, command: tuple) -> bool:
+        """Whether the rows after a command fit the store."""
+        added = sum(5 + len(segment) for _, segment in command[1]) if command[0] == "register" else 0
+        self.most_bytes += added
+        if self.most_bytes <= ROOM:
+            return True
+        after = dict(self.db)
+        model.apply(after, command)
+        size = sum(5 + len(row.segment) for row in after.values())
+        self.most_bytes = size if size <= ROOM else self.most_bytes - added
+        return size <= ROOM
 
     def _found(self, source: int, destination: int) -> bytes:
         query = model.classify(runs.CORES, source, destination)
@@ -218,6 +297,8 @@ def try_frames(given: tuple) -> tuple[Counter, list[str]]:
     while counts["frames"] < count and len(faults) < 5:
         bodies = valid_bodies(f"{seed}/{worker}/{counts['frames'] % 7}")
         requests = [mutated_request(bodies, chance) for _ in range(SESSION)]
+        if counts["sessions"] % FILLED_EVERY == 0:
+            requests = filling_requests() + requests[len(filling_requests()) :]
         last, line = broken_frame(bodies, chance)
         data = b"".join(model.frame(*request) for request in requests) + last
         done = subprocess.run([program, "once", *ONCE_WORDS], input=data, capture_output=True, check=False, timeout=300)
@@ -260,7 +341,7 @@ def make_images(program: str, library: str, folder: Path, seed: int) -> list[byt
     """Images of stores of both versions: fresh, with groups, with a seal, with a new half, after a checkpoint."""
     images = []
     for version in (1, 2):
-        run = record(program, library, folder, seed, version, 1_500, SMALL)
+        run = record(program, library, folder, f"{seed}/{version}", 1_500, SMALL, version)
         disk = Disk(run.first)
         chance = random.Random(f"{seed}/images/{version}")
         for call in run.calls:

@@ -18,8 +18,9 @@ while [ $# -gt 0 ]; do
     *) break ;;
   esac
 done
-program=$(realpath "${1:-$tools/../crates/pathd/out/pathd}")
-[ -x "$program" ] || { echo "no program: $program" >&2; exit 2; }
+program=$(realpath -m "${1:-$tools/../crates/pathd/out/pathd}")
+"$tools/need.sh" python3 gcc perl || exit
+[ -x "$program" ] || { echo "no program: $program; \`rt run -- --help\` in crates/pathd builds it" >&2; exit 2; }
 failed=()
 
 run() { # a name, and the words of a script
@@ -30,9 +31,9 @@ run() { # a name, and the words of a script
 }
 
 if [ -n "$short" ]; then
-  cut=(--images 6000 --commands 1200 --openings 8)
+  cut=(--images 6000 --commands 1200 --openings 8 --restarts 2)
   swallowed=(--images 1500 --commands 2400 --openings 1)
-  histories=(--replies 60000 --kills 4)
+  histories=(--replies 30000)
   refuse=(--short)
   peers=(--connections 2000 --seconds 5)
   hostile=(--frames 60000 --images 4000)
@@ -40,7 +41,7 @@ if [ -n "$short" ]; then
 else
   cut=(--images 250000)
   swallowed=(--images 4000 --commands 4000 --openings 1)
-  histories=(--replies 1000000 --kills 11)
+  histories=(--replies 1000000)
   refuse=()
   peers=()
   hostile=()
@@ -50,7 +51,8 @@ run "power cuts" "$tools/powercut" --program "$program" --seed "$seed" "${cut[@]
 for kind in group gate chunks half; do
   run "power cuts, every second sync of a kind left out: $kind" "$tools/powercut" --program "$program" --seed "$seed" --swallowed "$kind" "${swallowed[@]}"
 done
-run histories "$tools/histories" --program "$program" --seed "$seed" "${histories[@]}"
+run histories "$tools/histories" --program "$program" --seed "$seed" --kills 2 "${histories[@]}"
+run "histories with kills" "$tools/histories" --program "$program" --seed "$seed" --kills 11 "${histories[@]}"
 run refusals "$tools/refuse.sh" "${refuse[@]}" "$program"
 run peers "$tools/peers.py" --program "$program" "${peers[@]}"
 run "hostile bytes" "$tools/hostile.py" --program "$program" --seed "$seed" "${hostile[@]}"

@@ -14,6 +14,8 @@ import pathd_runs as runs
 SECTOR = model.SECTOR
 SESSIONS = 6
 KEYS = 60
+# The share of the segments that take up more than a sector or two.
+SHARE = 0.5
 HEAD = struct.Struct("<cIiQI")
 
 
@@ -41,7 +43,7 @@ def events_of(path: Path) -> list[Event]:
 
 @dataclass
 class Moment:
-    """What has to hold of the images between two calls on the device, as numbers of commands."""
+    """What has to hold of the images between two calls on the device, as numbers of the run's commands."""
 
     acknowledged: int = 0
     seen: int = 0
@@ -50,10 +52,11 @@ class Moment:
 
 @dataclass
 class Recorded:
-    """A run: the image before it, its calls on the device, and what has to hold after each of them."""
+    """A run: the image before it with its place, its calls on the device, and what has to hold after each of them."""
 
     name: str
     first: bytes
+    start: int
     calls: list[Event]
     moments: list[Moment]
     texts: list[bytes]
@@ -65,7 +68,7 @@ class Recorded:
 
 def hold_session(server: runs.Server, seed: str, requests: int, faults: list) -> None:
     """Sends random requests, a few at once, and reads their replies."""
-    commands = runs.Commands(seed, KEYS)
+    commands = runs.Commands(seed, KEYS, SHARE)
     connection = server.connect()
     replies = runs.Replies(connection)
     left = requests
@@ -91,27 +94,36 @@ def next_request(commands: runs.Commands) -> bytes:
 
 
 def record(
-    program: str, library: str, folder: Path, seed: int, version: int, requests: int, layout: model.Layout, swallowed: str = ""
+    program: str,
+    library: str,
+    folder: Path,
+    seed: str,
+    requests: int,
+    layout: model.Layout,
+    version: int = 2,
+    first: bytes | None = None,
+    swallowed: str = "",
 ) -> Recorded:
-    """Records a server's run over a new store."""
-    store, log = folder / f"store{version}", folder / f"log{version}"
-    runs.format_store(program, store, layout, version)
-    first = store.read_bytes()
+    """Records a server's run over an image, or over a new store."""
+    store, log = folder / "store", folder / "log"
+    log.unlink(missing_ok=True)
+    if first is None:
+        runs.format_store(program, store, layout, version)
+        first = store.read_bytes()
+    store.write_bytes(first)
     env = {"LD_PRELOAD": library, "RECORD": str(log), "SWALLOWED": swallowed}
     env |= {"CHECKPOINT": str(layout.checkpoint), "JOURNAL": str(layout.journal)}
     faults: list = []
     with runs.Server(program, store, env=env) as server:
         each = requests // SESSIONS
-        threads = [
-            threading.Thread(target=hold_session, args=(server, f"{seed}/{version}/{number}", each, faults)) for number in range(SESSIONS)
-        ]
+        threads = [threading.Thread(target=hold_session, args=(server, f"{seed}/{number}", each, faults)) for number in range(SESSIONS)]
         for thread in threads:
             thread.start()
         for thread in threads:
             thread.join()
     if faults:
         raise RuntimeError(f"a session failed: {faults[0]}")
-    return judged(f"server over version {version}", first, events_of(log))
+    return judged(f"server {seed}", first, events_of(log))
 
 
 @dataclass
@@ -127,14 +139,15 @@ class Stream:
 
 def judged(name: str, first: bytes, events: list[Event]) -> Recorded:
     """Orders the commands of a run by their places, and finds what each reply says of the images after it."""
-    commands = commands_by_place(events)
-    answers = runs.Answers(runs.QUERIES)
-    texts = [runs.digest(model.show_text(answers.db, 0))]
-    for place, command in enumerate(commands):
+    db, start = model.open_image(first).fold()
+    places = {request: place - start for request, place in places_of_requests(events).items()}
+    commands = commands_by_place(events, places)
+    answers = runs.Answers(runs.QUERIES, db)
+    texts = [runs.digest(model.show_text(answers.db, start))]
+    for number, command in enumerate(commands):
         answers.add(command)
-        texts.append(runs.digest(model.show_text(answers.db, place + 1)))
+        texts.append(runs.digest(model.show_text(answers.db, start + number + 1)))
     streams: dict[int, Stream] = {}
-    place_of = places_of_requests(events)
     come = [False] * len(commands)
     front = 0
     calls, moments, now = [], [Moment()], Moment()
@@ -144,27 +157,27 @@ def judged(name: str, first: bytes, events: list[Event]) -> Recorded:
         if event.letter == "R":
             contents, stream.rest_in = model.whole_frames(stream.rest_in + event.content)
             for content in contents:
-                place = place_of.get((event.descriptor, len(stream.requests)))
+                number = places.get((event.descriptor, len(stream.requests)))
                 stream.requests.append(content)
-                if place is not None:
-                    come[place] = True
+                if number is not None:
+                    come[number] = True
             while front < len(come) and come[front]:
                 front += 1
         elif event.letter == "T":
             contents, stream.rest_out = model.whole_frames(stream.rest_out + event.content)
             for content in contents:
-                take_reply(stream, content, answers, now, counted)
+                take_reply(stream, content, start, answers, now, counted)
         else:
             # The images after the last call have to hold what was answered up to this one.
             moments[-1] = Moment(now.acknowledged, now.seen, moments[-1].come)
             calls.append(event)
             moments.append(Moment(now.acknowledged, now.seen, front))
     moments[-1] = Moment(now.acknowledged, now.seen, front)
-    return Recorded(name, first, calls, moments, texts, replies=counted)
+    return Recorded(name, first, start, calls, moments, texts, replies=counted)
 
 
-def take_reply(stream: Stream, content: bytes, answers: runs.Answers, now: Moment, counted: Counter) -> None:
-    """Judges a reply, and notes what it says of later images."""
+def take_reply(stream: Stream, content: bytes, start: int, answers: runs.Answers, now: Moment, counted: Counter) -> None:
+    """Judges a reply of a run from a place on, and notes what it says of later images."""
     request = stream.requests[stream.answered]
     stream.answered += 1
     if content[0] == model.REFUSED:
@@ -181,10 +194,11 @@ def take_reply(stream: Stream, content: bytes, answers: runs.Answers, now: Momen
     else:
         counted["acknowledged"] += 1
         place, *counts = struct.unpack(">QIIII", content[1:])
-        if tuple(counts) != answers.outcomes[place]:
-            raise RuntimeError(f"place {place} counts {counts}, and not {answers.outcomes[place]}")
-        stream.least = max(stream.least, place + 1)
-        now.acknowledged = max(now.acknowledged, place + 1)
+        number = place - start
+        if tuple(counts) != answers.outcomes[number]:
+            raise RuntimeError(f"place {place} counts {counts}, and not {answers.outcomes[number]}")
+        stream.least = max(stream.least, number + 1)
+        now.acknowledged = max(now.acknowledged, number + 1)
 
 
 def places_of_requests(events: list[Event]) -> dict[tuple[int, int], int]:
@@ -202,11 +216,10 @@ def places_of_requests(events: list[Event]) -> dict[tuple[int, int], int]:
     return places
 
 
-def commands_by_place(events: list[Event]) -> list[tuple]:
-    """The acknowledged commands in the order of their places."""
+def commands_by_place(events: list[Event], places: dict[tuple[int, int], int]) -> list[tuple]:
+    """The acknowledged commands in the order of their places, which count from the run's first one."""
     rest: dict[int, bytes] = {}
     counts: Counter = Counter()
-    places = places_of_requests(events)
     commands = {}
     for event in events:
         if event.letter == "R":

@@ -27,6 +27,7 @@ MADE = 4_000_000_000
 CORE_A, CORE_B = 0x0001_FF00_0000_0110, 0x0002_0000_0000_FC00
 LEAVES = [0x0001_FF00_0000_0111 + n for n in range(4)]
 CORES = {CORE_A, CORE_B}
+LARGE = 3_000
 CORE_WORDS = ["--cores", "1-ff00:0:110,2-64512"]
 # Lookups of each kind, with wildcards among them.
 QUERIES = [(CORE_A, leaf) for leaf in LEAVES] + [(leaf, CORE_A) for leaf in LEAVES] + [
@@ -214,18 +215,42 @@ def make_rows(keys: int) -> list[tuple[int, list[model.Hop]]]:
     return rows
 
 
-class Commands:
-    """Random commands over a fixed number of keys."""
+def segment_of_size(hops: list[model.Hop], timestamp: int, size: int, exp_time: int = 63) -> bytes:
+    """A segment of just this number of bytes, most of them those of the last entry's signature."""
+    info, *entries = [content for _, content in model.read_fields(model.make_segment(hops, timestamp, exp_time))]
+    signed = [model.last_of(entry, 1, b"") for entry in entries]
 
-    def __init__(self, seed: str, keys: int) -> None:
+    def written(first: int, last: int) -> bytes:
+        lengths = [first] + [0] * (len(signed) - 2) + [last]
+        bodies = [model.bytes_field(1, it + (model.bytes_field(2, bytes(length)) if length else b"")) for it, length in zip(signed, lengths)]
+        return model.bytes_field(1, info) + b"".join(model.bytes_field(2, body) for body in bodies)
+
+    # The first signature has some bytes of those that the lengths of the last one's fields leave over.
+    for first in range(8):
+        most = size - len(written(first, 1))
+        for last in range(max(1, most - 12), most + 2):
+            segment = written(first, last)
+            if len(segment) == size:
+                return segment
+    raise ValueError(f"there is no such segment of {size} bytes")
+
+
+class Commands:
+    """Random commands over a fixed number of keys; a share of the segments has sizes up to LARGE bytes."""
+
+    def __init__(self, seed: str, keys: int, share: float = 0) -> None:
         self.random = random.Random(seed)
+        self.share = share
         self.rows = make_rows(keys)
         self.ids = {}
 
     def segment(self, number: int) -> tuple[int, bytes]:
         """A segment of the key of a number, made at a random time."""
         kind, hops = self.rows[number]
-        return kind, model.make_segment(hops, MADE + self.random.randrange(100_000), self.random.choice((60, 63)))
+        made, exp_time = MADE + self.random.randrange(100_000), self.random.choice((60, 63))
+        if self.share and self.random.random() < self.share:
+            return kind, segment_of_size(hops, made, self.random.randrange(400, LARGE), exp_time)
+        return kind, model.make_segment(hops, made, exp_time)
 
     def next(self, removals: float = 0.25, purges: float = 0.04) -> tuple:
         """A registration, removal or purge."""

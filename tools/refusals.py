@@ -304,6 +304,21 @@ def sweep(given: tuple) -> tuple[str, str, str, Counter, list[str]]:
     return command, kind, how, results, wrong
 
 
+def summary(swept: list[tuple[str, str, str, Counter]]) -> str:
+    """A table of what came of the calls of each kind: of those that are made again, and of the others."""
+    rows: dict[tuple[str, str, bool], tuple[list[str], Counter]] = {}
+    for command, kind, how, results in swept:
+        if results:
+            hows, together = rows.setdefault((command, kind, how in PASSING), ([], Counter()))
+            hows.append(how)
+            together.update(results)
+    lines = ["| command | call | how it fails | runs | what came of it |", "|---|---|---|---|---|"]
+    for (command, kind, _), (hows, results) in rows.items():
+        came = ", ".join(f"`{name}` {count}" if name.startswith("error") else f"{name} {count}" for name, count in sorted(results.items()))
+        lines.append(f"| `{command}` | {kind} | {', '.join(hows)} | {sum(results.values())} | {came} |")
+    return "\n".join(lines)
+
+
 def main() -> None:
     """Sweeps, and prints a table."""
     parser = argparse.ArgumentParser(description="Refuses each allocation and each call on the store's file.")
@@ -325,16 +340,16 @@ def main() -> None:
             for kind, hows in HOWS.items()
             for how in hows
         ]
-        print("| command | refused | how | runs | what came of it |\n|---|---|---|---|---|")
+        swept = []
         with multiprocessing.Pool(options.jobs) as pool:
             for command, kind, how, results, wrong in pool.imap(sweep, given):
                 total += sum(results.values())
                 wrongs += wrong
-                if results:
-                    came = ", ".join(f"`{name}` {count}" if name.startswith("error") else f"{name} {count}" for name, count in sorted(results.items()))
-                    print(f"| {command} | {kind} | {how} | {sum(results.values())} | {came} |", flush=True)
+                swept.append((command, kind, how, results))
+                print(f"  {command}, {kind}, {how}: {sum(results.values())} runs", flush=True)
                 for line in wrong[:3]:
                     print(f"  {line}", flush=True)
+    print(summary(swept))
     print(f"{total} runs, {len(wrongs)} end otherwise, {time.monotonic() - begun:.0f} seconds")
     sys.exit(1 if wrongs else 0)
 

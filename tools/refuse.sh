@@ -14,8 +14,9 @@ if [ "${1:-}" = --short ]; then
   every=40
   shift
 fi
-program=$(realpath "${1:-$tools/../crates/pathd/out/pathd}")
-[ -x "$program" ] || { echo "no program: $program" >&2; exit 2; }
+program=$(realpath -m "${1:-$tools/../crates/pathd/out/pathd}")
+"$tools/need.sh" python3 gcc perl || exit
+[ -x "$program" ] || { echo "no program: $program; \`rt run -- --help\` in crates/pathd builds it" >&2; exit 2; }
 status=0
 if [ "$every" = 1 ]; then
   "$tools/refused_memory.sh" "$program" || status=1
