@@ -36,10 +36,17 @@ else
   (cd "$work/echo/crates/echo_server" && RT_SECONDS=1 rt run >/dev/null 2>&1) || true
   echo=$work/echo/crates/echo_server/out/echo_server
 fi
-gcc -O2 -o "$work/load" "$root/bench/server_load.c" -lpthread
+gcc -O2 -o "$work/load" "$root/tools/load.c" -lpthread
 gcc -O2 -shared -fPIC -o "$work/slow_sync.so" "$root/bench/slow_sync.c"
 g++ -O2 -o "$work/rivals" "$root/bench/server_rivals.cc" -lleveldb -lsqlite3 -lpthread
 seconds=${SECONDS_EACH:-2}
+
+# Sessions over the loopback: how many, for how long, a kind of requests, and other options; prints replies a second and the percentiles.
+load() {
+  local sessions=$1 long=$2 kind=$3
+  shift 3
+  "$work/load" 127.0.0.1 "$port" --sessions "$sessions" --seconds "$long" --mix "$kind" --rows 1 "$@" | awk -v kind="$kind" '$1 == kind { print $3, $4, $5, $6 }'
+}
 
 # Starts a server whose first line, or whose first notice, has its address; sets `port` and `server`.
 started() {
@@ -75,27 +82,27 @@ rival_started() { # this rival
 lookups() {
   for sessions in 1 8 64; do
     pathd_started '' 0
-    ours=$("$work/load" "$port" "$sessions" "$seconds" lookup | cut -d' ' -f1)
+    ours=$(load "$sessions" "$seconds" lookup | cut -d' ' -f1)
     stop
     started "$echo"
-    echoed=$("$work/load" "$port" "$sessions" "$seconds" empty | cut -d' ' -f1)
+    echoed=$(load "$sessions" "$seconds" echo | cut -d' ' -f1)
     stop
     echo "$ours $echoed $(python3 -c "print($ours / $echoed)")" >> "$work/lookups_$sessions"
   done
   pathd_started '' 0
-  "$work/load" "$port" 1 "$seconds" lookup 100 | cut -d' ' -f1 >> "$work/batches"
+  load 1 "$seconds" lookup --window 100 | cut -d' ' -f1 >> "$work/batches"
   stop
 }
 
 registrations() { # this many microseconds a sync
   for sessions in 1 8 64; do
     pathd_started "$work/slow_sync.so" "$1"
-    ours=$("$work/load" "$port" "$sessions" "$seconds" register | cut -d' ' -f1)
+    ours=$(load "$sessions" "$seconds" register | cut -d' ' -f1)
     stop
     line=$ours
     for rival in leveldb sqlite; do
       rival_started "$rival" "$work/slow_sync.so" "$1"
-      theirs=$("$work/load" "$port" "$sessions" "$seconds" register | cut -d' ' -f1)
+      theirs=$(load "$sessions" "$seconds" register | cut -d' ' -f1)
       stop
       line="$line $theirs $(python3 -c "print($ours / max($theirs, 1))")"
     done
@@ -105,12 +112,12 @@ registrations() { # this many microseconds a sync
 
 latencies() {
   pathd_started "$work/slow_sync.so" 100
-  "$work/load" "$port" 4 "$seconds" lookup | cut -d' ' -f2- >> "$work/idle"
-  greatest=$("$work/load" "$port" 8 "$seconds" register | cut -d' ' -f1)
-  "$work/load" "$port" 8 "$((seconds + 1))" register 1 "$(python3 -c "print($greatest / 2)")" > /dev/null &
+  load 4 "$seconds" lookup | cut -d' ' -f2- >> "$work/idle"
+  greatest=$(load 8 "$seconds" register | cut -d' ' -f1)
+  load 8 "$((seconds + 1))" register --rate "$(python3 -c "print($greatest / 2)")" > /dev/null &
   registering=$!
   sleep 0.3
-  "$work/load" "$port" 4 "$seconds" lookup | cut -d' ' -f2- >> "$work/busy"
+  load 4 "$seconds" lookup | cut -d' ' -f2- >> "$work/busy"
   wait "$registering"
   stop
 }
@@ -119,12 +126,12 @@ resident() {
   pathd_started '' 0
   local none one many gone full
   none=$(awk '/VmRSS/ {print $2}' "/proc/$server/status")
-  "$work/load" "$port" 1 1 lookup > /dev/null
+  load 1 1 lookup > /dev/null
   one=$(awk '/VmRSS/ {print $2}' "/proc/$server/status")
-  "$work/load" "$port" 64 1 lookup > /dev/null
+  load 64 1 lookup > /dev/null
   many=$(awk '/VmRSS/ {print $2}' "/proc/$server/status")
   # A thousand sessions a second and more, one after the other in each of 32 threads.
-  "$work/load" "$port" 32 10 connect >> "$work/coming"
+  load 32 10 connect >> "$work/coming"
   gone=$(awk '/VmRSS/ {print $2}' "/proc/$server/status")
   python3 "$root/bench/server_rows.py" "$port" 100000
   full=$(awk '/VmRSS/ {print $2}' "/proc/$server/status")

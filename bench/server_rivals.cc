@@ -1,5 +1,5 @@
 // A server over LevelDB or SQLite, behind the same sockets as pathd's: a thread for each connection, frames of the same form. A registration's
-// bytes are put under the key of its session and synced before the reply; a lookup gets one value. Nothing is read or checked of a message.
+// bytes are put under its last AS and synced before the reply; a lookup gets one value. Nothing is read or checked of a message.
 //
 //     server_rivals leveldb|sqlite FOLDER
 //
@@ -11,16 +11,18 @@
 #include <sys/socket.h>
 #include <unistd.h>
 
+#include <atomic>
 #include <cstdio>
 #include <cstring>
 #include <string>
 #include <thread>
 
-// Where a registration's key is: the interface by which its first AS is left.
-static const size_t EGRESS = 52;
+// The offsets of the last AS in a registration and in a lookup of tools/load.c, and its length.
+static const size_t REGISTERED_AS = 36, SOUGHT_AS = 10, AS = 7;
 
 static leveldb::DB *level = nullptr;
 static std::string place;
+static std::atomic<uint64_t> next_place{0};
 
 struct Rows {
   sqlite3 *db = nullptr;
@@ -73,6 +75,15 @@ static std::string framed(const std::string &content) {
   return std::string{char(n >> 24), char(n >> 16), char(n >> 8), char(n)} + content;
 }
 
+// That one row was updated.
+static std::string acknowledgement(uint64_t at) {
+  std::string content(25, '\0');
+  content[0] = '\x81';
+  for (int i = 0; i < 8; i++) content[1 + i] = char(at >> 8 * (7 - i));
+  content[16] = 1;
+  return content;
+}
+
 static void hold(int fd) {
   Rows rows;
   char head[4];
@@ -83,11 +94,11 @@ static void hold(int fd) {
     std::string content(len, '\0'), value;
     if (len == 0 || !receive(fd, &content[0], len)) break;
     std::string reply;
-    if (content[0] == 1 && len > EGRESS) {
-      if (!rows.put(content.substr(EGRESS - 4, 1), content.substr(1))) break;
-      reply = framed(std::string(1, '\x81') + std::string(24, '\0'));
+    if (content[0] == 1 && len >= REGISTERED_AS + AS) {
+      if (!rows.put(content.substr(REGISTERED_AS, AS), content.substr(1))) break;
+      reply = framed(acknowledgement(next_place++));
     } else {
-      if (!rows.get(std::string(1, '\1'), &value)) break;
+      if (len < SOUGHT_AS + AS || !rows.get(content.substr(SOUGHT_AS, AS), &value)) break;
       reply = framed('\x82' + value);
     }
     if (write(fd, reply.data(), reply.size()) != (ssize_t)reply.size()) break;
