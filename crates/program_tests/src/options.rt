@@ -208,17 +208,7 @@ fn lines_that_are_not_read(rt: HostRuntime) {
 }
 
 /// What is printed of lines that are refused.
-const TEXTS: [(&str, &str); 4] = [
-    (
-        "",
-        "error: 'pathd' requires a subcommand but one was not provided
-  [subcommands: once, format, show, upgrade, run, help]
-
-Usage: pathd <COMMAND>
-
-For more information, try '--help'.
-",
-    ),
+const TEXTS: [(&str, &str); 3] = [
     (
         "serve",
         "error: unrecognized subcommand 'serve'
