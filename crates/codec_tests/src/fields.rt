@@ -134,23 +134,26 @@ fn encodings_that_are_put(rt: HostRuntime) -> Result<(), Fail> {
     Ok(())
 }
 
-// Run with each allocation failing in turn: the bytes that were put stay, and nothing is added.
+// Run with each allocation failing in turn: a put that is refused adds nothing, and succeeds when it is tried again.
 #[test]
-fn refused_memory_changes_nothing(rt: HostRuntime) {
+fn refused_memory_changes_nothing(rt: HostRuntime) -> Result<(), Fail> {
     let mut out = Vec::new(rt.alloc());
-    let mut added = 0;
     if put_varint(&mut out, 150).is_err() {
-        added += out.len();
+        assert_bytes(&rt, &out, &[]);
+        put_varint(&mut out, 150)?;
     }
-    let before = out.len();
+    assert_bytes(&rt, &out, &[0x96, 1]);
     if put_varint_field(&mut out, 1, 150).is_err() {
-        added += out.len() - before;
+        assert_bytes(&rt, &out, &[0x96, 1]);
+        put_varint_field(&mut out, 1, 150)?;
     }
-    let before = out.len();
+    assert_bytes(&rt, &out, &[0x96, 1, 0x08, 0x96, 1]);
     if put_bytes_field(&mut out, 2, b"testing").is_err() {
-        added += out.len() - before;
+        assert_bytes(&rt, &out, &[0x96, 1, 0x08, 0x96, 1]);
+        put_bytes_field(&mut out, 2, b"testing")?;
     }
-    assert_eq!(rt; added, 0);
+    assert_bytes(&rt, &out, b"\x96\x01\x08\x96\x01\x12\x07testing");
+    Ok(())
 }
 
 #[test]

@@ -6,7 +6,7 @@ use pw_wire::WireError;
 use seg_core::{
     SegError, SegType, Segment, read_registration, read_request, read_segment, write_response,
 };
-use std::alloc::Global;
+use std::alloc::{AllocError, Global};
 use std::process::Abort;
 use std::test::Fail;
 
@@ -158,21 +158,30 @@ fn seventeen_segments_are_refused(rt: HostRuntime) -> Result<(), Fail> {
     Ok(())
 }
 
-/// Checks that the answer of rows is these bytes, or that memory was refused.
-fn assert_answer(rt: &impl Abort, alloc: Global, rows: &[(SegType, Segment)], expected: &[u8]) {
-    if let Ok(response) = write_response(alloc, rows) {
-        assert_bytes(rt, &response, expected);
+/// The rows that a message registers, which is read once more where memory is refused.
+fn rows_again(alloc: Global, message: &[u8]) -> Result<Vec<(SegType, Segment)>, SegError> {
+    match rows_of(alloc, message) {
+        Err(SegError::NoMemory) => rows_of(alloc, message),
+        read => read,
     }
 }
 
-// Run with each allocation failing in turn: the result is the right answer, or the error for refused memory.
+/// The answer of rows, which is written once more where memory is refused.
+fn answered_again(alloc: Global, rows: &[(SegType, Segment)]) -> Result<Vec<u8>, AllocError> {
+    match write_response(alloc, rows) {
+        Ok(response) => Ok(response),
+        Err(_) => write_response(alloc, rows),
+    }
+}
+
+// Run with each allocation failing in turn: a call that is refused succeeds when it is tried again, and no answer is another for it.
 #[test]
-fn refused_memory_is_told(rt: HostRuntime) {
+fn refused_memory_is_told(rt: HostRuntime) -> Result<(), Fail> {
     let mut message = [0; 96];
     message[..8].copy_from_slice(&DOWN);
     message[8..].copy_from_slice(&SEGMENT);
-    match rows_of(rt.alloc(), &message) {
-        Err(refusal) => assert_eq!(rt; refusal, SegError::NoMemory),
-        Ok(rows) => assert_answer(&rt, rt.alloc(), &rows, &message),
-    }
+    let rows = rows_again(rt.alloc(), &message)?;
+    assert_down(&rt, &rows);
+    assert_bytes(&rt, &answered_again(rt.alloc(), &rows)?, &message);
+    Ok(())
 }

@@ -3,9 +3,7 @@
 use crate::acts::{Act, Line};
 use crate::runs::{begun, done, ended};
 use crate::same::assert_same;
-use crate::scripts::{
-    Ending, Left, NONE_LEFT, SECTORS, Script, calls_device, fronted, seen, wide_store,
-};
+use crate::scripts::{Ending, Left, Script, calls_device, fronted, seen};
 use crate::stores::{bytes_of, opened};
 use sector_dev::{Device, MemDevice, SECTOR};
 use std::alloc::Global;
@@ -13,7 +11,7 @@ use std::process::Abort;
 use store_open::{OpenError, open};
 
 /// More calls of the device than any of these runs makes.
-const MANY: u64 = 1000;
+const MANY: u64 = 4000;
 
 /// How a device is made to fail.
 pub(crate) trait Failure {
@@ -33,8 +31,8 @@ pub(crate) trait Failure {
 /// The device with this image.
 fn restored(rt: &impl Abort, device: MemDevice, image: &[u8]) -> MemDevice {
     let mut device = device;
-    assert!(rt; image.len() == SECTOR * SECTORS);
-    assert!(rt; device.sectors() == SECTORS as u64);
+    assert!(rt; image.len() % SECTOR == 0);
+    assert!(rt; (image.len() / SECTOR) as u64 <= device.sectors());
     assert!(rt; device.write(0, image).is_ok());
     assert!(rt; device.sync().is_ok());
     device
@@ -60,7 +58,7 @@ fn failing_run<F: Failure>(
             assert_eq!(rt; e, OpenError::Device);
             let left = Left {
                 ending: Ending::Unopened,
-                ..NONE_LEFT
+                ..script.none_left()
             };
             return (left, memory_of(rt, failure, device));
         }
@@ -68,34 +66,53 @@ fn failing_run<F: Failure>(
     let held = begun(rt, alloc, store);
     let (held, replies) = done(rt, alloc, held, &script.events);
     assert_eq!(rt; replies.len(), script.events.len());
-    let left = seen(rt, &script.lines, &replies);
+    let left = seen(rt, script, &replies);
     (left, memory_of(rt, failure, ended(rt, held)))
 }
 
-/// Has the opening of a device fail at each of its calls in turn: each time it opens to what it opens to at first. How many times
-/// it failed.
+/// Whether a device has this image.
+fn has_image(rt: &impl Abort, alloc: Global, device: &mut MemDevice, image: &[u8]) -> bool {
+    bytes_of(rt, alloc, device, image.len() / SECTOR).as_slice() == image
+}
+
+/// Sees that a device opens to this place, unless it has the image that does.
+fn opened_alike(
+    rt: &impl Abort,
+    alloc: Global,
+    script: &Script,
+    device: MemDevice,
+    (image, place): (&[u8], u64),
+) -> MemDevice {
+    let mut device = device;
+    if has_image(rt, alloc, &mut device, image) {
+        return device;
+    }
+    let store = opened(rt, alloc, device);
+    let (_place, device) = fronted(rt, alloc, script, store, (place, place));
+    device
+}
+
+/// Has the opening of a device with this image, which opens to this place, fail at each of its calls in turn: each time it opens to the
+/// same. How many times it failed.
 fn failing_openings<F: Failure>(
     rt: &impl Abort,
     alloc: Global,
     script: &Script,
     failure: &F,
     device: MemDevice,
-    left: Left,
+    (image, place): (&[u8], u64),
 ) -> (u64, MemDevice) {
     let mut device = device;
-    let image = bytes_of(rt, alloc, &mut device, SECTORS);
-    let store = opened(rt, alloc, device);
-    let (place, mut device) = fronted(rt, alloc, script, store, (left.acknowledged, left.accepted));
     for number in 0..MANY {
-        match open(alloc, failure.over(restored(rt, device, &image), number)) {
+        match open(alloc, failure.over(restored(rt, device, image), number)) {
             Ok(store) => {
                 let (_place, failing) = fronted(rt, alloc, script, store, (place, place));
                 return (number, failure.memory(failing));
             }
             Err((failing, e)) => {
                 assert_eq!(rt; e, OpenError::Device);
-                let store = opened(rt, alloc, memory_of(rt, failure, failing));
-                (_, device) = fronted(rt, alloc, script, store, (place, place));
+                let rest = memory_of(rt, failure, failing);
+                device = opened_alike(rt, alloc, script, rest, (image, place));
             }
         }
     }
@@ -139,38 +156,50 @@ fn assert_next(rt: &impl Abort, lines: &[Line], next: usize, number: usize) {
     assert_same(rt, &is_next, &true, &(next, number));
 }
 
-/// Has a script's run fail at each call of the device in turn, and openings of what it leaves after each `apart`-th one: how many
-/// times each failed.
+/// What a run left on a device: the image, and the place to which it opens, which is in these bounds.
+fn opened_image(
+    rt: &impl Abort,
+    alloc: Global,
+    script: &Script,
+    device: MemDevice,
+    bounds: (u64, u64),
+) -> (Vec<u8>, u64, MemDevice) {
+    let mut device = device;
+    let image = bytes_of(rt, alloc, &mut device, script.sectors());
+    let store = opened(rt, alloc, device);
+    let (place, device) = fronted(rt, alloc, script, store, bounds);
+    (image, place, device)
+}
+
+/// Has a script's run fail at each call of the device in turn, and the openings of each image that it leaves: how many times each
+/// failed. An image that is left twice in a row is opened with failures once.
 pub(crate) fn failing_runs<F: Failure>(
     rt: &impl Abort,
     alloc: Global,
     script: &Script,
     failure: &F,
-    apart: u64,
 ) -> (u64, u64) {
-    assert!(rt; apart > 0);
-    let mut device = wide_store(rt, alloc);
+    let mut device = script.device(rt, alloc);
+    let mut last = Vec::new(alloc);
     let mut again = 0u64;
     let mut next = 0;
     for number in 0..MANY {
         let failing = failure.over(restored(rt, device, &script.image), number);
         let (left, rest) = failing_run(rt, alloc, script, failure, failing);
         next = next_event(rt, &script.lines, next, left.ending);
-        let most = match left.ending {
-            Ending::Whole => left.acknowledged,
-            _ => left.accepted,
-        };
-        if left.ending != Ending::Whole && number % apart == 0 {
-            let failures;
-            (failures, device) = failing_openings(rt, alloc, script, failure, rest, left);
-            again = again.saturating_add(failures);
-            continue;
-        }
-        let store = opened(rt, alloc, rest);
-        (_, device) = fronted(rt, alloc, script, store, (left.acknowledged, most));
+        let bounds = left.bounds();
+        let (image, place);
+        (image, place, device) = opened_image(rt, alloc, script, rest, bounds);
         if left.ending == Ending::Whole {
             return (number, again);
         }
+        if image.as_slice() == last.as_slice() {
+            continue;
+        }
+        let failures;
+        (failures, device) = failing_openings(rt, alloc, script, failure, device, (&image, place));
+        again = again.saturating_add(failures);
+        last = image;
     }
     panic!(rt; "the run makes no end")
 }

@@ -1,14 +1,11 @@
-//! Long runs on a device that fails once, at each of its calls in turn, and works again after it.
+//! Runs on a device that fails once, at each of its calls in turn, and works again after it.
 
 use crate::failures::{Failure, failing_runs};
-use crate::scripts::script_of;
+use crate::scripts::{Script, long_script, short_script};
 use sector_dev::{DevError, Device, FaultDevice, MemDevice};
 use std::alloc::Global;
 use std::process::Abort;
 use std::test::Fail;
-
-/// Between the images whose openings fail too there are this number of calls less one.
-const APART: u64 = 16;
 
 /// A device, with how many calls were made of it after its first fault.
 #[derive(Drop)]
@@ -81,20 +78,32 @@ impl Failure for Once {
     }
 }
 
-/// Has the run from a store of this version fail once, at each call.
-fn assert_fronts(rt: &impl Abort, alloc: Global, version: u8) -> Result<(), Fail> {
-    let script = script_of(rt, alloc, version)?;
-    let (_runs, openings) = failing_runs(rt, alloc, &script, &Once, APART);
-    assert!(rt; openings > 0);
-    Ok(())
+/// Has the run of a script fail once, at each call.
+fn assert_fronts(rt: &impl Abort, alloc: Global, script: &Script) {
+    let (runs, openings) = failing_runs(rt, alloc, script, &Once);
+    assert!(rt; runs > 0 && openings > 0);
 }
 
 #[test]
 fn new_stores_fail_once(rt: HostRuntime) -> Result<(), Fail> {
-    assert_fronts(&rt, rt.alloc(), 2)
+    assert_fronts(&rt, rt.alloc(), &long_script(&rt, rt.alloc(), 2)?);
+    Ok(())
 }
 
 #[test]
 fn old_stores_fail_once(rt: HostRuntime) -> Result<(), Fail> {
-    assert_fronts(&rt, rt.alloc(), 1)
+    assert_fronts(&rt, rt.alloc(), &long_script(&rt, rt.alloc(), 1)?);
+    Ok(())
+}
+
+#[test]
+fn short_runs_of_new_stores_fail_once(rt: HostRuntime) -> Result<(), Fail> {
+    assert_fronts(&rt, rt.alloc(), &short_script(&rt, rt.alloc(), 2)?);
+    Ok(())
+}
+
+#[test]
+fn short_runs_of_old_stores_fail_once(rt: HostRuntime) -> Result<(), Fail> {
+    assert_fronts(&rt, rt.alloc(), &short_script(&rt, rt.alloc(), 1)?);
+    Ok(())
 }

@@ -1,7 +1,7 @@
-//! Long runs on a device that stops at each of its calls in turn, and openings of what is left that are stopped again.
+//! Runs on a device that stops at each of its calls in turn, and openings of what is left that are stopped again.
 
 use crate::failures::{Failure, failing_runs};
-use crate::scripts::script_of;
+use crate::scripts::{Script, long_script, short_script};
 use crate::stores::TEARS;
 use sector_dev::{Device, FuseDevice, MemDevice, Tear};
 use std::alloc::Global;
@@ -24,15 +24,63 @@ impl Failure for Tear {
     }
 }
 
-/// Stops the runs from a store of this version with each tear that lands this number of bytes.
-fn assert_fronts(rt: &impl Abort, alloc: Global, version: u8, keep: usize) -> Result<(), Fail> {
-    let script = script_of(rt, alloc, version)?;
+/// Stops the runs of a script with each tear that lands this number of bytes.
+fn assert_stops(rt: &impl Abort, alloc: Global, script: &Script, keep: usize) {
     for tear in TEARS {
         if tear.keep == keep {
-            let (_runs, _openings) = failing_runs(rt, alloc, &script, &tear, 1);
+            let (runs, openings) = failing_runs(rt, alloc, script, &tear);
+            assert!(rt; runs > 0 && openings > 0);
         }
     }
+}
+
+/// The same of the long script from a store of this version.
+fn assert_fronts(rt: &impl Abort, alloc: Global, version: u8, keep: usize) -> Result<(), Fail> {
+    let script = long_script(rt, alloc, version)?;
+    assert_stops(rt, alloc, &script, keep);
     Ok(())
+}
+
+/// The same of the short script.
+fn assert_short_fronts(
+    rt: &impl Abort,
+    alloc: Global,
+    version: u8,
+    keep: usize,
+) -> Result<(), Fail> {
+    let script = short_script(rt, alloc, version)?;
+    assert_stops(rt, alloc, &script, keep);
+    Ok(())
+}
+
+#[test]
+fn short_runs_of_new_stores_stop_before_a_write(rt: HostRuntime) -> Result<(), Fail> {
+    assert_short_fronts(&rt, rt.alloc(), 2, 0)
+}
+
+#[test]
+fn short_runs_of_new_stores_stop_after_a_byte(rt: HostRuntime) -> Result<(), Fail> {
+    assert_short_fronts(&rt, rt.alloc(), 2, 1)
+}
+
+#[test]
+fn short_runs_of_new_stores_stop_after_a_sector(rt: HostRuntime) -> Result<(), Fail> {
+    assert_short_fronts(&rt, rt.alloc(), 2, 512)
+}
+
+#[test]
+fn short_runs_of_old_stores_stop_before_a_write(rt: HostRuntime) -> Result<(), Fail> {
+    assert_short_fronts(&rt, rt.alloc(), 1, 0)
+}
+
+#[test]
+fn short_runs_of_old_stores_stop_after_a_byte(rt: HostRuntime) -> Result<(), Fail> {
+    assert_short_fronts(&rt, rt.alloc(), 1, 1)
+}
+
+#[test]
+fn short_runs_of_old_stores_stop_after_a_sector(rt: HostRuntime) -> Result<(), Fail> {
+    assert_short_fronts(&rt, rt.alloc(), 1, 512)
 }
 
 #[test]

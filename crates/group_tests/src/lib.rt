@@ -33,6 +33,8 @@ mod same;
 #[cfg(test)]
 mod scripts;
 #[cfg(test)]
+mod short_runs;
+#[cfg(test)]
 mod starting;
 #[cfg(test)]
 mod stops;

@@ -3,11 +3,12 @@
 use crate::acts::{Act, Line, Said, events_of, heard, joined};
 use crate::long_runs::{NEW, OLD};
 use crate::same::assert_same;
-use crate::stores::{bytes_of, change, formatted};
+use crate::short_runs::{FIRST, SHORT_NEW, SHORT_OLD, with_purges};
+use crate::stores::{LEAST, bytes_of, change, formatted};
 use group_core::{BeginError, StageError, SubmitError};
 use group_runs::{Event, Reply, StepRefusal};
 use path_db::{Command, PathDb, write_rows};
-use sector_dev::{Device, MemDevice};
+use sector_dev::{Device, MemDevice, SECTOR};
 use std::alloc::Global;
 use std::process::Abort;
 use std::test::Fail;
@@ -19,15 +20,15 @@ const WIDE: Geometry = Geometry {
     journal: 516,
 };
 
-/// How many sectors such a store takes.
-pub(crate) const SECTORS: usize = 1635;
-
-/// A script, its events, the rows after each of its accepted commands, and the image of the store that it starts from.
+/// A script, its events, the rows after each of its accepted commands, and the store that it starts from: its place, its sizes, and
+/// its image. It has no rows.
 #[derive(Drop)]
 pub(crate) struct Script {
     pub(crate) lines: Vec<Line>,
     pub(crate) events: Vec<Event>,
     folds: Vec<Vec<u8>>,
+    first: u64,
+    geometry: Geometry,
     pub(crate) image: Vec<u8>,
 }
 
@@ -45,19 +46,12 @@ pub(crate) enum Ending {
 /// What a failure may leave of a run.
 #[derive(Clone, Copy, Debug)]
 pub(crate) struct Left {
-    /// How many commands it accepted.
+    /// The place after the commands that it accepted.
     pub(crate) accepted: u64,
-    /// How many of these it acknowledged, with all before them.
+    /// The place after those that it acknowledged, with all before them.
     pub(crate) acknowledged: u64,
     pub(crate) ending: Ending,
 }
-
-/// What is left of a script's run where no event was done yet.
-pub(crate) const NONE_LEFT: Left = Left {
-    accepted: 0,
-    acknowledged: 0,
-    ending: Ending::Whole,
-};
 
 /// What a run has out, by its script.
 #[derive(Clone, Copy)]
@@ -69,6 +63,8 @@ struct Out {
     plan: bool,
     /// The last publishing that the script names was done.
     published: bool,
+    /// What the last lookup showed while that was so: a bit for each interface.
+    shown: u64,
     /// The tickets that a stop made unknown: a bit for each.
     unknown: u64,
 }
@@ -79,6 +75,7 @@ const NONE_OUT: Out = Out {
     durable: false,
     plan: false,
     published: true,
+    shown: 0,
     unknown: 0,
 };
 
@@ -140,29 +137,70 @@ fn apply(db: &mut PathDb, command: &Command) -> Result<(), Fail> {
     Ok(())
 }
 
-/// The script that starts from a new store of version 1 or 2.
-pub(crate) fn script_of(rt: &impl Abort, alloc: Global, version: u8) -> Result<Script, Fail> {
-    let lines = if version == 1 {
-        joined(rt, alloc, &OLD)
-    } else {
-        joined(rt, alloc, &NEW)
-    };
+/// The script of these parts, which starts from this store.
+fn script(
+    rt: &impl Abort,
+    alloc: Global,
+    parts: &[&[Line]],
+    geometry: Geometry,
+    first: u64,
+    device: MemDevice,
+) -> Result<Script, Fail> {
+    let mut device = device;
+    let lines = joined(rt, alloc, parts);
     let events = events_of(rt, alloc, &lines);
     let folds = folds_of(rt, alloc, &lines, &events)?;
-    let mut device = wide_store(rt, alloc);
-    change(&mut device, 1, 7, &[version]);
-    let image = bytes_of(rt, alloc, &mut device, SECTORS);
+    let image = bytes_of(rt, alloc, &mut device, geometry.sectors() as usize);
     Ok(Script {
         lines,
         events,
         folds,
+        first,
+        geometry,
         image,
     })
 }
 
-/// A new store of the sizes that scripts are made for.
-pub(crate) fn wide_store(rt: &impl Abort, alloc: Global) -> MemDevice {
-    formatted(rt, alloc, WIDE, SECTORS as u64)
+/// A new store of these sizes and of version 1 or 2.
+fn new_store(rt: &impl Abort, alloc: Global, geometry: Geometry, version: u8) -> MemDevice {
+    let mut device = formatted(rt, alloc, geometry, geometry.sectors());
+    change(&mut device, 1, 7, &[version]);
+    device
+}
+
+/// The long script, which starts from a new store of version 1 or 2.
+pub(crate) fn long_script(rt: &impl Abort, alloc: Global, version: u8) -> Result<Script, Fail> {
+    let parts: &[&[Line]] = if version == 1 { &OLD } else { &NEW };
+    let device = new_store(rt, alloc, WIDE, version);
+    script(rt, alloc, parts, WIDE, 0, device)
+}
+
+/// The short script, which starts from a store of version 1 or 2 whose first journal is nearly full.
+pub(crate) fn short_script(rt: &impl Abort, alloc: Global, version: u8) -> Result<Script, Fail> {
+    let parts: &[&[Line]] = if version == 1 { &SHORT_OLD } else { &SHORT_NEW };
+    let device = with_purges(new_store(rt, alloc, LEAST, version));
+    script(rt, alloc, parts, LEAST, FIRST, device)
+}
+
+impl Script {
+    /// A device of the size of the store that it starts from.
+    pub(crate) fn device(&self, rt: &impl Abort, alloc: Global) -> MemDevice {
+        formatted(rt, alloc, self.geometry, self.geometry.sectors())
+    }
+
+    /// How many sectors that store takes.
+    pub(crate) fn sectors(&self) -> usize {
+        self.image.len() / SECTOR
+    }
+
+    /// What is left of its run where no event was done yet.
+    pub(crate) fn none_left(&self) -> Left {
+        Left {
+            accepted: self.first,
+            acknowledged: self.first,
+            ending: Ending::Whole,
+        }
+    }
 }
 
 /// Sees that a store holds the fold of as many of a script's commands as its place says, which is between these: the place, and
@@ -188,7 +226,8 @@ fn assert_between(rt: &impl Abort, place: u64, least: u64, most: u64) {
 /// Sees that rows are the fold of this number of a script's commands.
 fn assert_fold(rt: &impl Abort, alloc: Global, script: &Script, db: &PathDb, place: u64) {
     let rows = records(rt, alloc, db);
-    let Some(fold) = script.folds.get(place as usize) else {
+    let number = place.saturating_sub(script.first) as usize;
+    let Some(fold) = script.folds.get(number) else {
         panic!(rt; "{place}");
     };
     assert_same(rt, &(fold.as_slice() == rows.as_slice()), &true, &place);
@@ -240,6 +279,9 @@ fn bit_of(k: usize) -> u64 {
 impl Out {
     /// What is out after an event that was answered as the script says.
     fn after(self, (act, wanted): Line) -> Out {
+        if let Said::Shows(shown) = wanted {
+            return Out { shown, ..self };
+        }
         if wanted != Said::Done {
             return self;
         }
@@ -280,13 +322,15 @@ impl Out {
         }
     }
 
-    /// The expected answer of an event where the state has stopped before it, after this number of accepted commands.
-    fn stopped(self, accepted: u64, (act, wanted): Line) -> (Out, Said) {
+    /// The expected answer of an event where the state has stopped before it. The places of accepted commands are from `first` to
+    /// before `accepted`.
+    fn stopped(self, first: u64, accepted: u64, (act, wanted): Line) -> (Out, Said) {
         match act {
             Act::Stage => (self, Said::Stage(StageError::Stopped)),
             Act::Begin => (self, Said::Begin(BeginError::Stopped)),
             Act::Publish => self.stopped_publishing(),
-            Act::Redeem(k) => self.stopped_redeeming(accepted, k, wanted),
+            Act::Redeem(k) => self.stopped_redeeming(first, accepted, k, wanted),
+            Act::Lookup => self.stopped_lookup(wanted),
             _ if is_group_step(act) => {
                 let has_value = self.group && !self.durable;
                 (self.without(act), value_answer(has_value))
@@ -312,10 +356,19 @@ impl Out {
         (out, said)
     }
 
+    /// The same of a lookup, which goes on. A script looks up between each two publishings of groups.
+    fn stopped_lookup(self, wanted: Said) -> (Out, Said) {
+        if self.published {
+            return (self.after((Act::Lookup, wanted)), wanted);
+        }
+        (self, Said::Shows(self.shown))
+    }
+
     /// The same of the k-th ticket. A script redeems as committed only what was published last.
-    fn stopped_redeeming(self, accepted: u64, k: usize, wanted: Said) -> (Out, Said) {
+    fn stopped_redeeming(self, first: u64, accepted: u64, k: usize, wanted: Said) -> (Out, Said) {
         let bit = bit_of(k);
-        if accepted <= k as u64 || self.unknown & bit != 0 {
+        let place = first.saturating_add(k as u64);
+        if accepted <= place || self.unknown & bit != 0 {
             return (self, Said::NoValue);
         }
         if let (Said::Committed(_place, _outcome), true) = (wanted, self.published) {
@@ -325,7 +378,7 @@ impl Out {
             unknown: self.unknown | bit,
             ..self
         };
-        (out, Said::Unknown(k as u64))
+        (out, Said::Unknown(place))
     }
 }
 
@@ -338,6 +391,14 @@ fn value_answer(has_value: bool) -> Said {
 }
 
 impl Left {
+    /// Between which places a device opens then.
+    pub(crate) fn bounds(&self) -> (u64, u64) {
+        match self.ending {
+            Ending::Whole => (self.acknowledged, self.acknowledged),
+            _ => (self.acknowledged, self.accepted),
+        }
+    }
+
     /// What is left after this answer.
     fn with(self, got: Said) -> Left {
         match got {
@@ -370,25 +431,26 @@ fn seen_before(
     (out.after((act, wanted)), false)
 }
 
-/// What is out after an event that is answered as by a state that has stopped.
+/// What is out after an event that is answered as by a state that has stopped. The places of accepted commands are from `first` to
+/// before `accepted`.
 fn seen_behind(
     rt: &impl Abort,
     out: Out,
-    left: &Left,
+    (first, accepted): (u64, u64),
     number: usize,
     line: Line,
     got: Said,
 ) -> Out {
-    let (out, told) = out.stopped(left.accepted, line);
+    let (out, told) = out.stopped(first, accepted, line);
     assert_same(rt, &got, &told, &(line.0, number));
     out
 }
 
 /// Sees that replies are as the script says up to the event in which the device failed, and after it as those of a state that has stopped.
-pub(crate) fn seen(rt: &impl Abort, lines: &[Line], replies: &[Reply]) -> Left {
-    let mut left = NONE_LEFT;
+pub(crate) fn seen(rt: &impl Abort, script: &Script, replies: &[Reply]) -> Left {
+    let mut left = script.none_left();
     let mut out = NONE_OUT;
-    for (number, (line, reply)) in lines.iter().zip(replies).enumerate() {
+    for (number, (line, reply)) in script.lines.iter().zip(replies).enumerate() {
         let got = heard(reply);
         if left.ending == Ending::Whole {
             let has_failed;
@@ -397,7 +459,7 @@ pub(crate) fn seen(rt: &impl Abort, lines: &[Line], replies: &[Reply]) -> Left {
                 left.ending = Ending::Failed(number);
             }
         } else {
-            out = seen_behind(rt, out, &left, number, *line, got);
+            out = seen_behind(rt, out, (script.first, left.accepted), number, *line, got);
         }
         left = left.with(got);
     }

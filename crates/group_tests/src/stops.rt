@@ -1,6 +1,6 @@
 //! Stops of a device within the steps of an actor, and one call that fails, at each of them in turn.
 
-use crate::acts::INSERTED;
+use crate::acts::{INSERTED, query, shown};
 use crate::same::assert_same;
 use crate::stores::{Pair, TEARS, new_store, opened, opens_to, register, sealed_store, told};
 use crate::work::{Paid, Told, Work, assert_stopped, assert_told, work_of};
@@ -367,10 +367,24 @@ fn assert_known(rt: &impl Abort, work: &mut Work<FaultDevice>, made: u64) {
     }
 }
 
+/// What a state shows: a bit for each interface by which a segment is left. None where memory is refused.
+fn shown_by(work: &Work<FaultDevice>) -> Option<u64> {
+    let segments = work.state.look_up(&query(), 0).ok()?;
+    Some(shown(&segments))
+}
+
+/// Sees that lookups go on in a state that has stopped in the step after this number of steps: they show what was published before.
+fn assert_shown(rt: &impl Abort, work: &Work<FaultDevice>, made: u64) {
+    let wanted = if made < 6 { 0b10 } else { 0b110 };
+    assert_same(rt, &shown_by(work), &Some(wanted), &made);
+}
+
 /// Sees that a state has stopped in the step after this number of steps, and what is there then.
 fn assert_failed(rt: &impl Abort, alloc: Global, made: u64, work: Work<FaultDevice>) {
     let mut work = work;
+    assert_shown(rt, &work, made);
     assert_known(rt, &mut work, made);
+    assert_shown(rt, &work, made);
     let device = assert_stopped(rt, work).into_mem();
     // Of a write that failed nothing has landed; the gates that weren't synced have.
     let place = 1 + u64::from(made > 3) + u64::from(made > 16);

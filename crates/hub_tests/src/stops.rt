@@ -3,7 +3,7 @@
 use crate::acts::{Unwatched, fill};
 use crate::crews::{Errand, Guests, crewed, nap};
 use crate::fakes::Fake;
-use crate::stores::{LEAST, change, formatted, opened, opens_to, query, register};
+use crate::stores::{LEAST, change, formatted, opened, opens_to, query, register, sealed_row};
 use group_core::SubmitError;
 use path_db::Command;
 use path_hub::{Awaited, Hub, HubError, HubName, HubReader, Steps};
@@ -12,6 +12,7 @@ use std::alloc::Global;
 use std::process::Abort;
 use std::sync::{Mutex, Wait};
 use std::test::Fail;
+use std::thread::Threads;
 use std::time::Clock;
 use store_open::{Store, open};
 
@@ -79,9 +80,9 @@ fn register_in_a_state_that_stops(rt: HostRuntime) -> Result<(), Fail> {
 /// How many calls of the device are tried.
 const MANY: u64 = 1000;
 
-/// How many calls of the device it takes to open a new store.
-fn calls_to_open(rt: &impl Abort, alloc: Global) -> u64 {
-    let mut device = formatted(rt, alloc, LEAST);
+/// How many calls of the device it takes to open a store.
+fn calls_to_open(rt: &impl Abort, alloc: Global, device: MemDevice) -> u64 {
+    let mut device = device;
     for number in 0..MANY {
         match open(alloc, FaultDevice::new(device, number)) {
             Ok(store) => {
@@ -96,7 +97,7 @@ fn calls_to_open(rt: &impl Abort, alloc: Global) -> u64 {
 
 /// A new store on a device that fails in the sync of the second group's gate: each group takes a write and a sync, and these of its gate.
 fn failing_store(rt: &impl Abort, alloc: Global) -> Store<FaultDevice> {
-    let number = calls_to_open(rt, alloc).saturating_add(7);
+    let number = calls_to_open(rt, alloc, formatted(rt, alloc, LEAST)).saturating_add(7);
     let device = formatted(rt, alloc, LEAST);
     opened(rt, alloc, FaultDevice::new(device, number))
 }
@@ -157,5 +158,76 @@ fn failed_gate_sync_stops(rt: HostRuntime) -> Result<(), Fail> {
     assert_eq!(rt; *guests.errand.seen.lock(&rt), Some(([1, 1, 1], answers)));
     // The gate was written, though its sync failed: that command was kept.
     let _device = opens_to(&rt, alloc, device.into_mem(), (2, 2 * 93, 2));
+    Ok(())
+}
+
+/// How many calls of the device the actors make at most until a checkpoint has ended and a few purges are committed.
+const ACTORS_CALLS: u64 = 30;
+
+/// Purges until the state has stopped, and looks up with two readers before that and after it. Comes to how many segments each lookup
+/// showed.
+#[derive(Drop)]
+struct Purges {
+    shown: Mutex<Option<[usize; 4]>>,
+}
+
+/// Purges until the state has stopped, which it does within these calls of the device.
+fn purge_until_stopped<D: Device, N: HubName, R: Wait + Clock>(hub: &Hub<D, N, R>) -> Option<()> {
+    for _ in 0..ACTORS_CALLS {
+        if hub.register(Command::Purge(0)).is_err() {
+            return Some(());
+        }
+    }
+    None
+}
+
+impl Purges {
+    fn shown<D: Device, N: HubName, R: Wait + Clock>(hub: &Hub<D, N, R>) -> Option<[usize; 4]> {
+        let mut reader = hub.reader().ok()?;
+        let mut other = hub.reader().ok()?;
+        let first = shown(&mut reader)?;
+        purge_until_stopped(hub)?;
+        let again = shown(&mut reader)?;
+        let elsewhere = shown(&mut other)?;
+        let last = shown(&mut reader)?;
+        hub.give_back(reader);
+        hub.give_back(other);
+        Some([first, again, elsewhere, last])
+    }
+}
+
+impl Errand for Purges {
+    fn run<D: Device, N: HubName, R: Wait + Clock + Abort>(&self, hub: &Hub<D, N, R>, _guest: u64) {
+        let shown = Purges::shown(hub);
+        *self.shown.lock(hub.handle()) = shown;
+    }
+}
+
+/// Sees that readers go on where the call of this number fails, on a device of a store whose journal is sealed.
+fn assert_readers_go_on<R: Wait + Clock + Threads + Abort + Copy + Drop + Send + Sync>(
+    rt: R,
+    alloc: Global,
+    number: u64,
+) {
+    let failing = FaultDevice::new(sealed_row(&rt, alloc), number);
+    let purges = Purges {
+        shown: Mutex::new(None),
+    };
+    let guests = Guests::new(1, purges);
+    let device = crewed(rt, alloc, opened(&rt, alloc, failing), &guests);
+    assert_eq!(&rt; *guests.errand.shown.lock(&rt), Some([1; 4]), "{number}");
+    let store = opened(&rt, alloc, device.into_mem());
+    assert_eq!(&rt; store.db().rows().count(), 1, "{number}");
+    let _device = store.into_device();
+}
+
+// The calls of the flusher's steps and of a whole checkpoint, in whichever order the two actors make them.
+#[test]
+fn readers_go_on_after_each_failed_call(rt: HostRuntime) -> Result<(), Fail> {
+    let alloc = rt.alloc();
+    let first = calls_to_open(&rt, alloc, sealed_row(&rt, alloc));
+    for number in 0..ACTORS_CALLS {
+        assert_readers_go_on(&rt, alloc, first.saturating_add(number));
+    }
     Ok(())
 }

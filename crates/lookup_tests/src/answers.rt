@@ -6,7 +6,7 @@ use isd_as::parse;
 use path_rows::PathDb;
 use seg_core::{SegType, Segment};
 use seg_lookup::{Query, Roster, answer, classify};
-use std::alloc::Global;
+use std::alloc::{AllocError, Global};
 use std::process::Abort;
 use std::test::Fail;
 
@@ -164,5 +164,29 @@ fn first_rows_are_shown(rt: HostRuntime) -> Result<(), Fail> {
     let segments = found(&db, &cores, "1-ff00:0:110", "1-ff00:0:111", 0)?;
     assert_same(&rt, &segments.len(), &64, &"of 65");
     assert_left_by(&rt, &segments, &BY_ID);
+    Ok(())
+}
+
+/// What a lookup shows, which is made once more where memory is refused.
+fn answer_again(db: &PathDb, query: &Query) -> Result<Vec<Segment>, AllocError> {
+    match answer(db, query, 0) {
+        Ok(segments) => Ok(segments),
+        Err(_) => answer(db, query, 0),
+    }
+}
+
+// Run with each allocation failing in turn: a lookup that is refused shows the same when it is made again, and one that shows nothing
+// takes no memory.
+#[test]
+fn refused_memory_of_lookups(rt: HostRuntime) -> Result<(), Fail> {
+    let cores = roster(rt.alloc(), &["1-ff00:0:110"])?;
+    let db = all_rows(rt.alloc())?;
+    let query = query_of(&cores, "1-ff00:0:110", "1-ff00:0:111")?;
+    let segments = answer_again(&db, &query)?;
+    assert_same(&rt, &segments.len(), &64, &"of 65");
+    assert_left_by(&rt, &segments, &BY_ID);
+    let elsewhere = query_of(&cores, "1-ff00:0:110", "1-5")?;
+    let none = answer(&db, &elsewhere, 0).map(|found| found.len());
+    assert_same(&rt, &none.ok(), &Some(0), &"of none");
     Ok(())
 }

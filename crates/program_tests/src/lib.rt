@@ -13,6 +13,8 @@ mod full_store;
 #[cfg(test)]
 mod many_commands;
 #[cfg(test)]
+mod options;
+#[cfg(test)]
 mod refused_memory;
 #[cfg(test)]
 mod replies;

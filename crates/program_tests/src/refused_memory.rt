@@ -1,4 +1,4 @@
-//! Want of memory in a session. The test is run with each of its allocations refused in turn: the session ends for want of memory
+//! Want of memory in sessions. The test is run with each of its allocations refused in turn: the session ends for want of memory
 //! after a front of its replies, or one reply is the code of want of memory. Then that message changed nothing, or its command
 //! was taken, and the later replies go on from there.
 
@@ -7,6 +7,7 @@ use path_commands::cores_of;
 use seg_lookup::Roster;
 use session_core::FrameError;
 use std::alloc::Global;
+use std::process::Abort;
 use std::test::Fail;
 
 /// The refusal for want of memory.
@@ -84,9 +85,8 @@ fn may_be_written(alloc: Global, output: &[u8]) -> Result<bool, Fail> {
     Ok(false)
 }
 
-#[test]
-fn refused_memory_of_sessions(rt: HostRuntime) -> Result<(), Fail> {
-    let alloc = rt.alloc();
+/// What a session of the messages ends with, and what it writes.
+fn served(alloc: Global) -> Result<(Result<u64, FrameError>, Vec<u8>), Fail> {
     let mut input = Vec::new(alloc);
     for message in MESSAGES {
         push(alloc, &mut input, message)?;
@@ -95,12 +95,27 @@ fn refused_memory_of_sessions(rt: HostRuntime) -> Result<(), Fail> {
     let mut reader = input.as_slice();
     let mut output = Vec::new(alloc);
     let outcome = session(alloc, &mut reader, &mut output, &cores, 1_000);
+    Ok((outcome, output))
+}
+
+/// Whether a session of the messages is replied as where no memory is refused. It is replied otherwise only for a refusal.
+fn is_whole(rt: &impl Abort, alloc: Global) -> Result<bool, Fail> {
+    let (outcome, output) = served(alloc)?;
+    let whole = replies_but(alloc, MESSAGES.len(), true)?;
     if outcome == Err(FrameError::NoMemory) {
-        let whole = replies_but(alloc, MESSAGES.len(), true)?;
         assert!(rt; whole.as_slice().starts_with(output.as_slice()));
-        return Ok(());
+        return Ok(false);
     }
     assert_eq!(rt; outcome, Ok(5));
     assert!(rt; may_be_written(alloc, output.as_slice())?);
+    Ok(whole.as_slice() == output.as_slice())
+}
+
+// At most one allocation is refused, so that of two sessions one is whole.
+#[test]
+fn refused_memory_of_sessions(rt: HostRuntime) -> Result<(), Fail> {
+    let first = is_whole(&rt, rt.alloc())?;
+    let second = is_whole(&rt, rt.alloc())?;
+    assert!(rt; first || second);
     Ok(())
 }

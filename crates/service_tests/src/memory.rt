@@ -1,12 +1,12 @@
-//! Want of memory. The test is run with each of its allocations refused in turn: a message that is refused for it changes nothing, and
-//! is answered when it comes again.
+//! Want of memory. The tests are run with each of their allocations refused in turn: a message that is refused for it changes nothing,
+//! and is answered when it comes again; lookups show no less after it than before; and a session goes on after it.
 
 use crate::clocks::Counts;
-use crate::frames::{LOOKUP, REGISTER, joined};
-use crate::guests::{Talk, talked};
+use crate::frames::{FOUND, LOOKUP, REGISTER, joined};
+use crate::guests::{TURNS, Talk, talked};
 use crate::stores::{assert_opens_to, cores, new_store};
 use path_hub::{Hub, HubName};
-use path_session::{Ack, Code, HubService, Service};
+use path_session::{Ack, Code, FrameError, HubService, Outcome, Service, serve};
 use sector_dev::Device;
 use seg_check::TrustAll;
 use std::alloc::Global;
@@ -17,22 +17,83 @@ use std::time::Clock;
 /// How many bytes of a frame come before its body: the length and the kind.
 const HEAD: usize = 5;
 
-/// Registers, and once more where memory is refused.
-fn register(rt: &impl Abort, alloc: Global, service: &mut impl Service, body: &[u8]) -> Ack {
-    let answer = match service.register(alloc, body) {
-        Err(Code(0x01)) => service.register(alloc, body),
-        answer => answer,
-    };
-    match answer {
-        Ok(ack) => ack,
-        Err(code) => panic!(rt; "{}", code.0),
+/// The number of the type of down segments.
+const DOWN: u8 = 2;
+
+/// The worked segment's id.
+const ID: [u8; 32] = [
+    0x8a, 0xdc, 0xea, 0x68, 0xdc, 0x57, 0xcb, 0xbe, 0x68, 0xda, 0x71, 0x42, 0xaf, 0x88, 0xb6, 0x8a,
+    0x9d, 0x27, 0xa5, 0x90, 0xe1, 0xd5, 0x15, 0x7c, 0x53, 0xc2, 0xbb, 0x2c, 0x76, 0x23, 0x45, 0xff,
+];
+
+/// What a command does that changes no rows.
+const NOTHING: Outcome = Outcome {
+    inserted: 0,
+    updated: 0,
+    kept: 0,
+    purged: 0,
+};
+
+/// A command of a session.
+#[derive(Clone, Copy, Debug)]
+enum Act {
+    Register,
+    Purge,
+    Remove,
+}
+
+/// Commands, what each does, and how many segments the lookup finds after it.
+const ACTS: [(Act, Outcome, usize); 4] = [
+    (
+        Act::Register,
+        Outcome {
+            inserted: 1,
+            ..NOTHING
+        },
+        1,
+    ),
+    (Act::Register, Outcome { kept: 1, ..NOTHING }, 1),
+    (Act::Purge, NOTHING, 1),
+    (
+        Act::Remove,
+        Outcome {
+            purged: 1,
+            ..NOTHING
+        },
+        0,
+    ),
+];
+
+/// The bodies of a registration and of the lookup of its segment.
+#[derive(Clone, Copy)]
+struct Bodies<'a> {
+    segment: &'a [u8],
+    ends: &'a [u8],
+}
+
+/// A frame's body.
+fn body_of(frame: &[u8]) -> &[u8] {
+    frame.split_at(HEAD.min(frame.len())).1
+}
+
+/// What a command is answered.
+fn answer(
+    alloc: Global,
+    service: &mut impl Service,
+    bodies: Bodies<'_>,
+    act: Act,
+) -> Result<Ack, Code> {
+    match act {
+        Act::Register => service.register(alloc, bodies.segment),
+        Act::Purge => service.purge(0),
+        Act::Remove => service.remove(DOWN, &ID),
     }
 }
 
-/// How many segments a lookup finds. It is made once more where memory is refused.
-fn found(rt: &impl Abort, alloc: Global, service: &mut impl Service, body: &[u8]) -> usize {
-    let answer = match service.lookup(alloc, body) {
-        Err(Code(0x01)) => service.lookup(alloc, body),
+/// How many segments the lookup finds. It is made once more where memory is refused.
+fn found(rt: &impl Abort, alloc: Global, service: &mut impl Service, bodies: Bodies<'_>) -> usize {
+    let answer = match service.lookup(alloc, bodies.ends) {
+        Err(Code(0x01)) => service.lookup(alloc, bodies.ends),
         answer => answer,
     };
     match answer {
@@ -41,10 +102,31 @@ fn found(rt: &impl Abort, alloc: Global, service: &mut impl Service, body: &[u8]
     }
 }
 
-/// Purges what expires at moment 0, and once more where memory is refused.
-fn purge(rt: &impl Abort, service: &mut impl Service) -> Ack {
-    let answer = match service.purge(0) {
-        Err(Code(0x01)) => service.purge(0),
+/// Sees how many segments the lookup finds.
+fn assert_found(
+    rt: &impl Abort,
+    alloc: Global,
+    service: &mut impl Service,
+    bodies: Bodies<'_>,
+    wanted: usize,
+) {
+    let count = found(rt, alloc, service, bodies);
+    assert_eq!(rt; count, wanted);
+}
+
+/// What a command is answered, which is made once more where memory is refused. The lookup finds as many segments in between as before.
+fn answer_again(
+    rt: &impl Abort,
+    alloc: Global,
+    service: &mut impl Service,
+    bodies: Bodies<'_>,
+    (act, before): (Act, usize),
+) -> Ack {
+    let answer = match answer(alloc, service, bodies, act) {
+        Err(Code(0x01)) => {
+            assert_found(rt, alloc, service, bodies, before);
+            answer(alloc, service, bodies, act)
+        }
         answer => answer,
     };
     match answer {
@@ -53,34 +135,27 @@ fn purge(rt: &impl Abort, service: &mut impl Service) -> Ack {
     }
 }
 
-/// Registers a segment twice, purges nothing, and looks the segment up after each command.
+/// Sees the place of a command and what it did.
+fn assert_ack(rt: &impl Abort, ack: Ack, wanted: (u64, Outcome)) {
+    assert_eq!(rt; (ack.place, ack.outcome), wanted);
+}
+
+/// Makes the calls of a service: the commands, and the lookup before them and after each.
+fn call(rt: &impl Abort, alloc: Global, service: &mut impl Service, bodies: Bodies<'_>) {
+    let mut before = 0;
+    assert_found(rt, alloc, service, bodies, before);
+    for (place, (act, outcome, after)) in ACTS.iter().enumerate() {
+        let ack = answer_again(rt, alloc, service, bodies, (*act, before));
+        assert_ack(rt, ack, (place as u64, *outcome));
+        assert_found(rt, alloc, service, bodies, *after);
+        before = *after;
+    }
+}
+
+/// Makes those calls.
 #[derive(Drop)]
 struct Again {
     alloc: Global,
-}
-
-/// Sees the place of a command, and how many rows it added and kept.
-fn assert_ack(rt: &impl Abort, ack: Ack, place: u64, inserted: u32, kept: u32) {
-    assert_eq!(rt; ack.place, place);
-    assert_eq!(rt; ack.outcome.inserted, inserted);
-    assert_eq!(rt; ack.outcome.kept, kept);
-    assert_eq!(rt; ack.outcome.updated, 0);
-    assert_eq!(rt; ack.outcome.purged, 0);
-}
-
-/// Makes the calls of a service.
-fn call(rt: &impl Abort, alloc: Global, service: &mut impl Service) {
-    let segment = joined(rt, alloc, &[REGISTER]);
-    let ends = joined(rt, alloc, &[LOOKUP]);
-    let (_head, segment) = segment.split_at(HEAD.min(segment.len()));
-    let (_head, ends) = ends.split_at(HEAD.min(ends.len()));
-    assert_eq!(rt; found(rt, alloc, service, ends), 0);
-    assert_ack(rt, register(rt, alloc, service, segment), 0, 1, 0);
-    assert_eq!(rt; found(rt, alloc, service, ends), 1);
-    assert_ack(rt, register(rt, alloc, service, segment), 1, 0, 1);
-    assert_eq!(rt; found(rt, alloc, service, ends), 1);
-    assert_ack(rt, purge(rt, service), 2, 0, 0);
-    assert_eq!(rt; found(rt, alloc, service, ends), 1);
 }
 
 impl Talk for Again {
@@ -90,9 +165,15 @@ impl Talk for Again {
     ) -> Option<Vec<u8>> {
         let rt = hub.handle();
         let roster = cores(rt, self.alloc);
+        let segment = joined(rt, self.alloc, &[REGISTER]);
+        let ends = joined(rt, self.alloc, &[LOOKUP]);
+        let bodies = Bodies {
+            segment: body_of(&segment),
+            ends: body_of(&ends),
+        };
         let reader = hub.reader().ok()?;
         let mut service = HubService::new(hub, reader, &TrustAll, Counts::after(0), &roster);
-        call(rt, self.alloc, &mut service);
+        call(rt, self.alloc, &mut service, bodies);
         hub.give_back(service.into_reader());
         Some(Vec::new(self.alloc))
     }
@@ -103,5 +184,102 @@ fn refused_messages_may_come_again(rt: HostRuntime) {
     let alloc = rt.alloc();
     let (device, replies) = talked(&rt, alloc, new_store(&rt, alloc), Again { alloc });
     assert!(rt; replies.is_some());
-    assert_opens_to(&rt, alloc, device, 1, 3);
+    assert_opens_to(&rt, alloc, device, 0, 4);
+}
+
+/// The refusal for want of memory.
+const NO_MEMORY: &str = "00000002ff01";
+
+/// How many lookups a session has.
+const LOOKUPS: usize = 4;
+
+/// The replies to the lookups of a session of which the one of this number is refused, if there is one.
+fn replies_but(rt: &impl Abort, alloc: Global, refused: usize) -> Vec<u8> {
+    let mut replies = [FOUND; LOOKUPS];
+    if let Some(reply) = replies.get_mut(refused) {
+        *reply = NO_MEMORY;
+    }
+    joined(rt, alloc, &replies)
+}
+
+/// Sees that a session of the lookups was replied rightly: all of them, all but one that was refused, or a front of them where it
+/// ended for want of memory. Whether it was all of them.
+fn is_whole(
+    rt: &impl Abort,
+    alloc: Global,
+    ended: Result<u64, FrameError>,
+    written: &[u8],
+) -> bool {
+    let whole = replies_but(rt, alloc, LOOKUPS);
+    if ended == Err(FrameError::NoMemory) {
+        assert!(rt; whole.as_slice().starts_with(written));
+        return false;
+    }
+    assert_eq!(rt; ended, Ok(LOOKUPS as u64));
+    if whole.as_slice() == written {
+        return true;
+    }
+    let refused = (0..LOOKUPS).any(|number| replies_but(rt, alloc, number).as_slice() == written);
+    assert!(rt; refused);
+    false
+}
+
+/// Registers the segment, and looks it up in two sessions, of which one is refused no memory.
+#[derive(Drop)]
+struct Sessions {
+    alloc: Global,
+}
+
+/// What a session of the lookups ends with, and what it writes.
+fn looked_up<D: Device, N: HubName, R: Wait + Clock + Abort>(
+    hub: &Hub<D, N, R>,
+    alloc: Global,
+) -> Option<(Result<u64, FrameError>, Vec<u8>)> {
+    let rt = hub.handle();
+    let roster = cores(rt, alloc);
+    let frames = joined(rt, alloc, &[LOOKUP; LOOKUPS]);
+    // There is room for the replies.
+    let mut written = replies_but(rt, alloc, LOOKUPS);
+    written.clear();
+    let reader = hub.reader().ok()?;
+    let mut service = HubService::new(hub, reader, &TrustAll, Counts::after(0), &roster);
+    let mut input = frames.as_slice();
+    let ended = serve(alloc, &mut input, &mut written, &mut service, TURNS);
+    hub.give_back(service.into_reader());
+    Some((ended, written))
+}
+
+impl Talk for Sessions {
+    fn talk<D: Device, N: HubName, R: Wait + Clock + Abort>(
+        &self,
+        hub: &Hub<D, N, R>,
+    ) -> Option<Vec<u8>> {
+        let rt = hub.handle();
+        let roster = cores(rt, self.alloc);
+        let segment = joined(rt, self.alloc, &[REGISTER]);
+        let ends = joined(rt, self.alloc, &[LOOKUP]);
+        let bodies = Bodies {
+            segment: body_of(&segment),
+            ends: body_of(&ends),
+        };
+        let reader = hub.reader().ok()?;
+        let mut service = HubService::new(hub, reader, &TrustAll, Counts::after(0), &roster);
+        let ack = answer_again(rt, self.alloc, &mut service, bodies, (Act::Register, 0));
+        assert_eq!(rt; ack.place, 0);
+        hub.give_back(service.into_reader());
+        let (ended, written) = looked_up(hub, self.alloc)?;
+        let first = is_whole(rt, self.alloc, ended, &written);
+        let (ended, written) = looked_up(hub, self.alloc)?;
+        let second = is_whole(rt, self.alloc, ended, &written);
+        assert!(rt; first || second);
+        Some(Vec::new(self.alloc))
+    }
+}
+
+#[test]
+fn sessions_go_on_after_refused_lookups(rt: HostRuntime) {
+    let alloc = rt.alloc();
+    let (device, replies) = talked(&rt, alloc, new_store(&rt, alloc), Sessions { alloc });
+    assert!(rt; replies.is_some());
+    assert_opens_to(&rt, alloc, device, 1, 1);
 }

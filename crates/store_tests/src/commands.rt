@@ -8,12 +8,12 @@ use store_commands::{Fault, format, show, show_layout, status, upgrade};
 use store_open::{Geometry, OpenError};
 
 // The least sizes that are allowed: a store of them takes 1,039 sectors.
-const LEAST: Geometry = Geometry {
+pub(crate) const LEAST: Geometry = Geometry {
     checkpoint: 2,
     journal: 516,
 };
 
-const SECTORS: u64 = 1039;
+pub(crate) const SECTORS: u64 = 1039;
 
 // How an area of a second checkpoint begins: epoch 2, no rows, place 0.
 const SECOND_AREA: &[u8] = b"PCKP\x00\x00\x00\x02\x00\x00\x00\x00\x00\x00\x00\x02\
@@ -27,7 +27,7 @@ fn formatted(alloc: Global) -> Result<MemDevice, Fail> {
 }
 
 // A new store of version 1.
-fn formatted_old(alloc: Global) -> Result<MemDevice, Fail> {
+pub(crate) fn formatted_old(alloc: Global) -> Result<MemDevice, Fail> {
     let mut device = formatted(alloc)?;
     let mut area = read_sector(&mut device, 1);
     area[7] = 1;

@@ -6,7 +6,7 @@ use std::test::Fail;
 use store_commands::Fault;
 use store_open::{FormatError, OpenError, StoreError};
 
-const TEXTS: [(Fault, &str); 19] = [
+const TEXTS: [(Fault, &str); 22] = [
     (Fault::Format(FormatError::BadGeometry), "format 1"),
     (Fault::Format(FormatError::TooSmall), "format 2"),
     (Fault::Format(FormatError::Fault), "format 3"),
@@ -34,6 +34,10 @@ const TEXTS: [(Fault, &str); 19] = [
         "open 4 1",
     ),
     (
+        Fault::Open(OpenError::Journal(JournalError::BadRecord)),
+        "open 4 2",
+    ),
+    (
         Fault::Open(OpenError::Journal(JournalError::Gap(7))),
         "open 4 3",
     ),
@@ -43,6 +47,8 @@ const TEXTS: [(Fault, &str); 19] = [
     ),
     (Fault::Checkpoint(StoreError::Fault), "device 1"),
     (Fault::Checkpoint(StoreError::Sealed), "device 2"),
+    (Fault::Checkpoint(StoreError::Exhausted), "device 4"),
+    (Fault::Checkpoint(StoreError::Unfit), "device 5"),
     (Fault::Checkpoint(StoreError::Broken), "device 6"),
     (Fault::File, "device 1"),
     (Fault::Memory, "memory"),

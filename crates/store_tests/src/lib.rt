@@ -6,4 +6,6 @@ mod commands;
 #[cfg(test)]
 mod faults;
 #[cfg(test)]
+mod refusals;
+#[cfg(test)]
 mod writers;
