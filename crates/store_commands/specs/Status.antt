@@ -7,7 +7,7 @@ use Rattle.path_rows.specs.Database.{RowView}
 use Rattle.path_rows.specs.declared.command.Command.{Command}
 use Rattle.image_laws.specs.Opening.{Opening, IsOpening, value_of}
 use Rattle.image_laws.specs.StoreGrowth.{last_reading}
-use Rattle.ckpt_pair.specs.Heads.{latest}
+use Rattle.ckpt_pair.specs.Versions.{latest}
 use Rattle.store_open.specs.PathStores.{store_format}
 use Rattle.store_open.specs.Store.{counted_len}
 use Rattle.whole_writes.specs.Written.{IsWrittenInPart}
