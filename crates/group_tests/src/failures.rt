@@ -1,6 +1,7 @@
 //! Scripts run on a device that fails at each of its calls in turn, and openings of what is left that fail again.
 
 use crate::acts::{Act, Line};
+use crate::noted::{Calls, Noted};
 use crate::runs::{begun, done, ended};
 use crate::same::assert_same;
 use crate::scripts::{Ending, Left, Script, calls_device, fronted, seen};
@@ -92,8 +93,32 @@ fn opened_alike(
     device
 }
 
-/// Has the opening of a device with this image, which opens to this place, fail at each of its calls in turn: each time it opens to the
-/// same. How many times it failed.
+/// The calls of an opening of a device with this image.
+fn calls_of_opening(
+    rt: &impl Abort,
+    alloc: Global,
+    device: MemDevice,
+    image: &[u8],
+) -> (Calls, MemDevice) {
+    let noted = Noted::over(rt, alloc, restored(rt, device, image));
+    opened(rt, alloc, noted).into_device().into_parts()
+}
+
+/// The calls of a script's run, its opening among them.
+fn calls_of_run(
+    rt: &impl Abort,
+    alloc: Global,
+    script: &Script,
+    device: MemDevice,
+) -> (Calls, MemDevice) {
+    let noted = Noted::over(rt, alloc, restored(rt, device, &script.image));
+    let held = begun(rt, alloc, opened(rt, alloc, noted));
+    let (held, _replies) = done(rt, alloc, held, &script.events);
+    ended(rt, held).into_parts()
+}
+
+/// Has the opening of a device with this image, which opens to this place, fail at its calls that the script has tried, one after the
+/// other: each time it opens to the same. How many times it failed.
 fn failing_openings<F: Failure>(
     rt: &impl Abort,
     alloc: Global,
@@ -102,15 +127,20 @@ fn failing_openings<F: Failure>(
     device: MemDevice,
     (image, place): (&[u8], u64),
 ) -> (u64, MemDevice) {
-    let mut device = device;
+    let (calls, mut device) = calls_of_opening(rt, alloc, device, image);
+    let mut failures = 0u64;
     for number in 0..MANY {
+        if !calls.is_tried(number, script.apart) {
+            continue;
+        }
         match open(alloc, failure.over(restored(rt, device, image), number)) {
             Ok(store) => {
                 let (_place, failing) = fronted(rt, alloc, script, store, (place, place));
-                return (number, failure.memory(failing));
+                return (failures, failure.memory(failing));
             }
             Err((failing, e)) => {
                 assert_eq!(rt; e, OpenError::Device);
+                failures = failures.saturating_add(1);
                 let rest = memory_of(rt, failure, failing);
                 device = opened_alike(rt, alloc, script, rest, (image, place));
             }
@@ -171,19 +201,23 @@ fn opened_image(
     (image, place, device)
 }
 
-/// Has a script's run fail at each call of the device in turn, and the openings of each image that it leaves: how many times each
-/// failed. An image that is left twice in a row is opened with failures once.
+/// Has a script's run fail at its calls of the device that the script has tried, one after the other, and the openings of each image
+/// that it leaves: how many times each failed. An image that is left twice in a row is opened with failures once.
 pub(crate) fn failing_runs<F: Failure>(
     rt: &impl Abort,
     alloc: Global,
     script: &Script,
     failure: &F,
 ) -> (u64, u64) {
-    let mut device = script.device(rt, alloc);
+    let (calls, mut device) = calls_of_run(rt, alloc, script, script.device(rt, alloc));
+    let mut runs = 0u64;
     let mut last = Vec::new(alloc);
     let mut again = 0u64;
     let mut next = 0;
     for number in 0..MANY {
+        if !calls.is_tried(number, script.apart) {
+            continue;
+        }
         let failing = failure.over(restored(rt, device, &script.image), number);
         let (left, rest) = failing_run(rt, alloc, script, failure, failing);
         next = next_event(rt, &script.lines, next, left.ending);
@@ -191,8 +225,9 @@ pub(crate) fn failing_runs<F: Failure>(
         let (image, place);
         (image, place, device) = opened_image(rt, alloc, script, rest, bounds);
         if left.ending == Ending::Whole {
-            return (number, again);
+            return (runs, again);
         }
+        runs = runs.saturating_add(1);
         if image.as_slice() == last.as_slice() {
             continue;
         }

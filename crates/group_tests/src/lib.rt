@@ -19,6 +19,8 @@ mod limits;
 #[cfg(test)]
 mod long_runs;
 #[cfg(test)]
+mod noted;
+#[cfg(test)]
 mod refused;
 #[cfg(test)]
 mod refused_runs;

@@ -3,7 +3,7 @@
 use crate::acts::{Act, Line, Said, events_of, heard, joined};
 use crate::long_runs::{NEW, OLD};
 use crate::same::assert_same;
-use crate::short_runs::{FIRST, SHORT_NEW, SHORT_OLD, with_purges};
+use crate::short_runs::{FIRST, READS, SHORT_NEW, SHORT_OLD, with_purges};
 use crate::stores::{LEAST, bytes_of, change, formatted};
 use group_core::{BeginError, StageError, SubmitError};
 use group_runs::{Event, Reply, StepRefusal};
@@ -30,6 +30,8 @@ pub(crate) struct Script {
     first: u64,
     geometry: Geometry,
     pub(crate) image: Vec<u8>,
+    /// Of the reads between two calls that write or sync, each of this distance is tried.
+    pub(crate) apart: u64,
 }
 
 /// Where a run ended.
@@ -137,14 +139,13 @@ fn apply(db: &mut PathDb, command: &Command) -> Result<(), Fail> {
     Ok(())
 }
 
-/// The script of these parts, which starts from this store.
+/// The script of these parts, which starts from this store, at this place. Of reads each `apart`-th one is tried.
 fn script(
     rt: &impl Abort,
     alloc: Global,
     parts: &[&[Line]],
-    geometry: Geometry,
-    first: u64,
-    device: MemDevice,
+    (geometry, device): (Geometry, MemDevice),
+    (first, apart): (u64, u64),
 ) -> Result<Script, Fail> {
     let mut device = device;
     let lines = joined(rt, alloc, parts);
@@ -158,6 +159,7 @@ fn script(
         first,
         geometry,
         image,
+        apart,
     })
 }
 
@@ -172,14 +174,14 @@ fn new_store(rt: &impl Abort, alloc: Global, geometry: Geometry, version: u8) ->
 pub(crate) fn long_script(rt: &impl Abort, alloc: Global, version: u8) -> Result<Script, Fail> {
     let parts: &[&[Line]] = if version == 1 { &OLD } else { &NEW };
     let device = new_store(rt, alloc, WIDE, version);
-    script(rt, alloc, parts, WIDE, 0, device)
+    script(rt, alloc, parts, (WIDE, device), (0, 1))
 }
 
 /// The short script, which starts from a store of version 1 or 2 whose first journal is nearly full.
 pub(crate) fn short_script(rt: &impl Abort, alloc: Global, version: u8) -> Result<Script, Fail> {
     let parts: &[&[Line]] = if version == 1 { &SHORT_OLD } else { &SHORT_NEW };
     let device = with_purges(new_store(rt, alloc, LEAST, version));
-    script(rt, alloc, parts, LEAST, FIRST, device)
+    script(rt, alloc, parts, (LEAST, device), (FIRST, READS))
 }
 
 impl Script {
