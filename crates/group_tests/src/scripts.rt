@@ -140,7 +140,7 @@ fn apply(db: &mut PathDb, command: &Command) -> Result<(), Fail> {
 }
 
 /// The script of these parts, which starts from this store, at this place. Of reads each `apart`-th one is tried.
-fn script(
+fn script_of(
     rt: &impl Abort,
     alloc: Global,
     parts: &[&[Line]],
@@ -174,14 +174,14 @@ fn new_store(rt: &impl Abort, alloc: Global, geometry: Geometry, version: u8) ->
 pub(crate) fn long_script(rt: &impl Abort, alloc: Global, version: u8) -> Result<Script, Fail> {
     let parts: &[&[Line]] = if version == 1 { &OLD } else { &NEW };
     let device = new_store(rt, alloc, WIDE, version);
-    script(rt, alloc, parts, (WIDE, device), (0, 1))
+    script_of(rt, alloc, parts, (WIDE, device), (0, 1))
 }
 
 /// The short script, which starts from a store of version 1 or 2 whose first journal is nearly full.
 pub(crate) fn short_script(rt: &impl Abort, alloc: Global, version: u8) -> Result<Script, Fail> {
     let parts: &[&[Line]] = if version == 1 { &SHORT_OLD } else { &SHORT_NEW };
     let device = with_purges(new_store(rt, alloc, LEAST, version));
-    script(rt, alloc, parts, (LEAST, device), (FIRST, READS))
+    script_of(rt, alloc, parts, (LEAST, device), (FIRST, READS))
 }
 
 impl Script {
