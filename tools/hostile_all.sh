@@ -31,7 +31,7 @@ run() { # a name, and the words of a script
 }
 
 if [ -n "$short" ]; then
-  cut=(--images 6000 --commands 1200 --openings 8 --restarts 2)
+  cut=(--images 6000 --commands 500 --openings 8 --restarts 2)
   swallowed=(--images 1500 --commands 2400 --openings 1)
   histories=(--replies 30000)
   refuse=(--short)

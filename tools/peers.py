@@ -12,7 +12,7 @@
 - descriptors: a server that may open 40 files gets 60 connections: those that wait are served once others have ended.
 
 Meanwhile a session registers, looks up and measures how long replies take. It ends with the status 1 where that session is answered wrongly or later than after 10 seconds, where a
-peer isn't answered as said, where seats stay taken, or where the server's memory (VmHWM) is above the bound that docs/OPERATING.md names.
+peer isn't answered as said, where seats stay taken, or where the server's memory (VmHWM) is above the bound that docs/RELIABILITY.md names.
 It needs Python 3, 10,100 descriptors, and the loopback.
 """
 from __future__ import annotations
@@ -34,7 +34,7 @@ LAYOUT = model.Layout(65_536, 4_096)
 MOST_SESSIONS = 64
 TURNED_AWAY = bytes.fromhex("00000002ff61")
 LATEST = 10.0
-# What docs/OPERATING.md names, in KiB: for the program, for a journal, for the rows that are registered here, and for each of 64 sessions.
+# What docs/RELIABILITY.md names, in KiB: for the program, for a journal, for the rows that are registered here, and for each of 64 sessions.
 OF_PROGRAM, OF_JOURNAL, OF_SESSION = 16 * 1024, LAYOUT.journal // 2, 3 * 1024
 OF_ROWS = 4 * ((MOST_SESSIONS - 1) * 16 * 8_185 + 64 * 16_375) // 1024
 BOUND = OF_PROGRAM + OF_JOURNAL + OF_ROWS + MOST_SESSIONS * OF_SESSION

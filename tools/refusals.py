@@ -1,7 +1,7 @@
 #!/usr/bin/env python3
 """Runs `format`, `show`, `status`, `upgrade` and a served session, once for each allocation and for each call on the store's file, which is refused in that run.
 
-    tools/refusals.py [--program PROGRAM] [--every N] [--jobs N] [--only COMMAND]
+    tools/refusals.py [--program PROGRAM] [--every N] [--jobs N] [--only COMMAND] [--kind KIND]
 
 A preloaded library (tools/refused_calls.c) refuses: an allocation; a read, a write or a sync with EIO or ENOSPC, once or from then on; it interrupts one (EINTR),
 moves a part of its bytes, or none, or a part with EIO. What has to come of it:
@@ -10,7 +10,8 @@ moves a part of its bytes, or none, or a part with EIO. What has to come of it:
 - `format`, `show`, `status` and `upgrade` end with the status 1 and the line of that refusal, and what a store held before it still shows;
 - a server ends so while it opens its store. Later it reports that the store has stopped, answers commands by 0x62 and 0x54, and lookups as before. What it
   acknowledged is there when the file is opened again, and beyond that at most what had no other reply than 0x62;
-- an allocation ends a command with `error: memory`, or the reply to a request is 0x01, or its session ends; the next requests are answered as before.
+- an allocation ends a command with `error: memory`, a server too if it has answered nobody yet, or the reply to a request is 0x01, or its session ends; the next
+  requests are answered as before.
 
 No run may take longer than 60 seconds. --every N tries each N-th allocation and read alone. It needs Python 3 and gcc, and the loopback. It prints a table of what was tried, and ends
 with the status 1 where something else came of one.
@@ -135,6 +136,7 @@ class Worlds:
         self.db, self.place = opened.fold()
         self.lists: list[tuple] = [()]
         self.has_stopped = False
+        self.has_answered = False
 
     def fold(self, commands: tuple) -> dict:
         """The database after these."""
@@ -145,6 +147,7 @@ class Worlds:
 
     def take(self, request: tuple, content: bytes | None, how: str) -> None:
         """Takes a reply, or None where the session ended without one."""
+        self.has_answered |= content is not None
         if request[0] == "lookup":
             self._take_lookup(request, content, how)
         elif content is None or content in (b"\xff\x01", b"\xff\x62"):
@@ -238,6 +241,9 @@ def result_of(server: runs.Server, worlds: Worlds, mark: Path, kind: str, how: s
         return "none"
     notices = server.notices.read_text()
     if server.process.poll() is not None:
+        # The readers and the threads of the actors are made once the server listens, before any session.
+        if kind == "memory" and notices.endswith("\nerror: memory\n") and not worlds.has_answered:
+            return "error: memory"
         raise Wrong(f"the server ended: {notices}")
     if how in PASSING or kind == "memory":
         if STOPPED in notices:
@@ -326,6 +332,7 @@ def main() -> None:
     parser.add_argument("--every", type=int, default=1)
     parser.add_argument("--jobs", type=int, default=2)
     parser.add_argument("--only", choices=COMMANDS)
+    parser.add_argument("--kind", choices=list(HOWS))
     options = parser.parse_args()
     program = runs.program_of(options.program)
     begun = time.monotonic()
@@ -338,6 +345,7 @@ def main() -> None:
             (program, library, str(folder), command, kind, how, first, options.every)
             for command in ([options.only] if options.only else COMMANDS)
             for kind, hows in HOWS.items()
+            if options.kind in (None, kind)
             for how in hows
         ]
         swept = []

@@ -26,8 +26,8 @@ from refusals import refusing
 SECONDS = 60
 # How tests name want of memory, in the line of standard error that the error of their result gives.
 REFUSALS = re.compile(rb"NoMemory|AllocError|AllocFailed|OutOfMemory|Memory")
-# The tests of want of memory, which judge what a refusal leaves.
-OF_MEMORY = ("refused", "memory")
+# The tests of want of memory, which judge what a refusal leaves: by their names, as `memory::..` or `..::refused_calls_may_be_tried_again`.
+OF_MEMORY = ("memory", "refused_")
 RETURNED = b"the test failed: its result gives status 1"
 LATER = 200
 
