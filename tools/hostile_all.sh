@@ -4,7 +4,7 @@
 #
 #     tools/hostile_all.sh [--short] [--seed N] [PROGRAM]
 #
-# PROGRAM is crates/pathd/out/pathd if left out, which `rt run` builds. With --short all of it ends within ten minutes on a machine that does nothing else; without it the
+# PROGRAM is crates/pathd/out/pathd if left out, which `rt run` builds. With --short all of it is meant for ten minutes on a machine that does nothing else; without it the
 # counts are those of docs/RELIABILITY.md, and it takes some hours. It needs Python 3, Perl and gcc (apt-get install python3 perl gcc libc6-dev), 10,100 descriptors, and the
 # loopback, and is no part of the gate.
 set -euo pipefail
