@@ -3,7 +3,9 @@
 use crate::acts::{Unwatched, fill};
 use crate::crews::{Errand, Guests, crewed, nap};
 use crate::fakes::Fake;
-use crate::stores::{LEAST, change, formatted, opened, opens_to, query, register, sealed_row};
+use crate::stores::{
+    LEAST, change, formatted, opened, opens_to, pair_of, query, register, sealed_row,
+};
 use group_core::SubmitError;
 use path_db::Command;
 use path_hub::{Awaited, Hub, HubError, HubName, HubReader, Steps};
@@ -217,7 +219,7 @@ fn assert_readers_go_on<R: Wait + Clock + Threads + Abort + Copy + Drop + Send +
     let device = crewed(rt, alloc, opened(&rt, alloc, failing), &guests);
     assert_eq!(&rt; *guests.errand.shown.lock(&rt), Some([1; 4]), "{number}");
     let store = opened(&rt, alloc, device.into_mem());
-    assert_eq!(&rt; store.db().rows().count(), 1, "{number}");
+    assert_eq!(&rt; pair_of(&store).0, 1, "{number}");
     let _device = store.into_device();
 }
 
