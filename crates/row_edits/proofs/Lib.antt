@@ -1,0 +1,14 @@
+mod Keys
+mod Untouched
+mod Merges
+mod Pours
+mod Plans
+mod Chunks
+mod Purges
+mod Touches
+mod Found
+mod Folds
+mod Seen
+mod Ends
+mod LeftRows
+mod Each
