@@ -82,6 +82,8 @@ module _ (old : StateView) (hidden : Hidden) (has : IsState old hidden) where
       staged = λ staged. has.shape.staged (later.staged staged);
       plan = has.shape.plan;
       epoch = has.shape.epoch;
+      bytes = has.shape.bytes;
+      merge = λ going. has.shape.merge (later.going going);
     }
 
     -- a call that leaves what the state then stands for
@@ -92,16 +94,20 @@ module _ (old : StateView) (hidden : Hidden) (has : IsState old hidden) where
       shape = flushed_shape keeps.sectors;
       sound = λ honest.
           let before = honest_before old.disk disk keeps honest in
-          let sound = sound_at_work old hidden has (inl work) before in
-          inl (record { behind = sound.behind; held = holds sound before; counts = sound.counts; fits = λ going. sound.fits (later.going going) });
+          let with = sound_at_work old hidden has (inl work) before in
+          let sound = with.sound in
+          inl (record {
+            sound = record { behind = sound.behind; held = holds sound before; counts = sound.counts; fits = λ going. sound.fits (later.going going) };
+            streams = λ going. with.streams (later.going going);
+          });
     }
 
   -- the value is spent, and no call is made
   pub value_spent : (group : Turn) → IsState (record old { group = group }) hidden
   value_spent group = record {
     shape = flushed_shape old.disk old.flush group old.stopped (record { staged = λ is. is; rests = λ is. is; going = λ is. is }) refl;
-    sound = λ honest. either_stays old (record old { group = group })
-        (λ sound. record { behind = sound.behind; held = sound.held; counts = sound.counts; fits = sound.fits })
+    sound = λ honest. either_stays hidden.merge old (record old { group = group })
+        (λ with. record { sound = record { behind = with.sound.behind; held = with.sound.held; counts = with.sound.counts; fits = with.sound.fits }; streams = with.streams })
         (λ broken. record { stopped = broken.stopped; rests = broken.rests; ready = broken.ready; images = broken.images }) (has.sound honest);
   }
 

@@ -17,7 +17,7 @@ use Rattle.group_laws.specs.Standing.{IsHeld}
 use Rattle.group_laws.specs.HeldSteps.{OpensAroundCall}
 use Rattle.group_laws.proofs.Exports.{opens_by_both_parts, writes_leave_fronts, sync_moments}
 use Rattle.group_core.specs.StateView.{StateView, setting_of, standing_of, MayOpen, StepLeaves}
-use Rattle.group_core.specs.Invariant.{Hidden, Sound, IsBroken, IsState}
+use Rattle.group_core.specs.Invariant.{Hidden, Sound, SoundWith, IsBroken, IsState}
 use Rattle.group_core.proofs.Soundness.{AtWork, sound_at_work}
 
 -- the device of a sound state holds what it stands for, and every image is as that says
@@ -25,13 +25,13 @@ held_so : (view : StateView) → Sound view → IsHeld (setting_of view) (standi
 held_so view sound = record { behind = sound.behind; by = sound.held }
 
 pub held : (view : StateView) (hidden : Hidden) → IsState view hidden → AtWork view.flush view.check → IsHonest view.disk → IsHeld (setting_of view) (standing_of view) view.disk.history.now
-held view hidden has work honest = held_so view (sound_at_work view hidden has work honest)
+held view hidden has work honest = held_so view (sound_at_work view hidden has work honest).sound
 
 pub may_open : (view : StateView) (hidden : Hidden) → IsState view hidden → IsHonest view.disk → EveryImage view.disk.history.now (MayOpen view)
 may_open view hidden has honest = by_case (has.sound honest)
   where
-    by_case : Sound view ⊎ IsBroken view → EveryImage view.disk.history.now (MayOpen view)
-    by_case (inl sound) = opens_by_both_parts (List RowView) Command (setting_of view) (standing_of view) view.disk.history.now (held_so view sound)
+    by_case : SoundWith view hidden.merge ⊎ IsBroken view → EveryImage view.disk.history.now (MayOpen view)
+    by_case (inl sound) = opens_by_both_parts (List RowView) Command (setting_of view) (standing_of view) view.disk.history.now (held_so view sound.sound)
     by_case (inr broken) = broken.images
 
 -- What a call leaves, where the state before it is seen as `view`, and the sizes stay.

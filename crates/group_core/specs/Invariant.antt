@@ -1,5 +1,5 @@
 -- What is true of every state.
-use Rattle.std.specs.Prelude.{◌≡◌, ◌≢◌, ℕ, ◌+◌, ◌*◌, ◌^◌, ◌<◌, ◌≤◌, ◌⊎◌, true, false, List, length, take}
+use Rattle.std.specs.Prelude.{◌≡◌, ◌≢◌, ℕ, ◌+◌, ◌*◌, ◌^◌, ◌<◌, ◌≤◌, ◌⊎◌, true, false, List, length, take, Option}
 use Rattle.std.specs.List.{AllByRecursion}
 use Rattle.path_rows.specs.Database.{RowView}
 use Rattle.path_rows.specs.declared.command.Command.{Command}
@@ -22,16 +22,20 @@ use Rattle.group_laws.specs.declared.phases.Check.TheVariants.{Ready, Sealed, Pl
 use Rattle.group_laws.specs.Tail.{Load, Commands, Seal, load_bytes}
 use Rattle.group_laws.specs.Standing.{load_of, Behind, IsHeldBy}
 use Rattle.group_core.specs.StateView.{StateView, setting_of, standing_of, MayOpen}
+use Rattle.sealed_merge.specs.Merge.{MergeView, encoding_if_any}
 use Rattle.group_core.specs.Keeping.{KeepsOutcomes}
+use Rattle.group_core.specs.Merging.{HasMerge, IsUnderWay, Streams}
 use Rattle.group_core.specs.Showing.{IsFront}
 
 -- what no clause sees: the bytes that are to be written of what is in flight, the rows after all commands that are accepted, the
--- place of the first of these, and what the showcase has in hand already of the group that it is to show
+-- place of the first of these, what the showcase has in hand already of the group that it is to show, and the last checkpoint
+-- that was begun
 pub record Hidden : Type 0 where
   pub staged : List ℕ
   pub tip : List RowView
   pub place : ℕ
   pub owed : List Command
+  pub merge : Option MergeView
 
 -- what is in flight may stand behind the tail's gate
 abbrev pub FitsLoad : Limits → Geometry → ℕ → ℕ → Load Command → Type 0
@@ -100,6 +104,8 @@ pub record Shape (view : StateView) (hidden : Hidden) : Type 0 where
   pub staged : view.flush ≢ Resting → hidden.staged ≡ load_bytes command_format view.value.place (load_of (standing_of view))
   pub plan : HasPlan view.geometry (checkpointing_of view)
   pub epoch : HasNextEpoch view.check view.epoch
+  pub bytes : view.checkpoint ≡ encoding_if_any hidden.merge
+  pub merge : view.stopped ≡ false → view.check ≡ Planned → HasMerge (IsUnderWay view.geometry view.written) hidden.merge
 
 -- the checkpoint to be there is of the next epoch, in the version that is written
 pub record IsNext (epoch : ℕ) (before next : Checkpoint (List RowView)) : Type 0 where
@@ -128,6 +134,12 @@ pub record Sound (view : StateView) : Type 0 where
   pub counts : CountsAt view.check view.epoch view.checkpoint behind.old behind.new
   pub fits : view.stopped ≡ false → checkpoint_size rows_format behind.new ≤ 512 * view.geometry.checkpoint
 
+-- The same with the checkpoint that is made while it is written: while the state goes on, what is left to be made of it is what isn't
+-- written.
+pub record SoundWith (view : StateView) (merge : Option MergeView) : Type 0 where
+  pub sound : Sound view
+  pub streams : view.stopped ≡ false → view.check ≡ Planned → HasMerge (Streams sound.behind.old.db view.written) merge
+
 -- What is held instead by the device of a store whose checkpoint had failed: the state has stopped before anything began, and
 -- every image opens to what it shows.
 pub record IsBroken (view : StateView) : Type 0 where
@@ -138,4 +150,4 @@ pub record IsBroken (view : StateView) : Type 0 where
 
 pub record IsState (view : StateView) (hidden : Hidden) : Type 0 where
   pub shape : Shape view hidden
-  pub sound : IsHonest view.disk → Sound view ⊎ IsBroken view
+  pub sound : IsHonest view.disk → SoundWith view hidden.merge ⊎ IsBroken view

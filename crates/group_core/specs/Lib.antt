@@ -1,6 +1,7 @@
 pub mod Showing
 pub mod Values
 pub mod StateView
+pub mod Merging
 pub mod Invariant
 pub mod Steps
 pub mod StepCalls

@@ -35,6 +35,7 @@ pub use new_store::{FormatError, format};
 pub use new_store_laws::new_stores_are_formatted;
 pub use open_store::open;
 pub use reading::read_sector;
+pub use scanning::scan_journal;
 pub use sealed::{Sealed, SealedError, read_sealed};
 pub use store::Store;
 pub use store_error::StoreError;

@@ -28,11 +28,11 @@ invariant_of-result g c =
       gate = c.tail_gate-gate.ensures i;
       epoch = c.epoch-epoch.ensures i;
       version = c.version-version.ensures.version i;
-      checkpoint = c.new-4.ensures.items i;
+      checkpoint = [];
       written = 0;
       stopped = not c.goes_on-stopped.result;
     })
-    parts.ensures.rows c.place-place.ensures c.requires.paid
+    parts.ensures.rows c.place-place.ensures c.requires.paid refl
 
 pub returns-clause-left : goal.returns-clause-left
 returns-clause-left g c = opens_so _ c.into_parts-device.ensures.device (invariant_of-result g c)

@@ -1,0 +1,178 @@
+-- The next piece of a checkpoint that is made while it is written.
+use Rattle.std.proofs.Common.{◌≡◌, ◌≢◌, ◌⊎◌, inl, inr, ℕ, ◌+◌, ◌-◌, ◌*◌, ◌<◌, ◌≤◌, min, List, [], ◌∷◌, ◌++◌, length, take, drop, replicate, Option, Some, None, Result, Ok, Err, refl, sym, ◌∙◌, ap, subst, arith, length-take, length-drop}
+use Rattle.std.proofs.lemmas.List.{append-nil, take_all, drop-drop}
+use Rattle.std.proofs.lemmas.Bool.{cases_lt}
+use Rattle.byte_lists.specs.Content.{part}
+use Rattle.byte_lists.specs.Sectors.{sectors_of, padded}
+use Rattle.byte_lists.proofs.Padding.{length-padded}
+use Rattle.sector_dev.specs.declared.device.DevError.{DevError}
+use Rattle.sector_dev.specs.Disk.{Disk, IsHonest, reads_of}
+use Rattle.sector_dev.specs.Calls.{WriteCall, Lands}
+use Rattle.path_rows.specs.Database.{RowView}
+use Rattle.path_db.specs.RowRecord.{rows_encoding}
+use Rattle.image_laws.specs.declared.half.Half.{Half}
+use Rattle.image_laws.specs.Layout.{Geometry, other, area_at, area_of, image_sectors}
+use Rattle.image_laws.specs.Checkpoint.{Checkpoint, IsCheckpoint}
+use Rattle.ckpt_pair.specs.Rows.{rows_format}
+use Rattle.store_open.proofs.FirstSectors.{part_in_front}
+use Rattle.row_edits.specs.declared.edit.Edit.{Edit}
+use Rattle.row_edits.specs.declared.edit.Edit.TheVariants.{Keep}
+use Rattle.row_edits.specs.Edits.{edited, bytes_out}
+use Rattle.row_edits.specs.Pouring.{PourView, untaken, untaken_len}
+use Rattle.row_edits.specs.Chunks.{PiecesFollow, LastPieceEnds}
+use Rattle.sealed_merge.specs.Merge.{MergeView, bytes_made, encoding_made, encoding_if_any, next_piece, after_piece, IsReady, MakesOn}
+use Rattle.group_laws.specs.declared.phases.Check.TheVariants.{Planned}
+use Rattle.group_laws.specs.Halves.{HasCheckpoint}
+use Rattle.group_core.specs.StateView.{StateView, setting_of}
+use Rattle.group_core.specs.Merging.{HasMerge, IsUnderWay, Streams, MayWrite, IsAfterPiece, WritesPiece}
+use Rattle.group_core.specs.Invariant.{Hidden, IsState}
+use Rattle.group_core.proofs.Regions.{area_inside}
+
+-- ---- lists
+
+nil_of : {A : Type 0} (list : List A) → length list ≡ 0 → list ≡ []
+nil_of [] none = refl
+nil_of (x ∷ list) none = absurd (omega (arith, none))
+
+drop_past : (n : ℕ) (list : List ℕ) → length list ≤ n → drop n list ≡ []
+drop_past n list few = nil_of (drop n list) (omega (arith, length-drop n list, few))
+
+padded_whole : (k : ℕ) (bytes : List ℕ) → length bytes ≡ 512 * k → padded bytes ≡ bytes
+padded_whole k bytes whole =
+    let none : 512 * sectors_of (length bytes) - length bytes ≡ 0 = omega (arith, whole) in
+    ap (λ (n : ℕ). bytes ++ replicate n 0) none ∙ append-nil bytes
+
+-- ---- a piece
+
+-- nothing is left to be made
+module _ (pour : PourView) (none : pour.edits ≡ Keep 0 ∷ []) where
+  no_len : bytes_out pour.edits pour.rows ≡ 0
+  no_len = ap (λ (edits : List Edit). bytes_out edits pour.rows) none
+
+  no_bytes : (olds : List ℕ) → edited pour.edits pour.rows (drop pour.position olds) ≡ []
+  no_bytes olds = ap (λ (edits : List Edit). edited edits pour.rows (drop pour.position olds)) none
+
+-- how many sectors are written next
+abbrev pub more_of : ℕ → ℕ → ℕ
+more_of long written = min 256 (sectors_of long - written)
+
+module _ (pour : PourView) (long written : ℕ) (left : untaken_len pour ≡ long - 512 * written) (within : 512 * written ≤ 512 * sectors_of long) where
+  full_len : 131072 ≤ length pour.out → 512 * sectors_of (length (take 131072 pour.out)) ≡ 512 * more_of long written
+  full_len full = omega (arith, length-take 131072 pour.out, left, full, within)
+
+  last_len : length pour.out < 131072 → bytes_out pour.edits pour.rows ≡ 0 → 512 * sectors_of (length (take 131072 pour.out)) ≡ 512 * more_of long written
+  last_len few none = omega (arith, length-take 131072 pour.out, left, few, none, within)
+
+  len_by : IsReady pour → (length pour.out < 131072) ⊎ (131072 ≤ length pour.out) → 512 * sectors_of (length (take 131072 pour.out)) ≡ 512 * more_of long written
+  len_by ready (inr full) = full_len full
+  len_by (inl full) (inl few) = absurd (omega (arith, full, few))
+  len_by (inr none) (inl few) = last_len few (no_len pour none)
+
+  pub piece_len : IsReady pour → length (next_piece pour) ≡ 512 * more_of long written
+  piece_len ready = length-padded (take 131072 pour.out) ∙ len_by ready (cases_lt (length pour.out) 131072)
+
+  after_by : IsReady pour → (length pour.out < 131072) ⊎ (131072 ≤ length pour.out) → untaken_len (after_piece pour) ≡ long - 512 * (written + more_of long written)
+  after_by ready (inr full) = omega (arith, length-drop 131072 pour.out, left, full, within)
+  after_by (inl full) (inl few) = absurd (omega (arith, full, few))
+  after_by (inr none) (inl few) = omega (arith, length-drop 131072 pour.out, left, few, no_len pour none, within)
+
+  pub after_len : IsReady pour → untaken_len (after_piece pour) ≡ long - 512 * (written + more_of long written)
+  after_len ready = after_by ready (cases_lt (length pour.out) 131072)
+
+module _ (follow : PiecesFollow) (ends : LastPieceEnds) (pour : PourView) (total olds : List ℕ) (written : ℕ) (left : untaken_len pour ≡ length total - 512 * written)
+    (so : untaken pour olds ≡ drop (512 * written) total) (before : 512 * written < length total) (ready : IsReady pour) where
+  abbrev rest : List ℕ
+  rest = edited pour.edits pour.rows (drop pour.position olds)
+
+  abbrev more : ℕ
+  more = more_of (length total) written
+
+  inside : 512 * written ≤ 512 * sectors_of (length total)
+  inside = omega (arith, before)
+
+  module _ (full : 131072 ≤ length pour.out) where
+    is_256 : 256 ≡ more
+    is_256 = omega (arith, left, full)
+
+    full_piece : next_piece pour ≡ part (512 * written) (512 * more) (padded total)
+    full_piece =
+        padded_whole 256 (take 131072 pour.out) (omega (arith, length-take 131072 pour.out, full))
+        ∙ (follow total pour.out rest written (sym so) full).piece
+        ∙ ap (λ (n : ℕ). part (512 * written) (512 * n) (padded total)) is_256
+
+    full_left : untaken (after_piece pour) olds ≡ drop (512 * (written + more)) total
+    full_left = sym (follow total pour.out rest written (sym so) full).left ∙ ap (λ (n : ℕ). drop (512 * (written + n)) total) is_256
+
+  module _ (few : length pour.out < 131072) (none : pour.edits ≡ Keep 0 ∷ []) where
+    all_made : drop (512 * written) total ≡ pour.out
+    all_made = sym so ∙ ap (λ (list : List ℕ). pour.out ++ list) (no_bytes pour none olds) ∙ append-nil pour.out
+
+    all_taken : take 131072 pour.out ≡ pour.out
+    all_taken = take_all 131072 pour.out (omega (arith, few))
+
+    last_piece : next_piece pour ≡ part (512 * written) (512 * more) (padded total)
+    last_piece =
+        ap padded all_taken
+        ∙ (ends total pour.out written (omega (arith, before)) all_made).piece
+        ∙ ap (λ (n : ℕ). part (512 * written) n (padded total))
+        (ap (λ (list : List ℕ). length (padded list)) (sym all_taken) ∙ piece_len pour (length total) written left inside ready)
+
+    last_left : untaken (after_piece pour) olds ≡ drop (512 * (written + more)) total
+    last_left =
+        ap (λ (list : List ℕ). list ++ rest) (drop_past 131072 pour.out (omega (arith, few))) ∙ no_bytes pour none olds
+        ∙ sym (drop_past (512 * (written + more)) total (omega (arith, left, few, no_len pour none)))
+
+  piece_by : IsReady pour → (length pour.out < 131072) ⊎ (131072 ≤ length pour.out) → next_piece pour ≡ part (512 * written) (512 * more) (padded total)
+  piece_by is (inr full) = full_piece full
+  piece_by (inl full) (inl few) = absurd (omega (arith, full, few))
+  piece_by (inr none) (inl few) = last_piece few none
+
+  pub piece_is : next_piece pour ≡ part (512 * written) (512 * more) (padded total)
+  piece_is = piece_by ready (cases_lt (length pour.out) 131072)
+
+  left_by : IsReady pour → (length pour.out < 131072) ⊎ (131072 ≤ length pour.out) → untaken (after_piece pour) olds ≡ drop (512 * (written + more)) total
+  left_by is (inr full) = full_left full
+  left_by (inl full) (inl few) = absurd (omega (arith, full, few))
+  left_by (inr none) (inl few) = last_left few none
+
+  pub left_is : untaken (after_piece pour) olds ≡ drop (512 * (written + more)) total
+  left_is = left_by ready (cases_lt (length pour.out) 131072)
+
+-- ---- the rows of an area
+
+pub rows_in_area : (geometry : Geometry) (half : Half) (reads : List ℕ) (checkpoint : Checkpoint (List RowView)) → IsCheckpoint rows_format (area_of geometry half reads) checkpoint
+    → (size : ℕ) → size ≡ length (rows_encoding checkpoint.db) → 32 + size ≤ 512 * geometry.checkpoint
+    → part (512 * area_at geometry half + 32) size reads ≡ rows_encoding checkpoint.db
+rows_in_area geometry half reads checkpoint is size size_is fits =
+    sym (ap (take size) (drop-drop 32 (512 * area_at geometry half) reads))
+    ∙ sym (part_in_front 32 size (512 * geometry.checkpoint) (drop (512 * area_at geometry half) reads) fits)
+    ∙ sym (part_in_front 32 size (32 + length (rows_encoding checkpoint.db)) (area_of geometry half reads) (omega (arith, size_is)))
+    ∙ ap (part 32 size) is.spelled
+    ∙ take_all size (rows_encoding checkpoint.db) (omega (arith, size_is))
+
+-- ---- the state
+
+-- the merge of which this holds
+pub record TheMerge (P : MergeView → Type 0) (found : Option MergeView) : Type 0 where
+  pub merge : MergeView
+  pub is : found ≡ Some merge
+  pub so : P merge
+
+pub the_merge : (P : MergeView → Type 0) (found : Option MergeView) → HasMerge P found → TheMerge P found
+the_merge P None has = absurd has
+the_merge P (Some merge) has = record { merge = merge; is = refl; so = has }
+
+pub of_merge : (P : MergeView → Type 0) (found : Option MergeView) (merge : MergeView) → found ≡ Some merge → HasMerge P found → P merge
+of_merge P found merge is has = subst (HasMerge P) is has
+
+pub has_map : (P Q : MergeView → Type 0) → ((merge : MergeView) → P merge → Q merge) → (found : Option MergeView) → HasMerge P found → HasMerge Q found
+has_map P Q so None has = has
+has_map P Q so (Some merge) has = so merge has
+
+-- a call that writes bytes that an honest device is to have
+pub call_so : {T E : Type 0} (sector : ℕ) (one two : List ℕ) (result : Result T E) (old new : Disk) → (IsHonest old → one ≡ two) → WriteCall sector one result old new → WriteCall sector two result old new
+call_so sector one two result old new same call = record {
+  keeps = call.keeps;
+  faults = call.faults;
+  lands = λ honest. subst (λ (bytes : List ℕ). Lands sector bytes result old.history new.history) (same honest) (call.lands honest);
+}

@@ -1,0 +1,9 @@
+pub mod Merging
+pub mod Found
+pub mod Edits
+pub mod Planning
+pub mod Touched
+pub mod Planner
+pub mod Laws
+pub mod Pouring
+pub mod Chunks

@@ -1,0 +1,44 @@
+-- The planner: what it has seen, and what it hands out.
+use Rattle.std.specs.Prelude.{◌≡◌, ℕ, ◌-◌, ◌^◌, ◌≤◌, List, [], ◌∷◌, ◌++◌, length, map, min, Bool, Option}
+use Rattle.path_rows.specs.declared.command.Command.{Command}
+use Rattle.path_rows.specs.Database.{RowView, rows_len}
+use Rattle.path_rows.specs.Command.{database_after_all}
+use Rattle.path_db.specs.Key.{key_bytes}
+use Rattle.path_db.specs.RowRecord.{rows_encoding}
+use Rattle.row_edits.specs.declared.plan.Plan.{Plan}
+use Rattle.row_edits.specs.declared.planner.Planner.{Planner}
+use Rattle.row_edits.specs.Merging.{keys_named_by, KeysRise, Covers, outlives}
+use Rattle.row_edits.specs.Edits.{views_if_any, edited, bytes_in, bytes_out}
+use Rattle.row_edits.specs.Planning.{is_beyond, IsPlanned, IsFound}
+
+-- The edits of a planner are those of these rows, and it has counted the rows that are kept.
+pub record HasPlanned (seen : List RowView) (planner : Planner) : Type 0 where
+  pub count : ℕ
+  pub counted : planner.kept ≡ min count (2 ^ 64 - 1)
+  pub planned : IsPlanned planner.keys.items (is_beyond planner.purged) seen planner.at planner.edits.items count planner.olds.items
+
+-- A planner for commands has seen these rows: it has the keys that the commands name and the greatest of their purges, and has planned
+-- the rows.
+pub record HasSeen (commands : List Command) (seen : List RowView) (planner : Planner) : Type 0 where
+  pub rise : KeysRise (map key_bytes planner.keys.items)
+  pub covers : Covers (map key_bytes planner.keys.items) (keys_named_by commands)
+  pub purges : (row : RowView) → is_beyond planner.purged row ≡ outlives commands row
+  pub planned : HasPlanned seen planner
+
+-- What the edit of a row does to a planner, once it is known whether the row's key is one of the planner's: the row is planned too.
+pub record PlansOn (found : Bool) (row : RowView) (old new : Planner) : Type 0 where
+  pub keys : new.keys ≡ old.keys
+  pub purged : new.purged ≡ old.purged
+  pub more : (seen : List RowView) (count : ℕ) → old.kept ≡ min count (2 ^ 64 - 1)
+      → IsFound found row old.keys.items (is_beyond old.purged) seen old.at old.edits.items count old.olds.items
+      → HasPlanned (seen ++ row ∷ []) new
+
+-- A plan makes of these rows those after commands: its edits, with the rows that they put, make the records after of the records
+-- before, and its size and count are those of the rows after.
+pub record IsPlanOf (rows : List RowView) (commands : List Command) (plan : Plan) : Type 0 where
+  pub makes : edited plan.edits.items (views_if_any plan.rows.items) (rows_encoding rows) ≡ rows_encoding (database_after_all rows commands)
+  pub bytes : bytes_in plan.edits.items ≡ rows_len rows
+  pub out : bytes_out plan.edits.items (views_if_any plan.rows.items) ≡ rows_len (database_after_all rows commands)
+  pub size : plan.size ≡ min (rows_len (database_after_all rows commands)) (2 ^ 64 - 1)
+  pub count : plan.count ≡ min (length (database_after_all rows commands)) (2 ^ 64 - 1)
+  pub few : length (database_after_all rows commands) ≤ rows_len (database_after_all rows commands)

@@ -1,0 +1,38 @@
+//! Laws of what commands make of rows: the functions do nothing, and their contracts say the laws.
+
+ghost use Rattle.row_edits.specs.Laws.{MergesAreFolds, KeysMakeFolds, PlansMakeFolds};
+ghost use Rattle.row_edits.specs.Chunks.{PiecesFollow, LastPieceEnds};
+
+use path_db::{commands_keep_database, database_is_canonical, keys_are_separate};
+
+/// The rows after commands are the rows before, merged with the rows that are left under the keys that the commands name.
+pub fn merges_are_folds()
+    ensures { MergesAreFolds }
+{
+    keys_are_separate();
+    database_is_canonical();
+    commands_keep_database();
+}
+
+/// The rows that are left under the keys of both sides, in the order of the keys, are the rows after commands.
+pub fn keys_make_folds()
+    ensures { KeysMakeFolds }
+{
+    keys_are_separate();
+    database_is_canonical();
+    commands_keep_database();
+}
+
+/// Edits that were planned of rows make the records of the rows after commands.
+pub fn plans_make_folds()
+    ensures { PlansMakeFolds }
+{
+    merges_are_folds();
+}
+
+/// Of bytes that are written in pieces of 256 sectors, the first 131,072 bytes that are made and not written are the next piece,
+/// and all of them, where nothing is left to be made, filled up with zeros, are the last.
+pub fn pieces_follow()
+    ensures next { PiecesFollow }
+    ensures last { LastPieceEnds }
+{}

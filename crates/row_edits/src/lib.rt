@@ -1,0 +1,27 @@
+//! The records of a database after commands, made of the records before piece by piece.
+//!
+//! To the layer above: a `Planner` sees each row once and makes a `Plan`, which has a small edit for each run of rows and a row for
+//! each key that the commands name. A `Pour` follows the plan: it makes the records after in pieces, from pieces of the records
+//! before, reads no row again and takes no memory.
+#![tactic(auto)]
+
+mod edit;
+mod laws;
+mod left_rows;
+mod note;
+mod placing;
+mod plan;
+mod planner;
+mod pour;
+mod pour_buffer;
+mod totals;
+mod touched;
+
+pub use edit::Edit;
+pub use laws::{keys_make_folds, merges_are_folds, pieces_follow, plans_make_folds};
+pub use note::RowsNote;
+pub use plan::Plan;
+pub use planner::Planner;
+pub use pour::{PIECE, Pour};
+pub use left_rows::settle;
+pub use touched::{greatest_purge, touched_keys};

@@ -1,0 +1,69 @@
+//! Where the rows that are left under keys are put among the rows before.
+
+ghost use Rattle.std.specs.Prelude.{◌∷◌, ◌++◌, [], Bool, List, ℕ, IfOk, OnOk};
+ghost use Rattle.path_rows.specs.Database.{RowView};
+ghost use Rattle.path_rows.specs.Row.{row_view};
+ghost use Rattle.row_edits.specs.Planning.{IsPlanned, IsBefore, IsFound, SameEdits, MakesAll};
+
+use crate::edit::Edit;
+use path_db::{Key, Row};
+use std::alloc::AllocError;
+use std::cmp::Ordering;
+
+/// Appends a `Put` for each key from a place on that is below a row's, and for the row's own, where it is one of them. The answer
+/// is the place of the next key, and whether the row's is one of them.
+pub(crate) fn put_up_to(
+    keys: &[Key],
+    at: usize,
+    row: &Row,
+    edits: &mut Vec<Edit>,
+) -> Result<(usize, bool), AllocError>
+    ensures { IfOk result (λ found. (p : RowView → Bool) (seen : List RowView) (kept : ℕ) (olds : List RowView)
+        → IsBefore (row_view row.now) keys.now p seen at edits.old.items kept olds
+        → IsFound found.1 (row_view row.now) keys.now p seen found.0 edits.new.items kept olds) }
+{
+    let mut at = at;
+    while at < keys.len() {
+        let order = keys[at].order(&Key::of_row(row));
+        if order == Ordering::Greater {
+            return Ok((at, false));
+        }
+        edits.push(Edit::Put)?;
+        at += 1;
+        if order == Ordering::Equal {
+            return Ok((at, true));
+        }
+    }
+    Ok((at, false))
+}
+
+/// Appends a `Put` for each key from a place on.
+pub(crate) fn put_rest(keys: &[Key], at: usize, edits: &mut Vec<Edit>) -> Result<(), AllocError>
+    ensures { OnOk result ((p : RowView → Bool) (seen : List RowView) (kept : ℕ) (olds : List RowView)
+        → IsPlanned keys.now p seen at edits.old.items kept olds → MakesAll keys.now p seen edits.new.items kept olds) }
+{
+    let mut at = at;
+    while at < keys.len() {
+        edits.push(Edit::Put)?;
+        at += 1;
+    }
+    Ok(())
+}
+
+/// Appends an edit: it and the last one are one edit, where they can be.
+pub(crate) fn push_edit(edits: &mut Vec<Edit>, edit: Edit) -> Result<(), AllocError>
+    ensures { OnOk result (SameEdits (edits.old.items ++ edit ∷ []) edits.new.items) }
+{
+    let Some(last) = edits.pop() else {
+        edits.push(edit)?;
+        return Ok(());
+    };
+    match last.joined(edit) {
+        Some(both) => edits.push(both)?,
+        None => {
+            edits.push(last)?;
+            edits.push(edit)?;
+        }
+    }
+    Ok(())
+}

@@ -1,0 +1,131 @@
+//! Planning in one pass over the rows before.
+
+ghost use Rattle.std.specs.Prelude.{◌≡◌, ◌∷◌, ◌++◌, [], List, true, false, IfOk, OnOk};
+ghost use Rattle.std.specs.List.{AllByRecursion};
+ghost use Rattle.path_rows.specs.declared.command.Command.{Command};
+ghost use Rattle.path_rows.specs.Database.{RowView, IsDatabase, row_len};
+ghost use Rattle.path_rows.specs.Row.{row_view};
+ghost use Rattle.path_rows.specs.Command.{HasWholeSegments};
+ghost use Rattle.row_edits.specs.Planning.{is_beyond};
+ghost use Rattle.row_edits.specs.Planner.{HasSeen, IsPlanOf, PlansOn};
+
+use crate::edit::Edit;
+use crate::laws::merges_are_folds;
+use crate::left_rows::settle;
+use crate::placing::{push_edit, put_rest, put_up_to};
+use crate::plan::Plan;
+use crate::totals::{bytes_made, rows_among};
+use crate::touched::{greatest_purge, touched_keys};
+use path_db::{Command, Key, ROW_HEAD, Row, keys_are_separate};
+use seg_check::expiry;
+use seg_core::{SegType, Segment, encoded_len};
+use std::alloc::{AllocError, Global};
+
+/// Plans what commands make of rows, which it sees one after the other in the order of their keys. It keeps the keys that the
+/// commands name, an edit for each run of rows, and the rows under those keys, which share their segments.
+#[derive(Drop)]
+pub struct Planner {
+    keys: Vec<Key>,
+    at: usize,
+    purged: Option<u64>,
+    edits: Vec<Edit>,
+    kept: u64,
+    olds: Vec<(SegType, Segment)>,
+}
+
+impl Planner {
+    /// A planner for commands that has seen no row. It computes the id of each segment that they register.
+    pub fn new(alloc: Global, commands: &[Command]) -> Result<Planner, AllocError>
+        ensures { IfOk result (λ planner. HasSeen commands.now [] planner) }
+    {
+        Ok(Planner {
+            keys: touched_keys(alloc, commands)?,
+            at: 0,
+            purged: greatest_purge(commands),
+            edits: Vec::new(alloc),
+            kept: 0,
+            olds: Vec::new(alloc),
+        })
+    }
+
+    /// Sees the next row. Where memory is refused the planner is of no more use.
+    pub fn see(&mut self, row: Row) -> Result<(), AllocError>
+        ensures { OnOk result ((commands : List Command) (seen : List RowView) → HasSeen commands seen self.old → HasSeen commands (seen ++ row_view row ∷ []) self.new) }
+    {
+        let (at, is_touched) = put_up_to(&self.keys, self.at, &row, &mut self.edits)?;
+        self.at = at;
+        if is_touched {
+            return self.take_out(row);
+        }
+        if is_left_by(self.purged, &row) {
+            return self.keep(&row);
+        }
+        self.leave_out(&row)
+    }
+
+    /// The plan, once all rows were seen: for the commands that the planner was made for.
+    pub fn finish(self, alloc: Global, commands: &[Command]) -> Result<Plan, AllocError>
+        ensures { IfOk result (λ plan. (rows : List RowView) → HasSeen commands.now rows self → IsDatabase rows → AllByRecursion HasWholeSegments commands.now → IsPlanOf rows commands.now plan) }
+    {
+        keys_are_separate();
+        merges_are_folds();
+        let (keys, olds) = (self.keys, self.olds);
+        let mut edits = self.edits;
+        put_rest(&keys, self.at, &mut edits)?;
+        let rows = settle(alloc, &keys, olds, commands)?;
+        let size = bytes_made(&edits, &rows);
+        let count = self.kept.saturating_add(rows_among(&rows));
+        Ok(Plan {
+            edits,
+            rows,
+            size,
+            count,
+        })
+    }
+}
+
+impl Planner {
+    /// A row whose key is named is left out, and kept for the commands.
+    fn take_out(&mut self, row: Row) -> Result<(), AllocError>
+        ensures { OnOk result (PlansOn true (row_view row) self.old self.new) }
+    {
+        push_edit(&mut self.edits, Edit::Pass(row_size(&row)))?;
+        self.olds.push((row.kind, row.segment))?;
+        Ok(())
+    }
+
+    /// A row of another key that no purge drops stays.
+    fn keep(&mut self, row: &Row) -> Result<(), AllocError>
+        requires { is_beyond self.old.purged (row_view row.now) ≡ true }
+        ensures { OnOk result (PlansOn false (row_view row.now) self.old self.new) }
+    {
+        push_edit(&mut self.edits, Edit::Keep(row_size(row)))?;
+        self.kept = self.kept.saturating_add(1);
+        Ok(())
+    }
+
+    /// A row of another key that a purge drops is left out.
+    fn leave_out(&mut self, row: &Row) -> Result<(), AllocError>
+        requires { is_beyond self.old.purged (row_view row.now) ≡ false }
+        ensures { OnOk result (PlansOn false (row_view row.now) self.old self.new) }
+    {
+        push_edit(&mut self.edits, Edit::Pass(row_size(row)))
+    }
+}
+
+/// The bytes of a row's record.
+fn row_size(row: &Row) -> u32
+    ensures { result ≡ row_len (row_view row.now) }
+{
+    (ROW_HEAD + encoded_len(&row.segment)) as u32
+}
+
+/// Whether a row expires after the moment, where there is one.
+fn is_left_by(purged: Option<u64>, row: &Row) -> bool
+    ensures { result ≡ is_beyond purged (row_view row.now) }
+{
+    match purged {
+        Some(moment) => moment < expiry(&row.segment),
+        None => true,
+    }
+}

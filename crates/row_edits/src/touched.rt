@@ -1,0 +1,120 @@
+//! The keys that commands name, and the greatest of their purges.
+
+ghost use Rattle.std.specs.Prelude.{◌≡◌, ◌++◌, IfOk, OnOk, map, false, if◌then◌else◌};
+ghost use Rattle.path_rows.specs.Command.{is_valid_beyond};
+ghost use Rattle.path_rows.specs.Database.{RowView, key_of};
+ghost use Rattle.path_db.specs.Key.{key_bytes};
+ghost use Rattle.row_edits.specs.Merging.{keys_named, keys_named_by, outlives, outlives_one, KeysRise, Covers};
+ghost use Rattle.row_edits.specs.Planning.{is_beyond};
+ghost use Rattle.row_edits.specs.Touched.{IsKeyOrder};
+
+use path_db::{Command, Key};
+use seg_core::{SegType, Segment};
+use std::alloc::{AllocError, Global};
+
+/// The greatest moment of the purges among commands, in half seconds since 1970, where there are any: a row that no command
+/// names is left after the commands just where it expires after that moment.
+pub fn greatest_purge(commands: &[Command]) -> Option<u64>
+    ensures { (row : RowView) → is_beyond result row ≡ outlives commands.now row }
+{
+    let mut greatest = None;
+    for command in commands {
+        greatest = with_purge(greatest, command);
+    }
+    greatest
+}
+
+/// The greater one of a moment and that of a command, where it is a purge.
+fn with_purge(greatest: Option<u64>, command: &Command) -> Option<u64>
+    ensures { (row : RowView) → is_beyond result row ≡ (if is_beyond greatest row then outlives_one command.now row else false) }
+{
+    match command {
+        Command::Purge(moment) => Some(later(greatest, *moment)),
+        _ => greatest,
+    }
+}
+
+/// The later of two moments.
+fn later(greatest: Option<u64>, moment: u64) -> u64
+    ensures { (row : RowView) → is_valid_beyond result row ≡ (if is_beyond greatest row then is_valid_beyond moment row else false) }
+{
+    match greatest {
+        Some(old) => old.max(moment),
+        None => moment,
+    }
+}
+
+/// The keys that commands name, each once, in their order: those of the rows that they register, and those that they remove. It
+/// computes the id of each segment that is registered.
+pub fn touched_keys(alloc: Global, commands: &[Command]) -> Result<Vec<Key>, AllocError>
+    ensures rise { IfOk result (λ keys. KeysRise (map key_bytes keys.items)) }
+    ensures covers { IfOk result (λ keys. Covers (map key_bytes keys.items) (keys_named_by commands.now)) }
+    ensures named { IfOk result (λ keys. Covers (keys_named_by commands.now) (map key_bytes keys.items)) }
+{
+    let mut keys = named_keys(alloc, commands)?;
+    keys.sort_unstable_by(|one, other| one.order(other));
+    without_repeats(alloc, &keys)
+}
+
+/// The keys of a sorted list, each once.
+fn without_repeats(alloc: Global, keys: &[Key]) -> Result<Vec<Key>, AllocError>
+    requires { IsKeyOrder keys.now }
+    ensures rise { IfOk result (λ rising. KeysRise (map key_bytes rising.items)) }
+    ensures covers { IfOk result (λ rising. Covers (map key_bytes rising.items) (map key_bytes keys.now)) }
+    ensures named { IfOk result (λ rising. Covers (map key_bytes keys.now) (map key_bytes rising.items)) }
+{
+    let mut rising = Vec::new(alloc);
+    for key in keys {
+        push_if_greater(&mut rising, *key)?;
+    }
+    Ok(rising)
+}
+
+/// Appends a key, unless it is the last one.
+fn push_if_greater(rising: &mut Vec<Key>, key: Key) -> Result<(), AllocError> {
+    if let Some(last) = rising.last() {
+        if !last.order(&key).is_lt() {
+            return Ok(());
+        }
+    }
+    rising.push(key)?;
+    Ok(())
+}
+
+/// The keys that commands name, in the order in which the commands name them.
+fn named_keys(alloc: Global, commands: &[Command]) -> Result<Vec<Key>, AllocError>
+    ensures { IfOk result (λ keys. map key_bytes keys.items ≡ keys_named_by commands.now) }
+{
+    let mut keys = Vec::new(alloc);
+    for command in commands {
+        push_named(&mut keys, command)?;
+    }
+    Ok(keys)
+}
+
+/// Appends the keys that a command names.
+fn push_named(keys: &mut Vec<Key>, command: &Command) -> Result<(), AllocError>
+    ensures { OnOk result (map key_bytes keys.new.items ≡ map key_bytes keys.old.items ++ keys_named command.now) }
+{
+    match command {
+        Command::Register(registration) => push_registered(keys, registration.as_slice()),
+        Command::Purge(_) => Ok(()),
+        Command::Remove(kind, id) => {
+            keys.push(Key {
+                kind: *kind,
+                id: *id,
+            })?;
+            Ok(())
+        }
+    }
+}
+
+/// Appends the keys of rows.
+fn push_registered(keys: &mut Vec<Key>, rows: &[(SegType, Segment)]) -> Result<(), AllocError>
+    ensures { OnOk result (map key_bytes keys.new.items ≡ map key_bytes keys.old.items ++ map key_of rows.now) }
+{
+    for row in rows {
+        keys.push(Key::of(row.0, &row.1))?;
+    }
+    Ok(())
+}
