@@ -1,6 +1,6 @@
 -- The checkpointer's steps on a state.
 use Rattle.std.proofs.Common.{◌≡◌, ◌≢◌, inl, inr, ℕ, ◌+◌, ◌*◌, ◌≤◌, ◌++◌, Bool, true, false, List, [], ◌∷◌, length, Option, Result, refl, sym, ◌∙◌, ap, subst, arith}
-use Rattle.std.proofs.lemmas.Bool.{eqb-true}
+use Rattle.std.proofs.lemmas.Bool.{eqb-true, eqb-false}
 use Rattle.std.specs.List.{AllByRecursion}
 use Rattle.byte_lists.specs.Content.{part}
 use Rattle.path_rows.specs.Database.{RowView}
@@ -80,6 +80,12 @@ module _ {view new old : StateView} (is : view ≡ new) where
 
   pub done_at : {value same : Commit AtPlan} → value.phase.done ≡ true → TakesChunkTurn value (success (StepError AtPlan) same) old new → 512 * view.written ≡ length view.checkpoint
   done_at done taken = eqb-true _ _ (ap is_whole (is ∙ taken.3) ∙ sym taken.0.done ∙ done)
+
+  pub going_at : {value same : Commit AtPlan} → TakesChunkTurn value (success (StepError AtPlan) same) old new → view.stopped ≡ false
+  going_at taken = ap (λ (v : StateView). v.stopped) (is ∙ taken.3) ∙ taken.1
+
+  pub undone_at : {value same : Commit AtPlan} → value.phase.done ≡ false → TakesChunkTurn value (success (StepError AtPlan) same) old new → 512 * view.written ≡ length view.checkpoint → ⊥
+  undone_at undone taken = eqb-false _ _ (ap is_whole (is ∙ taken.3) ∙ sym taken.0.done ∙ undone)
 
 module _ (old : StateView) (hidden : Hidden) (has : IsState old hidden) where
   -- the checkpointer is at work

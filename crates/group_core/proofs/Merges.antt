@@ -27,6 +27,8 @@ use Rattle.group_core.specs.StateView.{StateView, setting_of}
 use Rattle.group_core.specs.Merging.{HasMerge, IsUnderWay, Streams, MayWrite, IsAfterPiece, WritesPiece}
 use Rattle.group_core.specs.Invariant.{Hidden, IsState}
 use Rattle.group_core.proofs.Regions.{area_inside}
+use Rattle.group_core.proofs.Soundness.{sound_going}
+use Rattle.group_core.proofs.FlushSteps.{success}
 
 -- ---- lists
 
@@ -176,3 +178,128 @@ call_so sector one two result old new same call = record {
   faults = call.faults;
   lands = λ honest. subst (λ (bytes : List ℕ). Lands sector bytes result old.history new.history) (same honest) (call.lands honest);
 }
+
+module _ (old : StateView) (hidden : Hidden) (has : IsState old hidden) (turn : old.check ≡ Planned) (going : old.stopped ≡ false) where
+  the : TheMerge (IsUnderWay old.geometry old.written) hidden.merge
+  the = the_merge (IsUnderWay old.geometry old.written) hidden.merge (has.shape.merge going turn)
+
+  abbrev m : MergeView
+  m = the.merge
+
+  abbrev long : ℕ
+  long = length (bytes_made m)
+
+  checkpoint_is : old.checkpoint ≡ encoding_made m
+  checkpoint_is = has.shape.bytes ∙ ap encoding_if_any the.is
+
+  long_is : length old.checkpoint ≡ 512 * sectors_of long
+  long_is = ap length checkpoint_is ∙ length-padded (bytes_made m)
+
+  within : 512 * old.written ≤ 512 * sectors_of long
+  within = omega (arith, has.shape.plan.written, has.shape.plan.whole, long_is)
+
+  size_is : length (next_piece m.pour) ≡ 512 * more_of long old.written
+  size_is = piece_len m.pour long old.written the.so.left within the.so.ready
+
+  -- the next piece may be written
+  pub may_write : (area at : ℕ) → area ≡ area_at old.geometry (other old.half) → at ≡ area_at old.geometry old.half + old.written → HasMerge (MayWrite old.disk area at) hidden.merge
+  may_write area at area_is at_is = subst (HasMerge (MayWrite old.disk area at)) (sym the.is) (record {
+    old = omega (arith, the.so.inside, area_is, area_inside old.geometry (other old.half), has.shape.sectors);
+    new = omega (arith, size_is, at_is, area_inside old.geometry old.half, has.shape.sectors, has.shape.plan.inside, has.shape.plan.whole, long_is);
+  })
+
+  -- it was written
+  module _ (follow : PiecesFollow) (ends : LastPieceEnds) (undone : 512 * old.written ≡ length old.checkpoint → ⊥) (disk : Disk) (area at : ℕ) (result : Result (Unit {0}) DevError) (merge : Option MergeView)
+      (area_is : area ≡ area_at old.geometry (other old.half)) (wrote : HasMerge (WritesPiece old.disk disk area at result merge) hidden.merge)
+      (sectors more : ℕ) (sectors_are : 512 * sectors ≡ length (encoding_if_any hidden.merge)) (more_is : more ≡ min (sectors - old.written) 256) where
+    call_was : WritesPiece old.disk disk area at result merge m
+    call_was = of_merge (WritesPiece old.disk disk area at result merge) hidden.merge m the.is wrote
+
+    after : TheMerge (IsAfterPiece disk area result m) merge
+    after = the_merge (IsAfterPiece disk area result m) merge call_was.merge
+
+    abbrev next : MergeView
+    next = after.merge
+
+    same_bytes : bytes_made next ≡ bytes_made m
+    same_bytes = ap bytes_made after.so.kept
+
+    more_so : more_of long old.written ≡ more
+    more_so = omega (arith, more_is, sectors_are, ap length has.shape.bytes, long_is)
+
+    pub bytes_so : old.checkpoint ≡ encoding_if_any merge
+    bytes_so = checkpoint_is ∙ sym (ap encoding_made after.so.kept) ∙ sym (ap encoding_if_any after.is)
+
+    pub inside_so : 512 * (old.written + more) ≤ length old.checkpoint
+    inside_so = omega (arith, sym more_so, long_is, within)
+
+    before : 512 * old.written < long
+    before = omega (arith, undone, long_is, within)
+
+    module _ (olds : List RowView) (streams : Streams olds old.written m) where
+      pub left_so : untaken (after_piece m.pour) (rows_encoding olds) ≡ drop (512 * (old.written + more)) (bytes_made m)
+      left_so =
+          left_is follow ends m.pour (bytes_made m) (rows_encoding olds) old.written the.so.left streams.left before the.so.ready
+          ∙ ap (λ (n : ℕ). drop (512 * (old.written + n)) (bytes_made m)) more_so
+
+      pub piece_so : next_piece m.pour ≡ part (512 * old.written) (512 * more) old.checkpoint
+      piece_so =
+          piece_is follow ends m.pour (bytes_made m) (rows_encoding olds) old.written the.so.left streams.left before the.so.ready
+          ∙ ap (λ (n : ℕ). part (512 * old.written) (512 * n) (encoding_made m)) more_so
+          ∙ ap (part (512 * old.written) (512 * more)) (sym checkpoint_is)
+
+    pub chunk_call : WriteCall at (part (512 * old.written) (512 * more) old.checkpoint) result old.disk disk
+    chunk_call = call_so at (next_piece m.pour) (part (512 * old.written) (512 * more) old.checkpoint) result old.disk disk same call_was.call
+      where
+        same : IsHonest old.disk → next_piece m.pour ≡ part (512 * old.written) (512 * more) old.checkpoint
+        same honest =
+            let with = sound_going old hidden has going honest in
+            piece_so with.sound.behind.old.db (of_merge (Streams with.sound.behind.old.db old.written) hidden.merge m the.is (with.streams going turn))
+
+  -- and the one after it is made
+  module _ (follow : PiecesFollow) (ends : LastPieceEnds) (undone : 512 * old.written ≡ length old.checkpoint → ⊥) (disk : Disk) (area at : ℕ) (done : Unit {0}) (merge : Option MergeView)
+      (area_is : area ≡ area_at old.geometry (other old.half)) (wrote : HasMerge (WritesPiece old.disk disk area at (success DevError done) merge) hidden.merge)
+      (sectors more : ℕ) (sectors_are : 512 * sectors ≡ length (encoding_if_any hidden.merge)) (more_is : more ≡ min (sectors - old.written) 256) where
+    abbrev ok : Result (Unit {0}) DevError
+    ok = success DevError done
+
+    made : TheMerge (IsAfterPiece disk area ok m) merge
+    made = after follow ends undone disk area at ok merge area_is wrote sectors more sectors_are more_is
+
+    abbrev now : MergeView
+    now = made.merge
+
+    bytes_now : bytes_made now ≡ bytes_made m
+    bytes_now = ap bytes_made made.so.kept
+
+    size_now : now.size ≡ m.size
+    size_now = ap (λ (x : MergeView). x.size) made.so.kept
+
+    more_now : more_of long old.written ≡ more
+    more_now = more_so follow ends undone disk area at ok merge area_is wrote sectors more sectors_are more_is
+
+    pub under_so : HasMerge (IsUnderWay old.geometry (old.written + more)) merge
+    under_so = subst (HasMerge (IsUnderWay old.geometry (old.written + more))) (sym made.is) (record {
+      left = made.so.made.len ∙ after_len m.pour long old.written the.so.left within the.so.ready
+          ∙ ap (λ (n : ℕ). long - 512 * (old.written + n)) more_now ∙ ap (λ (bytes : List ℕ). length bytes - 512 * (old.written + more)) (sym bytes_now);
+      inside = omega (arith, the.so.inside, size_now);
+      ready = made.so.ready;
+    })
+
+    pub on_so : (checkpoint : Checkpoint (List RowView)) → IsHonest disk → HasCheckpoint (setting_of old) (other old.half) checkpoint disk.history.now → HasMerge (Streams checkpoint.db old.written) hidden.merge
+        → HasMerge (Streams checkpoint.db (old.written + more)) merge
+    on_so checkpoint honest there streams = subst (HasMerge (Streams checkpoint.db (old.written + more))) (sym made.is) (record {
+      size = size_now ∙ was.size;
+      left =
+          sym (ap (untaken now.pour) rows) ∙ made.so.made.same honest ∙ ap (untaken (after_piece m.pour)) rows
+          ∙ left_so follow ends undone disk area at ok merge area_is wrote sectors more sectors_are more_is checkpoint.db was
+          ∙ ap (drop (512 * (old.written + more))) (sym bytes_now);
+    })
+      where
+        was : Streams checkpoint.db old.written m
+        was = of_merge (Streams checkpoint.db old.written) hidden.merge m the.is streams
+
+        rows : part (512 * area + 32) m.size (reads_of disk) ≡ rows_encoding checkpoint.db
+        rows =
+            ap (λ (n : ℕ). part (512 * n + 32) m.size (reads_of disk)) area_is
+            ∙ rows_in_area old.geometry (other old.half) (reads_of disk) checkpoint there.begins m.size was.size the.so.inside

@@ -1,4 +1,4 @@
-use Rattle.std.proofs.Common.{◌≤◌, not, ◌∙◌, ap, subst, arith}
+use Rattle.std.proofs.Common.{◌≤◌, not, [], refl, ◌∙◌, ap, subst, arith}
 use Rattle.sector_dev.specs.Disk.{Disk, IsHonest, IsWhole}
 use Rattle.image_laws.specs.Group.{last_place}
 use Rattle.group_laws.specs.declared.phases.Flush.TheVariants.{Resting}
