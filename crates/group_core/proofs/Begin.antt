@@ -316,7 +316,7 @@ module _ (old : StateView) (hidden : Hidden) (has : IsState old hidden) (whole :
       looks.faults,
       refl,
       encoded,
-      (sectors_fit (old.epoch + 1) old.geometry.checkpoint made_so.sealed (encoding_made merge) encoded.spelled made_so.fits).2,
+      (sectors_fit (old.epoch + 1) old.geometry.checkpoint made_so.sealed (encoding_made merge) (spelled_so old.geometry (other old.half) (old.epoch + 1) old.disk merge made_so) made_so.fits).2,
     )
 
   pub damaged_so : {T : Type 0} (e : SealedError) → e ≡ half.Damaged → LooksAtHalf (error_of T e) old.disk disk

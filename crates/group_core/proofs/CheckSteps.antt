@@ -309,21 +309,25 @@ module _ (old : StateView) (hidden : Hidden) (has : IsState old hidden) where
           → old.stopped ≡ false
           → ((checkpoint : Checkpoint (List RowView)) → IsHonest disk → HasCheckpoint (setting_of old) (other old.half) checkpoint disk.history.now
           → HasMerge (Streams checkpoint.db old.written) hidden.merge → HasMerge (Streams checkpoint.db (old.written + more)) merge)
-          → WriteCall sector given (success E v) old.disk disk → IsState (checked old disk old.check (old.written + more) old.plan old.stopped) (record hidden { merge = merge })
+          → WriteCall sector given (success E v) old.disk disk
+          → IsState (record (checked old disk old.check (old.written + more) old.plan old.stopped) { checkpoint = encoding_if_any merge }) (record hidden { merge = merge })
       chunk_written {T} E v merge so under going on call =
-          merged_state disk old.check (old.written + more) old.plan old.stopped (λ is. is) merge so (λ is planned. under) Planned turn (λ (is : Planned ≡ Ready). cc) call.keeps plan_after has.shape.epoch
+          subst (λ (bytes : List ℕ). IsState (record (checked old disk old.check (old.written + more) old.plan old.stopped) { checkpoint = bytes }) (record hidden { merge = merge })) so
+          (merged_state disk old.check (old.written + more) old.plan old.stopped (λ is. is) merge so (λ is planned. under) Planned turn (λ (is : Planned ≡ Ready). cc) call.keeps plan_after has.shape.epoch
           (λ sound. sound.counts) (λ sound honest. subst (λ (p : Check). IsHeldBy (setting_of old) (held.checked (standing_of old) p (old.written + more)) sound.behind disk.history.now) (sym turn) (holds sound honest))
-          (λ with honest is planned. on with.sound.behind.old (honest_after old.disk disk call.keeps honest) (holds with.sound honest).base.0.area (with.streams going turn))
+          (λ with honest is planned. on with.sound.behind.old (honest_after old.disk disk call.keeps honest) (holds with.sound honest).base.0.area (with.streams going turn)))
         where
           holds : (sound : Sound old) → IsHonest old.disk → IsHeldBy (setting_of old) (held.checked (standing_of old) Planned (old.written + more)) sound.behind disk.history.now
           holds sound honest =
               held_while_chunk_is_written T E (List RowView) Command (setting_of old) (standing_of old) sound.behind more (success E v) old.disk disk turn sound.held (inside_so sound) (chunk_so (success E v) sound call) honest
 
       pub chunk_not_written : {E : Type 0} (T : Type 0) (e : E) (plan : Turn) (stopped : Bool) → stopped ≡ true → (merge : Option MergeView) → old.checkpoint ≡ encoding_if_any merge
-          → WriteCall sector given (failure T e) old.disk disk → IsState (checked old disk old.check old.written plan stopped) (record hidden { merge = merge })
+          → WriteCall sector given (failure T e) old.disk disk
+          → IsState (record (checked old disk old.check old.written plan stopped) { checkpoint = encoding_if_any merge }) (record hidden { merge = merge })
       chunk_not_written {E} T e plan stopped stops merge so call =
-          merged_state disk old.check old.written plan stopped (λ (is : stopped ≡ false). cc) merge so (λ (is : stopped ≡ false) planned. absurd (cc)) Planned turn (λ (is : Planned ≡ Ready). cc) call.keeps has.shape.plan has.shape.epoch
+          subst (λ (bytes : List ℕ). IsState (record (checked old disk old.check old.written plan stopped) { checkpoint = bytes }) (record hidden { merge = merge })) so
+          (merged_state disk old.check old.written plan stopped (λ (is : stopped ≡ false). cc) merge so (λ (is : stopped ≡ false) planned. absurd (cc)) Planned turn (λ (is : Planned ≡ Ready). cc) call.keeps has.shape.plan has.shape.epoch
           (λ sound. sound.counts)
           (λ sound honest. subst (λ (p : Check). IsHeldBy (setting_of old) (held.checked (standing_of old) p old.written) sound.behind disk.history.now) (sym turn)
           (held_while_chunk_is_written T E (List RowView) Command (setting_of old) (standing_of old) sound.behind more (failure T e) old.disk disk turn sound.held (inside_so sound) (chunk_so (failure T e) sound call) honest))
-          (λ with honest (is : stopped ≡ false) planned. absurd (cc))
+          (λ with honest (is : stopped ≡ false) planned. absurd (cc)))

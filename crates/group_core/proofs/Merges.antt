@@ -1,5 +1,5 @@
 -- The next piece of a checkpoint that is made while it is written.
-use Rattle.std.proofs.Common.{◌≡◌, ◌≢◌, ◌⊎◌, inl, inr, ℕ, ◌+◌, ◌-◌, ◌*◌, ◌<◌, ◌≤◌, min, List, [], ◌∷◌, ◌++◌, length, take, drop, replicate, Option, Some, None, Result, Ok, Err, refl, sym, ◌∙◌, ap, subst, arith, length-take, length-drop}
+use Rattle.std.proofs.Common.{◌≡◌, ◌≢◌, ◌⊎◌, inl, inr, ℕ, ◌+◌, ◌-◌, ◌*◌, ◌<◌, ◌≤◌, min, false, List, [], ◌∷◌, ◌++◌, length, take, drop, replicate, Option, Some, None, Result, Ok, Err, refl, sym, ◌∙◌, ap, subst, arith, length-take, length-drop}
 use Rattle.std.proofs.lemmas.List.{append-nil, take_all, drop-drop}
 use Rattle.std.proofs.lemmas.Bool.{cases_lt}
 use Rattle.byte_lists.specs.Content.{part}
@@ -179,6 +179,13 @@ call_so sector one two result old new same call = record {
   lands = λ honest. subst (λ (bytes : List ℕ). Lands sector bytes result old.history new.history) (same honest) (call.lands honest);
 }
 
+room_old : (size area start most image sectors : ℕ) → area ≡ start → 32 + size ≤ 512 * most → start + most + 1 ≤ image → image ≤ sectors → 512 * area + 32 + size ≤ 512 * sectors
+room_old size area start most image sectors area_is inside fits room = omega arith
+
+room_new : (size at start written all planned most image sectors long : ℕ) → size ≡ 512 * min 256 (all - written) → at ≡ start + written → long ≡ 512 * all → long ≡ 512 * planned → planned ≤ most → written ≤ planned
+    → start + most + 1 ≤ image → image ≤ sectors → 512 * at + size ≤ 512 * sectors
+room_new size at start written all planned most image sectors long size_is at_is long_is planned_is inside behind fits room = omega arith
+
 module _ (old : StateView) (hidden : Hidden) (has : IsState old hidden) (turn : old.check ≡ Planned) (going : old.stopped ≡ false) where
   the : TheMerge (IsUnderWay old.geometry old.written) hidden.merge
   the = the_merge (IsUnderWay old.geometry old.written) hidden.merge (has.shape.merge going turn)
@@ -204,8 +211,9 @@ module _ (old : StateView) (hidden : Hidden) (has : IsState old hidden) (turn : 
   -- the next piece may be written
   pub may_write : (area at : ℕ) → area ≡ area_at old.geometry (other old.half) → at ≡ area_at old.geometry old.half + old.written → HasMerge (MayWrite old.disk area at) hidden.merge
   may_write area at area_is at_is = subst (HasMerge (MayWrite old.disk area at)) (sym the.is) (record {
-    old = omega (arith, the.so.inside, area_is, area_inside old.geometry (other old.half), has.shape.sectors);
-    new = omega (arith, size_is, at_is, area_inside old.geometry old.half, has.shape.sectors, has.shape.plan.inside, has.shape.plan.whole, long_is);
+    old = room_old m.size area (area_at old.geometry (other old.half)) old.geometry.checkpoint (image_sectors old.geometry) old.disk.sectors area_is the.so.inside (area_inside old.geometry (other old.half)) has.shape.sectors;
+    new = room_new (length (next_piece m.pour)) at (area_at old.geometry old.half) old.written (sectors_of long) has.shape.plan.sectors old.geometry.checkpoint (image_sectors old.geometry) old.disk.sectors (length old.checkpoint)
+        size_is at_is long_is has.shape.plan.whole has.shape.plan.inside has.shape.plan.written (area_inside old.geometry old.half) has.shape.sectors;
   })
 
   -- it was written
@@ -237,12 +245,12 @@ module _ (old : StateView) (hidden : Hidden) (has : IsState old hidden) (turn : 
     before = omega (arith, undone, long_is, within)
 
     module _ (olds : List RowView) (streams : Streams olds old.written m) where
-      pub left_so : untaken (after_piece m.pour) (rows_encoding olds) ≡ drop (512 * (old.written + more)) (bytes_made m)
+      left_so : untaken (after_piece m.pour) (rows_encoding olds) ≡ drop (512 * (old.written + more)) (bytes_made m)
       left_so =
           left_is follow ends m.pour (bytes_made m) (rows_encoding olds) old.written the.so.left streams.left before the.so.ready
           ∙ ap (λ (n : ℕ). drop (512 * (old.written + n)) (bytes_made m)) more_so
 
-      pub piece_so : next_piece m.pour ≡ part (512 * old.written) (512 * more) old.checkpoint
+      piece_so : next_piece m.pour ≡ part (512 * old.written) (512 * more) old.checkpoint
       piece_so =
           piece_is follow ends m.pour (bytes_made m) (rows_encoding olds) old.written the.so.left streams.left before the.so.ready
           ∙ ap (λ (n : ℕ). part (512 * old.written) (512 * n) (encoding_made m)) more_so
