@@ -1,7 +1,7 @@
 -- The next piece of a checkpoint that is made while it is written.
-use Rattle.std.proofs.Common.{◌≡◌, ◌≢◌, ◌⊎◌, inl, inr, ℕ, ◌+◌, ◌-◌, ◌*◌, ◌<◌, ◌≤◌, min, false, List, [], ◌∷◌, ◌++◌, length, take, drop, replicate, Option, Some, None, Result, Ok, Err, refl, sym, ◌∙◌, ap, subst, arith, length-take, length-drop}
+use Rattle.std.proofs.Common.{◌≡◌, ◌≢◌, ◌⊎◌, inl, inr, ℕ, ◌+◌, ◌-◌, ◌*◌, ◌<◌, ◌≤◌, ◌==◌, min, Bool, true, false, List, [], ◌∷◌, ◌++◌, length, take, drop, replicate, Option, Some, None, Result, Ok, Err, refl, sym, ◌∙◌, ap, subst, arith, length-take, length-drop, eq-eqb, eqb-true, ne_eqb}
 use Rattle.std.proofs.lemmas.List.{append-nil, take_all, drop-drop}
-use Rattle.std.proofs.lemmas.Bool.{cases_lt}
+use Rattle.std.proofs.lemmas.Bool.{cases_lt, eqb-false}
 use Rattle.byte_lists.specs.Content.{part}
 use Rattle.byte_lists.specs.Sectors.{sectors_of, padded}
 use Rattle.byte_lists.proofs.Padding.{length-padded}
@@ -26,9 +26,16 @@ use Rattle.group_laws.specs.Halves.{HasCheckpoint}
 use Rattle.group_core.specs.StateView.{StateView, setting_of}
 use Rattle.group_core.specs.Merging.{HasMerge, IsUnderWay, Streams, MayWrite, IsAfterPiece, WritesPiece}
 use Rattle.group_core.specs.Invariant.{Hidden, IsState}
+use Rattle.group_core.specs.declared.error.StepError.{StepError}
+use Rattle.group_core.specs.declared.error.StepError.TheVariants.{Fault}
+use Rattle.group_core.specs.declared.phases.AtPlan.{AtPlan}
+use Rattle.group_core.specs.declared.values.Commit.{Commit}
+use Rattle.group_core.specs.Values.{IsSame}
+use Rattle.group_core.specs.Steps.{IsPlanTurn, WritesChunk, is_whole, next_sectors, chunk_written}
+use Rattle.group_core.specs.StepCalls.{StepCall, chunk_write}
 use Rattle.group_core.proofs.Regions.{area_inside}
 use Rattle.group_core.proofs.Soundness.{sound_going}
-use Rattle.group_core.proofs.FlushSteps.{success}
+use Rattle.group_core.proofs.FlushSteps.{success, failure}
 
 -- ---- lists
 
@@ -311,3 +318,60 @@ module _ (old : StateView) (hidden : Hidden) (has : IsState old hidden) (turn : 
         rows =
             ap (λ (n : ℕ). part (512 * n + 32) m.size (reads_of disk)) area_is
             ∙ rows_in_area old.geometry (other old.half) (reads_of disk) checkpoint there.begins m.size was.size the.so.inside
+
+-- ---- what the step says
+
+same_tests : (a b c d : ℕ) → (a ≡ b → c ≡ d) → (c ≡ d → a ≡ b) → (a == b) ≡ (c == d)
+same_tests a b c d to back = by_test (a == b) refl
+  where
+    by_test : (test : Bool) → (a == b) ≡ test → (a == b) ≡ (c == d)
+    by_test true is = is ∙ sym (eq-eqb c d (to (eqb-true a b is)))
+    by_test false is = is ∙ sym (ne_eqb c d (λ same. eqb-false a b is (back same)))
+
+module _ (view old : StateView) (is : view ≡ old) (sectors more : ℕ) (sectors_are : 512 * sectors ≡ length view.checkpoint) (more_is : more ≡ min (sectors - view.written) 256) where
+  next_is : more ≡ next_sectors view
+  next_is = omega (arith, sectors_are, more_is)
+
+  pub step_so : (value next : Commit AtPlan) → IsPlanTurn value old → old.stopped ≡ false → (disk : Disk) (bytes : List ℕ) → view.checkpoint ≡ bytes → IsSame value next
+      → next.phase.done ≡ (view.written + more == sectors) → disk.faults ≡ view.disk.faults
+      → WritesChunk value (Ok next) old (record view { disk = disk; checkpoint = bytes; written = view.written + more })
+  step_so value next turn going disk bytes same_bytes same done faults =
+      subst (λ (v : StateView). IsPlanTurn value v → v.stopped ≡ false → WritesChunk value (Ok next) v (record view { disk = disk; checkpoint = bytes; written = view.written + more })) is
+      (λ turn_so going_so. (
+        turn_so,
+        going_so,
+        record { same = same; done = done ∙ tests },
+        faults,
+        λ i. record view { disk = disk; checkpoint = sym same_bytes i; written = view.written + next_is i },
+      )) turn going
+    where
+      tests : (view.written + more == sectors) ≡ is_whole (chunk_written view)
+      tests = same_tests (view.written + more) sectors (512 * (view.written + next_sectors view)) (length view.checkpoint) (λ e. omega (arith, e, sectors_are, next_is)) (λ e. omega (arith, e, sectors_are, next_is))
+
+  module _ (sector : ℕ) (sector_is : sector ≡ area_at view.geometry view.half + view.written) (disk : Disk) where
+    placed : {T E : Type 0} (result : Result T E) → WriteCall sector (part (512 * view.written) (512 * more) view.checkpoint) result view.disk disk
+        → WriteCall (area_at view.geometry view.half + view.written) (part (512 * view.written) (512 * next_sectors view) view.checkpoint) result view.disk disk
+    placed result call =
+        subst (λ (n : ℕ). WriteCall (area_at view.geometry view.half + view.written) (part (512 * view.written) (512 * n) view.checkpoint) result view.disk disk) next_is
+        (subst (λ (n : ℕ). WriteCall n (part (512 * view.written) (512 * more) view.checkpoint) result view.disk disk) sector_is call)
+
+    pub call_done : {T E : Type 0} (v : T) (next : Commit AtPlan) → WriteCall sector (part (512 * view.written) (512 * more) view.checkpoint) (success E v) view.disk disk
+        → StepCall {P = AtPlan} {N = Commit AtPlan} (chunk_write old) (Ok next) old.disk disk
+    call_done {T} {E} v next call =
+        let so = placed (success E v) call in
+        subst (λ (w : StateView). StepCall {P = AtPlan} {N = Commit AtPlan} (chunk_write w) (Ok next) w.disk disk) is (record {
+          keeps = so.keeps;
+          faults = so.faults;
+          lands = λ honest. let lands = so.lands honest in record { landed = lands.landed; size = lands.size; done = lands.done; history = lands.history };
+        })
+
+    pub call_failed : {T E : Type 0} (e : E) (error : StepError AtPlan) → error ≡ Fault → WriteCall sector (part (512 * view.written) (512 * more) view.checkpoint) (failure T e) view.disk disk
+        → StepCall {P = AtPlan} {N = Commit AtPlan} (chunk_write old) (Err error) old.disk disk
+    call_failed {T} {E} e error fault call =
+        let so = placed (failure T e) call in
+        subst (λ (x : StepError AtPlan). StepCall {P = AtPlan} {N = Commit AtPlan} (chunk_write old) (Err x) old.disk disk) (sym fault)
+        (subst (λ (w : StateView). StepCall {P = AtPlan} {N = Commit AtPlan} (chunk_write w) (Err Fault) w.disk disk) is (record {
+          keeps = so.keeps;
+          faults = so.faults;
+          lands = λ honest. let lands = so.lands honest in record { landed = lands.landed; size = lands.size; done = lands.done; history = lands.history };
+        }))
