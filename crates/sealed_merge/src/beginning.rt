@@ -44,14 +44,7 @@ pub fn begin_merge<D: Device>(
     }
     let area = geometry.area_at(half);
     let mut window = vec![in alloc; 0; WINDOW]?;
-    let (plan, note) = plan_rows(
-        alloc,
-        device,
-        area,
-        front,
-        &journal.commands,
-        &mut window,
-    )?;
+    let (plan, note) = plan_rows(alloc, device, area, front, &journal.commands, &mut window)?;
     if plan.size > SECTOR as u64 * u64::from(geometry.checkpoint) - BEFORE_ROWS as u64 {
         return Err(SealedError::Damaged);
     }

@@ -71,12 +71,6 @@ impl Merge {
         device.write(at, &self.window[..count])?;
         let taken = self.pour.made().len().min(PIECE);
         self.pour.take(taken);
-        make_piece(
-            device,
-            area,
-            self.size,
-            &mut self.pour,
-            &mut self.window,
-        )
+        make_piece(device, area, self.size, &mut self.pour, &mut self.window)
     }
 }

@@ -37,10 +37,7 @@ pub(crate) fn read_old_front<D: Device>(
 {
     checkpoints_are_read_by_their_fronts();
     let sector = read_sector(device, geometry.area_at(half))?;
-    Ok(read_front(
-        &sector,
-        SECTOR as u64 * u64::from(geometry.checkpoint),
-    )?)
+    Ok(read_front(&sector, SECTOR as u64 * u64::from(geometry.checkpoint))?)
 }
 
 /// Plans what commands make of the rows of an area, `count` rows in `size` bytes, in one pass over them: it reads at most 256 sectors
