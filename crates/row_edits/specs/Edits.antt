@@ -42,6 +42,21 @@ bytes_in (Keep n ∷ edits) = n + bytes_in edits
 bytes_in (Pass n ∷ edits) = n + bytes_in edits
 bytes_in (Put ∷ edits) = bytes_in edits
 
+-- how many of these bytes they keep
+abbrev pub kept_by : Edit → ℕ
+kept_by (Keep n) = n
+kept_by (Pass n) = 0
+kept_by Put = 0
+
+abbrev pub bytes_kept : List Edit → ℕ
+bytes_kept [] = 0
+bytes_kept (edit ∷ edits) = kept_by edit + bytes_kept edits
+
+-- how many bytes the records of entries have
+abbrev pub bytes_put : List (Option RowView) → ℕ
+bytes_put [] = 0
+bytes_put (row ∷ rows) = len_if_any row + bytes_put rows
+
 -- how many entries they put
 abbrev pub puts_in : List Edit → ℕ
 puts_in [] = 0

@@ -27,7 +27,7 @@ pub record HasSeen (commands : List Command) (seen : List RowView) (planner : Pl
 
 -- What the edit of a row does to a planner, once it is known whether the row's key is one of the planner's: the row is planned too.
 pub record PlansOn (found : Bool) (row : RowView) (old new : Planner) : Type 0 where
-  pub keys : new.keys ≡ old.keys
+  pub keys : new.keys.items ≡ old.keys.items
   pub purged : new.purged ≡ old.purged
   pub more : (seen : List RowView) (count : ℕ) → old.kept ≡ min count (2 ^ 64 - 1)
       → IsFound found row old.keys.items (is_beyond old.purged) seen old.at old.edits.items count old.olds.items

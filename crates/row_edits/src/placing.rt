@@ -1,7 +1,9 @@
 //! Where the rows that are left under keys are put among the rows before.
 
-ghost use Rattle.std.specs.Prelude.{◌∷◌, ◌++◌, [], Bool, List, ℕ, IfOk, OnOk};
-ghost use Rattle.path_rows.specs.Database.{RowView};
+ghost use Rattle.std.specs.Prelude.{◌≡◌, ◌∷◌, ◌++◌, [], Bool, List, ℕ, IfOk, OnOk};
+ghost use Rattle.path_rows.specs.Database.{RowView, key_of};
+ghost use Rattle.path_db.specs.Key.{key_bytes};
+ghost use Rattle.row_edits.specs.Merging.{order_of};
 ghost use Rattle.path_rows.specs.Row.{row_view};
 ghost use Rattle.row_edits.specs.Planning.{IsPlanned, IsBefore, IsFound, SameEdits, MakesAll};
 
@@ -24,7 +26,7 @@ pub(crate) fn put_up_to(
 {
     let mut at = at;
     while at < keys.len() {
-        let order = keys[at].order(&Key::of_row(row));
+        let order = order_to(&keys[at], row);
         if order == Ordering::Greater {
             return Ok((at, false));
         }
@@ -35,6 +37,13 @@ pub(crate) fn put_up_to(
         }
     }
     Ok((at, false))
+}
+
+/// How a key compares to a row's.
+fn order_to(key: &Key, row: &Row) -> Ordering
+    ensures { result ≡ order_of (key_bytes key.now) (key_of (row_view row.now)) }
+{
+    key.order(&Key::of_row(row))
 }
 
 /// Appends a `Put` for each key from a place on.

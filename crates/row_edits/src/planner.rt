@@ -14,7 +14,7 @@ use crate::laws::merges_are_folds;
 use crate::left_rows::settle;
 use crate::placing::{push_edit, put_rest, put_up_to};
 use crate::plan::Plan;
-use crate::totals::{bytes_made, rows_among};
+use crate::totals::{kept_bytes, put_bytes, put_rows};
 use crate::touched::{greatest_purge, touched_keys};
 use path_db::{Command, Key, ROW_HEAD, Row, keys_are_separate};
 use seg_check::expiry;
@@ -55,12 +55,15 @@ impl Planner {
         let (at, is_touched) = put_up_to(&self.keys, self.at, &row, &mut self.edits)?;
         self.at = at;
         if is_touched {
-            return self.take_out(row);
+            self.take_out(row)?;
+            return Ok(());
         }
         if is_left_by(self.purged, &row) {
-            return self.keep(&row);
+            self.keep(&row)?;
+            return Ok(());
         }
-        self.leave_out(&row)
+        self.leave_out(&row)?;
+        Ok(())
     }
 
     /// The plan, once all rows were seen: for the commands that the planner was made for.
@@ -73,8 +76,8 @@ impl Planner {
         let mut edits = self.edits;
         put_rest(&keys, self.at, &mut edits)?;
         let rows = settle(alloc, &keys, olds, commands)?;
-        let size = bytes_made(&edits, &rows);
-        let count = self.kept.saturating_add(rows_among(&rows));
+        let size = kept_bytes(&edits).saturating_add(put_bytes(&rows));
+        let count = self.kept.saturating_add(put_rows(&rows));
         Ok(Plan {
             edits,
             rows,
@@ -109,7 +112,8 @@ impl Planner {
         requires { is_beyond self.old.purged (row_view row.now) ≡ false }
         ensures { OnOk result (PlansOn false (row_view row.now) self.old self.new) }
     {
-        push_edit(&mut self.edits, Edit::Pass(row_size(row)))
+        push_edit(&mut self.edits, Edit::Pass(row_size(row)))?;
+        Ok(())
     }
 }
 

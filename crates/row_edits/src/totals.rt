@@ -1,31 +1,43 @@
-//! How many bytes and rows a plan makes.
+//! How many bytes and rows a plan makes. A greater number than 2^64 - 1 is told as that.
 
-ghost use Rattle.std.specs.Prelude.{◌≡◌, ◌^◌, ◌-◌, min};
-ghost use Rattle.std.specs.Option.{option_map};
+ghost use Rattle.std.specs.Prelude.{◌≡◌, ◌^◌, ◌-◌, length, min};
+ghost use Rattle.std.specs.Option.{option_map, option_to_list};
 ghost use Rattle.path_rows.specs.Row.{row_view};
-ghost use Rattle.row_edits.specs.Edits.{bytes_out, count_rows, len_if_any, views_if_any};
+ghost use Rattle.row_edits.specs.Edits.{bytes_kept, bytes_put, count_rows, kept_by, len_if_any, views_if_any};
 
 use crate::edit::Edit;
 use path_db::{ROW_HEAD, Row};
 use seg_core::encoded_len;
 
-/// How many bytes edits make, with the rows that they put. A greater size is told as 2^64 - 1.
-pub(crate) fn bytes_made(edits: &[Edit], rows: &[Option<Row>]) -> u64
-    ensures { result ≡ min (bytes_out edits.now (views_if_any rows.now)) (2 ^ 64 - 1) }
+/// How many bytes edits keep.
+pub(crate) fn kept_bytes(edits: &[Edit]) -> u64
+    ensures { result ≡ min (bytes_kept edits.now) (2 ^ 64 - 1) }
 {
     let mut size: u64 = 0;
-    let mut next = 0;
     for edit in edits {
-        match *edit {
-            Edit::Keep(count) => size = size.saturating_add(u64::from(count)),
-            Edit::Pass(_) => {}
-            Edit::Put => {
-                if next < rows.len() {
-                    size = size.saturating_add(record_len(&rows[next]));
-                    next += 1;
-                }
-            }
-        }
+        size = size.saturating_add(bytes_of(*edit));
+    }
+    size
+}
+
+/// How many bytes an edit keeps.
+fn bytes_of(edit: Edit) -> u64
+    ensures { result ≡ kept_by edit }
+{
+    match edit {
+        Edit::Keep(count) => u64::from(count),
+        Edit::Pass(_) => 0,
+        Edit::Put => 0,
+    }
+}
+
+/// How many bytes the records of rows have.
+pub(crate) fn put_bytes(rows: &[Option<Row>]) -> u64
+    ensures { result ≡ min (bytes_put (views_if_any rows.now)) (2 ^ 64 - 1) }
+{
+    let mut size: u64 = 0;
+    for row in rows {
+        size = size.saturating_add(record_len(row));
     }
     size
 }
@@ -40,15 +52,23 @@ fn record_len(row: &Option<Row>) -> u64
     }
 }
 
-/// How many rows there are among these entries.
-pub(crate) fn rows_among(rows: &[Option<Row>]) -> u64
-    ensures { result ≡ count_rows (views_if_any rows.now) }
+/// How many rows there are among entries.
+pub(crate) fn put_rows(rows: &[Option<Row>]) -> u64
+    ensures { result ≡ min (count_rows (views_if_any rows.now)) (2 ^ 64 - 1) }
 {
-    let mut count = 0;
+    let mut count: u64 = 0;
     for row in rows {
-        if row.is_some() {
-            count += 1;
-        }
+        count = count.saturating_add(one_if_any(row));
     }
     count
+}
+
+/// One, where there is a row.
+fn one_if_any(row: &Option<Row>) -> u64
+    ensures { result ≡ length (option_to_list (option_map row_view row.now)) }
+{
+    match row {
+        Some(_) => 1,
+        None => 0,
+    }
 }

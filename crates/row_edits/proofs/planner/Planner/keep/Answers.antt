@@ -1,0 +1,20 @@
+use Rattle.std.proofs.Common.{◌+◌, refl, arith}
+use Rattle.path_rows.specs.Row.{row_view}
+use Rattle.row_edits.specs.Planning.{is_beyond}
+use Rattle.row_edits.proofs.Plans.{ends_kept}
+use Rattle.row_edits.proofs.planner.Planner.keep.Goals as goal
+
+pub returns : goal.returns
+returns c =
+    let old = c.args.self.now in
+    let row = row_view c.args.row.now in
+    let after = c.push_edit.new.edits.items in
+    record {
+      keys = refl;
+      purged = refl;
+      more = λ seen count counted found. record {
+        count = count + 1;
+        counted = omega (arith, counted, c.saturating_add.ensures);
+        planned = ends_kept old.keys.items old.at row (is_beyond old.purged) seen old.edits.items after count old.olds.items c.row_size.result c.row_size.ensures c.requires found c.in_ok-push_edit.ensures;
+      };
+    }
