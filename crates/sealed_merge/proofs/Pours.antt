@@ -30,7 +30,7 @@ started head epoch place plan rows commands long small spelled is =
     record {
       makes = ap (λ (l : List ℕ). head ++ l) is.makes ∙ spelled (database_after_all rows commands) size count;
       len = omega (arith, is.out, long);
-      end = is.bytes;
+      end = omega (arith, is.bytes);
     }
 
 pub poured : {E : Type 0} (result : Result PourView E) (head : List ℕ) (epoch place : ℕ) (plan : Plan) → length head ≡ 32 → plan.size < 2 ^ 32
