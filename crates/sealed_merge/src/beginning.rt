@@ -1,10 +1,13 @@
 //! Beginning the checkpoint of a sealed half.
 
-ghost use Rattle.std.specs.Prelude.{◌≡◌, ◌<◌, ◌≤◌, ◌^◌, List, IfOk};
-ghost use Rattle.path_rows.specs.Database.{RowView};
+ghost use Rattle.std.specs.Prelude.{◌≡◌, ◌<◌, ◌≤◌, ◌^◌, List, IfOk, OnOk};
+ghost use Rattle.path_rows.specs.Database.{RowView, IsDatabase, rows_len};
 ghost use Rattle.path_rows.specs.declared.command.Command.{Command};
+ghost use Rattle.image_laws.specs.Checkpoint.{CanBeCheckpoint};
 ghost use Rattle.image_laws.specs.Layout.{IsGeometry, image_sectors};
 ghost use Rattle.image_laws.specs.Geometry.{geometry_view};
+ghost use Rattle.ckpt_pair.specs.Checkpoint.{written_checkpoint};
+ghost use Rattle.ckpt_pair.specs.Rows.{rows_format};
 ghost use Rattle.store_open.specs.Sealed.{LooksAtHalf};
 ghost use Rattle.row_edits.specs.Edits.{bytes_in};
 ghost use Rattle.row_edits.specs.Planner.{IsPlanOf};
@@ -71,6 +74,7 @@ fn pour_of(alloc: Global, epoch: u64, place: u64, plan: Plan) -> Result<Pour, Al
     requires size { plan.size < 2 ^ 32 }
     requires count { plan.count < 2 ^ 32 }
     ensures poured { IfOk result (λ pour. (rows : List RowView) (commands : List Command) → IsPlanOf rows commands plan → PoursCheckpoint epoch place rows commands pour) }
+    ensures can { OnOk result ((rows : List RowView) → IsDatabase rows → rows_len rows < 2 ^ 32 → CanBeCheckpoint rows_format (written_checkpoint epoch place rows)) }
 {
     let head = checkpoint_front(epoch, place, plan.size as u32, plan.count as u32);
     Pour::new(alloc, &head, plan.edits, plan.rows)
