@@ -1,6 +1,6 @@
 -- The plan of all rows makes the rows after commands: for `planner`.
-use Rattle.std.proofs.Common.{◌≡◌, ℕ, ◌+◌, ◌-◌, ◌^◌, ◌≤◌, Bool, true, List, [], ◌∷◌, ◌++◌, length, take, drop, min, if◌then◌else◌, refl, sym, ap, ◌∙◌, subst, arith}
-use Rattle.std.specs.Prelude.{Option, Some, None, map}
+use Rattle.std.proofs.Common.{◌≡◌, ℕ, ◌+◌, ◌-◌, ◌^◌, ◌≤◌, Bool, true, false, List, [], ◌∷◌, length, take, drop, min, if◌then◌else◌, refl, sym, ap, ◌∙◌, arith}
+use Rattle.std.specs.Prelude.{Option, None, map}
 use Rattle.std.specs.List.{AllByRecursion}
 use Rattle.std.specs.Ordering.{is_eq}
 use Rattle.std.proofs.lemmas.List.{length-append, length-drop, length-take-le, length-map}
@@ -8,9 +8,8 @@ use Rattle.std.proofs.lemmas.List.Sums.{sum_by-cons}
 use Rattle.path_rows.specs.declared.command.Command.{Command}
 use Rattle.path_rows.specs.declared.command.Command.TheVariants.{Register}
 use Rattle.path_rows.specs.Database.{RowView, row_under, row_len, rows_len, IsDatabase}
-use Rattle.path_rows.specs.Command.{database_after_all, HasWholeSegments}
-use Rattle.path_rows.specs.CommandLaws.{left_by_puts, left_under_all, KeysAreSeparate}
-use Rattle.path_db.specs.declared.key.Key.{Key}
+use Rattle.path_rows.specs.Command.{database_after, database_after_all, HasWholeSegments}
+use Rattle.path_rows.specs.CommandLaws.{left_by_puts, left_under_all, KeysAreSeparate, CommandsKeepDatabase}
 use Rattle.path_db.specs.Key.{key_bytes}
 use Rattle.path_db.specs.RowRecord.{rows_encoding}
 use Rattle.row_edits.specs.declared.edit.Edit.{Edit}
@@ -47,7 +46,7 @@ bytes_split : (edits : List Edit) (rows : List (Option RowView)) → puts_in edi
 bytes_split [] [] puts = refl
 bytes_split [] (row ∷ rows) puts = absurd (omega (arith, puts))
 bytes_split (Keep n ∷ edits) rows puts = omega (arith, bytes_split edits rows puts)
-bytes_split (Pass n ∷ edits) rows puts = bytes_split edits rows puts
+bytes_split (Pass n ∷ edits) rows puts = omega (arith, bytes_split edits rows puts)
 bytes_split (Put ∷ edits) [] puts = absurd (omega (arith, puts))
 bytes_split (Put ∷ edits) (row ∷ rows) puts = omega (arith, bytes_split edits rows (omega (arith, puts)))
 
@@ -81,8 +80,15 @@ module _ (separate : KeysAreSeparate) (rows : List RowView) (commands : List Com
   pub all_settled : map (λ k. row_under k (database_after_all [] (Register olds ∷ commands))) keys ≡ map (left_of rows commands) keys
   all_settled = same_on (λ k. row_under k (database_after_all [] (Register olds ∷ commands))) (left_of rows commands) keys keys settled (λ k named. named)
 
+-- the rows after commands are a database
+rows_after : CommandsKeepDatabase → (rows : List RowView) (commands : List Command) → IsDatabase rows → AllByRecursion HasWholeSegments commands
+    → IsDatabase (database_after_all rows commands)
+unfolding database_after_all
+rows_after keeps rows [] is whole = is
+rows_after keeps rows (command ∷ commands) is whole = rows_after keeps (database_after rows command) commands (keeps rows command is whole.0) whole.1
+
 -- what a planner that has seen all rows hands out is a plan of them
-pub plan_of : KeysAreSeparate → MergesAreFolds → (rows : List RowView) (commands : List Command) (planner : Planner) (plan : Plan) (counted : ℕ)
+pub plan_of : KeysAreSeparate → CommandsKeepDatabase → MergesAreFolds → (rows : List RowView) (commands : List Command) (planner : Planner) (plan : Plan) (counted : ℕ)
     → HasSeen commands rows planner → IsDatabase rows → AllByRecursion HasWholeSegments commands
     → ((seen : List RowView) (kept : ℕ) (olds : List RowView) → IsPlanned planner.keys.items (is_beyond planner.purged) seen planner.at planner.edits.items kept olds
     → MakesAll planner.keys.items (is_beyond planner.purged) seen plan.edits.items kept olds)
@@ -91,12 +97,13 @@ pub plan_of : KeysAreSeparate → MergesAreFolds → (rows : List RowView) (comm
     → counted ≡ min (count_rows (views_if_any plan.rows.items)) (2 ^ 64 - 1)
     → plan.count ≡ min (planner.kept + counted) (2 ^ 64 - 1)
     → IsPlanOf rows commands plan
-plan_of separate merges rows commands planner plan counted seen is whole made puts sized counts total = record {
+plan_of separate keeps merges rows commands planner plan counted seen is whole made puts sized counts total = record {
   makes = makes;
   bytes = all.bytes;
   out = out;
   size = omega (arith, sized, out, parts);
   count = omega (arith, total, counts, seen.planned.counted, many);
+  database = rows_after keeps rows commands is whole;
   few = few_rows (database_after_all rows commands);
 }
   where

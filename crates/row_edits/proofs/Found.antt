@@ -10,7 +10,7 @@ use Rattle.path_rows.specs.Database.{RowView, key_of, is_under, row_under, IsRis
 use Rattle.path_rows.specs.CommandLaws.{winner, left_by_puts}
 use Rattle.row_edits.specs.Merging.{order_of, has_key, KeysRise}
 use Rattle.row_edits.specs.Found.{found_by_order, found_up_to, rows_found}
-use Rattle.row_edits.proofs.Keys.{same_key, its_key, turned_greater, RowsAbove, KeysAbove, not_above, none_above, keys_above, rows_above}
+use Rattle.row_edits.proofs.Keys.{same_key, its_key, turned_greater, RowsAbove, not_above, none_above, keys_above, rows_above}
 
 -- ---- what all rows are, those found are
 

@@ -11,7 +11,7 @@ use Rattle.path_db.specs.RowRecord.{row_record}
 use Rattle.row_edits.specs.declared.edit.Edit.{Edit}
 use Rattle.row_edits.specs.declared.edit.Edit.TheVariants.{Keep, Pass, Put}
 use Rattle.row_edits.specs.Edits.{record_if_any, len_if_any, edited, bytes_in, bytes_out}
-use Rattle.row_edits.specs.Pouring.{PourView, Pours, untaken, untaken_len, end_of, with_edit, with_next_row, steps_left}
+use Rattle.row_edits.specs.Pouring.{PourView, Pours, untaken_len, with_edit, with_next_row, steps_left}
 
 -- more bytes of a list
 pub take_more_bytes : (a b : ℕ) (l : List ℕ) → take (a + b) l ≡ take a l ++ take b (drop a l)

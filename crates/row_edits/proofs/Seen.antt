@@ -1,13 +1,14 @@
 -- What a planner has seen after one row more: for `planner`.
-use Rattle.std.proofs.Common.{◌≡◌, ℕ, List, [], ◌∷◌, ◌++◌, Bool, refl, sym, ap, ◌∙◌, subst}
+use Rattle.std.proofs.Common.{◌≡◌, ℕ, ◌+◌, List, [], ◌∷◌, ◌++◌, length, Bool, refl, sym, ap, ◌∙◌, subst, arith}
 use Rattle.std.specs.Prelude.{Option, map}
 use Rattle.path_rows.specs.declared.command.Command.{Command}
 use Rattle.path_rows.specs.Database.{RowView}
 use Rattle.path_db.specs.declared.key.Key.{Key}
 use Rattle.path_db.specs.Key.{key_bytes}
 use Rattle.row_edits.specs.declared.planner.Planner.{Planner}
-use Rattle.row_edits.specs.Merging.{keys_named_by, KeysRise, Covers}
-use Rattle.row_edits.specs.Planning.{is_beyond, IsFound}
+use Rattle.row_edits.specs.Merging.{keys_named_by, KeysRise, Covers, outlives, merged}
+use Rattle.row_edits.specs.declared.edit.Edit.{Edit}
+use Rattle.row_edits.specs.Planning.{is_beyond, IsPlanned, IsFound}
 use Rattle.row_edits.specs.Planner.{HasSeen, PlansOn}
 
 pub seen_more : (commands : List Command) (seen : List RowView) (row : RowView) (old mid new : Planner) (found : Bool) (was : HasSeen commands seen old)
@@ -19,4 +20,36 @@ seen_more commands seen row old mid new found was keys purged kept is on = recor
   covers = subst (λ (l : List Key). Covers (map key_bytes l) (keys_named_by commands)) (sym (on.keys ∙ keys)) was.covers;
   purges = λ other. ap (λ (o : Option ℕ). is_beyond o other) (on.purged ∙ purged) ∙ was.purges other;
   planned = on.more seen was.planned.count (kept ∙ was.planned.counted) is;
+}
+
+all_left : (n : ℕ) → n ≡ 0 + 0 + n
+all_left n = omega arith
+
+nothing_planned : (keys : List Key) (p : RowView → Bool) → IsPlanned keys p [] 0 [] 0 []
+nothing_planned keys p = record {
+  inside = omega arith;
+  puts = refl;
+  bytes = refl;
+  makes = λ left rows. refl;
+  counts = λ left rows. all_left (length (merged left p (map key_bytes keys) rows));
+  finds = λ rows. refl;
+}
+
+-- what a new planner has seen
+pub nothing_seen : (commands : List Command) (planner : Planner) → KeysRise (map key_bytes planner.keys.items) → Covers (map key_bytes planner.keys.items) (keys_named_by commands)
+    → ((row : RowView) → is_beyond planner.purged row ≡ outlives commands row) → planner.at ≡ 0 → planner.kept ≡ 0 → planner.edits.items ≡ [] → planner.olds.items ≡ []
+    → HasSeen commands [] planner
+nothing_seen commands planner rise covers purges at kept edits olds = record {
+  rise = rise;
+  covers = covers;
+  purges = purges;
+  planned = record {
+    count = 0;
+    counted = omega (arith, kept);
+    planned =
+        subst (λ (n : ℕ). IsPlanned planner.keys.items (is_beyond planner.purged) [] n planner.edits.items 0 planner.olds.items) (sym at)
+        (subst (λ (l : List Edit). IsPlanned planner.keys.items (is_beyond planner.purged) [] 0 l 0 planner.olds.items) (sym edits)
+        (subst (λ (l : List RowView). IsPlanned planner.keys.items (is_beyond planner.purged) [] 0 [] 0 l) (sym olds)
+        (nothing_planned planner.keys.items (is_beyond planner.purged))));
+  };
 }

@@ -1,17 +1,16 @@
 -- What commands leave under a key that they don't name, and under one that they do.
-use Rattle.std.proofs.Common.{◌≡◌, ℕ, Bool, true, false, not, List, [], ◌∷◌, ◌++◌, if◌then◌else◌, Some, None, refl, sym, ap, ◌∙◌, subst}
+use Rattle.std.proofs.Common.{◌≡◌, ℕ, Bool, true, false, not, List, [], ◌∷◌, ◌++◌, if◌then◌else◌, Some, None, refl, sym, ap, ◌∙◌}
 use Rattle.std.specs.Prelude.{Option, map}
-use Rattle.std.specs.Ordering.{nat_cmp, is_eq}
-use Rattle.std.specs.Cmp.Lexicographic.{slice_cmp}
+use Rattle.std.specs.Ordering.{is_eq}
 use Rattle.std.proofs.lemmas.Bool.{false≢true}
 use Rattle.path_rows.specs.declared.command.Command.{Command}
 use Rattle.path_rows.specs.declared.command.Command.TheVariants.{Register, Purge, Remove}
 use Rattle.path_rows.specs.Database.{RowView, key, key_of, is_under}
 use Rattle.path_rows.specs.Put.{is_newer}
 use Rattle.path_rows.specs.Command.{is_valid_beyond}
-use Rattle.path_rows.specs.CommandLaws.{winner, left_by_put, left_by_puts, kept_if, left_under, left_under_all}
-use Rattle.row_edits.specs.Merging.{order_of, keys_named, keys_named_by, has_key, outlives}
-use Rattle.row_edits.proofs.Keys.{same_key, itself, IsOf, its_key}
+use Rattle.path_rows.specs.CommandLaws.{winner, left_by_put, left_by_puts, kept_if, left_under_all}
+use Rattle.row_edits.specs.Merging.{order_of, keys_named_by, has_key, outlives}
+use Rattle.row_edits.proofs.Keys.{itself, IsOf, its_key}
 
 -- ---- a key that isn't named
 

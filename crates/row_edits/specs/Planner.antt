@@ -1,7 +1,7 @@
 -- The planner: what it has seen, and what it hands out.
-use Rattle.std.specs.Prelude.{◌≡◌, ℕ, ◌-◌, ◌^◌, ◌≤◌, List, [], ◌∷◌, ◌++◌, length, map, min, Bool, Option}
+use Rattle.std.specs.Prelude.{◌≡◌, ℕ, ◌-◌, ◌^◌, ◌≤◌, List, [], ◌∷◌, ◌++◌, length, map, min, Bool}
 use Rattle.path_rows.specs.declared.command.Command.{Command}
-use Rattle.path_rows.specs.Database.{RowView, rows_len}
+use Rattle.path_rows.specs.Database.{RowView, rows_len, IsDatabase}
 use Rattle.path_rows.specs.Command.{database_after_all}
 use Rattle.path_db.specs.Key.{key_bytes}
 use Rattle.path_db.specs.RowRecord.{rows_encoding}
@@ -41,4 +41,5 @@ pub record IsPlanOf (rows : List RowView) (commands : List Command) (plan : Plan
   pub out : bytes_out plan.edits.items (views_if_any plan.rows.items) ≡ rows_len (database_after_all rows commands)
   pub size : plan.size ≡ min (rows_len (database_after_all rows commands)) (2 ^ 64 - 1)
   pub count : plan.count ≡ min (length (database_after_all rows commands)) (2 ^ 64 - 1)
+  pub database : IsDatabase (database_after_all rows commands)
   pub few : length (database_after_all rows commands) ≤ rows_len (database_after_all rows commands)

@@ -1,6 +1,7 @@
 -- Keys in their order.
-use Rattle.std.specs.Prelude.{List}
+use Rattle.std.specs.Prelude.{List, [], ◌∷◌, ℕ, Bool, true, Option, Some, None, if◌then◌else◌}
 use Rattle.std.specs.List.Sorted.{IsSortedByKey}
+use Rattle.std.specs.Ordering.{is_lt}
 use Rattle.path_db.specs.declared.key.Key.{Key}
 use Rattle.path_db.specs.Key.{key_bytes}
 use Rattle.row_edits.specs.Merging.{order_of}
@@ -8,3 +9,13 @@ use Rattle.row_edits.specs.Merging.{order_of}
 -- no key is above the one after it
 abbrev pub IsKeyOrder : List Key → Type 0
 IsKeyOrder keys = IsSortedByKey key_bytes order_of keys
+
+-- a key is above the last one, where there is one
+abbrev pub is_above : Option (List ℕ) → List ℕ → Bool
+is_above None k = true
+is_above (Some last) k = is_lt (order_of last k)
+
+-- the keys that are above all those before them, after a last one
+abbrev pub risen : Option (List ℕ) → List (List ℕ) → List (List ℕ)
+risen last [] = []
+risen last (k ∷ ks) = if is_above last k then k ∷ risen (Some k) ks else risen last ks

@@ -24,9 +24,17 @@ pub fn settle(
     ensures { IfOk result (λ rows. views_if_any rows.items ≡ map (λ k. row_under k (database_after_all [] (Register olds.items ∷ commands.now))) (map key_bytes keys.now)) }
 {
     let db = database_of(alloc, olds, commands)?;
+    rows_at(alloc, &db, keys)
+}
+
+/// The rows of a database under keys: one entry for each key.
+fn rows_at(alloc: Global, db: &PathDb, keys: &[Key]) -> Result<Vec<Option<Row>>, AllocError>
+    ensures { IfOk result (λ rows. views_if_any rows.items ≡ map (λ k. row_under k db.now) (map key_bytes keys.now)) }
+{
     let mut rows = Vec::new(alloc);
     for key in keys {
-        rows.push(row_at(&db, key)?)?;
+        let row = row_at(db, key)?;
+        rows.push(row)?;
     }
     Ok(rows)
 }

@@ -16,12 +16,13 @@ mod pour;
 mod pour_buffer;
 mod totals;
 mod touched;
+mod whole;
 
 pub use edit::Edit;
 pub use laws::{keys_make_folds, merges_are_folds, pieces_follow, plans_make_folds};
+pub use left_rows::settle;
 pub use note::RowsNote;
 pub use plan::Plan;
 pub use planner::Planner;
 pub use pour::{PIECE, Pour};
-pub use left_rows::settle;
 pub use touched::{greatest_purge, touched_keys};

@@ -1,11 +1,9 @@
 //! Planning in one pass over the rows before.
 
 ghost use Rattle.std.specs.Prelude.{◌≡◌, ◌∷◌, ◌++◌, [], List, true, false, IfOk, OnOk};
-ghost use Rattle.std.specs.List.{AllByRecursion};
 ghost use Rattle.path_rows.specs.declared.command.Command.{Command};
 ghost use Rattle.path_rows.specs.Database.{RowView, IsDatabase, row_len};
 ghost use Rattle.path_rows.specs.Row.{row_view};
-ghost use Rattle.path_rows.specs.Command.{HasWholeSegments};
 ghost use Rattle.row_edits.specs.Planning.{is_beyond};
 ghost use Rattle.row_edits.specs.Planner.{HasSeen, IsPlanOf, PlansOn};
 
@@ -16,7 +14,8 @@ use crate::placing::{push_edit, put_rest, put_up_to};
 use crate::plan::Plan;
 use crate::totals::{kept_bytes, put_bytes, put_rows};
 use crate::touched::{greatest_purge, touched_keys};
-use path_db::{Command, Key, ROW_HEAD, Row, keys_are_separate};
+use crate::whole::commands_are_whole;
+use path_db::{Command, Key, ROW_HEAD, Row, commands_keep_database, keys_are_separate};
 use seg_check::expiry;
 use seg_core::{SegType, Segment, encoded_len};
 use std::alloc::{AllocError, Global};
@@ -38,13 +37,17 @@ impl Planner {
     pub fn new(alloc: Global, commands: &[Command]) -> Result<Planner, AllocError>
         ensures { IfOk result (λ planner. HasSeen commands.now [] planner) }
     {
+        let keys = touched_keys(alloc, commands)?;
+        let purged = greatest_purge(commands);
+        let edits = Vec::new(alloc);
+        let olds = Vec::new(alloc);
         Ok(Planner {
-            keys: touched_keys(alloc, commands)?,
+            keys,
             at: 0,
-            purged: greatest_purge(commands),
-            edits: Vec::new(alloc),
+            purged,
+            edits,
             kept: 0,
-            olds: Vec::new(alloc),
+            olds,
         })
     }
 
@@ -68,9 +71,11 @@ impl Planner {
 
     /// The plan, once all rows were seen: for the commands that the planner was made for.
     pub fn finish(self, alloc: Global, commands: &[Command]) -> Result<Plan, AllocError>
-        ensures { IfOk result (λ plan. (rows : List RowView) → HasSeen commands.now rows self → IsDatabase rows → AllByRecursion HasWholeSegments commands.now → IsPlanOf rows commands.now plan) }
+        ensures { IfOk result (λ plan. (rows : List RowView) → HasSeen commands.now rows self → IsDatabase rows → IsPlanOf rows commands.now plan) }
     {
+        commands_are_whole(commands);
         keys_are_separate();
+        commands_keep_database();
         merges_are_folds();
         let (keys, olds) = (self.keys, self.olds);
         let mut edits = self.edits;

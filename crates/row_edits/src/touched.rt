@@ -1,12 +1,13 @@
 //! The keys that commands name, and the greatest of their purges.
 
-ghost use Rattle.std.specs.Prelude.{◌≡◌, ◌++◌, IfOk, OnOk, map, false, if◌then◌else◌};
+ghost use Rattle.std.specs.Prelude.{◌≡◌, ◌++◌, List, ℕ, None, IfOk, OnOk, map, false, if◌then◌else◌};
+ghost use Rattle.std.specs.Option.{option_map};
 ghost use Rattle.path_rows.specs.Command.{is_valid_beyond};
 ghost use Rattle.path_rows.specs.Database.{RowView, key_of};
 ghost use Rattle.path_db.specs.Key.{key_bytes};
-ghost use Rattle.row_edits.specs.Merging.{keys_named, keys_named_by, outlives, outlives_one, KeysRise, Covers};
+ghost use Rattle.row_edits.specs.Merging.{keys_named, keys_named_by, outlives, outlives_one, has_key, KeysRise, Covers};
 ghost use Rattle.row_edits.specs.Planning.{is_beyond};
-ghost use Rattle.row_edits.specs.Touched.{IsKeyOrder};
+ghost use Rattle.row_edits.specs.Touched.{IsKeyOrder, is_above, risen};
 
 use path_db::{Command, Key};
 use seg_core::{SegType, Segment};
@@ -52,33 +53,41 @@ pub fn touched_keys(alloc: Global, commands: &[Command]) -> Result<Vec<Key>, All
     ensures named { IfOk result (λ keys. Covers (keys_named_by commands.now) (map key_bytes keys.items)) }
 {
     let mut keys = named_keys(alloc, commands)?;
-    keys.sort_unstable_by(|one, other| one.order(other));
+    sort_keys(&mut keys);
     without_repeats(alloc, &keys)
 }
 
-/// The keys of a sorted list, each once.
+/// Sorts keys.
+fn sort_keys(keys: &mut Vec<Key>)
+    ensures order { IsKeyOrder keys.new.items }
+    ensures same { (k : List ℕ) → has_key (map key_bytes keys.new.items) k ≡ has_key (map key_bytes keys.old.items) k }
+{
+    keys.sort_unstable_by(|one, other| one.order(other));
+}
+
+/// The keys that are above all those before them: of keys in their order, each once.
 fn without_repeats(alloc: Global, keys: &[Key]) -> Result<Vec<Key>, AllocError>
-    requires { IsKeyOrder keys.now }
-    ensures rise { IfOk result (λ rising. KeysRise (map key_bytes rising.items)) }
-    ensures covers { IfOk result (λ rising. Covers (map key_bytes rising.items) (map key_bytes keys.now)) }
-    ensures named { IfOk result (λ rising. Covers (map key_bytes keys.now) (map key_bytes rising.items)) }
+    ensures { IfOk result (λ rising. map key_bytes rising.items ≡ risen None (map key_bytes keys.now)) }
 {
     let mut rising = Vec::new(alloc);
+    let mut last = None;
     for key in keys {
-        push_if_greater(&mut rising, *key)?;
+        if is_above(last, key) {
+            rising.push(*key)?;
+            last = Some(*key);
+        }
     }
     Ok(rising)
 }
 
-/// Appends a key, unless it is the last one.
-fn push_if_greater(rising: &mut Vec<Key>, key: Key) -> Result<(), AllocError> {
-    if let Some(last) = rising.last() {
-        if !last.order(&key).is_lt() {
-            return Ok(());
-        }
+/// Whether a key is above the last one, where there is one.
+fn is_above(last: Option<Key>, key: &Key) -> bool
+    ensures { result ≡ is_above (option_map key_bytes last) (key_bytes key.now) }
+{
+    match last {
+        Some(last) => last.order(key).is_lt(),
+        None => true,
     }
-    rising.push(key)?;
-    Ok(())
 }
 
 /// The keys that commands name, in the order in which the commands name them.

@@ -1,4 +1,4 @@
-use Rattle.std.proofs.Common.{◌≡◌, ℕ, List, Bool, sym, ap, ◌∙◌}
+use Rattle.std.proofs.Common.{◌≡◌, Bool, ap, ◌∙◌}
 use Rattle.std.specs.Prelude.{map}
 use Rattle.path_rows.specs.Database.{RowView}
 use Rattle.path_db.specs.RowRecord.{rows_encoding}
@@ -9,7 +9,7 @@ use Rattle.row_edits.specs.Planning.{is_beyond}
 use Rattle.row_edits.proofs.laws.plans_make_folds.Goals as goal
 
 pub returns : goal.returns
-returns c = λ rows commands keys purged edits is whole rise covers same made.
+returns c = λ rows commands keys purged edits kept olds is whole rise covers same made.
     let tests : is_beyond purged ≡ outlives commands = λ i row. same row i in
     made.makes (left_of rows commands)
     ∙ ap (λ (p : RowView → Bool). rows_encoding (merged (left_of rows commands) p (map key_bytes keys) rows)) tests

@@ -1,6 +1,4 @@
-use Rattle.std.proofs.Common.{arith, ◌≡◌, List, ap}
-use Rattle.std.specs.Prelude.{Option}
-use Rattle.path_rows.specs.declared.row.Row.{Row}
+use Rattle.std.proofs.Common.{arith, List, ap}
 use Rattle.row_edits.specs.declared.edit.Edit.{Edit}
 use Rattle.row_edits.specs.Edits.{bytes_kept}
 use Rattle.row_edits.proofs.Ends.{none_left_of}

@@ -14,7 +14,7 @@ returns c =
       purged = refl;
       more = λ seen count counted found. record {
         count = count + 1;
-        counted = omega (arith, counted, c.saturating_add.ensures);
+        counted = omega (arith, counted, c.saturating_add-self.ensures);
         planned = ends_kept old.keys.items old.at row (is_beyond old.purged) seen old.edits.items after count old.olds.items c.row_size.result c.row_size.ensures c.requires found c.in_ok-push_edit.ensures;
       };
     }

@@ -1,6 +1,6 @@
-use Rattle.std.proofs.Common.{rules, arith, ◌≡◌, refl, sym, ap, ◌∙◌}
+use Rattle.std.proofs.Common.{refl, sym, ap, ◌∙◌}
 use Rattle.row_edits.specs.declared.edit.Edit.{Edit}
-use Rattle.row_edits.specs.Pouring.{PourView, untaken_len, with_edit}
+use Rattle.row_edits.specs.Pouring.{untaken_len, with_edit}
 use Rattle.row_edits.proofs.Pours.{put_len}
 use Rattle.row_edits.proofs.pour.Pour.enter.Goals as goal
 

@@ -1,9 +1,8 @@
-use Rattle.std.proofs.Common.{rules, arith, ◌≡◌, ℕ, ◌+◌, ◌-◌, ◌<◌, ◌≤◌, List, ◌∷◌, ◌++◌, length, take, drop, sym, ap, subst, ◌∙◌}
+use Rattle.std.proofs.Common.{arith, ◌≡◌, ℕ, ◌+◌, ◌-◌, ◌<◌, ◌≤◌, List, ◌∷◌, ◌++◌, length, take, drop, sym, ap, subst}
 use Rattle.std.proofs.lemmas.List.{length-take-le, with_items_is}
-use Rattle.row_edits.specs.declared.edit.Edit.{Edit}
 use Rattle.row_edits.specs.declared.edit.Edit.TheVariants.{Keep}
-use Rattle.row_edits.specs.Pouring.{PourView, Pours, steps_left, left_to_keep}
 use Rattle.row_edits.specs.Edits.{views_if_any}
+use Rattle.row_edits.specs.Pouring.{PourView, Pours, steps_left, left_to_keep}
 use Rattle.row_edits.proofs.Pours.{keeps, kept_smaller}
 use Rattle.row_edits.proofs.pour.Pour.keep.Goals as goal
 

@@ -1,8 +1,8 @@
-use Rattle.std.proofs.Common.{rules, arith, ◌≡◌, List, ℕ, ◌∷◌, length, take, drop, sym, ap, subst, ◌∙◌}
+use Rattle.std.proofs.Common.{arith, ◌≡◌, List, ℕ, ◌∷◌, length, take, drop, ap, ◌∙◌}
 use Rattle.std.proofs.lemmas.List.{with_items_is}
 use Rattle.row_edits.specs.declared.edit.Edit.TheVariants.{Keep}
-use Rattle.row_edits.specs.Pouring.{PourView}
 use Rattle.row_edits.specs.Edits.{views_if_any}
+use Rattle.row_edits.specs.Pouring.{PourView}
 use Rattle.row_edits.proofs.pour.Pour.take.Goals as goal
 
 pub returns : goal.returns

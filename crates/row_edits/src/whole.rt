@@ -1,0 +1,37 @@
+//! Laws of commands, by what their types say of the segments in them: the functions change nothing.
+
+ghost use Rattle.std.specs.List.{AllByRecursion};
+ghost use Rattle.path_rows.specs.Database.{AreWhole};
+ghost use Rattle.path_rows.specs.Command.{HasWholeSegments};
+
+use path_db::Command;
+use seg_core::{SegType, Segment, encoded_len};
+
+/// The segments of commands are whole.
+pub(crate) fn commands_are_whole(commands: &[Command])
+    ensures { AllByRecursion HasWholeSegments commands.now }
+{
+    for command in commands {
+        command_is_whole(command);
+    }
+}
+
+/// The segments of a command are whole.
+fn command_is_whole(command: &Command)
+    ensures { HasWholeSegments command.now }
+{
+    match command {
+        Command::Register(registration) => rows_are_whole(registration.as_slice()),
+        Command::Purge(_) => {}
+        Command::Remove(_, _) => {}
+    }
+}
+
+/// Segments are whole.
+fn rows_are_whole(rows: &[(SegType, Segment)])
+    ensures { AreWhole rows.now }
+{
+    for row in rows {
+        let _bytes = encoded_len(&row.1);
+    }
+}
