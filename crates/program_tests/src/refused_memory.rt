@@ -1,6 +1,6 @@
-//! Want of memory in sessions. The test is run with each of its allocations refused in turn: the session ends for want of memory
-//! after a front of its replies, or one reply is the code of want of memory. Then that message changed nothing, or its command
-//! was taken, and the later replies go on from there.
+//! Want of memory in sessions. The test is run with each of its allocations refused in turn: the session ends for want of memory,
+//! or because its output has no room, after a front of its replies, or one reply is the code of want of memory. Then that message
+//! changed nothing, or its command was taken, and the later replies go on from there.
 
 use crate::worked::{FOUND, LOOKUP, NONE_FOUND, REGISTER, session};
 use path_commands::cores_of;
@@ -102,7 +102,7 @@ fn served(alloc: Global) -> Result<(Result<u64, FrameError>, Vec<u8>), Fail> {
 fn is_whole(rt: &impl Abort, alloc: Global) -> Result<bool, Fail> {
     let (outcome, output) = served(alloc)?;
     let whole = replies_but(alloc, MESSAGES.len(), true)?;
-    if outcome == Err(FrameError::NoMemory) {
+    if outcome == Err(FrameError::NoMemory) || outcome == Err(FrameError::Write) {
         assert!(rt; whole.as_slice().starts_with(output.as_slice()));
         return Ok(false);
     }
