@@ -17,9 +17,9 @@ use Rattle.row_edits.specs.Laws.{left_of, AreUnder}
 use Rattle.row_edits.proofs.Keys.{same_key, turned_greater, KeysAbove, RowsAbove, not_above, none_above, keys_above, rows_above, IsOf, its_key, found_of}
 use Rattle.row_edits.proofs.Untouched.{unnamed, left_of_key}
 
--- ---- what stands under a key
+-- ---- what is under a key
 
--- behind what is left under a key, if anything is
+-- after what is left under a key, if anything is
 under_left : (q k : List ℕ) (found : Option RowView) (rest : List RowView) (later : Option RowView) (b : Bool) → is_eq (order_of q k) ≡ b → IsOf k found
     → row_under q rest ≡ later → (q ≡ k → later ≡ None) → row_under q (option_to_list found ++ rest) ≡ (if b then found else later)
 under_left q k None rest later true e of is same = is ∙ same (same_key q k e)

@@ -23,7 +23,7 @@ use Rattle.row_edits.specs.Edits.{record_if_any, edited, bytes_in, puts_in, coun
 use Rattle.row_edits.specs.Planning.{keys_done, keys_left, IsPlanned, IsBefore, IsFound, IsEnding, MakesAll, unless, when, SameEdits}
 use Rattle.row_edits.proofs.Pours.{record_len}
 
--- ---- edits behind others
+-- ---- edits after others
 
 pub bytes_behind : (es fs : List Edit) → bytes_in (es ++ fs) ≡ bytes_in es + bytes_in fs
 bytes_behind [] fs = omega arith
@@ -37,7 +37,7 @@ puts_behind (Keep n ∷ es) fs = puts_behind es fs
 puts_behind (Pass n ∷ es) fs = puts_behind es fs
 puts_behind (Put ∷ es) fs = omega (arith, puts_behind es fs)
 
--- they make their part of what comes behind
+-- they make their part of what comes after
 pub edited_behind : (es fs : List Edit) (rows more : List (Option RowView)) (bytes behind : List ℕ) → puts_in es ≡ length rows → bytes_in es ≡ length bytes
     → edited (es ++ fs) (rows ++ more) (bytes ++ behind) ≡ edited es rows bytes ++ edited fs more behind
 edited_behind [] fs [] more [] behind puts len = refl
@@ -56,7 +56,7 @@ edited_behind (Put ∷ es) fs (row ∷ rows) more bytes behind puts len =
     ap (λ (l : List ℕ). record_if_any row ++ l) (edited_behind es fs rows more bytes behind (omega (arith, puts)) len)
     ∙ sym (append_assoc (record_if_any row) (edited es rows bytes) (edited fs more behind))
 
--- behind the same edits
+-- after the same edits
 under_same : (es fs gs : List Edit) → ((rows : List (Option RowView)) (bytes : List ℕ) → edited fs rows bytes ≡ edited gs rows bytes)
     → (rows : List (Option RowView)) (bytes : List ℕ) → edited (es ++ fs) rows bytes ≡ edited (es ++ gs) rows bytes
 under_same [] fs gs same rows bytes = same rows bytes
@@ -146,7 +146,7 @@ module _ (keys : List Key) (at : ℕ) (d : Key) (lt : at < length keys) where
         ap (λ (ks : List (List ℕ)). merged left p ks (row ∷ rows)) left_first
         ∙ ap (λ (x : Ordering). by_order x left p row (λ ks. merged left p ks rows) (key_bytes k) (keys_left keys (at + 1)) (merged left p (keys_left keys (at + 1)) (row ∷ rows))) order
 
-    -- by what comes behind the row that is put
+    -- by what comes after the row that is put
     put_on : (left : List ℕ → Option RowView) (rows rest : List RowView) → merged left p (keys_left keys at) (row ∷ rows) ≡ option_to_list (left (key_bytes k)) ++ rest
         → rows_encoding (merged left p (map key_bytes keys) (seen ++ row ∷ rows))
         ≡ edited (edits ++ Put ∷ []) (map left (keys_done keys (at + 1))) (rows_encoding seen) ++ rows_encoding rest

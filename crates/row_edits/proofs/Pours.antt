@@ -19,7 +19,7 @@ take_more_bytes a b l =
     sym (take-append-drop a (take (a + b) l)) ∙ ap (λ (t : List ℕ). t ++ drop a (take (a + b) l)) (take-take a (a + b) l (omega arith))
     ∙ ap (λ (t : List ℕ). take a l ++ t) (drop-take a b l)
 
--- bytes of a window are those behind its place
+-- bytes of a window are those from its place on
 seen : (bytes window : List ℕ) (from d count : ℕ) → take (length window) (drop from bytes) ≡ window → d + count ≤ length window
     → take count (drop d window) ≡ take count (drop (from + d) bytes)
 seen bytes window from d count reads inside =

@@ -1,4 +1,4 @@
-//! How many bytes and rows a plan makes. A greater number than 2^64 - 1 is told as that.
+//! How many bytes and rows a plan makes. A number above 2^64 - 1 is given as 2^64 - 1.
 
 ghost use Rattle.std.specs.Prelude.{◌≡◌, ◌^◌, ◌-◌, length, min};
 ghost use Rattle.std.specs.Option.{option_map, option_to_list};

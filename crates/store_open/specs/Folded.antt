@@ -26,11 +26,11 @@ store_on disk folded = record {
   broken = false;
 }
 
--- on any device it tells what an image opens with
+-- on any device it has what an image opens with
 abbrev pub TellsOnAny : Folded → Opening (List RowView) Command → Type 0
 TellsOnAny folded opening = (disk : Disk) → Tells (store_on disk folded) opening
 
--- it was seen on a device: it tells what reads of the device open with
+-- it was seen on a device: it has what reads of the device open with
 pub record IsSeenOn (disk : Disk) (folded : Folded) : Type 0 where
   pub opening : Opening (List RowView) Command
   pub opens : IsHonest disk → IsOpening store_format latest (reads_of disk) opening
