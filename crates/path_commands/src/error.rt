@@ -1,29 +1,56 @@
 //! Why the program ends.
 
-ghost use Rattle.std.specs.Prelude.{◌≡◌};
+ghost use Rattle.std.specs.Prelude.{◌≡◌, Some};
+ghost use Rattle.path_commands.specs.Fault.{text_number, frame_number};
 
 use isd_as::IaError;
 use session_core::FrameError;
-use thiserror::Error;
+use std::error::Error;
+use std::fmt;
 
 /// What ends the program. It prints these words after `error: `.
-#[derive(Clone, Copy, Debug, PartialEq, Eq, Error)]
+#[derive(Clone, Copy, Debug, PartialEq, Eq)]
 pub enum Fault {
     /// A text in the list of core ASes is no ISD-AS.
-    #[error("text {}", *.0 as u8)]
     Text(IaError),
     /// The input is no hexadecimal text.
-    #[error("hex")]
     Hex,
     /// The session ended with a fault.
-    #[error("frame {}", *.0 as u8)]
     Frame(FrameError),
     /// Memory ran out.
-    #[error("memory")]
     Memory,
     /// A print outside the session failed.
-    #[error("output")]
     Output,
+}
+
+impl fmt::Display for Fault {
+    ghost use Rattle.path_commands.specs.Fault.{fault_text};
+
+    ghost output = { λ fault. Some (fault_text fault) };
+
+    fn fmt<W: fmt::Write>(&self, f: &mut fmt::Formatter<W>) -> fmt::Result {
+        match self {
+            Fault::Text(error) => write!(f, "text {}", text_number(*error)),
+            Fault::Hex => write!(f, "hex"),
+            Fault::Frame(error) => write!(f, "frame {}", frame_number(*error)),
+            Fault::Memory => write!(f, "memory"),
+            Fault::Output => write!(f, "output"),
+        }
+    }
+}
+
+impl Error for Fault {}
+
+fn text_number(error: IaError) -> u8
+    ensures { result ≡ text_number error }
+{
+    error as u8
+}
+
+fn frame_number(error: FrameError) -> u8
+    ensures { result ≡ frame_number error }
+{
+    error as u8
 }
 
 impl From<FrameError> for Fault {

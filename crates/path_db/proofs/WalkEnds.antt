@@ -6,7 +6,7 @@ use Rattle.path_rows.specs.Database.{RowView}
 use Rattle.path_db.specs.declared.error.DbError.{DbError}
 use Rattle.path_db.specs.declared.error.DbError.TheVariants.{BadRecord, Order}
 use Rattle.path_db.specs.RecordSteps.{◌>>=◌, check}
-use Rattle.seg_core.specs.Message.{last_of}
+use Rattle.seg_slots.specs.Message.{last_of}
 use Rattle.path_db.specs.RowRecord.{rows_encoding, row_size, has_row, row_decoding, is_above, rows_within, rows_decoding}
 use Rattle.path_db.specs.RowWalk.{WalkView, HasGiven}
 use Rattle.path_db.proofs.RowPieces.{all_read, cut_off}

@@ -19,11 +19,11 @@ use seg_core::{MOST_REGISTERED, MOST_REGISTERED_BYTES, SegType, Segment};
 use std::alloc::{AllocError, Global};
 
 /// The kind of a record that registers segments.
-const REGISTER: u8 = 1;
+const REGISTER_RECORD: u8 = 1;
 /// The kind of a record that purges.
-const PURGE: u8 = 2;
+const PURGE_RECORD: u8 = 2;
 /// The kind of a record that removes.
-const REMOVE: u8 = 3;
+const REMOVE_RECORD: u8 = 3;
 
 /// Appends the record of a command: its kind (1 byte); after it, for a registration, the count of its segments (1) and the record
 /// of a row for each; for a purge, a moment (8); for a removal, a type (1) and an id (32). Numbers are big-endian. Where memory is
@@ -61,7 +61,7 @@ fn put_registration(rows: &[(SegType, Segment)], out: &mut Vec<u8>) -> Result<()
     ensures ok { OnOk result (out.new.items ≡ out.old.items ++ (1 ∷ length rows.now ∷ rows_encoding rows.now)) }
     ensures kept { take (length out.old.items) out.new.items ≡ out.old.items }
 {
-    out.extend_from_slice(&[REGISTER, rows.len() as u8])?;
+    out.extend_from_slice(&[REGISTER_RECORD, rows.len() as u8])?;
     put_items(rows, out)
 }
 
@@ -81,7 +81,7 @@ fn put_purge(moment: u64, out: &mut Vec<u8>) -> Result<(), AllocError>
     ensures ok { OnOk result (out.new.items ≡ out.old.items ++ (2 ∷ to_be_bytes w64 moment)) }
     ensures kept { take (length out.old.items) out.new.items ≡ out.old.items }
 {
-    out.push(PURGE)?;
+    out.push(PURGE_RECORD)?;
     out.extend_from_slice(&moment.to_be_bytes())
 }
 
@@ -90,7 +90,7 @@ fn put_removal(kind: SegType, id: &[u8; 32], out: &mut Vec<u8>) -> Result<(), Al
     ensures ok { OnOk result (out.new.items ≡ out.old.items ++ (3 ∷ type_number kind ∷ id.now)) }
     ensures kept { take (length out.old.items) out.new.items ≡ out.old.items }
 {
-    out.extend_from_slice(&[REMOVE, type_byte(kind)])?;
+    out.extend_from_slice(&[REMOVE_RECORD, type_byte(kind)])?;
     out.extend_from_slice(id)
 }
 
@@ -107,9 +107,9 @@ pub fn read_command(alloc: Global, bytes: &[u8], version: u32) -> Result<Command
         return Err(DbError::BadRecord);
     };
     match *kind {
-        REGISTER => read_registration(alloc, body),
-        PURGE => read_purge(body),
-        REMOVE if version >= 2 => read_removal(body),
+        REGISTER_RECORD => read_registration(alloc, body),
+        PURGE_RECORD => read_purge(body),
+        REMOVE_RECORD if version >= 2 => read_removal(body),
         _ => Err(DbError::BadRecord),
     }
 }

@@ -9,7 +9,7 @@ ghost use Rattle.path_db.specs.RecordSteps.{Gives, Reads};
 ghost use Rattle.path_rows.specs.Database.{IsDatabase, AreWhole};
 ghost use Rattle.path_rows.specs.Row.{row_view, row_views};
 ghost use Rattle.path_db.specs.RowRecord.{row_record, rows_encoding, row_size, has_row, record_of, row_decoding, spelled_segment, HasOutline, is_above, rows_decoding};
-ghost use Rattle.seg_core.specs.Message.{last_of};
+ghost use Rattle.seg_slots.specs.Message.{last_of};
 
 use crate::error::DbError;
 use byte_lists::read_u32;

@@ -1,6 +1,7 @@
+pub mod Committed
 pub mod Learnt
 pub mod Left
-pub mod Receipts
+pub mod Numbers
 pub mod Showcase
 pub mod Showing
 pub mod Shown

@@ -1,10 +1,10 @@
 //! The changes of a state that threads wait for.
 
 use crate::bells::Bells;
-use crate::steps::Awaited;
 use std::sync::atomic::{AtomicU64, Ordering};
 use std::sync::{Condvar, Wait};
 use std::time::Duration;
+use store_actors::Awaited;
 
 /// The longest rest, in milliseconds.
 const LONGEST_REST: u64 = 10;

@@ -7,9 +7,7 @@ ghost use Rattle.group_core.specs.Starting.{value_in};
 ghost use Rattle.path_hub.specs.declared.error.HubError.TheVariants.{NoMemory, NoReader};
 ghost use Rattle.path_hub.specs.Left.{OpensAfter};
 
-use crate::checkpointer::checkpointer_loop;
 use crate::error::HubError;
-use crate::flusher::flusher_loop;
 use crate::hub::Hub;
 use crate::name::HubName;
 use sector_dev::Device;
@@ -19,6 +17,7 @@ use std::sync::Wait;
 use std::thread;
 use std::thread::Threads;
 use std::time::Clock;
+use store_actors::{checkpointer_loop, flusher_loop};
 use store_open::Store;
 
 /// What threads do with a hub: guests come one by one, and each is attended to in a thread of its own. It can't name a hub itself, so
@@ -37,7 +36,7 @@ pub trait Crew<D: Device, R: Wait + Clock> {
     fn miss(&self);
 
     /// The flusher has ended, as the state has stopped: because a device failed, or because `stop` was called, as it is once all guests
-    /// have been attended to. The flusher's thread calls this.
+    /// have been attended to. The flusher's thread calls this, where both actors were given their threads.
     fn stopped(&self) {}
 }
 
@@ -77,7 +76,8 @@ fn named_crew<
     (hub.close(), attended)
 }
 
-/// Runs both actors while guests are attended to, and stops them then.
+/// Runs both actors while guests are attended to, and stops them then. The flusher starts last, so that the crew isn't
+/// called at all where the thread of an actor isn't given.
 fn act<
     N: HubName + Send + Sync,
     D: Device + Send,
@@ -92,10 +92,10 @@ fn act<
         |actors| -> Result<u64, HubError>
             ensures { IfErr result (λ e. e ≡ NoMemory) }
         {
-            if actors.spawn(move || flush(rt, hub, crew)).is_err() {
+            if actors.spawn(move || checkpointer_loop(rt, hub)).is_err() {
                 return Err(HubError::NoMemory);
             }
-            if actors.spawn(move || checkpointer_loop(rt, hub)).is_err() {
+            if actors.spawn(move || flush(rt, hub, crew)).is_err() {
                 hub.stop();
                 return Err(HubError::NoMemory);
             }

@@ -2,19 +2,21 @@
 
 ghost use Rattle.std.specs.Prelude.{◌≡◌, IfOk, IfErr};
 ghost use Rattle.path_hub.specs.declared.error.HubError.TheVariants.{NoReader};
-ghost use Rattle.path_hub.specs.Receipts.{IsCommitted, RefusesCommand};
+ghost use Rattle.path_hub.specs.Committed.{IsCommitted, RefusesCommand};
+ghost use Rattle.path_hub.specs.Numbers.{AreNumbers};
 
 use crate::changes::Changes;
 use crate::error::HubError;
 use crate::name::HubName;
 use crate::reader::HubReader;
 use crate::show::{HubNote, HubShow};
-use crate::steps::{Awaited, Steps};
-use group_core::{Receipt, Redeemed, State};
+use crate::tally::{Completed, Tally};
+use group_core::{Numbers, Receipt, Redeemed, State};
 use path_db::Command;
 use sector_dev::Device;
-use std::sync::{Mutex, Wait};
+use std::sync::{Mutex, MutexGuard, Wait};
 use std::time::Clock;
+use store_actors::{Awaited, Steps};
 
 /// How many readers a hub has.
 pub const READERS: usize = 64;
@@ -27,6 +29,7 @@ pub struct Hub<D: Device, N: HubName, R: Wait + Clock> {
     pub(crate) rt: R,
     pub(crate) state: Mutex<State<D, HubShow<N, R>>>,
     pub(crate) changes: Changes,
+    pub(crate) tally: Tally,
     pub(crate) readers: Mutex<Vec<HubReader<N>>>,
 }
 
@@ -54,7 +57,7 @@ impl<D: Device, N: HubName, R: Wait + Clock> Hub<D, N, R> {
     /// Submits a command, and waits until it is committed: the receipt shows the command, and its note a place above the command's own.
     /// A command that isn't accepted is refused at once. Where the state stops before the command is committed, its place is answered:
     /// whether the store keeps the command is not known.
-    #[tactic(auto, using(crate::proofs::Through::is_committed))]
+    #[tactic(auto, using(crate::proofs::Committed::is_committed))]
     pub fn register(&self, command: Command) -> Result<Receipt<HubNote<N>>, HubError>
         ensures committed { IfOk result (IsCommitted command) }
         ensures why { IfErr result RefusesCommand }
@@ -82,6 +85,19 @@ impl<D: Device, N: HubName, R: Wait + Clock> Hub<D, N, R> {
         if !self.changes.has_reached(place) {
             self.rest(awaited, seen);
         }
+    }
+
+    /// The numbers of the state at one moment, and how much both actors had completed then. The lock is taken for this one read.
+    /// The clause is about the state's numbers; what the actors completed is open.
+    #[tactic(auto, using(crate::proofs::Numbers::are_numbers))]
+    pub fn numbers(&self) -> (Numbers, Completed)
+        ensures { AreNumbers result.0 }
+    {
+        let state = self.state.lock(&self.rt);
+        let numbers = state.numbers();
+        let completed = self.tally.completed();
+        MutexGuard::unlock(state);
+        (numbers, completed)
     }
 
     /// Stops the state for good: the actors' loops end, and so do the calls that wait for a commit.

@@ -9,10 +9,8 @@
 
 mod bells;
 mod changes;
-mod checkpointer;
 mod crew;
 mod error;
-mod flusher;
 mod guarded;
 mod hub;
 mod making;
@@ -21,12 +19,10 @@ mod published;
 mod reader;
 mod rule;
 mod show;
-mod steps;
+mod tally;
 
-pub use checkpointer::checkpointer_loop;
 pub use crew::{Crew, with_crew};
 pub use error::HubError;
-pub use flusher::flusher_loop;
 pub use hub::{Hub, READERS};
 pub use making::{HubJob, with_hub};
 pub use name::HubName;
@@ -34,4 +30,5 @@ pub use published::Published;
 pub use reader::HubReader;
 pub use rule::{ReaderRule, SeenGroups, SeesAll};
 pub use show::{HubNote, HubShow};
-pub use steps::{Awaited, Steps};
+pub use store_actors::{Awaited, Steps, checkpointer_loop, flusher_loop};
+pub use tally::Completed;

@@ -16,6 +16,7 @@ use crate::name::HubName;
 use crate::published::Published;
 use crate::reader::HubReader;
 use crate::show::{HubShow, HubWriter};
+use crate::tally::Tally;
 use group_core::State;
 use left_right::writer::Writer;
 use path_db::PathDb;
@@ -105,6 +106,7 @@ impl<D: Device, N: HubName, R: Wait + Clock> Hub<D, N, R> {
             rt,
             state: Mutex::new(State::new(alloc, store, show, home)),
             changes: Changes::new(),
+            tally: Tally::new(),
             readers: Mutex::new(readers),
         })
     }
@@ -120,6 +122,7 @@ impl<D: Device, N: HubName, R: Wait + Clock> Hub<D, N, R> {
             rt: _rt,
             state,
             changes: _changes,
+            tally: _tally,
             readers: _readers,
         } = self;
         let state = state.into_inner();

@@ -13,9 +13,9 @@ use crate::name::HubName;
 use crate::published::Published;
 use crate::rule::{GroupName, PublishesGroup, ReaderRule, SeenGroups};
 use core::mem::replace_with;
-use group_core::Showcase;
+use group_core::{Showcase, ShowsRows};
 use left_right::writer::Writer;
-use path_db::Command;
+use path_db::{Command, PathDb};
 use std::alloc::{AllocError, Global};
 use std::marker::{Brand, Model, PhantomData};
 use std::sync::Wait;
@@ -130,6 +130,12 @@ impl<N: HubName, R: Wait> Showcase for HubShow<N, R> {
         ensures groups { self.new.groups ≡ self.old.groups }
     {
         HubNote::of(self.writer.published().place())
+    }
+}
+
+impl<N: HubName, R: Wait> ShowsRows for HubShow<N, R> {
+    fn rows(&self) -> &PathDb {
+        self.writer.published().db()
     }
 }
 

@@ -12,7 +12,7 @@ use Rattle.std.proofs.lemmas.Option.{slice_get-get_or}
 use Rattle.isd_as.specs.IsdAs.{number_of}
 use Rattle.seg_core.specs.declared.entry.Entry.{Entry}
 use Rattle.seg_core.specs.EntryView.{entry_view, entry_views}
-use Rattle.seg_core.specs.Message.{last_of}
+use Rattle.seg_slots.specs.Message.{last_of}
 use Rattle.std.proofs.lemmas.Cmp.{nat_cmp_total, nat_list_cmp_total, tied_itself}
 use Rattle.std.proofs.lemmas.List.{map-append}
 use Rattle.std.proofs.lemmas.List.Folds.{list_any-append}

@@ -18,7 +18,7 @@ use Rattle.std.proofs.lemmas.Map.Lookups.{exact_bytes}
 use Rattle.isd_as.specs.IsdAs.{part_covers, covers_number}
 use Rattle.seg_core.specs.declared.seg_type.SegType.{SegType}
 use Rattle.seg_core.specs.SegmentView.{EntryView}
-use Rattle.seg_core.specs.Message.{last_of}
+use Rattle.seg_slots.specs.Message.{last_of}
 use Rattle.seg_core.specs.Registration.{type_number}
 use Rattle.seg_core.specs.Digest.{segment_digest}
 use Rattle.end_index.specs.declared.index_key.IndexKey.{IndexKey}

@@ -3,7 +3,7 @@ use Rattle.std.specs.Prelude.{ℕ, List, [], ◌∷◌, Bool, false, ◌==◌, �
 use Rattle.isd_as.specs.IsdAs.{covers_number}
 use Rattle.seg_core.specs.declared.seg_type.SegType.{SegType}
 use Rattle.seg_core.specs.SegmentView.{EntryView, SegmentView}
-use Rattle.seg_core.specs.Message.{last_of}
+use Rattle.seg_slots.specs.Message.{last_of}
 use Rattle.seg_core.specs.Registration.{type_number}
 use Rattle.path_rows.specs.Database.{RowView}
 use Rattle.path_rows.specs.Command.{is_valid_beyond}

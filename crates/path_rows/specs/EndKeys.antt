@@ -1,7 +1,7 @@
 -- The rows by the ISD-AS at one of their ends.
 use Rattle.std.specs.Prelude.{◌≡◌, ◌⊎◌, ℕ, List, [], ◌∷◌, Bool, true, false, ◌==◌, ◌&&◌, Option, Some, None}
 use Rattle.seg_core.specs.SegmentView.{EntryView}
-use Rattle.seg_core.specs.Message.{last_of}
+use Rattle.seg_slots.specs.Message.{last_of}
 use Rattle.end_index.specs.declared.index_key.IndexKey.{IndexKey}
 use Rattle.end_index.specs.IndexKey.{has}
 use Rattle.path_rows.specs.declared.end.End.{End}

@@ -6,7 +6,7 @@ ghost use Rattle.std.specs.Option.{option_map};
 ghost use Rattle.isd_as.specs.IsdAs.{number_of};
 ghost use Rattle.seg_core.specs.Encoding.{IsSegment};
 ghost use Rattle.seg_core.specs.EntryView.{entry_view, entry_views};
-ghost use Rattle.seg_core.specs.Message.{last_of};
+ghost use Rattle.seg_slots.specs.Message.{last_of};
 ghost use Rattle.path_rows.specs.Row.{row_view, row_views};
 ghost use Rattle.path_rows.specs.Answer.{covers_entry, first_of, matches, is_shown, segments_of};
 ghost use Rattle.path_rows.specs.Wanted.{answer_to, is_wanted};

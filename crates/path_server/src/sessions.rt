@@ -8,7 +8,7 @@ use std::io::BufWriter;
 use std::net::{Shutdown, TcpStream};
 use std::time::{Clock, Duration};
 
-/// The most reads that the program makes of a session's input.
+/// The most reads from a session's input.
 pub const MOST_READS: u64 = 1_000_000_000;
 
 /// How long a connection stays open after a fault of its session, so that the peer gets the replies before it: in milliseconds.

@@ -1,7 +1,7 @@
 //! The words of the program's command line, as `clap` reads them.
 //!
 //! To the layer above, `command` is the program's command with those within it that have the names of `ONCE`, `FORMAT`, `SHOW`,
-//! `STATUS`, `UPGRADE` and `RUN`, and `read` reads words by it; what their options say is `clap`'s to tell, but that numbers are decimal digits
+//! `STATUS`, `UPGRADE` and `RUN`, and `read` reads words by it; what their options say is read by `clap`, but that numbers are decimal digits
 //! alone.
 #![tactic(auto)]
 
@@ -67,7 +67,7 @@ pub const CHECKPOINT: &str = "checkpoint";
 /// The name of the option with the size of a journal, in sectors.
 pub const JOURNAL: &str = "journal";
 
-/// The name of the flag for what stands where on a device.
+/// The name of the flag for what is where on a device.
 pub const LAYOUT: &str = "layout";
 
 /// What the help says of the core ASes.

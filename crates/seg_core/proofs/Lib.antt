@@ -6,8 +6,6 @@ pub mod Sizes
 pub mod EncodedFields
 pub mod Paths
 pub mod Ranges
-pub mod Noting
-pub mod Misfits
 pub mod Types
 pub mod Rows
 pub mod EncodedLengths
@@ -20,5 +18,4 @@ pub mod Registered
 pub mod ResponseLengths
 pub mod ResponseTrip
 pub mod Refusals
-pub mod FirstMisfit
 pub mod PathRefusals

@@ -5,11 +5,12 @@ use Rattle.std.specs.Option.{option_map}
 use Rattle.std.proofs.lemmas.Bool.{leb-true}
 use Rattle.pw_wire.specs.Field.{FieldView}
 use Rattle.pw_wire.specs.Fields.{fields, fault}
-use Rattle.seg_core.specs.declared.error.SegError.{SegError}
-use Rattle.seg_core.specs.declared.error.SegError.TheVariants as error
-use Rattle.seg_core.specs.declared.shape.FieldKind.{FieldKind}
-use Rattle.seg_core.specs.Steps.{◌>>=◌, check, unless, at_most, Gives}
-use Rattle.seg_core.specs.Message.{message_fields, misfit_after, required_message, bytes_field}
+use Rattle.seg_slots.specs.declared.error.SegError.{SegError}
+use Rattle.seg_slots.specs.declared.error.SegError.TheVariants as error
+use Rattle.seg_slots.specs.declared.shape.FieldKind.{FieldKind}
+use Rattle.seg_slots.specs.Steps.{◌>>=◌, unless}
+use Rattle.seg_core.specs.Steps.{check, at_most, Gives}
+use Rattle.seg_slots.specs.Message.{message_fields, misfit_after, required_message, bytes_field}
 
 -- the value of a step that did not fail
 pub step_ok : {A B : Type 0} (r : Result A SegError) (f : A → Result B SegError) (y : B) → (r >>= f) ≡ Ok y → (x : A) × (r ≡ Ok x) × (f x ≡ Ok y)

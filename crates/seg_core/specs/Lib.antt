@@ -1,7 +1,5 @@
 pub mod Steps
 pub mod Shapes
-pub mod Message
-pub mod Slots
 pub mod SegmentView
 pub mod Pieces
 pub mod EntryView

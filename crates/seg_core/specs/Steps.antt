@@ -1,22 +1,12 @@
--- A reading gives a value, or the first refusal.
-use Rattle.std.specs.Prelude.{◌≡◌, ◌≢◌, ℕ, List, [], ◌∷◌, Bool, nat_le, Option, Some, None, Result, Ok, Err, if◌then◌else◌}
-use Rattle.seg_core.specs.declared.error.SegError.{SegError}
-use Rattle.seg_core.specs.declared.error.SegError.TheVariants.{NoMemory, Range}
-
--- one step, and then the next steps with its value
-infixl 10 ◌>>=◌
-abbrev pub ◌>>=◌ : {A B : Type 0} → Result A SegError → (A → Result B SegError) → Result B SegError
-(Ok x) >>= rest = rest x
-(Err e) >>= rest = Err e
+-- The steps of a reading of segments: tests, limits and lists. The first refusal is the result.
+use Rattle.std.specs.Prelude.{◌≡◌, ◌≢◌, ℕ, List, [], ◌∷◌, Bool, nat_le, Result, Ok, Err, if◌then◌else◌}
+use Rattle.seg_slots.specs.declared.error.SegError.{SegError}
+use Rattle.seg_slots.specs.declared.error.SegError.TheVariants.{NoMemory, Range}
+use Rattle.seg_slots.specs.Steps.{◌>>=◌}
 
 -- continues where the test holds, and is refused for this reason where the test fails
 abbrev pub check : Bool → SegError → Result (Unit {0}) SegError
 check holds reason = if holds then Ok tt else Err reason
-
--- continues where there is no refusal
-abbrev pub unless : Option SegError → Result (Unit {0}) SegError
-unless None = Ok tt
-unless (Some refusal) = Err refusal
 
 -- a number that is at most the limit
 abbrev pub at_most : ℕ → ℕ → Result ℕ SegError
@@ -35,12 +25,7 @@ abbrev pub result_map : {A B : Type 0} → (A → B) → Result A SegError → R
 result_map view (Ok x) = Ok (view x)
 result_map view (Err e) = Err e
 
--- A call that takes no memory returns exactly what the reading gives, seen by `view`.
-abbrev pub Reads : {X Y : Type 0} → (X → Y) → Result X SegError → Result Y SegError → Type 0
-Reads view (Ok x) reading = reading ≡ Ok (view x)
-Reads view (Err e) reading = reading ≡ Err e
-
--- A call that takes memory returns the same, unless memory was refused.
+-- A call that takes memory returns what the reading gives, unless memory was refused.
 abbrev pub Gives : {X Y : Type 0} → (X → Y) → Result X SegError → Result Y SegError → Type 0
 Gives view (Ok x) reading = reading ≡ Ok (view x)
 Gives view (Err e) reading = e ≢ NoMemory → reading ≡ Err e

@@ -3,22 +3,15 @@
 
 ghost use Rattle.std.specs.Prelude.{◌≡◌, ◌≢◌, ◌↔◌, ℕ, List, Some, None, Ok, Err};
 ghost use Rattle.pw_wire.specs.Field.{FieldView};
-ghost use Rattle.seg_core.specs.declared.error.SegError.{SegError};
-ghost use Rattle.seg_core.specs.declared.error.SegError.TheVariants.{NoMemory, Chain, Loop};
+ghost use Rattle.seg_slots.specs.declared.error.SegError.{SegError};
+ghost use Rattle.seg_slots.specs.declared.error.SegError.TheVariants.{NoMemory, Chain, Loop};
 ghost use Rattle.seg_core.specs.declared.seg_type.SegType.{SegType};
-ghost use Rattle.seg_core.specs.declared.shape.FieldKind.{FieldKind};
-ghost use Rattle.seg_core.specs.Message.{AllFit, HasFirstMisfit, first_misfit};
+ghost use Rattle.seg_slots.specs.declared.shape.FieldKind.{FieldKind};
+ghost use Rattle.seg_slots.specs.Message.{AllFit, HasFirstMisfit, first_misfit};
 ghost use Rattle.seg_core.specs.PathRefusals.{HasLoop, HasNoChain};
 ghost use Rattle.seg_core.specs.Registration.{registration_decoding, type_number, type_of};
 ghost use Rattle.seg_core.specs.Request.{request_decoding};
 ghost use Rattle.seg_core.specs.Segment.{segment_decoding};
-
-/// `first_misfit` is exactly what is wrong with the first field that doesn't fit its shape.
-pub fn first_misfit_is_exact()
-    ensures misfit { (shape : List FieldKind) (fs : List FieldView) (refusal : SegError)
-        → (first_misfit shape fs ≡ Some refusal) ↔ HasFirstMisfit shape fs refusal }
-    ensures none { (shape : List FieldKind) (fs : List FieldView) → (first_misfit shape fs ≡ None) ↔ AllFit shape fs }
-{}
 
 /// A type's number gives that type, and no other number gives it.
 pub fn type_numbers_are_exact()

@@ -6,13 +6,11 @@
 #![tactic(auto)]
 
 mod body;
-mod bytes_fields;
 mod decoding_laws;
 mod digest;
 mod earlier;
 mod entry;
 mod equality;
-mod error;
 mod format;
 mod hop;
 mod info;
@@ -29,15 +27,12 @@ mod response;
 mod seg_type;
 mod segment;
 mod shape;
-mod slots;
 mod writing;
 
 pub use decoding_laws::{
-    decodings_want_no_memory, first_misfit_is_exact, path_refusals_are_exact,
-    type_numbers_are_exact,
+    decodings_want_no_memory, path_refusals_are_exact, type_numbers_are_exact,
 };
 pub use entry::Entry;
-pub use error::SegError;
 pub use format::{MOST_ENTRIES, MOST_REGISTERED, MOST_REGISTERED_BYTES, MOST_SEGMENT_BYTES};
 pub use laws::{
     encodings_are_injective, encodings_are_shortest, path_tests_are_exact,
@@ -47,6 +42,7 @@ pub use laws::{
 pub use registration::read_registration;
 pub use request::read_request;
 pub use response::{write_response, write_response_of};
+pub use seg_slots::{SegError, first_misfit_is_exact};
 pub use seg_type::SegType;
 pub use segment::{Segment, read_segment};
 pub use writing::{encoded_len, is_encoding_of, put_segment, write_segment};

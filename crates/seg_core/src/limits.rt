@@ -1,9 +1,10 @@
 //! Tests of one number or condition, each with its refusal.
 
 ghost use Rattle.std.specs.Prelude.{◌-◌, ◌^◌};
-ghost use Rattle.seg_core.specs.Steps.{Reads, at_most, check};
+ghost use Rattle.seg_slots.specs.Steps.{Reads};
+ghost use Rattle.seg_core.specs.Steps.{at_most, check};
 
-use crate::error::SegError;
+use seg_slots::SegError;
 
 /// The number, where it has at most 8 bits.
 pub(crate) fn u8_of(n: u64) -> Result<u8, SegError>

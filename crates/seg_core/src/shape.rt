@@ -1,24 +1,7 @@
 //! The shapes of the messages: the kind of the value under each of their field numbers.
 
-/// The kind of the value under a field number of a message.
-#[derive(Clone, Copy)]
-pub(crate) enum FieldKind {
-    /// The message has no such field. A field of this number is ignored.
-    Unknown,
-    /// An integer: the last occurrence is the value, and 0 where there is none.
-    Number,
-    /// Bytes: the last occurrence is the value, and empty bytes where there is none.
-    Bytes,
-    /// A message that may occur once.
-    Message,
-    /// A message that may occur any number of times.
-    Messages,
-}
-
-use FieldKind::{Bytes, Message, Messages, Number, Unknown};
-
-/// One more than the largest field number that a message knows.
-pub(crate) const WIDTH: usize = 7;
+use seg_slots::FieldKind;
+use seg_slots::FieldKind::{Bytes, Message, Messages, Number, Unknown};
 
 // Each shape is a list by field numbers. No field has the number 0.
 

@@ -1,6 +1,6 @@
 use Rattle.std.proofs.Common.{rules, ◌≡◌, ◌<◌, true, false, [], ◌∷◌, ◌++◌, length, Err, ap, ◌∙◌}
 use Rattle.std.proofs.lemmas.List.{map-append}
-use Rattle.seg_core.specs.Message.{last_of}
+use Rattle.seg_slots.specs.Message.{last_of}
 use Rattle.path_db.specs.declared.error.DbError.{DbError}
 use Rattle.path_rows.specs.Database.{RowView}
 use Rattle.path_rows.specs.Row.{row_view, row_views}

@@ -1,0 +1,118 @@
+//! The command that serves sessions over TCP.
+
+use crate::ending::Ended;
+use crate::notices::Notices;
+use crate::stores::{device_over, path_of};
+use crate::system::System;
+use clap::ArgMatches;
+use path_commands::{Fault, cores_of, key_of};
+use path_server::{Options, run_on};
+use path_words::{CORES, IDLE, KEY, LISTEN, QUIET, SESSIONS};
+use sector_dev::{Device, FileDevice, SystemFile};
+use seg_lookup::Roster;
+use std::alloc::Global;
+use std::fs::File;
+use std::io;
+use std::io::Write;
+use std::net::{Net, SocketAddr, TcpListener};
+use std::rt::Files;
+use std::time::Duration;
+use store_open::{Store, open};
+
+/// How long a peer may be silent where no option says so, in seconds.
+const IDLE_SECONDS: u32 = 300;
+
+/// Serves the sessions of a store. Prints `ready` once it listens, and how many sessions there were at the end.
+pub(crate) fn serve_file<R: System, O: Write>(
+    rt: &R,
+    words: &ArgMatches<'_>,
+    output: &mut O,
+) -> Result<(), Ended> {
+    let options = options_of(rt.alloc(), words)?;
+    let store = store_of(rt, path_of(words))?;
+    let notices = Notices::new(rt, words.get_flag(QUIET));
+    let listener = match listen(rt, words, output, &notices, &store) {
+        Ok(listener) => listener,
+        Err(ended) => {
+            let _device = store.into_device();
+            return Err(ended);
+        }
+    };
+    let count = run_on(rt, rt.alloc(), listener, store, &options, &notices)?;
+    notices.end();
+    print_served(output, count).map_err(|_| Fault::Output)?;
+    Ok(())
+}
+
+/// Listens, and says so.
+fn listen<R: System, O: Write, D: Device>(
+    rt: &R,
+    words: &ArgMatches<'_>,
+    output: &mut O,
+    notices: &Notices<'_, R>,
+    store: &Store<D>,
+) -> Result<TcpListener, Ended> {
+    let listener = bind(rt, words.get_str(LISTEN).unwrap_or(""))?;
+    notices.begin(path_of(words), store, &listener);
+    print_ready(output).map_err(|_| Fault::Output)?;
+    Ok(listener)
+}
+
+/// The options of the server, as the words have them.
+fn options_of(alloc: Global, words: &ArgMatches<'_>) -> Result<Options, Fault> {
+    let cores = match words.get_str(CORES) {
+        Some(list) => cores_of(alloc, list)?,
+        None => Vec::new(alloc),
+    };
+    let key = match words.get_str(KEY) {
+        Some(text) => Some(key_of(alloc, text)?),
+        None => None,
+    };
+    let seconds = words.get_one::<u32>(IDLE).unwrap_or(IDLE_SECONDS);
+    Ok(Options {
+        cores: Roster::new(cores),
+        key,
+        sessions: words.get_one::<u64>(SESSIONS).unwrap_or(0),
+        idle: idle_of(seconds),
+    })
+}
+
+/// The time of this number of seconds, of which 0 is no end.
+fn idle_of(seconds: u32) -> Option<Duration> {
+    if seconds == 0 {
+        return None;
+    }
+    Some(Duration::from_secs(u64::from(seconds)))
+}
+
+/// The store of a file, which this process alone has open from now on.
+fn store_of<R: Files<File = File> + AllocGlobal>(
+    rt: &R,
+    path: &str,
+) -> Result<Store<FileDevice<SystemFile>>, store_commands::Fault> {
+    let device = device_over(device_files::open(rt, path))?;
+    match open(rt.alloc(), device) {
+        Ok(store) => Ok(store),
+        Err((_device, error)) => Err(error.into()),
+    }
+}
+
+/// Listens at a socket address.
+fn bind<R: System>(rt: &R, text: &str) -> Result<TcpListener, Ended> {
+    let Ok(address) = text.parse::<SocketAddr>() else {
+        return Err(Ended::Net);
+    };
+    rt.bind(address).map_err(|_| Ended::Net)
+}
+
+/// Prints that the server listens.
+fn print_ready<O: Write>(output: &mut O) -> io::Result<()> {
+    writeln!(output, "ready")?;
+    output.flush()
+}
+
+/// Prints how many sessions were served.
+fn print_served<O: Write>(output: &mut O, count: u64) -> io::Result<()> {
+    writeln!(output, "served {count}")?;
+    output.flush()
+}

@@ -1,0 +1,33 @@
+//! What the program takes of the system.
+
+use std::fs::File;
+use std::net::{Net, TcpListener, TcpStream};
+use std::rt::{Env, Files};
+use std::sync::Wait;
+use std::thread::Threads;
+use std::time::Clock;
+
+/// What the program takes of the system.
+pub trait System: Env
+    + Print
+    + Eprint
+    + AllocGlobal
+    + Files<File = File>
+    + Net<Listener = TcpListener, Stream = TcpStream>
+    + Wait
+    + Clock
+    + Threads
+    + Sync {}
+
+impl<
+    R: Env
+        + Print
+        + Eprint
+        + AllocGlobal
+        + Files<File = File>
+        + Net<Listener = TcpListener, Stream = TcpStream>
+        + Wait
+        + Clock
+        + Threads
+        + Sync,
+> System for R {}
