@@ -1,5 +1,5 @@
 -- Beginning a checkpoint: what reads give of the sealed half, and the state with its plan.
-use Rattle.std.proofs.Common.{◌≡◌, inl, ℕ, ◌+◌, ◌*◌, ◌%◌, ◌^◌, ◌≤◌, Bool, true, false, List, length, Option, Some, None, Result, Ok, Err, refl, sym, ◌∙◌, ap, subst, arith}
+use Rattle.std.proofs.Common.{◌≡◌, inl, ℕ, ◌+◌, ◌*◌, ◌%◌, ◌^◌, ◌≤◌, Bool, true, false, List, length, Some, Result, Ok, Err, refl, sym, ◌∙◌, ap, subst, arith}
 use Rattle.byte_lists.specs.Sectors.{sectors_of}
 use Rattle.byte_lists.proofs.Padding.{length-padded}
 use Rattle.path_rows.specs.Database.{RowView}
@@ -15,14 +15,18 @@ use Rattle.image_laws.specs.Journal.{all_of}
 use Rattle.image_laws.specs.declared.half.Half.{Half}
 use Rattle.image_laws.specs.Layout.{Geometry, other, area_of, journal_of}
 use Rattle.image_laws.specs.StoreFormat.{db_after}
+use Rattle.image_laws.specs.CheckpointReading.{checkpoint_in}
 use Rattle.image_laws.specs.Checkpoint.{Checkpoint, checkpoint_bytes, checkpoint_encoding}
 use Rattle.image_laws.proofs.Exports.{checkpoint_read, journal_read, store_journal}
 use Rattle.gate_journal.specs.Commands.{command_format}
 use Rattle.ckpt_pair.specs.Versions.{latest}
+use Rattle.ckpt_pair.specs.Checkpoint.{written_checkpoint}
 use Rattle.ckpt_pair.specs.Rows.{rows_format}
+use Rattle.sealed_merge.specs.Merge.{MergeView, encoding_made}
+use Rattle.sealed_merge.specs.Beginning.{IsMergeOf, MergesSealed}
 use Rattle.store_open.specs.PathStores.{store_format}
 use Rattle.store_open.specs.Behind.{SameBehind}
-use Rattle.store_open.specs.Sealed.{SealedHalf, sealed_half, folded_in, folded_behind, ReadsSealed, LooksAtHalf}
+use Rattle.store_open.specs.Sealed.{SealedHalf, sealed_half, folded_in, folded_behind, LooksAtHalf}
 use Rattle.store_open.specs.declared.sealed.SealedError.{SealedError}
 use Rattle.store_open.specs.declared.sealed.SealedError.TheVariants as half
 use Rattle.group_laws.specs.declared.phases.Flush.TheVariants.{Durable}
@@ -38,12 +42,12 @@ use Rattle.group_laws.specs.HeldTurns.{behind_plan}
 use Rattle.group_laws.proofs.Exports.{reads_by_its_part, held_when_plan_begins}
 use Rattle.group_core.specs.StateView.{StateView}
 use Rattle.group_core.specs.Stops.{setting_of, standing_of, StepLeaves}
-use Rattle.group_core.specs.Invariant.{Hidden, CountsAt, Sound, IsState}
+use Rattle.group_core.specs.Invariant.{Hidden, CountsAt, Sound, SoundWith, IsState}
 use Rattle.group_core.specs.declared.bookkeeping.Turn.{Turn}
 use Rattle.group_core.specs.declared.beginning.BeginError.TheVariants.{Damaged}
 use Rattle.group_core.specs.declared.phases.AtPlan.{AtPlan}
 use Rattle.group_core.specs.declared.values.Commit.{Commit}
-use Rattle.group_core.specs.Beginning.{checkpoint_of, FitsArea, IsEncoded, EncodesSealed, MayBegin, IsLookedAt, plan_begun, begun, Begins}
+use Rattle.group_core.specs.Beginning.{checkpoint_of, FitsArea, IsEncoded, MayBegin, IsLookedAt, plan_begun, begun, Begins}
 use Rattle.group_core.proofs.Soundness.{AtWork, checking, sound_at_work}
 use Rattle.group_core.proofs.States.{may_open}
 
@@ -75,6 +79,9 @@ module _ (view : StateView) (sound : Sound view) (turn : view.check ≡ Sealed) 
     place = place_of (sealed_of base);
     rows = db_after store_format sound.behind.old.db (all_of sound.behind.old_groups);
   }
+
+  pub area_reads : checkpoint_in rows_format latest (area_of view.geometry (other view.half) (reads_of view.disk)) ≡ Ok sound.behind.old
+  area_reads = checkpoint_read rows_format latest (area_of view.geometry (other view.half) (reads_of view.disk)) sound.behind.old (old_stands.area.begins) (old_stands.area.known)
 
   pub half_reads : sealed_half view.geometry (other view.half) (reads_of view.disk) ≡ Some folded
   half_reads =
@@ -112,6 +119,11 @@ module _ (view : StateView) (sound : Sound view) (turn : view.check ≡ Sealed) 
     fits_so going =
         omega (arith, sound.fits going, ap (λ (rows : List RowView). length (rows_encoding rows)) (sym old_stands.folds.db ∙ folds.db))
 
+-- what a merge makes is the checkpoint of the half
+spelled_so : (geometry : Geometry) (half : Half) (epoch : ℕ) (disk : Disk) (merge : MergeView) (made : IsMergeOf geometry half epoch disk merge)
+    → encoding_made merge ≡ checkpoint_encoding rows_format (checkpoint_of epoch made.sealed)
+spelled_so geometry half epoch disk merge made = λ i. checkpoint_encoding rows_format (written_checkpoint (made.epoch_is i) (made.place i) (made.rows i))
+
 -- a checkpoint that fits takes no more sectors than the area has
 sectors_fit : (epoch area : ℕ) (sealed : SealedHalf) (bytes : List ℕ) → bytes ≡ checkpoint_encoding rows_format (checkpoint_of epoch sealed)
     → 32 + length (rows_encoding sealed.rows) ≤ 512 * area
@@ -147,26 +159,32 @@ module _ (old : StateView) (hidden : Hidden) (has : IsState old hidden) (disk : 
       staged = has.shape.staged;
       plan = has.shape.plan;
       epoch = has.shape.epoch;
+      bytes = has.shape.bytes;
+      merge = λ is. has.shape.merge (going is);
     };
     sound = λ honest.
         let before = honest_before old.disk disk looked.keeps honest in
-        let sound = sound_at_work old hidden has work before in
+        let with = sound_at_work old hidden has work before in
+        let sound = with.sound in
         inl (record {
-          behind = sound.behind;
-          held = subst (λ (h : History). IsHeldBy (setting_of old) (standing_of old) sound.behind h.now) (sym (looked.history before)) sound.held;
-          counts = sound.counts;
-          fits = λ is. sound.fits (going is);
+          sound = record {
+            behind = sound.behind;
+            held = subst (λ (h : History). IsHeldBy (setting_of old) (standing_of old) sound.behind h.now) (sym (looked.history before)) sound.held;
+            counts = sound.counts;
+            fits = λ is. sound.fits (going is);
+          };
+          streams = λ is. with.streams (going is);
         });
   }
 
   module _ (may : MayBegin old) (whole : IsHonest old.disk → IsWhole old.disk) where
     sound_now : IsHonest old.disk → Sound old
-    sound_now honest = sound_at_work old hidden has (checking Sealed may.sealed (λ (is : Sealed ≡ Ready). cc)) honest
+    sound_now honest = (sound_at_work old hidden has (checking Sealed may.sealed (λ (is : Sealed ≡ Ready). cc)) honest).sound
 
-    -- the bytes of the sealed half's checkpoint are made, and a plan begins
-    pub begun_state : (bytes : List ℕ) (plan : Turn) → IsEncoded old.geometry (old.epoch + 1) old.disk (sealed_half old.geometry (other old.half) (reads_of old.disk)) bytes
-        → IsState (record old { disk = disk; check = Planned; plan = plan; checkpoint = bytes; written = 0 }) hidden
-    begun_state bytes plan made = record {
+    -- the sealed half's checkpoint is planned, and a plan begins
+    pub begun_state : (merge : MergeView) (plan : Turn) → IsMergeOf old.geometry (other old.half) (old.epoch + 1) old.disk merge
+        → IsState (record old { disk = disk; check = Planned; plan = plan; checkpoint = encoding_made merge; written = 0 }) (record hidden { merge = Some merge })
+    begun_state merge plan made = record {
       shape = record {
         limits = has.shape.limits;
         sectors = omega (arith, has.shape.sectors, looked.keeps.sectors);
@@ -185,7 +203,7 @@ module _ (old : StateView) (hidden : Hidden) (has : IsState old hidden) (disk : 
         load = has.shape.load;
         staged = has.shape.staged;
         plan =
-            let sized = sectors_fit (old.epoch + 1) old.geometry.checkpoint made.sealed bytes made.spelled made.fits in
+            let sized = sectors_fit (old.epoch + 1) old.geometry.checkpoint made.sealed (encoding_made merge) (spelled_so old.geometry (other old.half) (old.epoch + 1) old.disk merge made) made.fits in
             record {
               sectors = sectors_of (length (checkpoint_bytes rows_format (checkpoint_of (old.epoch + 1) made.sealed)));
               whole = sized.0;
@@ -193,12 +211,17 @@ module _ (old : StateView) (hidden : Hidden) (has : IsState old hidden) (disk : 
               written = omega arith;
             };
         epoch = omega (arith, may.epoch);
+        bytes = refl;
+        merge = λ going planned. record { left = omega (arith, made.len); inside = made.inside; ready = made.ready };
       };
       sound = λ honest. inl (planned (honest_before old.disk disk looked.keeps honest));
     }
       where
         next : Checkpoint (List RowView)
         next = checkpoint_of (old.epoch + 1) made.sealed
+
+        spelled : encoding_made merge ≡ checkpoint_encoding rows_format next
+        spelled = spelled_so old.geometry (other old.half) (old.epoch + 1) old.disk merge made
 
         can : CanBeWritten (setting_of old) next
         can = record {
@@ -209,17 +232,21 @@ module _ (old : StateView) (hidden : Hidden) (has : IsState old hidden) (disk : 
               omega (arith, sized.0, sized.1);
         }
 
-        planned : IsHonest old.disk → Sound (record old { disk = disk; check = Planned; plan = plan; checkpoint = bytes; written = 0 })
+        planned : IsHonest old.disk → SoundWith (record old { disk = disk; check = Planned; plan = plan; checkpoint = encoding_made merge; written = 0 }) (Some merge)
         planned before =
             let sound = sound_now before in
             let turn = may.sealed in
+            let from = made.makes before sound.behind.old (area_reads old sound turn (whole before)) in
             record {
-              behind = behind_plan sound.behind next;
-              held = subst (λ (h : History). IsHeldBy (setting_of old) (checked (standing_of old) Planned 0) (behind_plan sound.behind next) h.now) (sym (looked.history before))
-                  (held_when_plan_begins (List RowView) Command (setting_of old) (standing_of old) sound.behind old.disk.history.now next turn sound.held
-                  (folds old sound turn (whole before) made.sealed (made.reads before)) can);
-              counts = (record { old = counts old sound turn (whole before) made.sealed (made.reads before); new = refl; version = refl }, made.spelled);
-              fits = λ is. made.fits;
+              sound = record {
+                behind = behind_plan sound.behind next;
+                held = subst (λ (h : History). IsHeldBy (setting_of old) (checked (standing_of old) Planned 0) (behind_plan sound.behind next) h.now) (sym (looked.history before))
+                    (held_when_plan_begins (List RowView) Command (setting_of old) (standing_of old) sound.behind old.disk.history.now next turn sound.held
+                    (folds old sound turn (whole before) made.sealed (made.reads before)) can);
+                counts = (record { old = counts old sound turn (whole before) made.sealed (made.reads before); new = refl; version = refl }, spelled);
+                fits = λ is. made.fits;
+              };
+              streams = λ going is. record { size = from.size; left = from.makes };
             }
 
     -- an honest device shows the half, and its checkpoint fits
@@ -249,16 +276,6 @@ module _ {old view : StateView} {old_hidden : Hidden} (is : old ≡ view) (has :
     };
   })
 
--- a half that isn't read makes no bytes
-pub refused_encoded : {X : Type 0} (items : X → List ℕ) (geometry : Geometry) (epoch : ℕ) (e : SealedError) (disk : Disk) (reading : Option SealedHalf)
-    → (IsHonest disk → ReadsSealed (Err e) reading) → EncodesSealed items geometry epoch (Err e) disk reading
-refused_encoded items geometry epoch half.Fault disk reading is = tt
-refused_encoded items geometry epoch half.NoMemory disk reading is = tt
-refused_encoded items geometry epoch half.Damaged disk reading is = λ honest sealed some fits. none_some sealed (sym (is honest) ∙ some)
-  where
-    none_some : (sealed : SealedHalf) → (let none : Option SealedHalf = None in none) ≡ Some sealed → ⊥
-    none_some sealed same = cc
-
 -- a look by its result
 pub looked_so : {T : Type 0} {result : Result T SealedError} {old new : Disk} → LooksAtHalf result old new → IsLookedAt old new
 looked_so looks = record { keeps = looks.keeps; history = looks.history }
@@ -275,29 +292,38 @@ module _ (old : StateView) (hidden : Hidden) (has : IsState old hidden) (whole :
   may_old : MayBegin old
   may_old = subst MayBegin (sym view_is) may_view
 
-  module _ (bytes : List ℕ) (made_there : IsEncoded old.geometry (old.epoch + 1) old.disk (sealed_half old.geometry side (reads_of old.disk)) bytes) where
-    made_so : IsEncoded old.geometry (old.epoch + 1) old.disk (sealed_half old.geometry (other old.half) (reads_of old.disk)) bytes
-    made_so = subst (λ (h : Half). IsEncoded old.geometry (old.epoch + 1) old.disk (sealed_half old.geometry h (reads_of old.disk)) bytes) side_is made_there
+  module _ (merge : MergeView) (made_there : IsMergeOf old.geometry side (old.epoch + 1) old.disk merge) where
+    made_so : IsMergeOf old.geometry (other old.half) (old.epoch + 1) old.disk merge
+    made_so = subst (λ (h : Half). IsMergeOf old.geometry h (old.epoch + 1) old.disk merge) side_is made_there
 
-    pub begun_so : {T : Type 0} {result : Result T SealedError} → LooksAtHalf result old.disk disk → IsState (begun old disk bytes) hidden
-    begun_so looks = begun_state old hidden has disk (looked_so looks) may_old whole bytes (plan_begun old.plan) made_so
+    encoded : IsEncoded old.geometry (old.epoch + 1) old.disk (sealed_half old.geometry (other old.half) (reads_of old.disk)) (encoding_made merge)
+    encoded = record {
+      sealed = made_so.sealed;
+      reads = made_so.reads;
+      spelled = spelled_so old.geometry (other old.half) (old.epoch + 1) old.disk merge made_so;
+      can = made_so.can;
+      fits = made_so.fits;
+    }
+
+    pub begun_so : {T : Type 0} {result : Result T SealedError} → LooksAtHalf result old.disk disk → IsState (begun old disk (encoding_made merge)) (record hidden { merge = Some merge })
+    begun_so looks = begun_state old hidden has disk (looked_so looks) may_old whole merge (plan_begun old.plan) made_so
 
     pub begins_so : {T : Type 0} (value : T) → LooksAtHalf (ok_of value) old.disk disk → (plan : Commit AtPlan) → plan.home ≡ old.home → plan.number ≡ (old.plan.number + 1) % 2 ^ 64
-        → plan.phase ≡ record { done = false } → Begins (Ok plan) view (begun old disk bytes)
-    begins_so value looks plan home number phase = subst (λ (v : StateView). Begins (Ok plan) v (begun old disk bytes)) view_is (
+        → plan.phase ≡ record { done = false } → Begins (Ok plan) view (begun old disk (encoding_made merge))
+    begins_so value looks plan home number phase = subst (λ (v : StateView). Begins (Ok plan) v (begun old disk (encoding_made merge))) view_is (
       may_old,
       record { is_of = record { home = home; number = number }; done = ap (λ (p : AtPlan). p.done) phase },
       looked_so looks,
       looks.faults,
       refl,
-      made_so,
-      (sectors_fit (old.epoch + 1) old.geometry.checkpoint made_so.sealed bytes made_so.spelled made_so.fits).2,
+      encoded,
+      (sectors_fit (old.epoch + 1) old.geometry.checkpoint made_so.sealed (encoding_made merge) (spelled_so old.geometry (other old.half) (old.epoch + 1) old.disk merge made_so) made_so.fits).2,
     )
 
-  pub damaged_so : {T X : Type 0} (items : X → List ℕ) (e : SealedError) → e ≡ half.Damaged → LooksAtHalf (error_of T e) old.disk disk
-      → EncodesSealed items old.geometry (old.epoch + 1) (Err e) old.disk (sealed_half old.geometry side (reads_of old.disk))
+  pub damaged_so : {T : Type 0} (e : SealedError) → e ≡ half.Damaged → LooksAtHalf (error_of T e) old.disk disk
+      → MergesSealed old.geometry side (old.epoch + 1) (Err e) old.disk
       → Begins (Err Damaged) view (record old { disk = disk; stopped = true })
-  damaged_so {T} {X} items e is looks_so encoded = subst (λ (v : StateView). Begins (Err Damaged) v (record old { disk = disk; stopped = true })) view_is (
+  damaged_so {T} e is looks_so merges = subst (λ (v : StateView). Begins (Err Damaged) v (record old { disk = disk; stopped = true })) view_is (
     may_old,
     λ honest. never_damaged old hidden has disk (looked_so looks) may_old whole honest
         (subst (λ (h : Half). (sealed : SealedHalf) → sealed_half old.geometry h (reads_of old.disk) ≡ Some sealed → ¬ FitsArea old.geometry (checkpoint_of (old.epoch + 1) sealed)) side_is (refused honest)),
@@ -309,5 +335,5 @@ module _ (old : StateView) (hidden : Hidden) (has : IsState old hidden) (whole :
       looks : LooksAtHalf (error_of T half.Damaged) old.disk disk
       looks = subst (λ (x : SealedError). LooksAtHalf (error_of T x) old.disk disk) is looks_so
 
-      refused : EncodesSealed items old.geometry (old.epoch + 1) (Err half.Damaged) old.disk (sealed_half old.geometry side (reads_of old.disk))
-      refused = subst (λ (x : SealedError). EncodesSealed items old.geometry (old.epoch + 1) (Err x) old.disk (sealed_half old.geometry side (reads_of old.disk))) is encoded
+      refused : MergesSealed old.geometry side (old.epoch + 1) (Err half.Damaged) old.disk
+      refused = subst (λ (x : SealedError). MergesSealed old.geometry side (old.epoch + 1) (Err x) old.disk) is merges

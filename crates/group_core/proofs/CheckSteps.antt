@@ -1,25 +1,27 @@
 -- The checkpointer's steps on a state.
-use Rattle.std.proofs.Common.{◌≡◌, ◌≢◌, inl, inr, ℕ, ◌+◌, ◌*◌, ◌≤◌, ◌++◌, Bool, true, false, List, [], ◌∷◌, length, Result, refl, sym, ◌∙◌, ap, subst, arith}
-use Rattle.std.proofs.lemmas.Bool.{eqb-true}
+use Rattle.std.proofs.Common.{◌≡◌, ◌≢◌, inl, inr, ℕ, ◌+◌, ◌*◌, ◌≤◌, ◌++◌, Bool, true, false, List, [], ◌∷◌, length, Option, Result, refl, sym, ◌∙◌, ap, subst, arith}
+use Rattle.std.proofs.lemmas.Bool.{eqb-true, eqb-false}
 use Rattle.std.specs.List.{AllByRecursion}
 use Rattle.byte_lists.specs.Content.{part}
 use Rattle.path_rows.specs.Database.{RowView}
 use Rattle.path_rows.specs.declared.command.Command.{Command}
 use Rattle.sector_dev.specs.Disk.{Disk, IsHonest}
 use Rattle.sector_dev.specs.Calls.{Keeps, WriteCall, SyncCall}
-use Rattle.sector_dev.proofs.Stretches.{honest_before}
+use Rattle.sector_dev.proofs.Stretches.{honest_before, honest_after}
 use Rattle.image_laws.specs.Limits.{AreAsLarge, limits_of}
 use Rattle.image_laws.specs.CommandFormat.{IsAllowed}
 use Rattle.image_laws.specs.Layout.{Geometry, other, area_at, gate_at}
-use Rattle.image_laws.specs.Checkpoint.{checkpoint_encoding}
+use Rattle.image_laws.specs.Checkpoint.{Checkpoint, checkpoint_encoding}
 use Rattle.image_laws.proofs.Exports.{later_allow_more}
 use Rattle.gate_journal.specs.Commands.{command_format}
 use Rattle.ckpt_pair.specs.Versions.{latest}
 use Rattle.ckpt_pair.specs.Rows.{rows_format}
+use Rattle.sealed_merge.specs.Merge.{MergeView, encoding_if_any}
 use Rattle.group_laws.specs.declared.phases.Check.{Check}
 use Rattle.group_laws.specs.declared.phases.Check.TheVariants.{Ready, Planned, Laid, Switched, SwitchFailed, Live, Closing, CloseFailed}
 use Rattle.byte_lists.specs.Sectors.{open_gate, closed_gate}
 use Rattle.group_laws.specs.Tail.{Load, Commands, Seal}
+use Rattle.group_laws.specs.Halves.{HasCheckpoint}
 use Rattle.group_laws.specs.Standing.{load_of, IsHeldBy}
 use Rattle.group_laws.specs.HeldChecks as held
 use Rattle.group_laws.proofs.Exports.{held_while_chunk_is_written, held_while_chunks_are_synced, held_while_half_is_opened, held_while_half_is_synced, held_while_half_is_closed, held_while_close_is_synced, held_under_the_new_version}
@@ -30,7 +32,8 @@ use Rattle.group_core.specs.declared.values.Commit.{Commit}
 use Rattle.group_core.specs.StateView.{StateView}
 use Rattle.group_core.specs.Stops.{setting_of, standing_of}
 use Rattle.group_core.specs.Steps.{is_whole, TakesPlanTurn, TakesChunkTurn}
-use Rattle.group_core.specs.Invariant.{Hidden, FitsLoad, MayBePending, HasPlan, HasNextEpoch, CountsAt, Shape, Sound, IsState}
+use Rattle.group_core.specs.Invariant.{Hidden, FitsLoad, MayBePending, HasPlan, HasNextEpoch, CountsAt, Shape, Sound, SoundWith, IsState}
+use Rattle.group_core.specs.Merging.{HasMerge, IsUnderWay, Streams}
 use Rattle.group_core.proofs.Soundness.{sound_at_work, either_stays}
 use Rattle.group_core.proofs.FlushSteps.{success, failure}
 
@@ -68,7 +71,7 @@ module _ (small large : ℕ) (grows : small ≤ large) where
   )
   load_larger geometry place gate Seal fits = tt
 
--- what is so where a value had its turn: the phase; and that all is written, where the value tells so
+-- what is so where a value had its turn: the phase; and that all is written, where the value says so
 module _ {view new old : StateView} (is : view ≡ new) where
   pub check_at : {P : Type 0} {phase : Check} {value same : Commit P} → TakesPlanTurn phase value (success (StepError P) same) old new → view.check ≡ phase
   check_at taken = ap (λ (v : StateView). v.check) (is ∙ taken.3) ∙ taken.0.at
@@ -79,15 +82,25 @@ module _ {view new old : StateView} (is : view ≡ new) where
   pub done_at : {value same : Commit AtPlan} → value.phase.done ≡ true → TakesChunkTurn value (success (StepError AtPlan) same) old new → 512 * view.written ≡ length view.checkpoint
   done_at done taken = eqb-true _ _ (ap is_whole (is ∙ taken.3) ∙ sym taken.0.done ∙ done)
 
+  pub going_at : {value same : Commit AtPlan} → TakesChunkTurn value (success (StepError AtPlan) same) old new → view.stopped ≡ false
+  going_at taken = ap (λ (v : StateView). v.stopped) (is ∙ taken.3) ∙ taken.1
+
+  pub undone_at : {value same : Commit AtPlan} → value.phase.done ≡ false → TakesChunkTurn value (success (StepError AtPlan) same) old new → 512 * view.written ≡ length view.checkpoint → ⊥
+  undone_at undone taken = eqb-false _ _ (ap is_whole (is ∙ taken.3) ∙ sym taken.0.done ∙ undone)
+
 module _ (old : StateView) (hidden : Hidden) (has : IsState old hidden) where
   -- the checkpointer is at work
   away : (phase : Check) → old.check ≡ phase → phase ≢ Ready → old.check ≢ Ready
   away phase turn other = subst (λ (p : Check). p ≢ Ready) (sym turn) other
 
   module _ (disk : Disk) (check : Check) (written : ℕ) (plan : Turn) (stopped : Bool) (going : stopped ≡ false → old.stopped ≡ false) where
-    checked_shape : disk.sectors ≡ old.disk.sectors → HasPlan old.geometry (record { bytes = old.checkpoint; written = written }) → HasNextEpoch check old.epoch
-        → Shape (checked old disk check written plan stopped) hidden
-    checked_shape same has_plan epoch = record {
+    abbrev MergeSo : Option MergeView → Type 0
+    MergeSo merge = stopped ≡ false → check ≡ Planned → HasMerge (IsUnderWay old.geometry written) merge
+
+    checked_shape : (merge : Option MergeView) → old.checkpoint ≡ encoding_if_any merge → MergeSo merge → disk.sectors ≡ old.disk.sectors
+        → HasPlan old.geometry (record { bytes = old.checkpoint; written = written }) → HasNextEpoch check old.epoch
+        → Shape (checked old disk check written plan stopped) (record hidden { merge = merge })
+    checked_shape merge bytes merge_so same has_plan epoch = record {
       limits = has.shape.limits;
       sectors = omega (arith, has.shape.sectors, same);
       room = has.shape.room;
@@ -106,26 +119,43 @@ module _ (old : StateView) (hidden : Hidden) (has : IsState old hidden) where
       staged = has.shape.staged;
       plan = has_plan;
       epoch = epoch;
+      bytes = bytes;
+      merge = merge_so;
     }
 
-    checked_state : (phase : Check) → old.check ≡ phase → phase ≢ Ready → Keeps old.disk disk → HasPlan old.geometry (record { bytes = old.checkpoint; written = written }) → HasNextEpoch check old.epoch
+    merged_state : (merge : Option MergeView) → old.checkpoint ≡ encoding_if_any merge → MergeSo merge
+        → (phase : Check) → old.check ≡ phase → phase ≢ Ready → Keeps old.disk disk → HasPlan old.geometry (record { bytes = old.checkpoint; written = written }) → HasNextEpoch check old.epoch
+        → ((sound : Sound old) → CountsAt check old.epoch old.checkpoint sound.behind.old sound.behind.new)
+        → ((sound : Sound old) → IsHonest old.disk → IsHeldBy (setting_of old) (held.checked (standing_of old) check written) sound.behind disk.history.now)
+        → ((with : SoundWith old hidden.merge) → IsHonest old.disk → stopped ≡ false → check ≡ Planned → HasMerge (Streams with.sound.behind.old.db written) merge)
+        → IsState (checked old disk check written plan stopped) (record hidden { merge = merge })
+    merged_state merge bytes merge_so phase turn other keeps has_plan epoch counts holds streams = record {
+      shape = checked_shape merge bytes merge_so keeps.sectors has_plan epoch;
+      sound = λ honest.
+          let before = honest_before old.disk disk keeps honest in
+          let with = sound_at_work old hidden has (inr (away phase turn other)) before in
+          let sound = with.sound in
+          inl (record {
+            sound = record { behind = sound.behind; held = holds sound before; counts = counts sound; fits = λ is. sound.fits (going is) };
+            streams = streams with before;
+          });
+    }
+
+    -- the checkpoint isn't written on
+    checked_state : (stopped ≡ false → check ≡ Planned → ⊥)
+        → (phase : Check) → old.check ≡ phase → phase ≢ Ready → Keeps old.disk disk → HasPlan old.geometry (record { bytes = old.checkpoint; written = written }) → HasNextEpoch check old.epoch
         → ((sound : Sound old) → CountsAt check old.epoch old.checkpoint sound.behind.old sound.behind.new)
         → ((sound : Sound old) → IsHonest old.disk → IsHeldBy (setting_of old) (held.checked (standing_of old) check written) sound.behind disk.history.now)
         → IsState (checked old disk check written plan stopped) hidden
-    checked_state phase turn other keeps has_plan epoch counts holds = record {
-      shape = checked_shape keeps.sectors has_plan epoch;
-      sound = λ honest.
-          let before = honest_before old.disk disk keeps honest in
-          let sound = sound_at_work old hidden has (inr (away phase turn other)) before in
-          inl (record { behind = sound.behind; held = holds sound before; counts = counts sound; fits = λ is. sound.fits (going is) });
-    }
+    checked_state none phase turn other keeps has_plan epoch counts holds =
+        merged_state hidden.merge has.shape.bytes (λ is planned. absurd (none is planned)) phase turn other keeps has_plan epoch counts holds (λ with before is planned. absurd (none is planned))
 
   -- the value is spent, and no call is made
   pub plan_spent : (plan : Turn) → IsState (record old { plan = plan }) hidden
   plan_spent plan = record {
-    shape = checked_shape old.disk old.check old.written plan old.stopped (λ is. is) refl has.shape.plan has.shape.epoch;
-    sound = λ honest. either_stays old (record old { plan = plan })
-        (λ sound. record { behind = sound.behind; held = sound.held; counts = sound.counts; fits = sound.fits })
+    shape = checked_shape old.disk old.check old.written plan old.stopped (λ is. is) hidden.merge has.shape.bytes has.shape.merge refl has.shape.plan has.shape.epoch;
+    sound = λ honest. either_stays hidden.merge old (record old { plan = plan })
+        (λ with. record { sound = record { behind = with.sound.behind; held = with.sound.held; counts = with.sound.counts; fits = with.sound.fits }; streams = with.streams })
         (λ broken. record { stopped = broken.stopped; rests = broken.rests; ready = broken.ready; images = broken.images }) (has.sound honest);
   }
 
@@ -142,7 +172,7 @@ module _ (old : StateView) (hidden : Hidden) (has : IsState old hidden) where
         → ((sound : Sound old) → IsHonest old.disk → IsHeldBy (setting_of old) (held.checked (standing_of old) check old.written) sound.behind disk.history.now)
         → IsState (checked old disk old.check old.written plan stopped) hidden
     stays keeps holds =
-        checked_state disk old.check old.written plan stopped (λ (is : stopped ≡ false). cc) check turn other keeps has.shape.plan has.shape.epoch (λ sound. sound.counts)
+        checked_state disk old.check old.written plan stopped (λ (is : stopped ≡ false). cc) (λ (is : stopped ≡ false) planned. cc) check turn other keeps has.shape.plan has.shape.epoch (λ sound. sound.counts)
         (λ sound honest. subst (λ (p : Check). IsHeldBy (setting_of old) (held.checked (standing_of old) p old.written) sound.behind disk.history.now) (sym turn) (holds sound honest))
 
   module _ (disk : Disk) where
@@ -153,7 +183,7 @@ module _ (old : StateView) (hidden : Hidden) (has : IsState old hidden) where
 
       pub chunks_synced : {T : Type 0} (E : Type 0) (v : T) → SyncCall (success E v) old.disk disk → IsState (checked old disk Laid old.written old.plan old.stopped) hidden
       chunks_synced {T} E v call =
-          checked_state disk Laid old.written old.plan old.stopped (λ is. is) Planned turn (λ (is : Planned ≡ Ready). cc) call.keeps has.shape.plan (epoch_at Planned turn) (λ sound. (counts_at Planned turn sound).0)
+          checked_state disk Laid old.written old.plan old.stopped (λ is. is) (λ is (planned : Laid ≡ Planned). cc) Planned turn (λ (is : Planned ≡ Ready). cc) call.keeps has.shape.plan (epoch_at Planned turn) (λ sound. (counts_at Planned turn sound).0)
           (λ sound honest. held_while_chunks_are_synced T E (List RowView) Command (setting_of old) (standing_of old) sound.behind (success E v) old.disk disk turn sound.held (all_written sound) call honest)
 
       pub chunks_not_synced : {E : Type 0} (T : Type 0) (e : E) (plan : Turn) (stopped : Bool) → stopped ≡ true → SyncCall (failure T e) old.disk disk → IsState (checked old disk old.check old.written plan stopped) hidden
@@ -169,12 +199,12 @@ module _ (old : StateView) (hidden : Hidden) (has : IsState old hidden) where
 
       pub half_opened : {T : Type 0} (E : Type 0) (v : T) → WriteCall sector given (success E v) old.disk disk → IsState (checked old disk Switched old.written old.plan old.stopped) hidden
       half_opened {T} E v call =
-          checked_state disk Switched old.written old.plan old.stopped (λ is. is) Laid turn (λ (is : Laid ≡ Ready). cc) call.keeps has.shape.plan (epoch_at Laid turn) (counts_at Laid turn)
+          checked_state disk Switched old.written old.plan old.stopped (λ is. is) (λ is (planned : Switched ≡ Planned). cc) Laid turn (λ (is : Laid ≡ Ready). cc) call.keeps has.shape.plan (epoch_at Laid turn) (counts_at Laid turn)
           (λ sound honest. held_while_half_is_opened T E (List RowView) Command (setting_of old) (standing_of old) sound.behind (success E v) old.disk disk turn (gate_so (success E v) call) honest sound.held)
 
       pub half_doubtful : {E : Type 0} (T : Type 0) (e : E) (plan : Turn) (stopped : Bool) → stopped ≡ true → WriteCall sector given (failure T e) old.disk disk → IsState (checked old disk SwitchFailed old.written plan stopped) hidden
       half_doubtful {E} T e plan stopped stops call =
-          checked_state disk SwitchFailed old.written plan stopped (λ (is : stopped ≡ false). cc) Laid turn (λ (is : Laid ≡ Ready). cc) call.keeps has.shape.plan tt (counts_at Laid turn)
+          checked_state disk SwitchFailed old.written plan stopped (λ (is : stopped ≡ false). cc) (λ is (planned : SwitchFailed ≡ Planned). cc) Laid turn (λ (is : Laid ≡ Ready). cc) call.keeps has.shape.plan tt (counts_at Laid turn)
           (λ sound honest. held_while_half_is_opened T E (List RowView) Command (setting_of old) (standing_of old) sound.behind (failure T e) old.disk disk turn (gate_so (failure T e) call) honest sound.held)
 
     -- it is synced
@@ -207,18 +237,23 @@ module _ (old : StateView) (hidden : Hidden) (has : IsState old hidden) where
             staged = has.shape.staged;
             plan = has.shape.plan;
             epoch = tt;
+            bytes = has.shape.bytes;
+            merge = λ going (is : Live ≡ Planned). absurd (cc);
           };
           sound = λ honest.
               let before = honest_before old.disk disk call.keeps honest in
-              let sound = sound_at_work old hidden has (inr (away Switched turn (λ (is : Switched ≡ Ready). cc))) before in
+              let sound = (sound_at_work old hidden has (inr (away Switched turn (λ (is : Switched ≡ Ready). cc))) before).sound in
               let next = counts_at Switched turn sound in
               let live = held_while_half_is_synced T E (List RowView) Command (setting_of old) (standing_of old) sound.behind (success E v) old.disk disk turn call before sound.held in
               inl (record {
-                behind = sound.behind;
-                held = subst (λ (n : ℕ). IsHeldBy (setting_of old) (record (held.checked (standing_of old) Live old.written) { version = n }) sound.behind disk.history.now) next.version
-                    (held_under_the_new_version (List RowView) Command (setting_of old) (held.checked (standing_of old) Live old.written) sound.behind disk.history.now refl live);
-                counts = next.new;
-                fits = sound.fits;
+                sound = record {
+                  behind = sound.behind;
+                  held = subst (λ (n : ℕ). IsHeldBy (setting_of old) (record (held.checked (standing_of old) Live old.written) { version = n }) sound.behind disk.history.now) next.version
+                      (held_under_the_new_version (List RowView) Command (setting_of old) (held.checked (standing_of old) Live old.written) sound.behind disk.history.now refl live);
+                  counts = next.new;
+                  fits = sound.fits;
+                };
+                streams = λ going (is : Live ≡ Planned). absurd (cc);
               });
         })
 
@@ -230,18 +265,18 @@ module _ (old : StateView) (hidden : Hidden) (has : IsState old hidden) where
 
       pub half_closed : {T : Type 0} (E : Type 0) (v : T) → WriteCall sector given (success E v) old.disk disk → IsState (checked old disk Closing old.written old.plan old.stopped) hidden
       half_closed {T} E v call =
-          checked_state disk Closing old.written old.plan old.stopped (λ is. is) Live turn (λ (is : Live ≡ Ready). cc) call.keeps has.shape.plan tt (counts_at Live turn)
+          checked_state disk Closing old.written old.plan old.stopped (λ is. is) (λ is (planned : Closing ≡ Planned). cc) Live turn (λ (is : Live ≡ Ready). cc) call.keeps has.shape.plan tt (counts_at Live turn)
           (λ sound honest. held_while_half_is_closed T E (List RowView) Command (setting_of old) (standing_of old) sound.behind (success E v) old.disk disk turn (gates_so (success E v) call) honest sound.held)
 
       pub half_not_closed : {E : Type 0} (T : Type 0) (e : E) (plan : Turn) (stopped : Bool) → stopped ≡ true → WriteCall sector given (failure T e) old.disk disk → IsState (checked old disk CloseFailed old.written plan stopped) hidden
       half_not_closed {E} T e plan stopped stops call =
-          checked_state disk CloseFailed old.written plan stopped (λ (is : stopped ≡ false). cc) Live turn (λ (is : Live ≡ Ready). cc) call.keeps has.shape.plan tt (counts_at Live turn)
+          checked_state disk CloseFailed old.written plan stopped (λ (is : stopped ≡ false). cc) (λ is (planned : CloseFailed ≡ Planned). cc) Live turn (λ (is : Live ≡ Ready). cc) call.keeps has.shape.plan tt (counts_at Live turn)
           (λ sound honest. held_while_half_is_closed T E (List RowView) Command (setting_of old) (standing_of old) sound.behind (failure T e) old.disk disk turn (gates_so (failure T e) call) honest sound.held)
 
     -- and their sync
     pub close_synced : {T : Type 0} (E : Type 0) (v : T) (plan : Turn) → old.check ≡ Closing → SyncCall (success E v) old.disk disk → IsState (checked old disk Ready old.written plan old.stopped) hidden
     close_synced {T} E v plan turn call =
-        checked_state disk Ready old.written plan old.stopped (λ is. is) Closing turn (λ (is : Closing ≡ Ready). cc) call.keeps has.shape.plan tt (counts_at Closing turn)
+        checked_state disk Ready old.written plan old.stopped (λ is. is) (λ is (planned : Ready ≡ Planned). cc) Closing turn (λ (is : Closing ≡ Ready). cc) call.keeps has.shape.plan tt (counts_at Closing turn)
         (λ sound honest. held_while_close_is_synced T E (List RowView) Command (setting_of old) (standing_of old) sound.behind (success E v) old.disk disk turn call honest sound.held)
 
     pub close_not_synced : {E : Type 0} (T : Type 0) (e : E) (plan : Turn) (stopped : Bool) → stopped ≡ true → old.check ≡ Closing → SyncCall (failure T e) old.disk disk → IsState (checked old disk old.check old.written plan stopped) hidden
@@ -270,13 +305,30 @@ module _ (old : StateView) (hidden : Hidden) (has : IsState old hidden) where
         written = omega (arith, inside, has.shape.plan.whole);
       }
 
-      pub chunk_written : {T : Type 0} (E : Type 0) (v : T) → WriteCall sector given (success E v) old.disk disk → IsState (checked old disk old.check (old.written + more) old.plan old.stopped) hidden
-      chunk_written {T} E v call =
-          checked_state disk old.check (old.written + more) old.plan old.stopped (λ is. is) Planned turn (λ (is : Planned ≡ Ready). cc) call.keeps plan_after has.shape.epoch (λ sound. sound.counts)
-          (λ sound honest. subst (λ (p : Check). IsHeldBy (setting_of old) (held.checked (standing_of old) p (old.written + more)) sound.behind disk.history.now) (sym turn)
-          (held_while_chunk_is_written T E (List RowView) Command (setting_of old) (standing_of old) sound.behind more (success E v) old.disk disk turn sound.held (inside_so sound) (chunk_so (success E v) sound call) honest))
+      -- and then the sectors after them are made
+      pub chunk_written : {T : Type 0} (E : Type 0) (v : T) (merge : Option MergeView) → old.checkpoint ≡ encoding_if_any merge → HasMerge (IsUnderWay old.geometry (old.written + more)) merge
+          → old.stopped ≡ false
+          → ((checkpoint : Checkpoint (List RowView)) → IsHonest disk → HasCheckpoint (setting_of old) (other old.half) checkpoint disk.history.now
+          → HasMerge (Streams checkpoint.db old.written) hidden.merge → HasMerge (Streams checkpoint.db (old.written + more)) merge)
+          → WriteCall sector given (success E v) old.disk disk
+          → IsState (record (checked old disk old.check (old.written + more) old.plan old.stopped) { checkpoint = encoding_if_any merge }) (record hidden { merge = merge })
+      chunk_written {T} E v merge so under going on call =
+          subst (λ (bytes : List ℕ). IsState (record (checked old disk old.check (old.written + more) old.plan old.stopped) { checkpoint = bytes }) (record hidden { merge = merge })) so
+          (merged_state disk old.check (old.written + more) old.plan old.stopped (λ is. is) merge so (λ is planned. under) Planned turn (λ (is : Planned ≡ Ready). cc) call.keeps plan_after has.shape.epoch
+          (λ sound. sound.counts) (λ sound honest. subst (λ (p : Check). IsHeldBy (setting_of old) (held.checked (standing_of old) p (old.written + more)) sound.behind disk.history.now) (sym turn) (holds sound honest))
+          (λ with honest is planned. on with.sound.behind.old (honest_after old.disk disk call.keeps honest) (holds with.sound honest).base.0.area (with.streams going turn)))
+        where
+          holds : (sound : Sound old) → IsHonest old.disk → IsHeldBy (setting_of old) (held.checked (standing_of old) Planned (old.written + more)) sound.behind disk.history.now
+          holds sound honest =
+              held_while_chunk_is_written T E (List RowView) Command (setting_of old) (standing_of old) sound.behind more (success E v) old.disk disk turn sound.held (inside_so sound) (chunk_so (success E v) sound call) honest
 
-      pub chunk_not_written : {E : Type 0} (T : Type 0) (e : E) (plan : Turn) (stopped : Bool) → stopped ≡ true → WriteCall sector given (failure T e) old.disk disk → IsState (checked old disk old.check old.written plan stopped) hidden
-      chunk_not_written {E} T e plan stopped stops call =
-          stays disk plan stopped stops Planned turn (λ (is : Planned ≡ Ready). cc) call.keeps
-          (λ sound honest. held_while_chunk_is_written T E (List RowView) Command (setting_of old) (standing_of old) sound.behind more (failure T e) old.disk disk turn sound.held (inside_so sound) (chunk_so (failure T e) sound call) honest)
+      pub chunk_not_written : {E : Type 0} (T : Type 0) (e : E) (plan : Turn) (stopped : Bool) → stopped ≡ true → (merge : Option MergeView) → old.checkpoint ≡ encoding_if_any merge
+          → WriteCall sector given (failure T e) old.disk disk
+          → IsState (record (checked old disk old.check old.written plan stopped) { checkpoint = encoding_if_any merge }) (record hidden { merge = merge })
+      chunk_not_written {E} T e plan stopped stops merge so call =
+          subst (λ (bytes : List ℕ). IsState (record (checked old disk old.check old.written plan stopped) { checkpoint = bytes }) (record hidden { merge = merge })) so
+          (merged_state disk old.check old.written plan stopped (λ (is : stopped ≡ false). cc) merge so (λ (is : stopped ≡ false) planned. absurd (cc)) Planned turn (λ (is : Planned ≡ Ready). cc) call.keeps has.shape.plan has.shape.epoch
+          (λ sound. sound.counts)
+          (λ sound honest. subst (λ (p : Check). IsHeldBy (setting_of old) (held.checked (standing_of old) p old.written) sound.behind disk.history.now) (sym turn)
+          (held_while_chunk_is_written T E (List RowView) Command (setting_of old) (standing_of old) sound.behind more (failure T e) old.disk disk turn sound.held (inside_so sound) (chunk_so (failure T e) sound call) honest))
+          (λ with honest (is : stopped ≡ false) planned. absurd (cc)))

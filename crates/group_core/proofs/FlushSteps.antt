@@ -18,6 +18,8 @@ use Rattle.group_laws.proofs.Exports.{held_while_load_is_written, held_while_gat
 use Rattle.group_core.specs.declared.bookkeeping.Turn.{Turn}
 use Rattle.group_core.specs.declared.error.StepError.{StepError}
 use Rattle.group_core.specs.declared.values.Commit.{Commit}
+use Rattle.group_core.specs.declared.error.StepError.TheVariants.{Fault}
+use Rattle.group_core.specs.StepCalls.{DeviceCall, Write, StepCall}
 use Rattle.group_core.specs.StateView.{StateView}
 use Rattle.group_core.specs.Stops.{setting_of, standing_of}
 use Rattle.group_core.specs.Steps.{TakesGroupTurn}
@@ -83,9 +85,11 @@ module _ (old : StateView) (hidden : Hidden) (has : IsState old hidden) where
       staged = λ staged. has.shape.staged (later.staged staged);
       plan = has.shape.plan;
       epoch = has.shape.epoch;
+      bytes = has.shape.bytes;
+      merge = λ going. has.shape.merge (later.going going);
     }
 
-    -- a call that leaves what the state then stands for
+    -- a call that leaves what the state then represents
     flushed_state : old.flush ≢ Resting → Keeps old.disk disk
         → ((sound : Sound old) → IsHonest old.disk → IsHeldBy (setting_of old) (held.flushed (standing_of old) flush) sound.behind disk.history.now)
         → IsState (flushed old disk flush group stopped) hidden
@@ -93,16 +97,20 @@ module _ (old : StateView) (hidden : Hidden) (has : IsState old hidden) where
       shape = flushed_shape keeps.sectors;
       sound = λ honest.
           let before = honest_before old.disk disk keeps honest in
-          let sound = sound_at_work old hidden has (inl work) before in
-          inl (record { behind = sound.behind; held = holds sound before; counts = sound.counts; fits = λ going. sound.fits (later.going going) });
+          let with = sound_at_work old hidden has (inl work) before in
+          let sound = with.sound in
+          inl (record {
+            sound = record { behind = sound.behind; held = holds sound before; counts = sound.counts; fits = λ going. sound.fits (later.going going) };
+            streams = λ going. with.streams (later.going going);
+          });
     }
 
   -- the value is spent, and no call is made
   pub value_spent : (group : Turn) → IsState (record old { group = group }) hidden
   value_spent group = record {
     shape = flushed_shape old.disk old.flush group old.stopped (record { staged = λ is. is; rests = λ is. is; going = λ is. is }) refl;
-    sound = λ honest. either_stays old (record old { group = group })
-        (λ sound. record { behind = sound.behind; held = sound.held; counts = sound.counts; fits = sound.fits })
+    sound = λ honest. either_stays hidden.merge old (record old { group = group })
+        (λ with. record { sound = record { behind = with.sound.behind; held = with.sound.held; counts = with.sound.counts; fits = with.sound.fits }; streams = with.streams })
         (λ broken. record { stopped = broken.stopped; rests = broken.rests; ready = broken.ready; images = broken.images }) (has.sound honest);
   }
 
@@ -162,3 +170,15 @@ module _ (old : StateView) (hidden : Hidden) (has : IsState old hidden) where
         flushed_state disk old.flush group stopped (record { staged = λ is. is; rests = λ is. is; going = λ (is : stopped ≡ false). cc }) (in_flight Opened turn (λ (is : Opened ≡ Resting). cc)) call.keeps
         (λ sound honest. subst (λ (p : Flush). IsHeldBy (setting_of old) (held.flushed (standing_of old) p) sound.behind disk.history.now) (sym turn)
         (held_while_gate_is_synced T E (List RowView) Command (setting_of old) (standing_of old) sound.behind (failure T e) old.disk disk turn call honest sound.held))
+
+-- a write that failed is the call of its step, where the state before it is seen as `old`
+pub call_fails : {T E P : Type 0} (N : Type 0) {e : E} {error : StepError P} {sector : ℕ} {given : List ℕ} {disk : Disk} (view old : StateView) (which : StateView → DeviceCall) → view ≡ old → error ≡ Fault → which view ≡ Write sector given
+    → WriteCall sector given (failure T e) view.disk disk → StepCall {P = P} {N = N} (which old) (Err error) old.disk disk
+call_fails {T} {E} {P} N {e} {error} {sector} {given} {disk} view old which is fault same call =
+    subst (λ (x : StepError P). StepCall {P = P} {N = N} (which old) (Err x) old.disk disk) (sym fault)
+    (subst (λ (w : StateView). StepCall {P = P} {N = N} (which w) (Err Fault) w.disk disk) is
+    (subst (λ (made : DeviceCall). StepCall {P = P} {N = N} made (Err Fault) view.disk disk) (sym same) (record {
+      keeps = call.keeps;
+      faults = call.faults;
+      lands = λ honest. let lands = call.lands honest in record { landed = lands.landed; size = lands.size; done = lands.done; history = lands.history };
+    })))

@@ -4,6 +4,7 @@ pub mod States
 pub mod Rests
 pub mod FlushSteps
 pub mod CheckSteps
+pub mod Merges
 pub mod Regions
 pub mod Stage
 pub mod Publish

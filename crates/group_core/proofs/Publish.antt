@@ -121,18 +121,24 @@ module _ (old : StateView) (hidden : Hidden) (has : IsState old hidden) (turn : 
       staged = λ (other : Resting ≢ Resting). absurd (other refl);
       plan = has.shape.plan;
       epoch = has.shape.epoch;
+      bytes = has.shape.bytes;
+      merge = has.shape.merge;
     }
 
     group_state : IsState (published shown_exactly) after
     group_state = record {
       shape = group_shape;
       sound = λ honest.
-          let sound = sound_at_work old hidden has (inl in_flight) honest in
+          let with = sound_at_work old hidden has (inl in_flight) honest in
+          let sound = with.sound in
           inl (record {
-            behind = behind_group (standing_of old) sound.behind;
-            held = held_when_group_is_published (List RowView) Command (setting_of old) (standing_of old) sound.behind old.disk.history.now turn some sound.held;
-            counts = sound.counts;
-            fits = sound.fits;
+            sound = record {
+              behind = behind_group (standing_of old) sound.behind;
+              held = held_when_group_is_published (List RowView) Command (setting_of old) (standing_of old) sound.behind old.disk.history.now turn some sound.held;
+              counts = sound.counts;
+              fits = sound.fits;
+            };
+            streams = with.streams;
           });
     }
 
@@ -224,13 +230,19 @@ module _ (old : StateView) (hidden : Hidden) (has : IsState old hidden) (turn : 
         staged = λ (not_resting : Resting ≢ Resting). absurd (not_resting refl);
         plan = has.shape.plan;
         epoch = tt;
+        bytes = has.shape.bytes;
+        merge = λ going (is : Sealed ≡ Planned). absurd (cc);
       };
       sound = λ honest.
-          let sound = sound_at_work old hidden has (inl in_flight) honest in
+          let with = sound_at_work old hidden has (inl in_flight) honest in
+          let sound = with.sound in
           inl (record {
-            behind = behind_seal (standing_of old) sound.behind (next_of sound);
-            held = held_when_seal_is_published (List RowView) Command (setting_of old) (standing_of old) sound.behind old.disk.history.now (next_of sound) turn none (ready sound) sound.held (folds sound);
-            counts = subst (λ (p : Check). CountsAt p old.epoch old.checkpoint sound.behind.old sound.behind.new) (ready sound) sound.counts;
-            fits = λ going. has.shape.fits going 0 (omega arith);
+            sound = record {
+              behind = behind_seal (standing_of old) sound.behind (next_of sound);
+              held = held_when_seal_is_published (List RowView) Command (setting_of old) (standing_of old) sound.behind old.disk.history.now (next_of sound) turn none (ready sound) sound.held (folds sound);
+              counts = subst (λ (p : Check). CountsAt p old.epoch old.checkpoint sound.behind.old sound.behind.new) (ready sound) sound.counts;
+              fits = λ going. has.shape.fits going 0 (omega arith);
+            };
+            streams = λ going (is : Sealed ≡ Planned). absurd (cc);
           });
     })

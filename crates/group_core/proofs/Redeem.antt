@@ -36,14 +36,16 @@ module _ (old : StateView) (hidden : Hidden) (has : IsState old hidden) where
     staged = has.shape.staged;
     plan = has.shape.plan;
     epoch = has.shape.epoch;
+    bytes = has.shape.bytes;
+    merge = has.shape.merge;
   }
 
   kept_owed : (kept : Outcomes) → KeepsOutcomes old.value old.pending kept → (owed : List Command) → IsFront owed (take old.taken old.pending)
       → IsState (record old { kept = kept }) (record hidden { owed = owed })
   kept_owed kept outcomes owed front = record {
     shape = kept_shape kept outcomes owed front;
-    sound = λ honest. either_stays old (record old { kept = kept })
-        (λ sound. record { behind = sound.behind; held = sound.held; counts = sound.counts; fits = sound.fits })
+    sound = λ honest. either_stays hidden.merge old (record old { kept = kept })
+        (λ with. record { sound = record { behind = with.sound.behind; held = with.sound.held; counts = with.sound.counts; fits = with.sound.fits }; streams = with.streams })
         (λ broken. record { stopped = broken.stopped; rests = broken.rests; ready = broken.ready; images = broken.images }) (has.sound honest);
   }
 
@@ -58,7 +60,7 @@ module _ (old : StateView) (hidden : Hidden) (has : IsState old hidden) where
   pub kept_state : (place : ℕ) (kept : Outcomes) → LeavesOthers place kept → IsState (record old { kept = kept }) hidden
   kept_state place kept left = kept_owed kept (less_kept place kept left) hidden.owed has.shape.owed
 
-  -- the showcase shows the same, and has the first of the next group in hand
+  -- the showcase shows the same, and has the first commands of the next group
   pub shown_state : (value : StoreValue (List RowView)) (owed : List Command) → value ≡ old.value → IsFront owed (take old.taken old.pending)
       → IsState (record old { value = value }) (record hidden { owed = owed })
   shown_state value owed same front =
@@ -75,7 +77,10 @@ module _ (old : StateView) (hidden : Hidden) (has : IsState old hidden) where
   pub halted_state : IsState (record old { stopped = true }) hidden
   halted_state = record {
     shape = flushed_shape old hidden has old.disk old.flush old.group true (record { staged = λ is. is; rests = λ is. is; going = λ (is : true ≡ false). cc }) refl;
-    sound = λ honest. either_stays old (record old { stopped = true })
-        (λ sound. record { behind = sound.behind; held = sound.held; counts = sound.counts; fits = λ (is : true ≡ false). absurd cc })
+    sound = λ honest. either_stays hidden.merge old (record old { stopped = true })
+        (λ with. record {
+          sound = record { behind = with.sound.behind; held = with.sound.held; counts = with.sound.counts; fits = λ (is : true ≡ false). absurd cc };
+          streams = λ (is : true ≡ false). absurd cc;
+        })
         (λ broken. record { stopped = refl; rests = broken.rests; ready = broken.ready; images = broken.images }) (has.sound honest);
   }

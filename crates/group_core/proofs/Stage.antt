@@ -129,6 +129,8 @@ module _ (old : StateView) (hidden : Hidden) (has : IsState old hidden) (may : M
       staged = λ _. same;
       plan = has.shape.plan;
       epoch = has.shape.epoch;
+      bytes = has.shape.bytes;
+      merge = has.shape.merge;
     }
 
     staged_state : Shape with_load with_bytes → ((sound : Sound old) → IsHeldBy (setting_of old) (staged (standing_of old) taken) sound.behind old.disk.history.now)
@@ -136,8 +138,9 @@ module _ (old : StateView) (hidden : Hidden) (has : IsState old hidden) (may : M
     staged_state shape holds = record {
       shape = shape;
       sound = λ honest.
-          let sound = sound_going old hidden has may.going honest in
-          inl (record { behind = sound.behind; held = holds sound; counts = sound.counts; fits = sound.fits });
+          let with = sound_going old hidden has may.going honest in
+          let sound = with.sound in
+          inl (record { sound = record { behind = sound.behind; held = holds sound; counts = sound.counts; fits = sound.fits }; streams = with.streams });
     }
 
 module _ (old : StateView) (hidden : Hidden) (has : IsState old hidden) where

@@ -21,13 +21,14 @@ use Rattle.store_open.specs.PathStores.{store_format}
 use Rattle.store_open.specs.Store.{StoreView, half_of_tail, IsAtRest}
 use Rattle.store_open.specs.StoreShape.{IsStoreWhole}
 use Rattle.group_laws.specs.declared.phases.Flush.TheVariants.{Resting}
+use Rattle.group_laws.specs.declared.phases.Check.TheVariants.{Planned}
 use Rattle.group_laws.specs.Setting.{Setting}
 use Rattle.group_laws.specs.Standing.{Standing, Behind, IsHeldBy}
 use Rattle.group_laws.specs.HeldOpened as opened
 use Rattle.group_laws.proofs.Exports.{checkpoint_inside, held_at_rest, held_behind_seal}
 use Rattle.group_core.specs.StateView.{StateView}
 use Rattle.group_core.specs.Stops.{setting_of, standing_of, MayOpen}
-use Rattle.group_core.specs.Invariant.{Hidden, FitArea, HasNextEpoch, CountsAt, Shape, Sound, IsBroken, IsState}
+use Rattle.group_core.specs.Invariant.{Hidden, FitArea, HasNextEpoch, CountsAt, Shape, Sound, SoundWith, IsBroken, IsState}
 use Rattle.group_core.specs.Starting.{value_in, GoesOn, check_in, started}
 use Rattle.group_core.proofs.States.{may_open}
 use Rattle.group_core.proofs.KeptOutcomes.{none_kept}
@@ -54,10 +55,14 @@ module _ (store : StoreView) (whole : IsStoreWhole store) (device : IsHonest sto
   no_epoch true = tt
   no_epoch false = tt
 
+  never_planned : (sealed : Bool) → check_in sealed ≡ Planned → ⊥
+  never_planned true is = cc
+  never_planned false is = cc
+
   rows_fit : stopped ≡ false → FitArea view store.rows
   rows_fit goes = omega (arith, (going.0 goes).rows, counted store.rows)
 
-  start_shape : (staged : List ℕ) → Shape view (record { staged = staged; tip = store.rows; place = store.place; owed = [] })
+  start_shape : (staged : List ℕ) → Shape view (record { staged = staged; tip = store.rows; place = store.place; owed = []; merge = None })
   start_shape staged = record {
     limits = whole.room.allowed;
     sectors = whole.room.room;
@@ -77,6 +82,8 @@ module _ (store : StoreView) (whole : IsStoreWhole store) (device : IsHonest sto
     staged = λ (flying : Resting ≢ Resting). absurd (flying refl);
     plan = record { sectors = 0; whole = refl; inside = omega arith; written = omega arith };
     epoch = no_epoch store.sealed;
+    bytes = refl;
+    merge = λ goes is. absurd (never_planned store.sealed is);
   }
 
   -- no checkpoint of it has failed: it is at rest
@@ -87,7 +94,7 @@ module _ (store : StoreView) (whole : IsStoreWhole store) (device : IsHonest sto
     opens : IsOpening store_format latest (reads_of store.disk) opening
     opens = rest.every (reads_of store.disk) (image_of_reads store.disk.history.now (device honest).bytes)
 
-    -- what it stands for, as it was opened
+    -- what it represents, as it was opened
     is_setting : opened.setting_of store_format latest opening ≡ setting_of view
     is_setting = λ i. record { format = store_format; latest = latest; geometry = rest.tells.geometry i }
 
@@ -145,7 +152,7 @@ module _ (store : StoreView) (whole : IsStoreWhole store) (device : IsHonest sto
         inside : checkpoint_size rows_format opening.checkpoint ≤ 512 * opening.geometry.checkpoint
         inside = checkpoint_inside rows_format opening.geometry (reads_of store.disk) opening.chosen opening.checkpoint opens.half.store opens.half.begins
 
-    -- it is: the checkpoint that is to be there
+    -- it is: the checkpoint that has to be there
     abbrev next : Checkpoint (List RowView)
     next = record {
       head = record { version = latest; epoch = opening.checkpoint.head.epoch + 1; place = opening.journal.place };
@@ -204,14 +211,14 @@ module _ (store : StoreView) (whole : IsStoreWhole store) (device : IsHonest sto
     is_broken : IsBroken view
     is_broken = record { stopped = stops stopped going.0; rests = refl; ready = ap check_in (whole.unsealed broken); images = images }
 
-  either : (honest : IsHonest store.disk) (b : Bool) → store.broken ≡ b → Sound view ⊎ IsBroken view
+  either : (honest : IsHonest store.disk) (b : Bool) → store.broken ≡ b → SoundWith view None ⊎ IsBroken view
   either honest true broken = inr (is_broken honest broken)
-  either honest false fine = inl (sound honest ((whole.sound honest).rest fine))
+  either honest false fine = inl (record { sound = sound honest ((whole.sound honest).rest fine); streams = λ goes is. absurd (never_planned store.sealed is) })
 
-  pub started_state : (staged : List ℕ) → IsState view (record { staged = staged; tip = store.rows; place = store.place; owed = [] })
+  pub started_state : (staged : List ℕ) → IsState view (record { staged = staged; tip = store.rows; place = store.place; owed = []; merge = None })
   started_state staged = record { shape = start_shape staged; sound = λ honest. either honest store.broken refl }
 
-  pub started_so : (seen : StateView) (hidden : Hidden) → seen ≡ view → hidden.tip ≡ store.rows → hidden.place ≡ store.place → hidden.owed ≡ [] → IsState seen hidden
-  started_so seen hidden seen_is tip place owed =
+  pub started_so : (seen : StateView) (hidden : Hidden) → seen ≡ view → hidden.tip ≡ store.rows → hidden.place ≡ store.place → hidden.owed ≡ [] → hidden.merge ≡ None → IsState seen hidden
+  started_so seen hidden seen_is tip place owed merge =
       subst (λ (v : StateView). IsState v hidden) (sym seen_is)
-      (subst (λ (h : Hidden). IsState view h) (λ i. record { staged = hidden.staged; tip = sym tip i; place = sym place i; owed = sym owed i }) (started_state hidden.staged))
+      (subst (λ (h : Hidden). IsState view h) (λ i. record { staged = hidden.staged; tip = sym tip i; place = sym place i; owed = sym owed i; merge = sym merge i }) (started_state hidden.staged))

@@ -111,17 +111,22 @@ module _ (old : StateView) (hidden : Hidden) (has : IsState old hidden) where
       staged = λ flying. has.shape.staged flying ∙ ap (load_bytes command_format old.value.place) (sym load_is);
       plan = has.shape.plan;
       epoch = has.shape.epoch;
+      bytes = has.shape.bytes;
+      merge = has.shape.merge;
     }
 
     accepted_exactly : IsState (record old { pending = more; kept = with_outcome command }) (record hidden { tip = database_after hidden.tip command })
     accepted_exactly = record {
       shape = accepted_shape;
-      sound = λ honest. either_stays old (record old { pending = more; kept = with_outcome command })
-          (λ sound. record {
-            behind = sound.behind;
-            held = held_when_accepted (List RowView) Command (setting_of old) (standing_of old) sound.behind old.disk.history.now command sound.held;
-            counts = sound.counts;
-            fits = sound.fits;
+      sound = λ honest. either_stays hidden.merge old (record old { pending = more; kept = with_outcome command })
+          (λ with. record {
+            sound = record {
+              behind = with.sound.behind;
+              held = held_when_accepted (List RowView) Command (setting_of old) (standing_of old) with.sound.behind old.disk.history.now command with.sound.held;
+              counts = with.sound.counts;
+              fits = with.sound.fits;
+            };
+            streams = with.streams;
           })
           (λ broken. let both : false ≡ true = sym may.going ∙ broken.stopped in absurd (cc)) (has.sound honest);
     }

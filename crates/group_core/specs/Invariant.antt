@@ -1,5 +1,5 @@
 -- What is true of every state.
-use Rattle.std.specs.Prelude.{◌≡◌, ◌≢◌, ℕ, ◌+◌, ◌*◌, ◌^◌, ◌<◌, ◌≤◌, ◌⊎◌, true, false, List, length, take}
+use Rattle.std.specs.Prelude.{◌≡◌, ◌≢◌, ℕ, ◌+◌, ◌*◌, ◌^◌, ◌<◌, ◌≤◌, ◌⊎◌, true, false, List, length, take, Option}
 use Rattle.std.specs.List.{AllByRecursion}
 use Rattle.path_rows.specs.Database.{RowView}
 use Rattle.path_rows.specs.declared.command.Command.{Command}
@@ -23,18 +23,22 @@ use Rattle.group_laws.specs.Tail.{Load, Commands, Seal, load_bytes}
 use Rattle.group_laws.specs.Standing.{load_of, Behind, IsHeldBy}
 use Rattle.group_core.specs.StateView.{StateView}
 use Rattle.group_core.specs.Stops.{setting_of, standing_of, MayOpen}
+use Rattle.sealed_merge.specs.Merge.{MergeView, encoding_if_any}
 use Rattle.group_core.specs.Keeping.{KeepsOutcomes}
+use Rattle.group_core.specs.Merging.{HasMerge, IsUnderWay, Streams}
 use Rattle.group_core.specs.Showing.{IsFront}
 
 -- what no clause sees: the bytes that are to be written of what is in flight, the rows after all commands that are accepted, the
--- place of the first of these, and what the showcase has in hand already of the group that it is to show
+-- place of the first of these, what the showcase has already of the group that it shows next, and the last checkpoint
+-- that was begun
 pub record Hidden : Type 0 where
   pub staged : List ℕ
   pub tip : List RowView
   pub place : ℕ
   pub owed : List Command
+  pub merge : Option MergeView
 
--- what is in flight may stand behind the tail's gate
+-- what is in flight may be after the tail's gate
 abbrev pub FitsLoad : Limits → Geometry → ℕ → ℕ → Load Command → Type 0
 FitsLoad limits geometry place gate (Commands commands) =
     CanBeGroup command_format limits place commands × HasRoom gate (group_sectors command_format commands) geometry.journal
@@ -101,6 +105,8 @@ pub record Shape (view : StateView) (hidden : Hidden) : Type 0 where
   pub staged : view.flush ≢ Resting → hidden.staged ≡ load_bytes command_format view.value.place (load_of (standing_of view))
   pub plan : HasPlan view.geometry (checkpointing_of view)
   pub epoch : HasNextEpoch view.check view.epoch
+  pub bytes : view.checkpoint ≡ encoding_if_any hidden.merge
+  pub merge : view.stopped ≡ false → view.check ≡ Planned → HasMerge (IsUnderWay view.geometry view.written) hidden.merge
 
 -- the checkpoint to be there is of the next epoch, in the version that is written
 pub record IsNext (epoch : ℕ) (before next : Checkpoint (List RowView)) : Type 0 where
@@ -121,13 +127,19 @@ CountsAt Live epoch bytes before next = next.head.epoch ≡ epoch
 CountsAt Closing epoch bytes before next = next.head.epoch ≡ epoch
 CountsAt CloseFailed epoch bytes before next = next.head.epoch ≡ epoch
 
--- What holds over an honest device: it holds what the state stands for, and while the state goes on the fold up to a seal fits the
+-- What holds over an honest device: it holds what the state represents, and while the state goes on the fold up to a seal fits the
 -- area.
 pub record Sound (view : StateView) : Type 0 where
   pub behind : Behind (List RowView) Command
   pub held : IsHeldBy (setting_of view) (standing_of view) behind view.disk.history.now
   pub counts : CountsAt view.check view.epoch view.checkpoint behind.old behind.new
   pub fits : view.stopped ≡ false → checkpoint_size rows_format behind.new ≤ 512 * view.geometry.checkpoint
+
+-- The same with the checkpoint that is made while it is written: while the state goes on, what is left to be made of it is what isn't
+-- written.
+pub record SoundWith (view : StateView) (merge : Option MergeView) : Type 0 where
+  pub sound : Sound view
+  pub streams : view.stopped ≡ false → view.check ≡ Planned → HasMerge (Streams sound.behind.old.db view.written) merge
 
 -- What is held instead by the device of a store whose checkpoint had failed: the state has stopped before anything began, and
 -- every image opens to what it shows.
@@ -139,4 +151,4 @@ pub record IsBroken (view : StateView) : Type 0 where
 
 pub record IsState (view : StateView) (hidden : Hidden) : Type 0 where
   pub shape : Shape view hidden
-  pub sound : IsHonest view.disk → Sound view ⊎ IsBroken view
+  pub sound : IsHonest view.disk → SoundWith view hidden.merge ⊎ IsBroken view

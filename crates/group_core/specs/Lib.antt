@@ -2,6 +2,7 @@ pub mod Showing
 pub mod Values
 pub mod StateView
 pub mod Stops
+pub mod Merging
 pub mod Invariant
 pub mod Steps
 pub mod StepCalls
@@ -15,3 +16,4 @@ pub mod Submitting
 pub mod Keeping
 pub mod Starting
 pub mod Reading
+pub mod Numbers

@@ -9,7 +9,7 @@ use Rattle.group_laws.specs.declared.phases.Check.TheVariants.{Ready, Sealed}
 use Rattle.group_core.specs.declared.bookkeeping.Turn.{Turn}
 use Rattle.group_core.specs.StateView.{StateView}
 
--- what a store stands for
+-- what a store represents
 abbrev pub value_in : StoreView → StoreValue (List RowView)
 value_in store = record { db = store.rows; place = store.place }
 

@@ -36,7 +36,7 @@ abbrev pub MayOpen : StateView → List ℕ → Type 0
 MayOpen view image = OpensToFront (setting_of view) (standing_of view) image
 
 -- What a call leaves: at each moment since its entry what a stop may leave of the state before it or after it, and at its exit
--- what one may leave of the state after it; and at every moment what stands behind the store is as it was.
+-- what one may leave of the state after it; and at every moment what is behind the store is as it was.
 pub record StepLeaves (old new : StateView) : Type 0 where
   pub moments : Stretch old.disk new.disk (OpensAroundCall (setting_of old) (standing_of old) (standing_of new))
   pub exit : IsHonest new.disk → EveryImage new.disk.history.now (MayOpen new)

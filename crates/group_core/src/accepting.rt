@@ -1,4 +1,4 @@
-//! What accepting a command makes of the rows, of the outcomes that are kept, and of the pending commands: each whole, or not
+//! What accepting a command does to the rows, to the outcomes that are kept, and to the pending commands: each whole, or not
 //! at all.
 
 ghost use Rattle.std.specs.Prelude.{◌≡◌, ◌<◌, ◌≤◌, ◌∷◌, ◌++◌, [], max, IfErr, OnOk, OnErr};
@@ -12,7 +12,7 @@ ghost use Rattle.group_core.specs.Keeping.{TakesBack};
 use path_db::{ApplyError, Command, Outcome, PathDb};
 use std::collections::BTreeMap;
 
-/// What stands for a place while its outcome isn't known.
+/// What is kept for a place while its outcome isn't known.
 const NOT_KNOWN: Outcome = Outcome {
     inserted: 0,
     updated: 0,

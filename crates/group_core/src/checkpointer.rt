@@ -1,6 +1,8 @@
 //! The checkpointer's steps on the device.
 
-ghost use Rattle.std.specs.Prelude.{◌≡◌, true, false};
+ghost use Rattle.std.specs.Prelude.{◌≡◌, ◌*◌, true, false, length};
+ghost use Rattle.sealed_merge.specs.Merge.{encoding_if_any};
+ghost use Rattle.group_core.specs.Merging.{HasMerge, MayWrite, WritesPiece};
 ghost use Rattle.group_laws.specs.declared.phases.Check.TheVariants.{Laid as laid, Switched as switched, SwitchFailed as switch_failed};
 ghost use Rattle.group_laws.specs.declared.phases.Check.TheVariants.{Live as live, Closing as closing, CloseFailed as close_failed};
 ghost use Rattle.group_core.specs.Stops.{StepLeaves};
@@ -15,31 +17,34 @@ use crate::values::{Closing, Commit, Laid, Live, Plan, Switched};
 use byte_lists::{closed_gates, open_gate};
 use ckpt_pair::LATEST;
 use group_laws::Check;
-use sector_dev::Device;
+use row_edits::pieces_follow;
+use sealed_merge::Merge;
+use sector_dev::{DevError, Device};
 
 /// How many sectors of a checkpoint one call writes at most.
 const CHUNK: u64 = 256;
 
 impl<D: Device, S: Showcase> State<D, S> {
     /// Writes the next sectors of the new checkpoint, at most 256, to the area of the half that has the tail. That half's gate is
-    /// closed, so nothing of the area counts yet.
+    /// closed, so nothing of the area counts yet. Then it reads the other half's area on, in pieces of at most 256 sectors, as far
+    /// as the sectors after them need it. It takes no memory. A read that fails is a fault of the call, as the write is.
     pub fn write_chunk(&mut self, value: Plan) -> Result<Plan, StepError<AtPlan>>
         requires { value.phase.done ≡ false }
         ensures step { WritesChunk value result self.old self.new }
         ensures call { StepCall (chunk_write self.old) result self.old.disk self.new.disk }
         ensures any_moment { StepLeaves self.old self.new }
     {
+        pieces_follow();
         let value = self.chunk_turn(value)?;
-        let size = self.checkpoint.len() as u64;
-        let count = (size / 512 - self.written).min(CHUNK);
-        let from = (512 * self.written) as usize;
-        let to = (512 * (self.written + count)) as usize;
+        let sectors = sectors_of(&self.merge);
+        let count = (sectors - self.written).min(CHUNK);
+        let old = self.geometry.area_at(self.half.other());
         let at = self.geometry.area_at(self.half) + self.written;
-        match self.device.write(at, &self.checkpoint[from..to]) {
+        match write_piece(&mut self.merge, &mut self.device, old, at) {
             Ok(()) => {
                 self.written += count;
                 Ok(value.at(AtPlan {
-                    done: 512 * self.written == size,
+                    done: self.written == sectors,
                 }))
             }
             Err(_) => Err(self.plan.fault(&mut self.stopped, value)),
@@ -161,14 +166,40 @@ impl<D: Device, S: Showcase> State<D, S> {
         Ok(value)
     }
 
-    /// The same while the new checkpoint is being written, where the value tells whether all of it is.
+    /// The same while the new checkpoint is being written, where the value says whether all of it is.
     fn chunk_turn(&mut self, value: Plan) -> Result<Plan, StepError<AtPlan>>
         ensures turn { TakesChunkTurn value result self.old self.new }
         ensures any_moment { StepLeaves self.old self.new }
     {
-        if value.is_done() != (512 * self.written == self.checkpoint.len() as u64) {
+        if value.is_done() != (self.written == sectors_of(&self.merge)) {
             return Err(StepError::Stranger(value));
         }
         self.plan_turn(Check::Planned, value)
+    }
+}
+
+/// How many sectors the last checkpoint that was begun has.
+fn sectors_of(merge: &Option<Merge>) -> u64
+    ensures { 512 * result ≡ length (encoding_if_any merge.now) }
+{
+    match merge {
+        Some(merge) => merge.sectors(),
+        None => 0,
+    }
+}
+
+/// Writes the next sectors of a checkpoint from the sector `at` on, and reads the old area on, which begins at the sector `old`.
+fn write_piece<D: Device>(
+    merge: &mut Option<Merge>,
+    device: &mut D,
+    old: u64,
+    at: u64,
+) -> Result<(), DevError>
+    requires { HasMerge (MayWrite (D.disk device.old) old at) merge.old }
+    ensures { HasMerge (WritesPiece (D.disk device.old) (D.disk device.new) old at result merge.new) merge.old }
+{
+    match merge {
+        Some(merge) => merge.write_next(device, old, at),
+        None => unreachable!(),
     }
 }

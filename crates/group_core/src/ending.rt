@@ -71,7 +71,7 @@ impl<D: Device, S: Showcase> State<D, S> {
             gate: _gate,
             epoch: _epoch,
             version: _version,
-            checkpoint: _checkpoint,
+            merge: _merge,
             written: _written,
             stopped: _stopped,
         } = self;

@@ -16,6 +16,7 @@ mod ending;
 mod error;
 mod flusher;
 mod halting;
+mod numbers;
 mod phases;
 mod plain_show;
 mod publishing;
@@ -33,6 +34,7 @@ mod values;
 pub use beginning::BeginError;
 pub use bookkeeping::Turn;
 pub use error::{PublishError, StepError};
+pub use numbers::{Numbers, ShowsRows};
 pub use phases::{
     AtClosing, AtDurable, AtLaid, AtLive, AtOpened, AtPlan, AtStable, AtStaged, AtSwitched,
     AtWritten,

@@ -46,6 +46,18 @@ impl<D: Device, S: Showcase> State<D, S> {
         self.place
     }
 
+    /// How many bytes the two buffers of the last checkpoint that was begun have: the window into the old area, and what is made and not
+    /// written. Both are 0 where none was begun. No call but `begin` takes memory for a checkpoint. The clauses bound the lengths alone.
+    pub fn buffer_lens(&self) -> (usize, usize)
+        ensures window { result.0 ≤ 147461 }
+        ensures made { result.1 ≤ 147461 }
+    {
+        match &self.merge {
+            Some(merge) => merge.buffer_lens(),
+            None => (0, 0),
+        }
+    }
+
     /// The device.
     pub fn device(&self) -> &D
         ensures { D.disk result.now ≡ self.now.disk }

@@ -1,4 +1,4 @@
-//! Staging what is to be written next: a group of the first pending commands, or a seal.
+//! Staging what is written next: a group of the first pending commands, or a seal.
 
 ghost use Rattle.std.specs.Prelude.{◌≡◌, ◌≢◌, ◌≤◌, length, take, IfOk, MatchResult};
 ghost use Rattle.std.specs.List.{All};

@@ -63,7 +63,7 @@ impl<D: Device, S: Showcase> State<D, S> {
             gate,
             epoch,
             version,
-            checkpoint: Vec::new(alloc),
+            merge: None,
             written: 0,
             stopped,
         }

@@ -5,6 +5,7 @@ use crate::showcase::Showcase;
 use group_laws::{Check, Flush};
 use image_laws::Half;
 use path_db::{Command, Outcome, PathDb};
+use sealed_merge::Merge;
 use sector_dev::Device;
 use std::alloc::Global;
 use std::collections::BTreeMap;
@@ -51,8 +52,8 @@ pub struct State<D: Device, S: Showcase> {
     pub(crate) epoch: u64,
     /// The format version of the half that counts, which sets the limits of groups and commands.
     pub(crate) version: u32,
-    /// The bytes of the last checkpoint that was begun, in whole sectors.
-    pub(crate) checkpoint: Vec<u8>,
+    /// The last checkpoint that was begun, as far as it isn't written.
+    pub(crate) merge: Option<Merge>,
     /// How many sectors of it are written.
     pub(crate) written: u64,
     /// Whether the state has stopped, which is for good.
@@ -61,6 +62,7 @@ pub struct State<D: Device, S: Showcase> {
 
 impl<D: Device, S: Showcase> Model for State<D, S> {
     ghost use Rattle.image_laws.specs.Geometry.{geometry_view};
+    ghost use Rattle.sealed_merge.specs.Merge.{encoding_if_any};
     ghost use Rattle.group_core.specs.StateView.{StateView};
     ghost use Rattle.group_core.specs.Invariant.{IsState};
 
@@ -82,7 +84,7 @@ impl<D: Device, S: Showcase> Model for State<D, S> {
       gate = s.gate;
       epoch = s.epoch;
       version = s.version;
-      checkpoint = s.checkpoint.items;
+      checkpoint = encoding_if_any s.merge;
       written = s.written;
       stopped = s.stopped;
     } };
@@ -103,8 +105,8 @@ impl<D: Device, S: Showcase> Model for State<D, S> {
       gate = s.gate;
       epoch = s.epoch;
       version = s.version;
-      checkpoint = s.checkpoint.items;
+      checkpoint = encoding_if_any s.merge;
       written = s.written;
       stopped = s.stopped;
-    }) (record { staged = s.staged.items; tip = s.tip; place = s.place; owed = S.owed s.show }) };
+    }) (record { staged = s.staged.items; tip = s.tip; place = s.place; owed = S.owed s.show; merge = s.merge }) };
 }

@@ -14,8 +14,8 @@ const SIZES: Geometry = Geometry {
     checkpoint: 4096,
     journal: 4096,
 };
-/// The state's own number. No ticket or commit value leaves this crate, so that each state may have this one.
-const HOME: u64 = 1;
+/// The home number of each state of this crate. No ticket or commit value leaves the crate, so that all its states may have this one.
+const LONE_HOME: u64 = 1;
 
 /// A state of a new store, on a device of its own.
 #[tactic(auto, using(crate::proofs::FirstStore::first_state))]
@@ -28,7 +28,7 @@ pub(crate) fn start(alloc: Global) -> Result<MemoryState, AllocError>
         return Err(AllocError);
     };
     let show = PlainShow::new(rows, store.place());
-    Ok(State::new(alloc, store, show, HOME))
+    Ok(State::new(alloc, store, show, LONE_HOME))
 }
 
 /// A new store, with no rows at place 0.

@@ -265,7 +265,7 @@ module _ (keys : List Key) (at : ℕ) (row : RowView) (p : RowView → Bool) (se
       len_of [] = sum_by-cons row_len row [] ∙ omega arith
       len_of (first ∷ l) = omega (arith, sum_by-cons row_len first (l ++ row ∷ []), sum_by-cons row_len first l, len_of l)
 
-  -- by the last edit and what it makes of the row's record
+  -- by the last edit and what becomes of the row's record
   ends : (found : Bool) (last : Edit) (made : List ℕ) (kept_now : ℕ) (olds_now : List RowView) → IsFound found row keys p seen at edits kept olds → SameEdits (edits ++ last ∷ []) after
       → bytes_in (last ∷ []) ≡ row_len row → puts_in (last ∷ []) ≡ 0 → edited (last ∷ []) [] (row_record row) ≡ made → rows_encoding (unless found (one_if p row)) ≡ made
       → kept + length (unless found (one_if p row)) ≡ kept_now → olds ++ when found (row ∷ []) ≡ olds_now

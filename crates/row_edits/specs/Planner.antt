@@ -33,7 +33,7 @@ pub record PlansOn (found : Bool) (row : RowView) (old new : Planner) : Type 0 w
       → IsFound found row old.keys.items (is_beyond old.purged) seen old.at old.edits.items count old.olds.items
       → HasPlanned (seen ++ row ∷ []) new
 
--- A plan makes of these rows those after commands: its edits, with the rows that they put, make the records after of the records
+-- By a plan these rows become those after commands: its edits, with the rows that they put, make the records after of the records
 -- before, and its size and count are those of the rows after.
 pub record IsPlanOf (rows : List RowView) (commands : List Command) (plan : Plan) : Type 0 where
   pub makes : edited plan.edits.items (views_if_any plan.rows.items) (rows_encoding rows) ≡ rows_encoding (database_after_all rows commands)

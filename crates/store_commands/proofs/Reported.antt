@@ -20,7 +20,7 @@ use Rattle.store_commands.specs.Writing.{FailsWithin}
 use Rattle.store_commands.specs.declared.error.Fault.{Fault}
 use Rattle.store_commands.specs.declared.error.Fault.TheVariants.{Output}
 
--- the numbers, by what tells them
+-- the numbers, by what they are read from
 abbrev status_from : Geometry → Head → Bool → ℕ → StoreValue (List RowView) → Status
 status_from geometry head sealed gate value = record {
   version = head.version;

@@ -17,7 +17,7 @@ use Rattle.store_commands.specs.Stops.{StandsForTheSame, KeepsItsStore}
 use Rattle.store_commands.specs.declared.error.Fault.{Fault}
 use Rattle.store_commands.specs.declared.error.Fault.TheVariants.{Output}
 
--- what opens alike stands for the same
+-- what opens alike represents the same
 same_store : (before behind : List ℕ) → OpensAlike before behind → StandsForTheSame before behind
 same_store before behind (inl same) = inl same
 same_store before behind (inr both) =
@@ -40,11 +40,11 @@ opened_moments start mid so =
 pub store_stays : (store : StoreView) → IsStoreWhole store → Stretch store.disk store.disk (OpensToStore store)
 store_stays store whole = stretch_here (OpensToStore store) store.disk (λ honest. (whole.sound honest).every)
 
--- nor of what stands behind it
+-- nor of what is behind it
 pub rest_stays : (store : StoreView) → Stretch store.disk store.disk (IsFromImage store.disk.history.now (SameBehind store.geometry))
 rest_stays store = from_here (SameBehind store.geometry) store.disk (λ content at n far. refl)
 
--- Behind an opening, what opens to the store stands for what an image opened to before it.
+-- Behind an opening, what opens to the store represents what an image opened to before it.
 module _ (start new : Disk) (store : StoreView) (opening : Stretch start store.disk (IsFromImage start.history.now OpensAlike)) (opened : IsHonest start → IsOpened (reads_of start) store) where
   abbrev OfStore : List ℕ → Type 0
   OfStore content = OpensToStore store content × IsFromImage store.disk.history.now (SameBehind store.geometry) content

@@ -12,7 +12,7 @@ use Rattle.store_commands.specs.Text.{version_line}
 use Rattle.whole_writes.specs.Written.{IsWrittenInPart}
 use Rattle.store_commands.specs.Upgrading.{BecomesLatest, IsUpgraded, FailsToUpgrade}
 
--- what reads gave opens to what the store tells
+-- what reads gave opens to what the store has
 pub stands_for : (reads : List ℕ) (store : StoreView) → IsOpened reads store → IsStoreOf store.rows store.place reads
 stands_for reads store opened = record { opening = opened.rest.opening; is = opened.same; stands_for = opened.rest.tells.value }
 

@@ -8,7 +8,7 @@ use Rattle.whole_writes.specs.Written.{IsWrittenInPart}
 use Rattle.store_commands.specs.declared.error.Fault.{Fault}
 use Rattle.store_commands.specs.declared.error.Fault.TheVariants.{Format, Open, Checkpoint, File, Memory, Output}
 
--- the first line: sector 0, and the sizes that it tells
+-- the first line: sector 0, and the sizes in it
 abbrev pub title_line : Geometry → List ℕ
 title_line geometry =
     codes "0               store         checkpoint "

@@ -7,7 +7,7 @@ use Rattle.path_rows.specs.Database.{RowView}
 use Rattle.store_open.specs.Behind.{SameBehind}
 use Rattle.store_open.specs.PathStores.{IsStoreOf}
 
--- both open to the same rows at the same place, and what stands behind their store is the same
+-- both open to the same rows at the same place, and what is behind their store is the same
 pub record OpenToTheSame (before behind : List ℕ) : Type 0 where
   pub rows : List RowView
   pub place : ℕ
@@ -20,6 +20,6 @@ pub record OpenToTheSame (before behind : List ℕ) : Type 0 where
 abbrev pub StandsForTheSame : List ℕ → List ℕ → Type 0
 StandsForTheSame before behind = (behind ≡ before) ⊎ OpenToTheSame before behind
 
--- A stop at any moment from the old state on leaves of an honest device what stands for the same as an image of the old state.
+-- A stop at any moment from the old state on leaves of an honest device what represents the same as an image of the old state.
 abbrev pub KeepsItsStore : Disk → Disk → Type 0
 KeepsItsStore old new = Stretch old new (IsFromImage old.history.now StandsForTheSame)

@@ -14,7 +14,7 @@ use std::alloc::{AllocError, Global};
 use std::io::Write;
 use store_open::Geometry;
 
-/// Draws a store on a device of so many sectors.
+/// Draws a store on a device of this number of sectors.
 pub(crate) fn draw_store<W: Write>(
     alloc: Global,
     geometry: Geometry,
@@ -47,7 +47,7 @@ fn drawing(
     format!(in alloc; "{title}{first}{second}{behind}{choice}")
 }
 
-/// The first line: sector 0, and the sizes that it tells.
+/// The first line: sector 0, and the sizes in it.
 fn title_line(alloc: Global, geometry: Geometry) -> Result<String, AllocError>
     ensures { IfOk result (λ line. string_bytes line ≡ title_line (geometry_view geometry)) }
 {

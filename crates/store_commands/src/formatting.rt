@@ -26,7 +26,7 @@ pub fn format<D: Device, W: Write>(
     ensures keeps { Keeps (D.disk device.old) (D.disk device.new) }
     ensures answer { FormatsAndPrints (geometry_view geometry) result (D.disk device.old) (D.disk device.new) (W.contents writer.old) (W.contents writer.new) }
 
-    // At every moment what stands behind the store is as it was.
+    // At every moment the bytes after the store are unchanged.
     ensures behind { Stretch (D.disk device.old) (D.disk device.new)
         (IsFromImage (D.disk device.old).history.now (SameBehind (geometry_view geometry))) }
 {

@@ -12,7 +12,7 @@ use image_laws::Half;
 use sector_dev::{DevError, Device};
 use store_open::{Geometry, read_sector};
 
-/// A half: its head, none where its gate is closed; the rows that its area tells of; and its journal.
+/// A half: its head, none where its gate is closed; the rows in its area; and its journal.
 #[derive(Clone, Copy)]
 pub(crate) struct HalfFound {
     pub head: Result<Option<Head>, PairError>,

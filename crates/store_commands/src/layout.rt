@@ -1,4 +1,4 @@
-//! Drawing what stands where on a device.
+//! Drawing what is where on a device.
 
 ghost use Rattle.std.specs.Prelude.{◌≡◌, ◌≤◌};
 ghost use Rattle.sector_dev.specs.Disk.{IsHonest, reads_of};

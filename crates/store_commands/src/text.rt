@@ -69,7 +69,7 @@ pub(crate) fn place_line(alloc: Global, place: u64) -> Result<String, AllocError
     format!(in alloc; "place {place}\n")
 }
 
-/// The line of a store that was made, of so many sectors.
+/// The line of a store that was made, of this number of sectors.
 pub(crate) fn formatted_line(alloc: Global, sectors: u64) -> Result<String, AllocError>
     ensures { IfOk result (λ line. string_bytes line ≡ formatted_line sectors) }
 {

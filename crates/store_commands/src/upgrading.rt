@@ -32,7 +32,7 @@ pub fn upgrade<D: Device, W: Write>(
     ensures printed { OnOk result (Appends (W.contents writer.old) (W.contents writer.new) version_line) }
     ensures err { IfErr result (λ back. FailsToUpgrade back.1 (D.disk device) (D.disk back.0) (W.contents writer.old) (W.contents writer.new)) }
 
-    // A stop at any moment leaves what opens to the rows and the place of before, and what stands behind the store.
+    // A stop at any moment leaves an image that opens to the rows and the place of before, and the bytes after the store unchanged.
     ensures any_moment { KeepsItsStore (D.disk device) (D.disk (device_after result)) }
 
     // It answers that the device failed just where it did.

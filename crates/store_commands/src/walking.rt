@@ -22,7 +22,7 @@ pub(crate) enum End {
     Past,
 }
 
-/// What the headers of a journal tell.
+/// What the headers of a journal say.
 #[derive(Clone, Copy)]
 pub(crate) struct Walk {
     /// How many groups there are.
@@ -34,7 +34,7 @@ pub(crate) struct Walk {
     pub end: End,
 }
 
-/// Goes from gate to gate over the journal in so many sectors, which the device has. Records aren't read.
+/// Goes from gate to gate over the journal in this number of sectors, which the device has. Records aren't read.
 pub(crate) fn walk_journal<D: Device>(
     device: &mut D,
     start: u64,
@@ -71,7 +71,7 @@ pub(crate) fn walk_journal<D: Device>(
     })
 }
 
-/// What stands behind a gate.
+/// What is after a gate.
 #[derive(Clone, Copy)]
 enum Step {
     /// A group: the next gate, and the place behind the group.
@@ -101,7 +101,7 @@ fn next_step<D: Device>(
     Ok(step_behind(&header, gate))
 }
 
-/// What the header behind an open gate tells.
+/// What the header after an open gate says.
 fn step_behind(header: &[u8; 512], gate: u64) -> Step
     requires { gate < 2 ^ 63 }
     ensures { GoesOnBehind gate result }

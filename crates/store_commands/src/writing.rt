@@ -13,7 +13,7 @@ use std::io::Write;
 use whole_writes::WriteFailed;
 
 /// Writes the lines of all rows, in the order of their keys, and that of a place. Where memory for a line runs out, those
-/// before it stand.
+/// before it are kept.
 pub(crate) fn write_store<W: Write>(
     alloc: Global,
     db: &PathDb,

@@ -36,7 +36,7 @@ behind_refused see view e (Ok y) found so = absurd so
 behind_refused see view e (Err refusal) found so = so
 
 -- a front that is read has room for its rows
-fits_from : (head : Result Head PairRefusal) (fits : Bool) (size count : ℕ) (front : FrontView) → with_room head fits size count ≡ Ok front → (fits ≡ true) × (front.size ≡ size)
+pub fits_from : (head : Result Head PairRefusal) (fits : Bool) (size count : ℕ) (front : FrontView) → with_room head fits size count ≡ Ok front → (fits ≡ true) × (front.size ≡ size)
 fits_from (Err refusal) fits size count front is = absurd cc
 fits_from (Ok h) false size count front is = absurd cc
 fits_from (Ok h) true size count front is =
@@ -112,12 +112,12 @@ module _ (geometry : Geometry) (half : Half) (reads sector : List ℕ) (at : ℕ
       (behind_refused see view e (front_in latest (512 * geometry.checkpoint) sector) (rows_behind Area) (subst (λ (k : ℕ). Reads view (Err e) (front_in latest (512 * k) sector)) size so)))
 
   module _ (front : FrontView) (n : ℕ) (size : n ≡ geometry.checkpoint) (is_front : front_in latest (512 * n) sector ≡ Ok front) where
-    fits : 32 + front.size ≤ 512 * geometry.checkpoint
+    pub fits : 32 + front.size ≤ 512 * geometry.checkpoint
     fits =
         let so = fits_from (head_in latest sector) (leb (32 + rows_size sector) (512 * n)) (rows_size sector) (rows_count sector) front is_front in
         omega (arith, leb-true (32 + rows_size sector) (512 * n) so.0, so.1, size)
 
-    read_behind : checkpoint_in rows_format latest Area ≡ with_head front.head (as_counted front.count (rows_decoding (part (512 * at + 32) front.size reads)))
+    pub read_behind : checkpoint_in rows_format latest Area ≡ with_head front.head (as_counted front.count (rows_decoding (part (512 * at + 32) front.size reads)))
     read_behind =
         read_so
         ∙ ap (λ (f : Result FrontView PairRefusal). with_rows_behind f (rows_behind Area)) (ap (λ (k : ℕ). front_in latest (512 * k) sector) (sym size) ∙ is_front)

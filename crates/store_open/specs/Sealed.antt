@@ -12,13 +12,11 @@ use Rattle.image_laws.specs.StoreFormat.{db_after}
 use Rattle.image_laws.specs.Checkpoint.{Head, Checkpoint}
 use Rattle.image_laws.specs.CheckpointReading.{PairRefusal, checkpoint_in}
 use Rattle.image_laws.specs.OpeningReading.{journal_from}
-use Rattle.ckpt_pair.specs.Heads.{head_view}
 use Rattle.ckpt_pair.specs.Versions.{latest}
 use Rattle.ckpt_pair.specs.Rows.{rows_format}
 use Rattle.store_open.specs.PathStores.{store_format}
 use Rattle.store_open.specs.declared.error.OpenError.{OpenError}
 use Rattle.store_open.specs.declared.error.OpenError.TheVariants as opening
-use Rattle.store_open.specs.declared.sealed.Sealed.{Sealed}
 use Rattle.store_open.specs.declared.sealed.SealedError.{SealedError}
 use Rattle.store_open.specs.declared.sealed.SealedError.TheVariants.{Fault, NoMemory, Damaged}
 
@@ -48,17 +46,6 @@ folded_in geometry half image (Ok checkpoint) =
 -- the reading of a half of an image; `None` where its area is no checkpoint, or its journal is refused, or isn't sealed
 abbrev pub sealed_half : Geometry → Half → List ℕ → Option SealedHalf
 sealed_half geometry half image = folded_in geometry half image (checkpoint_in rows_format latest (area_of geometry half image))
-
--- a half that was read, as such a reading
-abbrev pub sealed_view : Sealed → SealedHalf
-sealed_view sealed = record { head = head_view sealed.head; place = sealed.place; rows = sealed.db }
-
--- The half has this reading, or isn't such a half, unless the device failed or memory was refused.
-abbrev pub ReadsSealed : Result Sealed SealedError → Option SealedHalf → Type 0
-ReadsSealed (Ok sealed) reading = reading ≡ Some (sealed_view sealed)
-ReadsSealed (Err Fault) reading = Unit {0}
-ReadsSealed (Err NoMemory) reading = Unit {0}
-ReadsSealed (Err Damaged) reading = reading ≡ None
 
 -- a call of the device failed exactly where this is the error
 abbrev pub faults_behind : {T : Type 0} → Result T SealedError → ℕ → ℕ

@@ -12,7 +12,7 @@ ghost use Rattle.sector_dev.specs.Stretch.{Stretch};
 ghost use Rattle.seg_core.specs.Encoding.{segment_encoding};
 ghost use Rattle.store_open.specs.Pouring.{IsPoured, record_if_any};
 ghost use Rattle.store_open.specs.TakingOver.{IsTornAt};
-ghost use Rattle.store_open.specs.declared.laying.TheConstants.{BUFFER, PIECE};
+ghost use Rattle.store_open.specs.declared.laying.TheConstants.{BUFFER, WRITE_BYTES};
 
 use crate::sectors::put;
 use byte_lists::sector_count;
@@ -21,10 +21,10 @@ use path_db::{PathDb, ROW_HEAD, Row, Rows, row_head};
 use sector_dev::{DevError, Device, SECTOR};
 
 /// The bytes of one write.
-const PIECE: usize = 131_072;
+const WRITE_BYTES: usize = 131_072;
 
 /// The sectors of one write.
-const PIECE_SECTORS: u64 = 256;
+const WRITE_SECTORS: u64 = 256;
 
 /// The length of the buffer in bytes: a piece and the seven greatest rows, in whole sectors.
 pub(crate) const BUFFER: usize = 246_272;
@@ -70,14 +70,14 @@ fn pour<D: Device>(
 ) -> Result<(u64, usize), DevError>
     requires inside { 512 * at + length (padded (take before buffer.old ++ rows_encoding rows)) ≤ 512 * (D.disk device.old).sectors }
     requires buffer { length buffer.old ≡ BUFFER }
-    requires used { before < PIECE }
+    requires used { before < WRITE_BYTES }
     requires clean { IsHonest (D.disk device.old) → (D.disk device.old).history.now.dirty ≡ [] }
     ensures any_moment { Stretch (D.disk device.old) (D.disk device.new)
         (IsTornAt (512 * at) (length (padded (take before buffer.old ++ rows_encoding rows.entry))) (reads_of (D.disk device.old))) }
     ensures poured { IfOk result (λ rest. IsPoured (D.disk device.old) (D.disk device.new) at rest.0
         (take rest.1 buffer.new) (take before buffer.old ++ rows_encoding rows.entry)) }
     ensures buffer { length buffer.new ≡ length buffer.old }
-    ensures rest { IfOk result (λ rest. rest.1 < PIECE) }
+    ensures rest { IfOk result (λ rest. rest.1 < WRITE_BYTES) }
     ensures faults { (D.disk device.new).faults ≡ count_after result (D.disk device.old).faults }
 {
     let mut rows = rows;
@@ -85,10 +85,10 @@ fn pour<D: Device>(
     let mut used = before;
     while let Some(row) = rows.next() {
         used = put_seven(buffer, used, row, &mut rows);
-        if used >= PIECE {
+        if used >= WRITE_BYTES {
             write_piece(device, sector, buffer, used)?;
-            sector += PIECE_SECTORS;
-            used -= PIECE;
+            sector += WRITE_SECTORS;
+            used -= WRITE_BYTES;
         }
     }
     Ok((sector, used))
@@ -101,15 +101,15 @@ fn write_piece<D: Device>(
     buffer: &mut [u8],
     used: usize,
 ) -> Result<(), DevError>
-    requires used { PIECE ≤ used }
+    requires used { WRITE_BYTES ≤ used }
     requires buffer { used ≤ length buffer.old }
-    requires inside { 512 * sector + PIECE ≤ 512 * (D.disk device.old).sectors }
-    ensures write { WriteCall sector (take PIECE buffer.old) result (D.disk device.old) (D.disk device.new) }
-    ensures rest { OnOk result (take PIECE buffer.old ++ take (used - PIECE) buffer.new ≡ take used buffer.old) }
+    requires inside { 512 * sector + WRITE_BYTES ≤ 512 * (D.disk device.old).sectors }
+    ensures write { WriteCall sector (take WRITE_BYTES buffer.old) result (D.disk device.old) (D.disk device.new) }
+    ensures rest { OnOk result (take WRITE_BYTES buffer.old ++ take (used - WRITE_BYTES) buffer.new ≡ take used buffer.old) }
     ensures buffer { length buffer.new ≡ length buffer.old }
 {
-    device.write(sector, &buffer[..PIECE])?;
-    buffer.copy_within(PIECE..used, 0);
+    device.write(sector, &buffer[..WRITE_BYTES])?;
+    buffer.copy_within(WRITE_BYTES..used, 0);
     Ok(())
 }
 
@@ -121,7 +121,7 @@ fn write_rest<D: Device>(
     used: usize,
 ) -> Result<(), DevError>
     requires buffer { length buffer.old ≡ BUFFER }
-    requires used { used ≤ PIECE }
+    requires used { used ≤ WRITE_BYTES }
     requires inside { 512 * sector + length (padded (take used buffer.old)) ≤ 512 * (D.disk device.old).sectors }
     ensures write { WriteCall sector (padded (take used buffer.old)) result (D.disk device.old) (D.disk device.new) }
 {
@@ -134,7 +134,7 @@ fn write_rest<D: Device>(
 /// seven are read before any is copied, so that the processor waits for their memory at the same time.
 fn put_seven(buffer: &mut [u8], used: usize, first: &Row, rows: &mut Rows<'_>) -> usize
     requires buffer { length buffer.old ≡ BUFFER }
-    requires used { used < PIECE }
+    requires used { used < WRITE_BYTES }
     ensures put { take result buffer.new ++ rows_encoding rows.new ≡ take used buffer.old ++ rows_encoding (row_view first.now ∷ rows.old) }
     ensures buffer { length buffer.new ≡ length buffer.old }
     ensures inside { result ≤ used + 114723 }

@@ -1,6 +1,6 @@
 //! Stores on devices: how one is made, and what is read of it.
 //!
-//! To the layer above: after `format` every image of the device is a new store, `read_geometry` tells the sizes of a store just
+//! To the layer above: after `format` every image of the device is a new store, `read_geometry` returns the sizes of a store just
 //! where an image is one, and `open` answers what the image opens with, and leaves at every moment what is there, or what opens
 //! as it did. `look` answers what the image opens with, and leaves the device as it is.
 #![tactic(auto)]
@@ -38,6 +38,7 @@ pub use new_store::{FormatError, format};
 pub use new_store_laws::new_stores_are_formatted;
 pub use open_store::open;
 pub use reading::read_sector;
-pub use sealed::{Sealed, SealedError, read_sealed};
+pub use scanning::scan_journal;
+pub use sealed::SealedError;
 pub use store::Store;
 pub use store_error::StoreError;

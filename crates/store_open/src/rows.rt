@@ -26,7 +26,7 @@ use sector_dev::Device;
 use std::alloc::Global;
 
 /// The most sectors that are read at a time: 1 MiB.
-const PIECE: u64 = 2048;
+const MOST_READ: u64 = 2048;
 
 /// Reads the rows of the area that begins at a sector, which have this number of bytes, in pieces of at most 1 MiB.
 pub(crate) fn feed_area<D: Device>(
@@ -45,7 +45,7 @@ pub(crate) fn feed_area<D: Device>(
     let mut fed = BEFORE_ROWS as u64;
     'pieces: while fed < end {
         let first = fed / 512;
-        let count = (sectors - first).min(PIECE);
+        let count = (sectors - first).min(MOST_READ);
         let is_small = count <= 2048;
         prove!(is_small);
         let piece = read_piece(alloc, device, area + first, count)?;

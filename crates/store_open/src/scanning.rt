@@ -19,7 +19,7 @@ use std::alloc::Global;
 
 /// Scans a half's journal by the version of its store. Its first command is to have this place. No more of it is read than what
 /// counts, a gate or a payload at a time.
-pub(crate) fn scan_journal<D: Device>(
+pub fn scan_journal<D: Device>(
     alloc: Global,
     device: &mut D,
     geometry: Geometry,
@@ -45,7 +45,7 @@ pub(crate) fn scan_journal<D: Device>(
     }
 }
 
-/// Reads so many sectors, which the device has.
+/// Reads this number of sectors, which the device has.
 pub(crate) fn read_piece<D: Device>(
     alloc: Global,
     device: &mut D,

@@ -1,4 +1,4 @@
-use Rattle.std.proofs.Common.{◌≤◌, not, ◌∙◌, ap, subst, arith}
+use Rattle.std.proofs.Common.{◌≤◌, not, [], refl, ◌∙◌, ap, subst, arith}
 use Rattle.sector_dev.specs.Disk.{Disk, IsHonest, IsWhole}
 use Rattle.image_laws.specs.Group.{last_place}
 use Rattle.group_laws.specs.declared.phases.Flush.TheVariants.{Resting}
@@ -28,11 +28,11 @@ invariant_of-result g c =
       gate = c.tail_gate-gate.ensures i;
       epoch = c.epoch-epoch.ensures i;
       version = c.version-version.ensures.version i;
-      checkpoint = c.new-4.ensures.items i;
+      checkpoint = [];
       written = 0;
       stopped = not c.goes_on-stopped.result;
     })
-    parts.ensures.rows c.place-place.ensures c.requires.paid
+    parts.ensures.rows c.place-place.ensures c.requires.paid refl
 
 pub returns-clause-left : goal.returns-clause-left
 returns-clause-left g c = opens_so _ c.into_parts-device.ensures.device (invariant_of-result g c)

@@ -1,0 +1,4 @@
+pub mod Merge
+pub mod Making
+pub mod OldArea
+pub mod Beginning
