@@ -1,0 +1,5 @@
+pub mod Lines
+pub mod Page
+pub mod Phases
+pub mod Request
+pub mod Response

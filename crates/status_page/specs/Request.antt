@@ -1,0 +1,34 @@
+-- What a peer asks for.
+use Rattle.std.specs.Prelude.{◌≡◌, ◌≢◌, ◌⊎◌, ℕ, List, codes}
+use Rattle.httparse.specs.Grammar.{RequestHead, ReadsRequest, HasNoRequest, MayBecomeRequest, NeverHasRequest}
+use Rattle.httparse.specs.Spans.{RequestExceeds}
+use Rattle.status_page.specs.declared.request.Asked.{Asked}
+use Rattle.status_page.specs.declared.request.Asked.TheVariants.{Page, OtherPath, OtherMethod, More, Unreadable}
+
+-- the path of the page
+abbrev pub page_path : List ℕ
+page_path = codes "/metrics"
+
+-- what a method asks of a path: the path is judged first
+abbrev pub IsJudged : List ℕ → List ℕ → Asked → Type 0
+IsJudged method path Page = (path ≡ page_path) × (method ≡ codes "GET")
+IsJudged method path OtherPath = path ≢ page_path
+IsJudged method path OtherMethod = (path ≡ page_path) × (method ≢ codes "GET")
+IsJudged method path More = ⊥
+IsJudged method path Unreadable = ⊥
+
+-- the head of a request is at the front, by whose method and target this is asked
+pub record IsHeadOf (bytes : List ℕ) (asked : Asked) : Type 0 where
+  pub head : RequestHead
+  pub rest : List ℕ
+  pub reads : ReadsRequest bytes head rest
+  pub judged : IsJudged head.method head.target asked
+
+-- What is asked by the bytes of a peer: by the head of a request that is at the front; by none yet, which more bytes may make one; or by
+-- what can be none of at most 64 fields.
+abbrev pub IsAsked : List ℕ → Asked → Type 0
+IsAsked bytes Page = IsHeadOf bytes Page
+IsAsked bytes OtherPath = IsHeadOf bytes OtherPath
+IsAsked bytes OtherMethod = IsHeadOf bytes OtherMethod
+IsAsked bytes More = HasNoRequest bytes × MayBecomeRequest bytes
+IsAsked bytes Unreadable = NeverHasRequest bytes ⊎ RequestExceeds 64 bytes

@@ -1,0 +1,36 @@
+//! What a peer is answered.
+
+ghost use Rattle.std.specs.Prelude.{◌≡◌, IfOk, string_bytes};
+ghost use Rattle.status_page.specs.Response.{page_head, response_text};
+
+use std::alloc::{AllocError, Global};
+
+/// The response to a request for something that is not there.
+pub const NOT_FOUND: &str =
+    "HTTP/1.1 404 Not Found\r\nContent-Length: 0\r\nConnection: close\r\n\r\n";
+
+/// The response to a request for something else of the page than to get it.
+pub const NOT_ALLOWED: &str =
+    "HTTP/1.1 405 Method Not Allowed\r\nAllow: GET\r\nContent-Length: 0\r\nConnection: close\r\n\r\n";
+
+/// The response to what is no request.
+pub const BAD_REQUEST: &str =
+    "HTTP/1.1 400 Bad Request\r\nContent-Length: 0\r\nConnection: close\r\n\r\n";
+
+/// The response that carries a page.
+pub fn response(alloc: Global, page: &str) -> Result<String, AllocError>
+    ensures { IfOk result (λ text. string_bytes text ≡ response_text page.now) }
+{
+    let head = page_head(alloc, page.len())?;
+    format!(in alloc; "{head}{page}")
+}
+
+/// The head of the response that carries a page of this number of bytes.
+#[tactic(auto, unfolding(crate::specs::Response::page_head))]
+fn page_head(alloc: Global, len: usize) -> Result<String, AllocError>
+    ensures { IfOk result (λ text. string_bytes text ≡ page_head len) }
+{
+    format!(in alloc;
+        "HTTP/1.1 200 OK\r\nContent-Type: text/plain; version=0.0.4\r\nContent-Length: {len}\r\nConnection: close\r\n\r\n"
+    )
+}

@@ -1,0 +1,57 @@
+//! What a peer asks for.
+
+ghost use Rattle.status_page.specs.Request.{IsAsked, IsJudged};
+
+use httparse::spans::{EMPTY_HEADER_SPAN, parse_request};
+use httparse::{Error, Status};
+
+/// The most fields that the head of a request may have.
+const MOST_FIELDS: usize = 64;
+
+/// The path of the page.
+const PATH: &[u8] = b"/metrics";
+
+/// The method that gets it.
+const METHOD: &[u8] = b"GET";
+
+/// What a peer asks for.
+#[derive(Clone, Copy, Debug, PartialEq, Eq)]
+pub enum Asked {
+    /// The page.
+    Page,
+    /// Something that is not there.
+    OtherPath,
+    /// Something else of the page than to get it.
+    OtherMethod,
+    /// The peer has not sent the whole head of a request yet.
+    More,
+    /// What the peer has sent can be no request of at most 64 fields.
+    Unreadable,
+}
+
+/// What a peer asks for by these bytes, which may be the head of a request of HTTP/1.1 or HTTP/1.0. What is after the head is not
+/// looked at. Methods and paths are compared to the byte.
+pub fn read_head(bytes: &[u8]) -> Asked
+    ensures { IsAsked bytes.now result }
+{
+    let mut fields = [EMPTY_HEADER_SPAN; MOST_FIELDS];
+    match parse_request(bytes, &mut fields) {
+        Ok(Status::Complete(head)) => judge(head.method.of(bytes), head.path.of(bytes)),
+        Ok(Status::Partial) => Asked::More,
+        Err(Error::TooManyHeaders) => Asked::Unreadable,
+        Err(_) => Asked::Unreadable,
+    }
+}
+
+/// What a method asks of a path.
+fn judge(method: &[u8], path: &[u8]) -> Asked
+    ensures { IsJudged method.now path.now result }
+{
+    if path != PATH {
+        Asked::OtherPath
+    } else if method != METHOD {
+        Asked::OtherMethod
+    } else {
+        Asked::Page
+    }
+}

@@ -1,0 +1,28 @@
+//! What bytes ask for.
+
+use status_page::{Asked, read_head};
+use std::test::Fail;
+
+const REQUESTS: [(&str, Asked); 13] = [
+    ("GET /metrics HTTP/1.1\r\nHost: a\r\n\r\n", Asked::Page),
+    ("GET /metrics HTTP/1.0\r\n\r\n", Asked::Page),
+    ("GET /metrics HTTP/1.1\n\n", Asked::Page),
+    ("GET / HTTP/1.1\r\n\r\n", Asked::OtherPath),
+    ("GET /metrics/ HTTP/1.1\r\n\r\n", Asked::OtherPath),
+    ("GET /metrics?a HTTP/1.1\r\n\r\n", Asked::OtherPath),
+    ("POST / HTTP/1.1\r\n\r\n", Asked::OtherPath),
+    ("POST /metrics HTTP/1.1\r\n\r\n", Asked::OtherMethod),
+    ("get /metrics HTTP/1.1\r\n\r\n", Asked::OtherMethod),
+    ("", Asked::More),
+    ("GET /metrics HTTP/1.1\r\nHost: a\r\n", Asked::More),
+    ("GET /metrics HTTP/2.0\r\n\r\n", Asked::Unreadable),
+    ("GET /metrics HTTP/1.1\r\n: a\r\n\r\n", Asked::Unreadable),
+];
+
+#[test]
+fn requests_are_read(rt: HostRuntime) -> Result<(), Fail> {
+    for (bytes, wanted) in REQUESTS {
+        assert_eq!(rt; read_head(bytes.as_bytes()), wanted, "{bytes}");
+    }
+    Ok(())
+}
