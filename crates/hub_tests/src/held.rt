@@ -2,7 +2,8 @@
 
 use crate::crews::{Errand, Guests, crewed};
 use crate::doors::{Door, Holds, Latch};
-use crate::stores::{LEAST, formatted, opened, opens_to, query, receipt_of, register};
+use crate::host::Host;
+use hub_scripts::stores::{LEAST, formatted, opened, opens_to, query, receipt_of, register};
 use path_hub::{Hub, HubName, Steps};
 use sector_dev::{Device, HeldDevice};
 use std::alloc::Global;
@@ -40,7 +41,7 @@ impl Looks<'_> {
         let is_held = self.door.is_held_soon(rt);
         let held = reader.lookup(&query(), 0);
         self.door.open(rt);
-        let mut receipt = receipt_of(rt, hub, ticket)?;
+        let mut receipt = receipt_of(&Host(rt), hub, ticket)?;
         reader.learn(&mut receipt);
         let after = reader.lookup(&query(), 0).ok()?.len();
         hub.give_back(reader);
@@ -60,14 +61,15 @@ impl Errand for Looks<'_> {
 
 #[test]
 fn held_sync_lookup(rt: HostRuntime) -> Result<(), Fail> {
+    let host = Host(&rt);
     let alloc = rt.alloc();
     let door = Door::new(Latch::Open);
     let holds = Holds {
         rt: &rt,
         door: &door,
     };
-    let device = HeldDevice::new(formatted(&rt, alloc, LEAST), holds);
-    let store = opened(&rt, alloc, device);
+    let device = HeldDevice::new(formatted(&host, alloc, LEAST), holds);
+    let store = opened(&host, alloc, device);
     let looks = Looks {
         alloc,
         door: &door,
@@ -78,6 +80,6 @@ fn held_sync_lookup(rt: HostRuntime) -> Result<(), Fail> {
     assert_eq!(rt; *guests.errand.shown.lock(&rt), Some([1, 1, 2]));
     assert_eq!(rt; door.latch(&rt), Latch::Open);
     let (device, _gate) = device.into_parts();
-    let _device = opens_to(&rt, alloc, device, (2, 2 * 93, 2));
+    let _device = opens_to(&host, alloc, device, (2, 2 * 93, 2));
     Ok(())
 }

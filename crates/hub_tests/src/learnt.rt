@@ -1,7 +1,8 @@
 //! A receipt that a reader has learnt is shown by the reader's next lookup.
 
 use crate::crews::{Errand, Guests, crewed};
-use crate::stores::{new_store, opens_to, query, register};
+use crate::host::Host;
+use hub_scripts::stores::{new_store, opens_to, query, register};
 use path_hub::{Hub, HubName, HubReader};
 use sector_dev::Device;
 use std::alloc::Global;
@@ -51,7 +52,8 @@ fn shown_after<D: Device, N: HubName, R: Wait + Clock>(
 
 #[test]
 fn learnt_receipt_is_shown(rt: HostRuntime) -> Result<(), Fail> {
-    let store = new_store(&rt, rt.alloc());
+    let host = Host(&rt);
+    let store = new_store(&host, rt.alloc());
     let learns = Learns {
         alloc: rt.alloc(),
         shown: AtomicU64::new(0),
@@ -62,6 +64,6 @@ fn learnt_receipt_is_shown(rt: HostRuntime) -> Result<(), Fail> {
         guests.errand.shown.load(Ordering::SeqCst),
         u64::from(SEGMENTS)
     );
-    let _device = opens_to(&rt, rt.alloc(), device, (4, 4 * 93, 4));
+    let _device = opens_to(&host, rt.alloc(), device, (4, 4 * 93, 4));
     Ok(())
 }

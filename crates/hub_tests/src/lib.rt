@@ -1,21 +1,17 @@
-//! Tests of `path_hub`, a module for each subject. They see what no clause says: that calls succeed and threads end, what another thread
-//! sees of a call, which changes wake whom, and what is there where memory or the device is refused.
+//! Tests of `path_hub` with guests in threads, a module for each subject. They see what no clause says: that calls succeed and threads end, what another thread
+//! sees of a call, and what is there where memory or the device is refused.
 #![tactic(auto)]
 
-#[cfg(test)]
-mod acts;
 #[cfg(test)]
 mod crews;
 #[cfg(test)]
 mod doors;
 #[cfg(test)]
-mod fakes;
-#[cfg(test)]
 mod held;
 #[cfg(test)]
-mod learnt;
+mod host;
 #[cfg(test)]
-mod loops;
+mod learnt;
 #[cfg(test)]
 mod purges;
 #[cfg(test)]
@@ -23,14 +19,8 @@ mod readers;
 #[cfg(test)]
 mod refused;
 #[cfg(test)]
-mod rests;
-#[cfg(test)]
-mod scripts;
-#[cfg(test)]
 mod serves;
 #[cfg(test)]
 mod stops;
-#[cfg(test)]
-mod stores;
 #[cfg(test)]
 mod strangers;

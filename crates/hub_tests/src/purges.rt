@@ -1,7 +1,8 @@
 //! Six hundred purges, one after the other.
 
 use crate::crews::{Errand, Guests, crewed};
-use crate::stores::{assert_pair, new_store, opened};
+use crate::host::Host;
+use hub_scripts::stores::{assert_pair, new_store, opened};
 use path_db::Command;
 use path_hub::{Hub, HubName};
 use sector_dev::Device;
@@ -35,15 +36,16 @@ impl Errand for Purges {
 
 #[test]
 fn six_hundred_purges(rt: HostRuntime) -> Result<(), Fail> {
-    let store = new_store(&rt, rt.alloc());
+    let host = Host(&rt);
+    let store = new_store(&host, rt.alloc());
     let purges = Purges {
         placed: AtomicU64::new(0),
     };
     let guests = Guests::new(1, purges);
     let device = crewed(&rt, rt.alloc(), store, &guests);
     assert_eq!(rt; guests.errand.placed.load(Ordering::SeqCst), PURGES);
-    let store = opened(&rt, rt.alloc(), device);
-    assert_pair(&rt, &store, (0, 0, PURGES));
+    let store = opened(&host, rt.alloc(), device);
+    assert_pair(&host, &store, (0, 0, PURGES));
     // The first half's checkpoint has epoch 1, and each further one has the next.
     assert!(rt; 2 <= store.epoch());
     let _device = store.into_device();

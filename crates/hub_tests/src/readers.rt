@@ -1,6 +1,7 @@
 //! A hub has 64 readers.
 
-use crate::stores::{ended, new_store};
+use crate::host::Host;
+use hub_scripts::stores::{ended, new_store};
 use path_hub::{Hub, HubError, HubJob, HubName, HubReader, with_hub};
 use sector_dev::Device;
 use std::alloc::Global;
@@ -34,9 +35,10 @@ impl<D: Device, R: Wait + Clock> HubJob<D, R> for TakesAll {
 
 #[test]
 fn sixty_four_readers(rt: HostRuntime) -> Result<(), Fail> {
+    let host = Host(&rt);
     let alloc = rt.alloc();
-    let store = new_store(&rt, alloc);
-    let seen = ended(&rt, with_hub(&rt, alloc, store, 1, TakesAll { alloc }));
+    let store = new_store(&host, alloc);
+    let seen = ended(&host, with_hub(&rt, alloc, store, 1, TakesAll { alloc }));
     assert_eq!(rt; seen, Some((64, true)));
     Ok(())
 }

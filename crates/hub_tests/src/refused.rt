@@ -1,10 +1,13 @@
 //! Want of memory. The tests are run with each of their allocations refused in turn: a call that is refused changes nothing, and
 //! succeeds when it is made again.
 
-use crate::acts::{Unwatched, keep};
 use crate::crews::{Errand, Guests};
-use crate::stores::{Pair, assert_pair, one_row, opened, opens_to, query, receipt_of, register};
+use crate::host::Host;
 use group_core::{Durable, PublishError, StageError, Staged, StepError, SubmitError, Ticket};
+use hub_scripts::acts::{Unwatched, keep};
+use hub_scripts::stores::{
+    Pair, assert_pair, one_row, opened, opens_to, query, receipt_of, register,
+};
 use path_db::Command;
 use path_hub::{Hub, HubError, HubJob, HubName, HubNote, HubReader, Steps, with_crew, with_hub};
 use sector_dev::{Device, MemDevice};
@@ -21,7 +24,7 @@ use store_open::Store;
 const FIRST: Pair = (1, 93, 1);
 
 /// That store.
-fn first_store(rt: &impl Abort, alloc: Global) -> Store<MemDevice> {
+fn first_store(rt: &Host<impl Abort>, alloc: Global) -> Store<MemDevice> {
     opened(rt, alloc, one_row(rt, alloc))
 }
 
@@ -117,7 +120,7 @@ fn publish_again<D: Device, N: HubName, R: Wait + Clock + Abort>(
         return ticket;
     };
     assert_shown(rt, reader, 1);
-    let ticket = keep(rt, hub, &mut Unwatched, ticket);
+    let ticket = keep(&Host(rt), hub, &mut Unwatched, ticket);
     if let Some(_back) = published(rt, hub, back) {
         panic!(rt; "out of memory");
     }
@@ -131,7 +134,7 @@ fn learn<N: HubName, S: Steps<Note = HubNote<N>>>(
     reader: &mut HubReader<N>,
     ticket: Ticket,
 ) -> u64 {
-    let Some(mut receipt) = receipt_of(rt, steps, ticket) else {
+    let Some(mut receipt) = receipt_of(&Host(rt), steps, ticket) else {
         panic!(rt; "not committed");
     };
     reader.learn(&mut receipt);
@@ -171,12 +174,12 @@ impl<D: Device, R: Wait + Clock + Abort> HubJob<D, R> for Adds {
 
 /// Sees that a hub was refused for want of memory, and that the store is as it was: the store that its device opens to.
 fn assert_kept<D: Device>(
-    rt: &impl Abort,
+    rt: &Host<impl Abort>,
     alloc: Global,
     store: Store<D>,
     e: HubError,
 ) -> Store<D> {
-    assert!(rt;
+    assert!(rt.0;
         matches!(e, HubError::NoMemory | HubError::NoReader),
         "{e:?}"
     );
@@ -188,11 +191,12 @@ fn assert_kept<D: Device>(
 
 #[test]
 fn refused_calls_may_be_made_again(rt: HostRuntime) -> Result<(), Fail> {
+    let host = Host(&rt);
     let alloc = rt.alloc();
-    let store = first_store(&rt, alloc);
+    let store = first_store(&host, alloc);
     let again = match with_hub(&rt, alloc, store, 1, Adds { alloc }) {
         Err((store, adds, e)) => {
-            let store = assert_kept(&rt, alloc, store, e);
+            let store = assert_kept(&host, alloc, store, e);
             with_hub(&rt, alloc, store, 1, adds)
         }
         done => done,
@@ -233,10 +237,11 @@ fn joined<R: Wait + Clock + Threads + Abort + Copy + Drop + Send + Sync>(
     alloc: Global,
     guests: &Guests<Joins>,
 ) -> (MemDevice, u64) {
-    let (device, first) = with_crew(rt, alloc, first_store(&rt, alloc), 1, guests);
+    let host = Host(rt);
+    let (device, first) = with_crew(rt, alloc, first_store(&host, alloc), 1, guests);
     let (device, attended) = match first {
         Err(e) => {
-            let store = assert_kept(&rt, alloc, opened(&rt, alloc, device), e);
+            let store = assert_kept(&host, alloc, opened(&host, alloc, device), e);
             with_crew(rt, alloc, store, 1, guests)
         }
         Ok(attended) => (device, Ok(attended)),
@@ -249,6 +254,7 @@ fn joined<R: Wait + Clock + Threads + Abort + Copy + Drop + Send + Sync>(
 
 #[test]
 fn refused_crews_may_come_again(rt: HostRuntime) -> Result<(), Fail> {
+    let host = Host(&rt);
     let alloc = rt.alloc();
     let joins = Joins {
         alloc,
@@ -264,6 +270,6 @@ fn refused_crews_may_come_again(rt: HostRuntime) -> Result<(), Fail> {
     } else {
         (2, 2 * 93, 2)
     };
-    let _device = opens_to(&rt, alloc, device, wanted);
+    let _device = opens_to(&host, alloc, device, wanted);
     Ok(())
 }

@@ -1,7 +1,8 @@
 //! Guests who register and look up beside each other.
 
 use crate::crews::{Errand, Guests, crewed};
-use crate::stores::{WIDE, formatted, opened, opens_to, query_from, register};
+use crate::host::Host;
+use hub_scripts::stores::{WIDE, formatted, opened, opens_to, query_from, register};
 use path_hub::{Hub, HubName, HubReader};
 use sector_dev::Device;
 use std::alloc::Global;
@@ -64,8 +65,9 @@ impl Errand for Serves {
 
 #[test]
 fn crew_serves_all(rt: HostRuntime) -> Result<(), Fail> {
+    let host = Host(&rt);
     let alloc = rt.alloc();
-    let store = opened(&rt, alloc, formatted(&rt, alloc, WIDE));
+    let store = opened(&host, alloc, formatted(&host, alloc, WIDE));
     let serves = Serves {
         alloc,
         shown: AtomicU64::new(0),
@@ -73,6 +75,6 @@ fn crew_serves_all(rt: HostRuntime) -> Result<(), Fail> {
     let guests = Guests::new(GUESTS, serves);
     let device = crewed(&rt, alloc, store, &guests);
     assert_eq!(rt; guests.errand.shown.load(Ordering::SeqCst), 128);
-    let _device = opens_to(&rt, alloc, device, (128, 128 * 93, 128));
+    let _device = opens_to(&host, alloc, device, (128, 128 * 93, 128));
     Ok(())
 }

@@ -1,12 +1,13 @@
 //! What is answered once the state has stopped.
 
-use crate::acts::{Unwatched, fill};
 use crate::crews::{Errand, Guests, crewed, nap};
-use crate::fakes::Fake;
-use crate::stores::{
+use crate::host::Host;
+use group_core::SubmitError;
+use hub_scripts::acts::{Unwatched, fill};
+use hub_scripts::fakes::Fake;
+use hub_scripts::stores::{
     LEAST, change, formatted, opened, opens_to, pair_of, query, register, sealed_row,
 };
-use group_core::SubmitError;
 use path_db::Command;
 use path_hub::{Awaited, Hub, HubError, HubName, HubReader, Steps};
 use sector_dev::{Device, FaultDevice, MemDevice};
@@ -21,12 +22,13 @@ use store_open::{Store, open};
 /// A store whose journals are full, at place 514, and that has no epoch left for a checkpoint: a further command is accepted, and never
 /// committed.
 fn full_store<R: Wait + Abort + Copy + Drop>(rt: R, alloc: Global) -> Store<MemDevice> {
-    let mut device = formatted(&rt, alloc, LEAST);
+    let host = Host(rt);
+    let mut device = formatted(&host, alloc, LEAST);
     // The epoch of the first half's checkpoint.
     change(&mut device, 1, 8, &[0xff; 8]);
-    let fake = Fake::new(rt, alloc, device);
-    fill(&rt, &fake, &mut Unwatched);
-    opened(&rt, alloc, fake.into_device())
+    let fake = Fake::new(host, alloc, device);
+    fill(&host, &fake, &mut Unwatched);
+    opened(&host, alloc, fake.into_device())
 }
 
 /// How long a command is waited for, in naps.
@@ -64,6 +66,7 @@ impl Errand for Waits {
 
 #[test]
 fn register_in_a_state_that_stops(rt: HostRuntime) -> Result<(), Fail> {
+    let host = Host(&rt);
     let alloc = rt.alloc();
     let waits = Waits {
         answers: Mutex::new([None, None]),
@@ -75,7 +78,7 @@ fn register_in_a_state_that_stops(rt: HostRuntime) -> Result<(), Fail> {
         Some(HubError::Submit(SubmitError::Stopped)),
     ];
     assert_eq!(rt; *guests.errand.answers.lock(&rt), wanted);
-    let _device = opens_to(&rt, alloc, device, (0, 0, 514));
+    let _device = opens_to(&host, alloc, device, (0, 0, 514));
     Ok(())
 }
 
@@ -98,8 +101,8 @@ fn calls_to_open(rt: &impl Abort, alloc: Global, device: MemDevice) -> u64 {
 }
 
 /// A new store on a device that fails in the sync of the second group's gate: each group takes a write and a sync, and these of its gate.
-fn failing_store(rt: &impl Abort, alloc: Global) -> Store<FaultDevice> {
-    let number = calls_to_open(rt, alloc, formatted(rt, alloc, LEAST)).saturating_add(7);
+fn failing_store(rt: &Host<impl Abort>, alloc: Global) -> Store<FaultDevice> {
+    let number = calls_to_open(&rt.0, alloc, formatted(rt, alloc, LEAST)).saturating_add(7);
     let device = formatted(rt, alloc, LEAST);
     opened(rt, alloc, FaultDevice::new(device, number))
 }
@@ -146,20 +149,21 @@ impl Errand for Meets {
 
 #[test]
 fn failed_gate_sync_stops(rt: HostRuntime) -> Result<(), Fail> {
+    let host = Host(&rt);
     let alloc = rt.alloc();
     let meets = Meets {
         alloc,
         seen: Mutex::new(None),
     };
     let guests = Guests::new(1, meets);
-    let device = crewed(&rt, alloc, failing_store(&rt, alloc), &guests);
+    let device = crewed(&rt, alloc, failing_store(&host, alloc), &guests);
     let answers = [
         Some(HubError::Stopped(1)),
         Some(HubError::Submit(SubmitError::Stopped)),
     ];
     assert_eq!(rt; *guests.errand.seen.lock(&rt), Some(([1, 1, 1], answers)));
     // The gate was written, though its sync failed: that command was kept.
-    let _device = opens_to(&rt, alloc, device.into_mem(), (2, 2 * 93, 2));
+    let _device = opens_to(&host, alloc, device.into_mem(), (2, 2 * 93, 2));
     Ok(())
 }
 
@@ -211,14 +215,15 @@ fn assert_readers_go_on<R: Wait + Clock + Threads + Abort + Copy + Drop + Send +
     alloc: Global,
     number: u64,
 ) {
-    let failing = FaultDevice::new(sealed_row(&rt, alloc), number);
+    let host = Host(rt);
+    let failing = FaultDevice::new(sealed_row(&host, alloc), number);
     let purges = Purges {
         shown: Mutex::new(None),
     };
     let guests = Guests::new(1, purges);
-    let device = crewed(rt, alloc, opened(&rt, alloc, failing), &guests);
+    let device = crewed(rt, alloc, opened(&host, alloc, failing), &guests);
     assert_eq!(&rt; *guests.errand.shown.lock(&rt), Some([1; 4]), "{number}");
-    let store = opened(&rt, alloc, device.into_mem());
+    let store = opened(&host, alloc, device.into_mem());
     assert_eq!(&rt; pair_of(&store).0, 1, "{number}");
     let _device = store.into_device();
 }
@@ -226,8 +231,9 @@ fn assert_readers_go_on<R: Wait + Clock + Threads + Abort + Copy + Drop + Send +
 // The calls of the flusher's steps and of a whole checkpoint, in whichever order the two actors make them.
 #[test]
 fn readers_go_on_after_each_failed_call(rt: HostRuntime) -> Result<(), Fail> {
+    let host = Host(&rt);
     let alloc = rt.alloc();
-    let first = calls_to_open(&rt, alloc, sealed_row(&rt, alloc));
+    let first = calls_to_open(&rt, alloc, sealed_row(&host, alloc));
     for number in 0..ACTORS_CALLS {
         assert_readers_go_on(&rt, alloc, first.saturating_add(number));
     }

@@ -1,8 +1,9 @@
 //! Tickets of another hub, and commands that are not accepted.
 
-use crate::acts::{Unwatched, keep, spend, submit};
-use crate::stores::{ended, new_store};
+use crate::host::Host;
 use group_core::{Redeemed, SubmitError, Ticket};
+use hub_scripts::acts::{Unwatched, keep, spend, submit};
+use hub_scripts::stores::{ended, new_store};
 use path_db::Command;
 use path_hub::{Hub, HubError, HubJob, HubName, Steps, with_hub};
 use sector_dev::Device;
@@ -23,7 +24,8 @@ impl<D: Device, R: Wait + Clock + Abort> HubJob<D, R> for Redeems {
     fn run<N: HubName>(self, hub: &Hub<D, N, R>) -> Ticket {
         let Redeems { ticket } = self;
         let rt = hub.handle();
-        let own = submit(rt, hub, &mut Unwatched);
+        let host = Host(rt);
+        let own = submit(&host, hub, &mut Unwatched);
         assert_eq!(rt; own.place(), ticket.place());
         let back = match hub.redeem(ticket) {
             Redeemed::Stranger(back) => back,
@@ -31,7 +33,7 @@ impl<D: Device, R: Wait + Clock + Abort> HubJob<D, R> for Redeems {
             Redeemed::Committed(_) | Redeemed::Unknown(_) => panic!(rt; "redeemed"),
         };
         hub.stop();
-        spend(rt, hub, &mut Unwatched, own);
+        spend(&host, hub, &mut Unwatched, own);
         back
     }
 }
@@ -47,23 +49,25 @@ impl<D: Device, R: Wait + Clock + Abort + Copy> HubJob<D, R> for Visits {
 
     fn run<N: HubName>(self, hub: &Hub<D, N, R>) {
         let rt = hub.handle();
-        let ticket = submit(rt, hub, &mut Unwatched);
-        let store = new_store(rt, self.alloc);
+        let host = Host(rt);
+        let ticket = submit(&host, hub, &mut Unwatched);
+        let store = new_store(&host, self.alloc);
         let ticket = match with_hub(*rt, self.alloc, store, 2, Redeems { ticket }) {
             Ok(ticket) => ticket,
             Err((_store, _job, e)) => panic!(rt; "{e:?}"),
         };
-        let ticket = keep(rt, hub, &mut Unwatched, ticket);
+        let ticket = keep(&host, hub, &mut Unwatched, ticket);
         hub.stop();
-        spend(rt, hub, &mut Unwatched, ticket);
+        spend(&host, hub, &mut Unwatched, ticket);
     }
 }
 
 #[test]
 fn strangers(rt: HostRuntime) -> Result<(), Fail> {
+    let host = Host(&rt);
     let alloc = rt.alloc();
-    let store = new_store(&rt, alloc);
-    ended(&rt, with_hub(&rt, alloc, store, 1, Visits { alloc }));
+    let store = new_store(&host, alloc);
+    ended(&host, with_hub(&rt, alloc, store, 1, Visits { alloc }));
     Ok(())
 }
 
@@ -93,13 +97,13 @@ fn assert_refused<D: Device, N: HubName, R: Wait + Clock + Abort>(
 }
 
 /// As many tickets as may be given before any is redeemed.
-fn tickets_of<S: Steps>(rt: &impl Abort, alloc: Global, steps: &S) -> Vec<Ticket> {
+fn tickets_of<S: Steps>(rt: &Host<impl Abort>, alloc: Global, steps: &S) -> Vec<Ticket> {
     let Ok(mut tickets) = Vec::with_capacity(alloc, MOST_PENDING as usize) else {
-        panic!(rt; "out of memory");
+        panic!(rt.0; "out of memory");
     };
     for _ in 0..MOST_PENDING {
         if let Err(_ticket) = tickets.push(submit(rt, steps, &mut Unwatched)) {
-            panic!(rt; "out of memory");
+            panic!(rt.0; "out of memory");
         }
     }
     tickets
@@ -110,7 +114,7 @@ impl<D: Device, R: Wait + Clock + Abort> HubJob<D, R> for Fills {
 
     fn run<N: HubName>(self, hub: &Hub<D, N, R>) {
         let rt = hub.handle();
-        let mut tickets = tickets_of(rt, self.alloc, hub);
+        let mut tickets = tickets_of(&Host(rt), self.alloc, hub);
         assert_refused(hub, SubmitError::Busy);
         hub.stop();
         assert_refused(hub, SubmitError::Stopped);
@@ -133,8 +137,9 @@ impl<D: Device, R: Wait + Clock + Abort> HubJob<D, R> for Fills {
 
 #[test]
 fn full_tails_are_busy(rt: HostRuntime) -> Result<(), Fail> {
+    let host = Host(&rt);
     let alloc = rt.alloc();
-    let store = new_store(&rt, alloc);
-    ended(&rt, with_hub(&rt, alloc, store, 1, Fills { alloc }));
+    let store = new_store(&host, alloc);
+    ended(&host, with_hub(&rt, alloc, store, 1, Fills { alloc }));
     Ok(())
 }

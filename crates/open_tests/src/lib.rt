@@ -17,8 +17,6 @@ mod recovery;
 #[cfg(test)]
 mod refused;
 #[cfg(test)]
-mod sealed_halves;
-#[cfg(test)]
 mod stopped;
 #[cfg(test)]
 mod stores;

@@ -1,28 +1,9 @@
-//! Tests of the program's commands: what no contract says of them. Values come from outside; readers and writers fail,
-//! and give and take in pieces.
+//! Tests of the program: how its command lines are read, and the line and the status with which it ends.
 #![tactic(auto)]
 
 #[cfg(test)]
 mod command_lines;
 #[cfg(test)]
-mod commands;
-#[cfg(test)]
-mod digits;
-#[cfg(test)]
-mod full_store;
-#[cfg(test)]
-mod many_commands;
+mod lines;
 #[cfg(test)]
 mod options;
-#[cfg(test)]
-mod refused_memory;
-#[cfg(test)]
-mod replies;
-#[cfg(test)]
-mod sessions;
-#[cfg(test)]
-mod streams;
-#[cfg(test)]
-mod words;
-#[cfg(test)]
-mod worked;

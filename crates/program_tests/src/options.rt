@@ -4,7 +4,7 @@ use crate::command_lines::kept;
 use clap::error::ErrorKind;
 use path_words::{
     CHECKPOINT, CORES, DEVICE, FORMAT, HEX, IDLE, JOURNAL, KEY, LAYOUT, LISTEN, NOW, ONCE, QUIET,
-    RUN, SESSIONS, SHOW, UPGRADE, read,
+    RUN, SESSIONS, SHOW, STATUS, UPGRADE, read,
 };
 use std::alloc::Global;
 use std::process::Abort;
@@ -34,7 +34,7 @@ const ALL_OF_ONCE: &str = "once --cores 1-1,2-2 --now 5 --key 00ff --hex";
 const ALL_OF_RUN: &str =
     "run --quiet --idle 4294967295 --sessions 18446744073709551615 --key 00 --cores 1-1 --listen [::1]:0 d";
 
-const VALUES: [Value; 24] = [
+const VALUES: [Value; 26] = [
     (ALL_OF_ONCE, ONCE, CORES, Some("1-1,2-2")),
     (ALL_OF_ONCE, ONCE, NOW, Some("5")),
     (ALL_OF_ONCE, ONCE, KEY, Some("00ff")),
@@ -69,6 +69,8 @@ const VALUES: [Value; 24] = [
     ("show d", SHOW, DEVICE, Some("d")),
     ("show --layout d", SHOW, DEVICE, Some("d")),
     ("show -- --layout", SHOW, DEVICE, Some("--layout")),
+    ("status d", STATUS, DEVICE, Some("d")),
+    ("status -- --layout", STATUS, DEVICE, Some("--layout")),
     ("upgrade d", UPGRADE, DEVICE, Some("d")),
     (ALL_OF_RUN, RUN, DEVICE, Some("d")),
     (ALL_OF_RUN, RUN, LISTEN, Some("[::1]:0")),
@@ -124,7 +126,7 @@ fn flags(rt: HostRuntime) {
 }
 
 /// Lines that are refused, and how.
-const REFUSED: [(&str, ErrorKind); 31] = [
+const REFUSED: [(&str, ErrorKind); 35] = [
     ("", ErrorKind::MissingSubcommand),
     ("serve", ErrorKind::InvalidSubcommand),
     ("--version", ErrorKind::UnknownArgument),
@@ -168,6 +170,10 @@ const REFUSED: [(&str, ErrorKind); 31] = [
     ("show", ErrorKind::MissingRequiredArgument),
     ("show d e", ErrorKind::UnknownArgument),
     ("show d --quiet", ErrorKind::UnknownArgument),
+    ("status", ErrorKind::MissingRequiredArgument),
+    ("status d e", ErrorKind::UnknownArgument),
+    ("status d --layout", ErrorKind::UnknownArgument),
+    ("status d --device=d", ErrorKind::UnknownArgument),
     ("upgrade", ErrorKind::MissingRequiredArgument),
     ("upgrade d --layout", ErrorKind::UnknownArgument),
     ("run d", ErrorKind::MissingRequiredArgument),
@@ -208,7 +214,7 @@ fn lines_that_are_not_read(rt: HostRuntime) {
 }
 
 /// What is printed of lines that are refused.
-const TEXTS: [(&str, &str); 3] = [
+const TEXTS: [(&str, &str); 4] = [
     (
         "serve",
         "error: unrecognized subcommand 'serve'
@@ -224,6 +230,16 @@ For more information, try '--help'.
   --listen <ADDR>
 
 Usage: pathd run --listen <ADDR> <DEV>
+
+For more information, try '--help'.
+",
+    ),
+    (
+        "status",
+        "error: the following required arguments were not provided:
+  <DEV>
+
+Usage: pathd status <DEV>
 
 For more information, try '--help'.
 ",
@@ -258,12 +274,13 @@ const COMMANDS: &[&str] = &[
     "\n  once ",
     "\n  format ",
     "\n  show ",
+    "\n  status ",
     "\n  upgrade ",
     "\n  run ",
 ];
 
 /// Lines that ask for help, and what it has: how the command is used, and each of its words.
-const HELPS: [(&str, &[&str]); 9] = [
+const HELPS: [(&str, &[&str]); 10] = [
     ("--help", COMMANDS),
     ("-h", COMMANDS),
     ("help", COMMANDS),
@@ -299,6 +316,10 @@ const HELPS: [(&str, &[&str]); 9] = [
             "\n  <DEV>  ",
             "\n      --layout  ",
         ],
+    ),
+    (
+        "status --help",
+        &["Usage: pathd status <DEV>\n", "\n  <DEV>  "],
     ),
     (
         "upgrade --help",

@@ -13,6 +13,8 @@ mod peers;
 #[cfg(test)]
 mod places;
 #[cfg(test)]
+mod refused;
+#[cfg(test)]
 mod rows;
 #[cfg(test)]
 mod stops;

@@ -1,8 +1,9 @@
 //! The commands over a device in memory.
 
-use crate::writers::with_room;
+use crate::writers::{with_memory, with_room};
 use sector_dev::{Device, FaultDevice, MemDevice, SECTOR};
 use std::alloc::Global;
+use std::process::Abort;
 use std::test::Fail;
 use store_commands::{Fault, format, show, show_layout, status, upgrade};
 use store_open::{Geometry, OpenError};
@@ -22,7 +23,7 @@ const SECOND_AREA: &[u8] = b"PCKP\x00\x00\x00\x02\x00\x00\x00\x00\x00\x00\x00\x0
 // A new store.
 fn formatted(alloc: Global) -> Result<MemDevice, Fail> {
     let mut device = MemDevice::new(alloc, SECTORS)?;
-    format(alloc, &mut device, LEAST, &mut with_room(alloc, 100))?;
+    format(alloc, &mut device, LEAST, &mut with_memory(alloc, 100)?)?;
     Ok(device)
 }
 
@@ -45,7 +46,7 @@ fn done(ended: Result<MemDevice, (MemDevice, Fault)>) -> Result<MemDevice, Fault
     }
 }
 
-// The device in memory below one that failed, and what the command told. One that was done is told as a fault of a print.
+// The device in memory below one that failed, and the fault that the command reported. A command that succeeded is reported as a fault of a print.
 fn failed(ended: Result<FaultDevice, (FaultDevice, Fault)>) -> Result<(MemDevice, Fault), Fault> {
     match ended {
         Ok(_device) => Err(Fault::Output),
@@ -258,20 +259,26 @@ sealed no
     Ok(())
 }
 
-// The test is run with each of its allocations refused in turn. The status wants memory before it prints, and the writer while it
-// does; and then it is printed.
+// Whether the status of a new store is printed. Nothing is where memory is refused.
+fn is_printed(rt: &impl Abort, alloc: Global, device: &mut MemDevice) -> Result<bool, Fail> {
+    let mut output = with_memory(alloc, 200)?;
+    let answer = status(alloc, device, &mut output);
+    if answer == Err(Fault::Memory) {
+        assert_eq!(rt; output.text()?, "");
+        return Ok(false);
+    }
+    assert_eq!(rt; answer, Ok(()));
+    assert_eq!(rt; output.text()?, NEW_STATUS);
+    Ok(true)
+}
+
+// The test is run with each of its allocations refused in turn. At most one is, so that of two statuses one is printed.
 #[test]
 fn refused_memory_of_a_status(rt: HostRuntime) -> Result<(), Fail> {
     let alloc = rt.alloc();
     let mut device = formatted(alloc)?;
-    let mut output = with_room(alloc, 200);
-    match status(alloc, &mut device, &mut output) {
-        Ok(()) => assert_eq!(rt; output.text()?, NEW_STATUS),
-        Err(Fault::Memory) => assert_eq!(rt; output.text()?, ""),
-        Err(fault) => assert_eq!(rt; fault, Fault::Output),
-    }
-    let mut output = with_room(alloc, 200);
-    assert_eq!(rt; status(alloc, &mut device, &mut output), Ok(()));
-    assert_eq!(rt; output.text()?, NEW_STATUS);
+    let first = is_printed(&rt, alloc, &mut device)?;
+    let second = is_printed(&rt, alloc, &mut device)?;
+    assert!(rt; first || second);
     Ok(())
 }

@@ -55,7 +55,7 @@ fn sizes_that_are_not_allowed(rt: HostRuntime) -> Result<(), Fail> {
     Ok(())
 }
 
-// More calls than a command makes of a device here.
+// Above the number of calls that a command makes to a device here.
 const MANY: u64 = 100;
 
 // Makes a store on a device of which the call of this number fails: whether none does. The device is formatted again after a fault.

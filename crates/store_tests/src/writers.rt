@@ -1,23 +1,31 @@
 //! A writer that is full at some point.
 
-use std::alloc::Global;
+use std::alloc::{AllocError, Global};
 use std::io;
 use std::io::Write;
 use std::test::Fail;
 
-/// Takes so many bytes, at most three at a time, and then none.
+/// Takes this number of bytes, at most three at a time, and then none.
 #[derive(Drop)]
 pub struct Room {
     pub taken: Vec<u8>,
     pub room: usize,
 }
 
-/// A writer with room for so many bytes.
+/// A writer with room for this number of bytes.
 pub fn with_room(alloc: Global, room: usize) -> Room {
     Room {
         taken: Vec::new(alloc),
         room,
     }
+}
+
+/// The same, which wants no more memory.
+pub fn with_memory(alloc: Global, room: usize) -> Result<Room, AllocError> {
+    Ok(Room {
+        taken: Vec::with_capacity(alloc, room)?,
+        room,
+    })
 }
 
 impl Write for Room {

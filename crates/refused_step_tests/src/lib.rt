@@ -1,0 +1,9 @@
+//! Tests of steps of `group_core` that are refused: for want of memory, with a value of another state, and while a value is out.
+#![tactic(auto)]
+
+#[cfg(test)]
+mod host;
+#[cfg(test)]
+mod refused;
+#[cfg(test)]
+mod strangers;

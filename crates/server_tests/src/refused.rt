@@ -1,0 +1,52 @@
+//! Want of memory for the actors of a server. The test is run with each of its allocations refused in turn: a server whose actors aren't
+//! given ends by that, and reports no fault of its device.
+
+use crate::stores::{LEAST, formatted, opened, opens_to};
+use crate::worlds::{Counts, World};
+use path_server::{Options, RunError, serve_store};
+use seg_lookup::Roster;
+use std::alloc::Global;
+use std::io;
+use std::net::{OpenListener, SocketAddr, TcpStream};
+use std::test::Fail;
+
+/// A listener that is none.
+#[derive(Drop)]
+struct Broken;
+
+impl OpenListener for Broken {
+    type Stream = TcpStream;
+
+    fn accept(&self) -> io::Result<(TcpStream, SocketAddr)> {
+        Err(io::Error::from_raw_os_error(9))
+    }
+}
+
+/// Has a server begin over a new store: whether its actors were given.
+fn has_actors<R: World>(rt: R, alloc: Global) -> bool {
+    let store = opened(&rt, alloc, formatted(&rt, alloc, LEAST));
+    let options = Options {
+        cores: Roster::new(Vec::new(alloc)),
+        key: None,
+        sessions: 0,
+        idle: None,
+    };
+    let counts = Counts::new();
+    let (device, served) = serve_store(rt, alloc, Broken, store, &options, &counts);
+    assert_eq!(&rt; counts.stopped(), 0);
+    let _device = opens_to(&rt, alloc, device, (0, 0, 0));
+    if served == Err(RunError::NoMemory) {
+        return false;
+    }
+    assert_eq!(&rt; served, Err(RunError::Net));
+    true
+}
+
+// At most one allocation is refused, so that of two servers one has its actors.
+#[test]
+fn refused_memory_of_actors(rt: HostRuntime) -> Result<(), Fail> {
+    let first = has_actors(&rt, rt.alloc());
+    let second = has_actors(&rt, rt.alloc());
+    assert!(rt; first || second);
+    Ok(())
+}
