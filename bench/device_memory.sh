@@ -7,11 +7,7 @@ root=$(cd "$(dirname "$0")/.." && pwd)
 work=$(mktemp -d)
 trap 'rm -rf "$work"' EXIT
 mkdir -p "$work/crates/device_memory/src"
-for crate in byte_lists sector_dev; do
-  cp -r "$root/crates/$crate" "$work/crates/" # with what was proved of it, if it was
-  grep "^$crate:" "$root/crates.txt"
-done > "$work/crates.txt"
-echo 'device_memory: sector_dev' >> "$work/crates.txt"
+"$root/bench/crates.py" "$work" 'device_memory: sector_dev'
 cp "$root/bench/device_memory.rattle" "$work/crates/device_memory/src/main.rt"
 cd "$work/crates/device_memory"
 git init -q "$work"

@@ -18,12 +18,7 @@ work=$(mktemp -d)
 shm=$(mktemp -d -p /dev/shm)
 trap 'rm -rf "$work" "$shm"' EXIT
 mkdir -p "$work/crates/groups/src"
-for crate in isd_as byte_lists end_index pw_wire seg_core seg_check path_rows path_db seg_lookup image_laws gate_journal ckpt_pair sector_dev store_open \
-  group_laws group_core; do
-  cp -r "$root/crates/$crate" "$work/crates/" # with what was proved of it, if it was
-  grep "^$crate:" "$root/crates.txt"
-done > "$work/crates.txt"
-echo 'groups: group_core store_open sector_dev path_db seg_core' >> "$work/crates.txt"
+"$root/bench/crates.py" "$work" 'groups: group_core store_open sector_dev path_db seg_core'
 cp "$root/bench/groups.rattle" "$work/crates/groups/src/main.rt"
 git init -q "$work"
 gcc -O2 "$root/bench/group_writes.c" -o "$work/group_writes"

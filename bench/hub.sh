@@ -30,12 +30,7 @@ trap 'rm -rf "$work"' EXIT
 
 crates() { # copies the crates that a program here is built on, and lists them and the program, whose name this is
   mkdir -p "$work/crates/$1/src"
-  for crate in isd_as byte_lists end_index pw_wire seg_core seg_check path_rows path_db seg_lookup image_laws gate_journal ckpt_pair sector_dev \
-    store_open group_laws group_core path_hub; do
-    cp -r "$root/crates/$crate" "$work/crates/" # with what was proved of it, if it was
-    grep "^$crate:" "$root/crates.txt"
-  done > "$work/crates.txt"
-  echo "$1: path_hub store_open sector_dev seg_lookup path_db seg_core isd_as" >> "$work/crates.txt"
+  "$root/bench/crates.py" "$work" "$1: path_hub store_open sector_dev seg_lookup path_db seg_core isd_as"
   git init -q "$work"
 }
 

@@ -10,11 +10,7 @@ root=$(cd "$(dirname "$0")/.." && pwd)
 work=$(mktemp -d)
 trap 'rm -rf "$work"' EXIT
 mkdir -p "$work/crates/journals/src"
-for crate in isd_as byte_lists end_index pw_wire seg_core seg_check path_rows path_db image_laws gate_journal; do
-  cp -r "$root/crates/$crate" "$work/crates/" # with what was proved of it, if it was
-done
-grep -E '^(isd_as|byte_lists|end_index|pw_wire|seg_core|seg_check|path_rows|path_db|image_laws|gate_journal):' "$root/crates.txt" > "$work/crates.txt"
-echo 'journals: gate_journal path_db seg_core' >> "$work/crates.txt"
+"$root/bench/crates.py" "$work" 'journals: gate_journal path_db seg_core'
 cp "$root/bench/journals.rattle" "$work/crates/journals/src/main.rt"
 git init -q "$work"
 python3 "$root/bench/frames.py" segment 4 > "$work/segment"

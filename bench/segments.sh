@@ -7,10 +7,7 @@ root=$(cd "$(dirname "$0")/.." && pwd)
 work=$(mktemp -d)
 trap 'rm -rf "$work"' EXIT
 mkdir -p "$work/crates/segments/src"
-for crate in isd_as pw_wire seg_core; do
-  cp -r "$root/crates/$crate" "$work/crates/" # with what was proved of it, if it was
-done
-printf 'isd_as:\npw_wire: thiserror\nseg_core: sha2 isd_as pw_wire thiserror\nsegments: seg_core\n' > "$work/crates.txt"
+"$root/bench/crates.py" "$work" 'segments: seg_core'
 cp "$root/bench/segments.rattle" "$work/crates/segments/src/main.rt"
 git init -q "$work"
 for entries in 1 8 64; do

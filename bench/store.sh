@@ -14,11 +14,7 @@ more=${2:-2000}
 work=$(mktemp -d)
 trap 'rm -rf "$work"' EXIT
 mkdir -p "$work/crates/stores/src"
-for crate in isd_as byte_lists end_index pw_wire seg_core seg_check path_rows path_db image_laws gate_journal ckpt_pair sector_dev store_open; do
-  cp -r "$root/crates/$crate" "$work/crates/" # with what was proved of it, if it was
-  grep "^$crate:" "$root/crates.txt"
-done > "$work/crates.txt"
-echo 'stores: store_open sector_dev path_db' >> "$work/crates.txt"
+"$root/bench/crates.py" "$work" 'stores: store_open sector_dev path_db'
 cp "$root/bench/stores.rattle" "$work/crates/stores/src/main.rt"
 git init -q "$work"
 python3 "$root/bench/store_image.py" "$work/image" "$rows" "$more"

@@ -1,10 +1,10 @@
 #!/usr/bin/env python3
 """Writes a store to a file: rows in its first half's checkpoint, and registrations in that half's journal.
 
-    store_image.py FILE ROWS MORE [VERSION]
+    store_image.py FILE ROWS MORE [VERSION [sealed]]
 
-ROWS segments of 4 entries are rows, and MORE others are registered behind them, one in a command, 8 commands in a group. The
-values of all are written to FILE.values, each behind its length in four bytes, for other stores to keep.
+ROWS segments of 4 entries are rows, and MORE others are registered after them, one in a command, 8 commands in a group. With `sealed` a
+seal ends the journal. The values of all are written to FILE.values, each after its length in four bytes, for other stores to keep.
 """
 import hashlib
 import sys
@@ -59,6 +59,8 @@ def main():
     for at in range(0, more, 8):
         commands = [bytes([1, 1]) + row(it) for it in later[at : at + 8]]
         journal += gate(True) + group(commands, rows + at)
+    if sys.argv[5:] == ["sealed"]:
+        journal += gate(True) + padded(bytes([2]) + bytes(7) + (rows + more).to_bytes(8, "big"))
     journal += gate(False)
     areas, journals = 2 * len(area) // SECTOR, max(516, 2 * len(journal) // SECTOR)
     half = areas + 1 + journals

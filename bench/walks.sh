@@ -13,11 +13,7 @@ entries=${1:-4}
 work=$(mktemp -d)
 trap 'rm -rf "$work"' EXIT
 mkdir -p "$work/crates/walks/src"
-for crate in isd_as byte_lists end_index pw_wire seg_core seg_check path_rows path_db seg_lookup; do
-  cp -r "$root/crates/$crate" "$work/crates/" # with what was proved of it, if it was
-  grep "^$crate:" "$root/crates.txt"
-done > "$work/crates.txt"
-echo 'walks: seg_lookup path_db seg_core isd_as' >> "$work/crates.txt"
+"$root/bench/crates.py" "$work" 'walks: seg_lookup path_db seg_core isd_as'
 cp "$root/bench/walks.rattle" "$work/crates/walks/src/main.rt"
 git init -q "$work"
 gcc -O2 "$root/bench/lmdb_walks.c" -o "$work/lmdb_walks" -llmdb

@@ -50,9 +50,13 @@ if [ -x "$program" ]; then
   check strace,python3 tools/server_calls.sh "$program"
   check protoc,python3-protobuf tools/client.sh "$program"
   check root,losetup tools/block_device.sh "$program"
+  check root,btrfs tools/snapshot.py --program "$program"
+  check root,losetup,nspawn,nft,ip,protoc,python3-protobuf,python3-venv tools/units.sh --short "$program"
   check gcc,python3 tools/refusals.py --program "$program"
   check gcc,python3 tools/powercut --program "$program"
   check python3 tools/histories --program "$program"
+  check gcc,python3 tools/short_load.sh --no-plot "$program"
+  check gcc,python3,python3-matplotlib tools/short_load.sh "$program"
 else
   echo "left out: the checks of the program; there is no $program"
   tools/need.sh pathd 2>&1 | sed "s/^/  /" || true

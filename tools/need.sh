@@ -14,6 +14,7 @@ pathd              test -x "$top/crates/pathd/out/pathd"              | cd crate
 root               test "$(id -u)" = 0                                | run it as root
 python3            /usr/bin/python3 -c "import sys; sys.exit(sys.version_info < (3, 11))" | apt-get install python3 (3.11 or later)
 python3-protobuf   /usr/bin/python3 -c "import google.protobuf"       | apt-get install python3-protobuf
+python3-matplotlib /usr/bin/python3 -c "import matplotlib"            | apt-get install python3-matplotlib
 protoc             command -v protoc                                  | apt-get install protobuf-compiler
 strace             command -v strace                                  | apt-get install strace
 valgrind           command -v callgrind_annotate                      | apt-get install valgrind
@@ -21,6 +22,11 @@ perl               command -v perl                                    | apt-get 
 bc                 command -v bc                                      | apt-get install bc
 time               test -x /usr/bin/time                              | apt-get install time
 losetup            command -v losetup                                 | apt-get install mount
+nspawn             command -v systemd-nspawn                          | apt-get install systemd-container
+nft                command -v nft                                     | apt-get install nftables
+ip                 command -v ip                                      | apt-get install iproute2
+btrfs              command -v mkfs.btrfs                              | apt-get install btrfs-progs
+python3-venv       /usr/bin/python3 -c "import ensurepip, setuptools, wheel" | apt-get install python3-venv python3-setuptools python3-wheel
 gcc                command -v gcc                                     | apt-get install gcc
 g++                command -v g++                                     | apt-get install g++
 libprotobuf-dev    has_header google/protobuf/message.h               | apt-get install libprotobuf-dev

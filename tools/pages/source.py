@@ -13,6 +13,8 @@ FUNCTION = re.compile(r"^(\s*)(pub )?(?:pub\([a-z]+\) )?(?:const |unsafe |final 
 TYPE = re.compile(r"^(pub )?(?:pub\([a-z]+\) )?(struct|enum|trait|type) (\w+)")
 CLAUSE = re.compile(r"^\s*(ensures|requires)\s+(\w+)?\s*\{")
 DEFINITION = re.compile(r"^(\s*)(?:unfoldable (?:pub )?|abbrev (?:pub )?|(?:pub )?(?:data|record) (?=.* (?:: Type|where)))([^\s:{]+)(?=\s|$)")
+# What only crates of tests use.
+OF_TESTS = ("worked_segments", "test_host", "group_scripts", "run_scripts", "hub_scripts", "loopback_server")
 IMPORT = re.compile(r"^\s*(?:pub )?(?:ghost )?use ([\w.◌]+)(?:\.\{([^}]*)\}| as (\w+));?\s*$")
 WORD = re.compile(r"[^\s(){}\[\];,λ]+")
 
@@ -57,8 +59,8 @@ def crates() -> list[str]:
 
 
 def libraries() -> list[str]:
-    """The crates that are neither of tests nor a program of tests."""
-    return [it for it in crates() if not it.endswith("_tests") and it not in ("worked_segments", "loopback_server")]
+    """The crates that are neither of tests nor a program or a library of tests."""
+    return [it for it in crates() if not it.endswith("_tests") and it not in OF_TESTS]
 
 
 @cache
