@@ -41,6 +41,7 @@ check python3 tools/reading.sh --check
 check python3 tools/claims.sh
 check python3 tools/links.sh
 check python3 tools/uses.sh
+check python3 tools/apart.sh
 if [ -x "$program" ]; then
   check perl tools/vectors.sh -p "$program" tools/cases
   check gcc,perl tools/refused_memory.sh "$program"
