@@ -63,11 +63,11 @@ impl RowStream {
     /// with too few rows are `BadCheckpoint`, as for `read_half`, whatever bytes come next. The call takes memory only where the row's
     /// segment has an outline. After an error the stream is unchanged.
     pub fn next(&mut self) -> Result<Option<Row>, PairError>
-        ensures row { IfOk result (λ next. IfSome next (λ row. (size count : ℕ) (pushed : List ℕ) (given : List RowView) → HasStreamed size count pushed given self.old
-            → HasStreamed size count pushed (given ++ row_view row ∷ []) self.new)) }
+        ensures row { IfOk result (λ next. IfSome next (λ row. (size count : ℕ) (pushed : List ℕ) (given : List RowView)
+            → HasStreamed size count pushed given self.old → HasStreamed size count pushed (given ++ row_view row ∷ []) self.new)) }
         ensures fewer { IfOk result (λ next. IfSome next (λ _. self.new.rows + 1 ≡ self.old.rows)) }
-        ensures all { IfOk result (λ next. IfNone next ((size count : ℕ) (pushed : List ℕ) (given : List RowView) → HasStreamed size count pushed given self.old → size ≤ length pushed
-            → as_counted count (rows_decoding (take size pushed)) ≡ Some given)) }
+        ensures all { IfOk result (λ next. IfNone next ((size count : ℕ) (pushed : List ℕ) (given : List RowView)
+            → HasStreamed size count pushed given self.old → size ≤ length pushed → as_counted count (rows_decoding (take size pushed)) ≡ Some given)) }
         ensures short { IfOk result (λ next. IfNone next (length self.new.walk.rest < 16389)) }
         ensures none { IfOk result (λ next. IfNone next (self.new ≡ self.old)) }
         ensures refused { IfErr result (λ e. e ≢ NoMemory → (e ≡ BadCheckpoint) × AreNoStreamedRows self.old) }
@@ -105,7 +105,8 @@ fn front_of(piece: &[u8], most: u32) -> &[u8]
 
 /// The next row of a walk. Bytes that are no next row are a bad checkpoint.
 fn next_row(walk: &mut RowWalk) -> Result<Option<Row>, PairError>
-    ensures row { IfOk result (λ next. IfSome next (λ row. (fed : List ℕ) (given : List RowView) → HasGiven fed given walk.old → HasGiven fed (given ++ row_view row ∷ []) walk.new)) }
+    ensures row { IfOk result (λ next. IfSome next (λ row. (fed : List ℕ) (given : List RowView)
+        → HasGiven fed given walk.old → HasGiven fed (given ++ row_view row ∷ []) walk.new)) }
     ensures none { IfOk result (λ next. IfNone next ((walk.new ≡ walk.old) × (has_row walk.old.rest ≡ false))) }
     ensures short { IfOk result (λ next. IfNone next (length walk.new.rest < 16389)) }
     ensures refused { IfErr result (λ e. e ≢ NoMemory → (e ≡ BadCheckpoint) × IsRefusedWalk walk.old) }

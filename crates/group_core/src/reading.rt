@@ -1,6 +1,6 @@
 //! What is read of a state, which leaves it as it is.
 
-ghost use Rattle.std.specs.Prelude.{◌≡◌, ◌≤◌, ◌↔◌, IsTrue, IfOk, OnErr, length};
+ghost use Rattle.std.specs.Prelude.{◌≡◌, ◌↔◌, IsTrue, IfOk, OnErr, length};
 ghost use Rattle.std.specs.List.{AllByRecursion};
 ghost use Rattle.seg_core.specs.Encoding.{IsSegment};
 ghost use Rattle.path_rows.specs.Answer.{segments_of};
@@ -9,7 +9,7 @@ ghost use Rattle.seg_lookup.specs.Query.{query_view};
 ghost use Rattle.seg_lookup.specs.declared.answers.TheConstants.{ANSWER_LIMIT};
 ghost use Rattle.group_laws.specs.declared.phases.Check.TheVariants.{Sealed as sealed};
 ghost use Rattle.group_core.specs.Keeping.{KeepsOutcomes};
-ghost use Rattle.group_core.specs.Reading.{IsFree};
+ghost use Rattle.group_core.specs.Reading.{IsFree, if_begun};
 ghost use Rattle.group_core.specs.Stops.{StepLeaves};
 
 use crate::plain_show::PlainShow;
@@ -47,10 +47,10 @@ impl<D: Device, S: Showcase> State<D, S> {
     }
 
     /// How many bytes the two buffers of the last checkpoint that was begun have: the window into the old area, and what is made and not
-    /// written. Both are 0 where none was begun. No call but `begin` takes memory for a checkpoint. The clauses bound the lengths alone.
+    /// written. Both are 0 where none was begun. No call but `begin` takes memory for a checkpoint.
     pub fn buffer_lens(&self) -> (usize, usize)
-        ensures window { result.0 ≤ 147461 }
-        ensures made { result.1 ≤ 147461 }
+        ensures window { result.0 ≡ if_begun 131072 self.now.checkpoint }
+        ensures made { result.1 ≡ if_begun 147461 self.now.checkpoint }
     {
         match &self.merge {
             Some(merge) => merge.buffer_lens(),

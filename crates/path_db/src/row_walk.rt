@@ -125,7 +125,8 @@ fn next_of(alloc: Global, last: &Option<Key>, left: &[u8]) -> Result<Option<(Row
 
 /// The length of the record at the front, or `None` where the record is not whole. A segment of more than 16,384 bytes is refused.
 fn size_of_next(left: &[u8]) -> Result<Option<usize>, DbError>
-    ensures size { IfOk result (λ size. MatchOption size (IsShort left.now) (λ size. (has_row left.now ≡ true) × (size ≡ row_size left.now) × (size ≤ length left.now))) }
+    ensures size { IfOk result (λ size. MatchOption size (IsShort left.now)
+        (λ size. (has_row left.now ≡ true) × (size ≡ row_size left.now) × (size ≤ length left.now))) }
     ensures refused { IfErr result (λ e. (e ≡ BadRecord) × IsTooLong left.now) }
 {
     if left.len() < ROW_HEAD {

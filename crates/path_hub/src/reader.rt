@@ -125,7 +125,8 @@ fn look_in<N: HubName>(seat: &mut HubSeat<N>, query: &Query, now: u64) -> Option
 fn look<N: HubName>(seat: HubSeat<N>, query: &Query, now: u64) -> (HubSeat<N>, Option<Found>)
     ensures later { IsPrefix (view seat.place).groups (view result.0.place).groups }
     ensures place { IfSome result.1 (λ f. f.place ≡ place_after N.opening (view result.0.place).groups) }
-    ensures found { IfSome result.1 (λ f. IfOk f.found (λ found. found.items ≡ segments_of (answer_after N.opening (view result.0.place).groups query.now now))) }
+    ensures found { IfSome result.1 (λ f. IfOk f.found (λ found. found.items
+        ≡ segments_of (answer_after N.opening (view result.0.place).groups query.now now))) }
     ensures few { IfSome result.1 (λ f. IfOk f.found (λ found. length found.items ≤ ANSWER_LIMIT)) }
     ensures whole { IfSome result.1 (λ f. IfOk f.found (λ found. AllByRecursion IsSegment found.items)) }
     ensures memory { IfSome result.1 (λ f. OnErr f.found (1 ≤ length (answer_after N.opening (view result.0.place).groups query.now now))) }

@@ -21,7 +21,8 @@ pub fn settle(
     olds: Vec<(SegType, Segment)>,
     commands: &[Command],
 ) -> Result<Vec<Option<Row>>, AllocError>
-    ensures { IfOk result (λ rows. views_if_any rows.items ≡ map (λ k. row_under k (database_after_all [] (Register olds.items ∷ commands.now))) (map key_bytes keys.now)) }
+    ensures { IfOk result (λ rows. views_if_any rows.items
+        ≡ map (λ k. row_under k (database_after_all [] (Register olds.items ∷ commands.now))) (map key_bytes keys.now)) }
 {
     let db = database_of(alloc, olds, commands)?;
     rows_at(alloc, &db, keys)

@@ -53,7 +53,8 @@ impl Planner {
 
     /// Sees the next row. Where memory is refused the planner is of no more use.
     pub fn see(&mut self, row: Row) -> Result<(), AllocError>
-        ensures { OnOk result ((commands : List Command) (seen : List RowView) → HasSeen commands seen self.old → HasSeen commands (seen ++ row_view row ∷ []) self.new) }
+        ensures { OnOk result ((commands : List Command) (seen : List RowView)
+            → HasSeen commands seen self.old → HasSeen commands (seen ++ row_view row ∷ []) self.new) }
     {
         let (at, is_touched) = put_up_to(&self.keys, self.at, &row, &mut self.edits)?;
         self.at = at;

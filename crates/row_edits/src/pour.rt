@@ -92,7 +92,7 @@ impl Pour {
 
     /// The bytes that the buffer has in memory.
     pub fn buffer_len(&self) -> usize
-        ensures { result ≤ 147461 }
+        ensures { result ≡ 147461 }
     {
         self.buffer.len()
     }

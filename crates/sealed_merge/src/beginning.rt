@@ -73,8 +73,10 @@ fn pour_of(alloc: Global, epoch: u64, place: u64, plan: Plan) -> Result<Pour, Al
     requires edits { bytes_in plan.edits.items < 2 ^ 33 }
     requires size { plan.size < 2 ^ 32 }
     requires count { plan.count < 2 ^ 32 }
-    ensures poured { IfOk result (λ pour. (rows : List RowView) (commands : List Command) → IsPlanOf rows commands plan → PoursCheckpoint epoch place rows commands pour) }
-    ensures can { OnOk result ((rows : List RowView) → IsDatabase rows → rows_len rows < 2 ^ 32 → CanBeCheckpoint rows_format (written_checkpoint epoch place rows)) }
+    ensures poured { IfOk result (λ pour. (rows : List RowView) (commands : List Command)
+        → IsPlanOf rows commands plan → PoursCheckpoint epoch place rows commands pour) }
+    ensures can { OnOk result ((rows : List RowView)
+        → IsDatabase rows → rows_len rows < 2 ^ 32 → CanBeCheckpoint rows_format (written_checkpoint epoch place rows)) }
 {
     let head = checkpoint_front(epoch, place, plan.size as u32, plan.count as u32);
     Pour::new(alloc, &head, plan.edits, plan.rows)

@@ -43,10 +43,10 @@ impl Merge {
         self.sectors
     }
 
-    /// How many bytes the window and the buffer of what is made have. The clauses bound the lengths alone.
+    /// How many bytes the window has, and how many the buffer of what is made. Both stay as long as the merge lives.
     pub fn buffer_lens(&self) -> (usize, usize)
-        ensures window { result.0 ≤ 147461 }
-        ensures made { result.1 ≤ 147461 }
+        ensures window { result.0 ≡ 131072 }
+        ensures made { result.1 ≡ 147461 }
     {
         (self.window.len(), self.pour.buffer_len())
     }
