@@ -13,6 +13,8 @@ import frames
 
 DOWN = 2
 SECTOR = 512
+# The most sectors of an area.
+MOST_SECTORS = 1 << 20
 
 
 def other(which):
@@ -62,7 +64,7 @@ def main():
     if sys.argv[5:] == ["sealed"]:
         journal += gate(True) + padded(bytes([2]) + bytes(7) + (rows + more).to_bytes(8, "big"))
     journal += gate(False)
-    areas, journals = 2 * len(area) // SECTOR, max(516, 2 * len(journal) // SECTOR)
+    areas, journals = min(2 * len(area) // SECTOR, MOST_SECTORS), max(516, 2 * len(journal) // SECTOR)
     half = areas + 1 + journals
     title = b"SCPATHDB" + (1).to_bytes(4, "big") + areas.to_bytes(4, "big") + journals.to_bytes(4, "big")
     with open(path, "wb") as out:
