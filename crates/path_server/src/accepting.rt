@@ -1,5 +1,9 @@
 //! What a failed accept means.
 
+ghost use Rattle.std.specs.Prelude.{◌≡◌};
+ghost use Rattle.std.specs.IoError.{raw_os_error};
+ghost use Rattle.path_server.specs.Accepting.{failure_of, failure_after};
+
 use libc::{EAGAIN, EBADF, EINVAL, EMFILE, ENOMEM, ENOTSOCK};
 use std::io;
 
@@ -23,14 +27,21 @@ pub enum Failure {
     Broken,
 }
 
-/// What is done after an accept that failed, by the system's number of its error.
-pub fn after_failure(error: &io::Error) -> Failure {
-    failure_of(error.raw_os_error().unwrap_or(0))
+/// What is done after an accept that failed, by the system's number of its error; an error without one is the peer's.
+pub fn after_failure(error: &io::Error) -> Failure
+    ensures { result ≡ failure_after (raw_os_error error.now) }
+{
+    match error.raw_os_error() {
+        Some(number) => failure_of(number),
+        None => Failure::Again,
+    }
 }
 
 /// What is done after the error of this number, as accept(2) of Linux lists them.
-fn failure_of(errno: i32) -> Failure {
-    match errno {
+fn failure_of(number: i32) -> Failure
+    ensures { result ≡ failure_of number }
+{
+    match number {
         EBADF | EFAULT | EINVAL | ENOTSOCK | EOPNOTSUPP => Failure::Broken,
         EAGAIN | ENOMEM | ENFILE | EMFILE | ENOBUFS => Failure::Pause,
         _ => Failure::Again,
