@@ -7,7 +7,7 @@ mod peers;
 
 use crate::peers::{ask, turned_away, with_a_seat};
 use isd_as::IsdAs;
-use path_server::{Options, RunError, Silent, run_on};
+use path_server::{Listeners, Options, RunError, Silent, run_on};
 use sector_dev::MemDevice;
 use seg_lookup::Roster;
 use std::alloc::Global;
@@ -68,7 +68,8 @@ fn serve<R: Wait + Clock + Threads + Copy + Drop + Send + Sync>(
     options: &Options,
 ) -> io::Result<Result<u64, RunError>> {
     let store = new_store(alloc)?;
-    Ok(run_on(rt, alloc, listener, store, options, &Silent))
+    let listeners = Listeners::of_sessions(listener);
+    Ok(run_on(rt, alloc, listeners, store, options, &Silent))
 }
 
 /// Meets the server, and prints what it replies.

@@ -33,6 +33,16 @@ impl<'a, R: Eprint> Notices<'a, R> {
         };
     }
 
+    /// Requests of its numbers are answered.
+    pub(crate) fn watch(&self, listener: &TcpListener) {
+        if self.is_quiet {
+            return;
+        }
+        if let Ok(address) = listener.local_addr() {
+            let _ = eprintln!(self.rt; "pathd: status at {address}");
+        }
+    }
+
     /// The server has ended.
     pub(crate) fn end(&self) {
         if !self.is_quiet {

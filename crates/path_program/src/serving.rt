@@ -6,8 +6,8 @@ use crate::stores::{device_over, path_of};
 use crate::system::System;
 use clap::ArgMatches;
 use path_commands::{Fault, cores_of, key_of};
-use path_server::{Options, run_on};
-use path_words::{CORES, IDLE, KEY, LISTEN, QUIET, SESSIONS};
+use path_server::{Listeners, Options, bound_accepts, run_on};
+use path_words::{CORES, IDLE, KEY, LISTEN, QUIET, SESSIONS, STATUS_LISTEN};
 use sector_dev::{Device, FileDevice, SystemFile};
 use seg_lookup::Roster;
 use std::alloc::Global;
@@ -31,14 +31,14 @@ pub(crate) fn serve_file<R: System, O: Write>(
     let options = options_of(rt.alloc(), words)?;
     let store = store_of(rt, path_of(words))?;
     let notices = Notices::new(rt, words.get_flag(QUIET));
-    let listener = match listen(rt, words, output, &notices, &store) {
-        Ok(listener) => listener,
+    let listeners = match listen(rt, words, output, &notices, &store) {
+        Ok(listeners) => listeners,
         Err(ended) => {
             let _device = store.into_device();
             return Err(ended);
         }
     };
-    let count = run_on(rt, rt.alloc(), listener, store, &options, &notices)?;
+    let count = run_on(rt, rt.alloc(), listeners, store, &options, &notices)?;
     notices.end();
     print_served(output, count).map_err(|_| Fault::Output)?;
     Ok(())
@@ -51,11 +51,18 @@ fn listen<R: System, O: Write, D: Device>(
     output: &mut O,
     notices: &Notices<'_, R>,
     store: &Store<D>,
-) -> Result<TcpListener, Ended> {
-    let listener = bind(rt, words.get_str(LISTEN).unwrap_or(""))?;
-    notices.begin(path_of(words), store, &listener);
+) -> Result<Listeners<TcpListener>, Ended> {
+    let sessions = bind(rt, words.get_str(LISTEN).unwrap_or(""))?;
+    let status = match words.get_str(STATUS_LISTEN) {
+        Some(text) => Some(bind_status(rt, text)?),
+        None => None,
+    };
+    notices.begin(path_of(words), store, &sessions);
+    if let Some(listener) = &status {
+        notices.watch(listener);
+    }
     print_ready(output).map_err(|_| Fault::Output)?;
-    Ok(listener)
+    Ok(Listeners { sessions, status })
 }
 
 /// The options of the server, as the words have them.
@@ -103,6 +110,13 @@ fn bind<R: System>(rt: &R, text: &str) -> Result<TcpListener, Ended> {
         return Err(Ended::Net);
     };
     rt.bind(address).map_err(|_| Ended::Net)
+}
+
+/// Listens for requests of the numbers at a socket address.
+fn bind_status<R: System>(rt: &R, text: &str) -> Result<TcpListener, Ended> {
+    let listener = bind(rt, text)?;
+    bound_accepts(&listener).map_err(|_| Ended::Net)?;
+    Ok(listener)
 }
 
 /// Prints that the server listens.

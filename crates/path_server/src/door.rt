@@ -31,7 +31,12 @@ impl<L: OpenListener<Stream = TcpStream> + Drop> Door<L> {
 
     /// Whether all sessions that are wanted were started.
     pub(crate) fn is_done(&self) -> bool {
-        self.wanted > 0 && self.started.load(Ordering::SeqCst) >= self.wanted
+        self.wanted > 0 && self.started() >= self.wanted
+    }
+
+    /// How many sessions were started.
+    pub(crate) fn started(&self) -> u64 {
+        self.started.load(Ordering::SeqCst)
     }
 
     /// Counts a session that is being started.

@@ -2,24 +2,30 @@
 //!
 //! To the layer above, `serve_store` accepts connections of a listener and answers each as a session of the store, at most 64 at one
 //! time, until the number of sessions that its options name have been started; then the listener is closed, and once the last session
-//! has ended, the device comes out. `run_on` is the same without the device.
+//! has ended, the device comes out. `run_on` is the same without the device. A second listener, where there is one, is for peers that ask
+//! for the server's numbers.
 #![tactic(auto)]
 
 mod accepting;
 mod door;
 mod draining;
 mod error;
+mod guest;
+mod listeners;
 mod options;
 mod reports;
 mod running;
 mod seats;
 mod server;
 mod sessions;
+mod status_place;
 mod turned_away;
 mod turning_away;
+mod watching;
 
 pub use accepting::{Failure, after_failure};
 pub use error::RunError;
+pub use listeners::{Listeners, bound_accepts};
 pub use options::Options;
 pub use reports::{Report, Reports, Silent};
 pub use running::{System, run_on, serve_store};

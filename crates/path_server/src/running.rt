@@ -7,6 +7,7 @@ ghost use Rattle.group_core.specs.Starting.{value_in};
 ghost use Rattle.path_hub.specs.Left.{OpensAfter};
 
 use crate::error::RunError;
+use crate::listeners::Listeners;
 use crate::options::Options;
 use crate::reports::Reports;
 use crate::server::Server;
@@ -17,7 +18,7 @@ use std::alloc::Global;
 use std::net::{OpenListener, TcpStream};
 use std::sync::Wait;
 use std::thread::Threads;
-use std::time::Clock;
+use std::time::{Clock, Instant};
 use store_open::Store;
 
 /// The home number of the state that a server keeps: a process runs one server.
@@ -29,7 +30,8 @@ pub trait System: Wait + Clock + Threads + Copy + Drop + Send + Sync {}
 impl<R: Wait + Clock + Threads + Copy + Drop + Send + Sync> System for R {}
 
 /// Serves sessions over a store until the number that the options name has been started and has ended, and returns that number. The
-/// device is dropped. A broken listener is `Net`, and want of memory for an actor's thread or the readers `NoMemory`.
+/// device is dropped. A listener for sessions that breaks is `Net`, and want of memory for the readers, for an actor's thread or for that
+/// of requests of the numbers `NoMemory`. One for such requests that breaks ends their thread alone.
 pub fn run_on<
     R: System,
     L: OpenListener<Stream = TcpStream> + Drop + Send,
@@ -38,12 +40,12 @@ pub fn run_on<
 >(
     rt: R,
     alloc: Global,
-    listener: L,
+    listeners: Listeners<L>,
     store: Store<D>,
     options: &Options,
     reports: &O,
 ) -> Result<u64, RunError> {
-    let (device, served) = serve_store(rt, alloc, listener, store, options, reports);
+    let (device, served) = serve_store(rt, alloc, listeners, store, options, reports);
     drop(device);
     served
 }
@@ -58,7 +60,7 @@ pub fn serve_store<
 >(
     rt: R,
     alloc: Global,
-    listener: L,
+    listeners: Listeners<L>,
     store: Store<D>,
     options: &Options,
     reports: &O,
@@ -66,8 +68,8 @@ pub fn serve_store<
     ensures { OnOk result.1 (IsHonest (D.disk result.0) → EveryImage (D.disk result.0).history.now (OpensAfter (value_in store))) }
 {
     match &options.key {
-        Some(key) => serve_checked(rt, alloc, listener, store, options, key, reports),
-        None => serve_checked(rt, alloc, listener, store, options, &TrustAll, reports),
+        Some(key) => serve_checked(rt, alloc, listeners, store, options, key, reports),
+        None => serve_checked(rt, alloc, listeners, store, options, &TrustAll, reports),
     }
 }
 
@@ -81,7 +83,7 @@ fn serve_checked<
 >(
     rt: R,
     alloc: Global,
-    listener: L,
+    listeners: Listeners<L>,
     store: Store<D>,
     options: &Options,
     verifier: &V,
@@ -89,11 +91,11 @@ fn serve_checked<
 ) -> (D, Result<u64, RunError>)
     ensures { OnOk result.1 (IsHonest (D.disk result.0) → EveryImage (D.disk result.0).history.now (OpensAfter (value_in store))) }
 {
-    let server = Server::new(alloc, listener, options, verifier, reports);
+    let begun = Instant::now(&rt).ok();
+    let server = Server::new(alloc, listeners, begun, options, verifier, reports);
     let (device, attended) = with_crew(rt, alloc, store, HOME, &server);
     match attended {
-        Ok(_) if server.is_broken() => (device, Err(RunError::Net)),
-        Ok(count) => (device, Ok(count)),
+        Ok(_) => (device, server.served()),
         Err(_) => (device, Err(RunError::NoMemory)),
     }
 }

@@ -1,32 +1,41 @@
 //! What a server does with a hub: it attends to each connection in a thread of its own.
 
 use crate::door::Door;
+use crate::error::RunError;
+use crate::guest::Guest;
+use crate::listeners::Listeners;
 use crate::options::Options;
 use crate::reports::{Report, Reports};
 use crate::seats::Seats;
 use crate::sessions::{part, serve_stream};
+use crate::status_place::StatusPlace;
 use crate::turned_away::TurnedAway;
 use crate::turning_away::turn_away;
 use path_hub::{Crew, Hub, HubName};
 use path_session::{HubService, SystemNow};
 use sector_dev::Device;
 use seg_check::Verifier;
+use status_server::{Counted, Replies};
 use std::alloc::Global;
 use std::net::{OpenListener, TcpStream};
 use std::sync::Wait;
 use std::sync::atomic::{AtomicBool, Ordering};
-use std::time::Clock;
+use std::time::{Clock, Instant};
 
-/// A server: where its peers come in, the seats that they take, and what each session is answered by.
+/// A server: where its peers come in, the seats that they take, what each session is answered by, and what is counted of it.
 #[derive(Drop)]
 pub(crate) struct Server<'a, L, V, O> {
-    alloc: Global,
-    door: Door<L>,
-    seats: Seats,
+    pub(crate) alloc: Global,
+    pub(crate) door: Door<L>,
+    pub(crate) seats: Seats,
+    status: StatusPlace<L>,
     options: &'a Options,
     verifier: &'a V,
     reports: &'a O,
-    turned_away: TurnedAway,
+    pub(crate) turned_away: TurnedAway,
+    pub(crate) replies: Replies,
+    /// When the server began; `None` where the clock couldn't be read.
+    pub(crate) begun: Option<Instant>,
     /// Whether no more peers are to come.
     ending: AtomicBool,
     /// Whether they don't come since the listener is broken.
@@ -37,33 +46,48 @@ impl<'a, L: OpenListener<Stream = TcpStream> + Drop, V: Verifier, O: Reports> Se
     /// A server that no peer has come to.
     pub(crate) fn new(
         alloc: Global,
-        listener: L,
+        listeners: Listeners<L>,
+        begun: Option<Instant>,
         options: &'a Options,
         verifier: &'a V,
         reports: &'a O,
     ) -> Server<'a, L, V, O> {
+        let Listeners { sessions, status } = listeners;
         Server {
             alloc,
-            door: Door::new(listener, options.sessions),
+            door: Door::new(sessions, options.sessions),
             seats: Seats::new(),
+            status: StatusPlace::new(status),
             options,
             verifier,
             reports,
             turned_away: TurnedAway::new(),
+            replies: Replies::new(),
+            begun,
             ending: AtomicBool::new(false),
             broken: AtomicBool::new(false),
         }
     }
 
-    /// Whether the listener broke.
-    pub(crate) fn is_broken(&self) -> bool {
+    /// Whether the listener for sessions broke.
+    fn is_broken(&self) -> bool {
         self.broken.load(Ordering::SeqCst)
     }
 
-    /// Whether peers are still to come or being served, so that nobody has asked the store to stop.
-    fn is_at_work(&self) -> bool {
-        let is_open = !self.ending.load(Ordering::SeqCst) || self.seats.taken() > 0;
-        is_open && !self.is_broken()
+    /// Whether peers are still to come or being served.
+    pub(crate) fn is_open(&self) -> bool {
+        !self.ending.load(Ordering::SeqCst) || self.seats.taken() > 0
+    }
+
+    /// How the server ended: how many sessions it served, or why not all of them.
+    pub(crate) fn served(&self) -> Result<u64, RunError> {
+        if self.is_broken() {
+            return Err(RunError::Net);
+        }
+        if self.status.is_missed() {
+            return Err(RunError::NoMemory);
+        }
+        Ok(self.door.started())
     }
 
     /// The next peer for whom there is a seat, which is then taken. Those who come while all are taken are turned away.
@@ -88,9 +112,10 @@ impl<'a, L: OpenListener<Stream = TcpStream> + Drop, V: Verifier, O: Reports> Se
             return;
         };
         let clock = SystemNow::new(hub.handle());
-        let mut service = HubService::new(hub, reader, self.verifier, clock, &self.options.cores);
-        let served = serve_stream(self.alloc, &stream, &mut service, self.options.idle);
-        hub.give_back(service.into_reader());
+        let service = HubService::new(hub, reader, self.verifier, clock, &self.options.cores);
+        let mut counted = Counted::new(service, &self.replies);
+        let served = serve_stream(self.alloc, &stream, &mut counted, self.options.idle);
+        hub.give_back(counted.into_service().into_reader());
         if served.is_err() {
             part(hub.handle(), &stream);
         }
@@ -100,18 +125,21 @@ impl<'a, L: OpenListener<Stream = TcpStream> + Drop, V: Verifier, O: Reports> Se
 impl<
     D: Device,
     R: Wait + Clock,
-    L: OpenListener<Stream = TcpStream> + Drop,
+    L: OpenListener<Stream = TcpStream> + Drop + Send,
     V: Verifier,
     O: Reports,
 > Crew<D, R> for Server<'_, L, V, O> {
-    type Guest = TcpStream;
+    type Guest = Guest<L>;
 
-    fn next<N: HubName>(&self, hub: &Hub<D, N, R>) -> Option<TcpStream> {
+    fn next<N: HubName>(&self, hub: &Hub<D, N, R>) -> Option<Guest<L>> {
         let rt = hub.handle();
-        if !self.door.is_done() {
+        if let Some(listener) = self.status.hand_out(rt) {
+            return Some(Guest::Status(listener));
+        }
+        if !self.door.is_done() && !self.status.is_missed() {
             if let Some(stream) = self.next_seated(rt) {
                 self.door.count();
-                return Some(stream);
+                return Some(Guest::Session(stream));
             }
             self.broken.store(true, Ordering::SeqCst);
         }
@@ -123,18 +151,26 @@ impl<
         None
     }
 
-    fn attend<N: HubName>(&self, hub: &Hub<D, N, R>, guest: TcpStream) {
-        self.serve(hub, guest);
-        self.seats.leave();
+    fn attend<N: HubName>(&self, hub: &Hub<D, N, R>, guest: Guest<L>) {
+        match guest {
+            Guest::Session(stream) => {
+                self.serve(hub, stream);
+                self.seats.leave();
+            }
+            Guest::Status(listener) => self.watch(hub, &listener),
+        }
     }
 
     fn miss(&self) {
-        self.door.discount();
-        self.seats.leave();
+        if !self.status.miss() {
+            self.door.discount();
+            self.seats.leave();
+        }
     }
 
     fn stopped(&self) {
-        if self.is_at_work() {
+        // Where nobody is to come or being served, or the listener broke, the server itself has stopped the store.
+        if self.is_open() && !self.is_broken() {
             self.reports.report(Report::Stopped);
         }
     }

@@ -1,5 +1,6 @@
 //! How many peers were turned away.
 
+use std::sync::atomic::{AtomicU64, Ordering};
 use std::sync::{Mutex, Wait};
 use std::time::{Clock, Duration, Instant};
 
@@ -30,6 +31,8 @@ impl Count {
 #[derive(Drop)]
 pub(crate) struct TurnedAway {
     count: Mutex<Count>,
+    /// How many there were since the server began.
+    all: AtomicU64,
 }
 
 impl TurnedAway {
@@ -40,11 +43,18 @@ impl TurnedAway {
                 peers: 0,
                 reported: None,
             }),
+            all: AtomicU64::new(0),
         }
+    }
+
+    /// How many there were since the server began.
+    pub(crate) fn all(&self) -> u64 {
+        self.all.load(Ordering::SeqCst)
     }
 
     /// Counts one more. If a report is due, it is of this number.
     pub(crate) fn count<R: Wait + Clock>(&self, rt: &R) -> Option<u64> {
+        self.all.fetch_add(1, Ordering::SeqCst);
         let mut count = self.count.lock(rt);
         count.peers = count.peers.saturating_add(1);
         if !count.is_due(rt) {

@@ -49,6 +49,9 @@ pub const RUN: &str = "run";
 /// The name of its option with the socket address.
 pub const LISTEN: &str = "listen";
 
+/// The name of its option with the socket address at which its numbers are answered.
+pub const STATUS_LISTEN: &str = "status";
+
 /// The name of its option with the number of sessions.
 pub const SESSIONS: &str = "sessions";
 
@@ -173,10 +176,12 @@ fn run_command<'a>(alloc: Global) -> Result<Command<'a>, AllocError>
     ensures { IfOk result (λ command. (out-Command command).name.now ≡ codes "run") }
 {
     let listen = "The socket address to listen at, as 127.0.0.1:30252; port 0 is any free one";
+    let status = "The socket address to answer GET /metrics at, with the server's numbers";
     let command = Command::new(alloc, RUN)
         .about("Opens a store, and serves sessions over TCP")
         .arg(device_argument(alloc))?
         .arg(option(alloc, LISTEN, "ADDR", listen).required(true))?
+        .arg(option(alloc, STATUS_LISTEN, "ADDR", status))?
         .arg(option(alloc, CORES, "LIST", CORES_HELP))?
         .arg(option(alloc, KEY, "HEX", KEY_HELP))?;
     with_limits(alloc, command)

@@ -4,7 +4,7 @@ use crate::command_lines::kept;
 use clap::error::ErrorKind;
 use path_words::{
     CHECKPOINT, CORES, DEVICE, FORMAT, HEX, IDLE, JOURNAL, KEY, LAYOUT, LISTEN, NOW, ONCE, QUIET,
-    RUN, SESSIONS, SHOW, STATUS, UPGRADE, read,
+    RUN, SESSIONS, SHOW, STATUS, STATUS_LISTEN, UPGRADE, read,
 };
 use std::alloc::Global;
 use std::process::Abort;
@@ -32,9 +32,9 @@ type Value = (
 const ALL_OF_ONCE: &str = "once --cores 1-1,2-2 --now 5 --key 00ff --hex";
 
 const ALL_OF_RUN: &str =
-    "run --quiet --idle 4294967295 --sessions 18446744073709551615 --key 00 --cores 1-1 --listen [::1]:0 d";
+    "run --quiet --idle 4294967295 --sessions 18446744073709551615 --key 00 --cores 1-1 --status [::1]:1 --listen [::1]:0 d";
 
-const VALUES: [Value; 26] = [
+const VALUES: [Value; 28] = [
     (ALL_OF_ONCE, ONCE, CORES, Some("1-1,2-2")),
     (ALL_OF_ONCE, ONCE, NOW, Some("5")),
     (ALL_OF_ONCE, ONCE, KEY, Some("00ff")),
@@ -74,11 +74,13 @@ const VALUES: [Value; 26] = [
     ("upgrade d", UPGRADE, DEVICE, Some("d")),
     (ALL_OF_RUN, RUN, DEVICE, Some("d")),
     (ALL_OF_RUN, RUN, LISTEN, Some("[::1]:0")),
+    (ALL_OF_RUN, RUN, STATUS_LISTEN, Some("[::1]:1")),
     (ALL_OF_RUN, RUN, SESSIONS, Some("18446744073709551615")),
     (ALL_OF_RUN, RUN, IDLE, Some("4294967295")),
     (ALL_OF_RUN, RUN, CORES, Some("1-1")),
     (ALL_OF_RUN, RUN, KEY, Some("00")),
     ("run d --listen a", RUN, LISTEN, Some("a")),
+    ("run d --listen a", RUN, STATUS_LISTEN, None),
     ("run d --listen a", RUN, SESSIONS, None),
     ("run d --listen a", RUN, IDLE, None),
 ];
@@ -126,7 +128,7 @@ fn flags(rt: HostRuntime) {
 }
 
 /// Lines that are refused, and how.
-const REFUSED: [(&str, ErrorKind); 35] = [
+const REFUSED: [(&str, ErrorKind); 37] = [
     ("", ErrorKind::MissingSubcommand),
     ("serve", ErrorKind::InvalidSubcommand),
     ("--version", ErrorKind::UnknownArgument),
@@ -180,6 +182,8 @@ const REFUSED: [(&str, ErrorKind); 35] = [
     ("run --listen a", ErrorKind::MissingRequiredArgument),
     ("run d --listen", ErrorKind::InvalidValue),
     ("run d --listen a --listen b", ErrorKind::ArgumentConflict),
+    ("run d --status a", ErrorKind::MissingRequiredArgument),
+    ("run d --listen a --status", ErrorKind::InvalidValue),
     (
         "run d --listen a --sessions 18446744073709551616",
         ErrorKind::ValueValidation,
@@ -331,6 +335,7 @@ const HELPS: [(&str, &[&str]); 10] = [
             "Usage: pathd run [OPTIONS] --listen <ADDR> <DEV>\n",
             "\n  <DEV>  ",
             "\n      --listen <ADDR>  ",
+            "\n      --status <ADDR>  ",
             "\n      --cores <LIST>  ",
             "\n      --key <HEX>  ",
             "\n      --sessions <N>  ",

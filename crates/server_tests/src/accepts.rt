@@ -2,7 +2,7 @@
 
 use crate::stores::{LEAST, formatted, opened, opens_to};
 use crate::worlds::{Counts, options};
-use path_server::{Failure, RunError, after_failure, serve_store};
+use path_server::{Failure, Listeners, RunError, after_failure, serve_store};
 use std::io;
 use std::net::{OpenListener, SocketAddr, TcpStream};
 use std::sync::atomic::{AtomicUsize, Ordering};
@@ -62,7 +62,14 @@ fn a_broken_listener_ends_the_server(rt: HostRuntime) -> Result<(), Fail> {
         next: AtomicUsize::new(0),
     };
     let counts = Counts::new();
-    let (device, served) = serve_store(&rt, alloc, listener, store, &options, &counts);
+    let (device, served) = serve_store(
+        &rt,
+        alloc,
+        Listeners::of_sessions(listener),
+        store,
+        &options,
+        &counts,
+    );
     assert_eq!(rt; served, Err(RunError::Net));
     assert_eq!(rt; counts.stopped(), 0);
     let _device = opens_to(&rt, alloc, device, (0, 0, 0));

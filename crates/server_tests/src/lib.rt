@@ -21,4 +21,6 @@ mod stops;
 #[cfg(test)]
 mod stores;
 #[cfg(test)]
+mod watching;
+#[cfg(test)]
 mod worlds;

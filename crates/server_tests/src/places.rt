@@ -4,7 +4,7 @@ use crate::doors::nap;
 use crate::peers::{Peer, seated};
 use crate::stores::{LEAST, formatted, opened, opens_to};
 use crate::worlds::{Clients, Counts, Outside, listen, options, serve_clients};
-use path_server::serve_store;
+use path_server::{Listeners, serve_store};
 use std::alloc::Global;
 use std::net::{SocketAddr, TcpStream};
 use std::test::Fail;
@@ -80,7 +80,7 @@ fn the_listener_is_closed_after_the_last(rt: HostRuntime) -> Result<(), Fail> {
         || serve_store(
             &rt,
             alloc,
-            listener,
+            Listeners::of_sessions(listener),
             opened(&rt, alloc, device),
             &options,
             &counts,

@@ -3,7 +3,7 @@
 
 use crate::stores::{LEAST, formatted, opened, opens_to};
 use crate::worlds::{Counts, World};
-use path_server::{Options, RunError, serve_store};
+use path_server::{Listeners, Options, RunError, serve_store};
 use seg_lookup::Roster;
 use std::alloc::Global;
 use std::io;
@@ -32,7 +32,14 @@ fn has_actors<R: World>(rt: R, alloc: Global) -> bool {
         idle: None,
     };
     let counts = Counts::new();
-    let (device, served) = serve_store(rt, alloc, Broken, store, &options, &counts);
+    let (device, served) = serve_store(
+        rt,
+        alloc,
+        Listeners::of_sessions(Broken),
+        store,
+        &options,
+        &counts,
+    );
     assert_eq!(&rt; counts.stopped(), 0);
     let _device = opens_to(&rt, alloc, device, (0, 0, 0));
     if served == Err(RunError::NoMemory) {

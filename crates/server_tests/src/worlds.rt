@@ -2,7 +2,7 @@
 
 use crate::stores::opened;
 use isd_as::IsdAs;
-use path_server::{Options, Report, Reports, RunError, serve_store};
+use path_server::{Listeners, Options, Report, Reports, RunError, serve_store};
 use sector_dev::Device;
 use seg_lookup::Roster;
 use std::alloc::Global;
@@ -113,8 +113,21 @@ pub(crate) fn serve_clients<R: World, D: Device + Drop + Send, C: Clients + Sync
     clients: &C,
     counts: &Counts,
 ) -> Met<D, C::Seen> {
-    let (listener, to) = listen(rt);
-    let Ok(other) = listener.try_clone() else {
+    serve_watched(rt, alloc, device, None, options, clients, counts)
+}
+
+/// The same, beside a listener for requests of the server's numbers, where there is one.
+pub(crate) fn serve_watched<R: World, D: Device + Drop + Send, C: Clients + Sync>(
+    rt: R,
+    alloc: Global,
+    device: D,
+    status: Option<TcpListener>,
+    options: &Options,
+    clients: &C,
+    counts: &Counts,
+) -> Met<D, C::Seen> {
+    let (sessions, to) = listen(rt);
+    let Ok(other) = sessions.try_clone() else {
         panic!(rt; "no second handle");
     };
     // A second handle of the listening socket, with a stream's methods.
@@ -124,7 +137,7 @@ pub(crate) fn serve_clients<R: World, D: Device + Drop + Send, C: Clients + Sync
         || serve_store(
             rt,
             alloc,
-            listener,
+            Listeners { sessions, status },
             opened(&rt, alloc, device),
             options,
             counts,

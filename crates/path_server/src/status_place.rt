@@ -1,0 +1,46 @@
+//! The listener for requests of the numbers, until a thread has it.
+
+use std::sync::atomic::{AtomicBool, Ordering};
+use std::sync::{Mutex, Wait};
+
+/// The listener for requests of the numbers, until it is handed out.
+#[derive(Drop)]
+pub(crate) struct StatusPlace<L> {
+    listener: Mutex<Option<L>>,
+    /// Whether it was handed out, and no other guest was since.
+    is_last: AtomicBool,
+    /// Whether no thread was given for it.
+    is_missed: AtomicBool,
+}
+
+impl<L: Drop> StatusPlace<L> {
+    /// Of this listener, if there is one.
+    pub(crate) fn new(listener: Option<L>) -> StatusPlace<L> {
+        StatusPlace {
+            listener: Mutex::new(listener),
+            is_last: AtomicBool::new(false),
+            is_missed: AtomicBool::new(false),
+        }
+    }
+
+    /// Hands the listener out, once.
+    pub(crate) fn hand_out<R: Wait>(&self, rt: &R) -> Option<L> {
+        let listener = (*self.listener.lock(rt)).take();
+        self.is_last.store(listener.is_some(), Ordering::SeqCst);
+        listener
+    }
+
+    /// No thread was given for the last guest: whether that is the listener.
+    pub(crate) fn miss(&self) -> bool {
+        let is_last = self.is_last.load(Ordering::SeqCst);
+        if is_last {
+            self.is_missed.store(true, Ordering::SeqCst);
+        }
+        is_last
+    }
+
+    /// Whether no thread was given for the listener.
+    pub(crate) fn is_missed(&self) -> bool {
+        self.is_missed.load(Ordering::SeqCst)
+    }
+}

@@ -1,0 +1,104 @@
+//! Peers that ask for the numbers of a server.
+
+use crate::accepting::{Failure, after_failure};
+use crate::reports::Reports;
+use crate::seats::MOST_SESSIONS;
+use crate::server::Server;
+use path_hub::{Completed, Hub, HubName};
+use sector_dev::Device;
+use seg_check::Verifier;
+use status_page::{Asked, Counts};
+use status_server::{Deadline, ReplyKind, answer, part, read_request, send};
+use std::alloc::AllocError;
+use std::net::{OpenListener, TcpStream};
+use std::sync::Wait;
+use std::thread::sleep;
+use std::time::{Clock, Duration};
+
+/// How long a connection is kept, in milliseconds.
+const LONGEST: u64 = 1_000;
+
+/// How long descriptors or memory are waited for, in milliseconds.
+const PAUSE: u64 = 50;
+
+impl<L: OpenListener<Stream = TcpStream> + Drop, V: Verifier, O: Reports> Server<'_, L, V, O> {
+    /// Answers the peers of a listener, one after the other, until the server is at its end or the listener is broken.
+    pub(crate) fn watch<D: Device, N: HubName, R: Wait + Clock>(
+        &self,
+        hub: &Hub<D, N, R>,
+        listener: &L,
+    ) {
+        for accepted in listener.incoming() {
+            if !self.is_open() {
+                return;
+            }
+            match accepted {
+                Ok(stream) => self.answer_peer(hub, &stream),
+                Err(error) => match after_failure(&error) {
+                    Failure::Again => {}
+                    Failure::Pause => sleep(hub.handle(), Duration::from_millis(PAUSE)),
+                    Failure::Broken => return,
+                },
+            }
+        }
+    }
+
+    /// Answers what a peer asks for, if it does so in time, and ends its connection.
+    fn answer_peer<D: Device, N: HubName, R: Wait + Clock>(
+        &self,
+        hub: &Hub<D, N, R>,
+        stream: &TcpStream,
+    ) {
+        let rt = hub.handle();
+        let Ok(deadline) = Deadline::after(rt, Duration::from_millis(LONGEST)) else {
+            return;
+        };
+        let Some(asked) = read_request(rt, self.alloc, stream, &deadline) else {
+            return;
+        };
+        if let Ok(text) = self.text_for(hub, asked) {
+            send(rt, stream, &deadline, text.as_str());
+            part(rt, stream, &deadline);
+        }
+    }
+
+    /// The text of an answer. The state's lock is taken for one read.
+    fn text_for<D: Device, N: HubName, R: Wait + Clock>(
+        &self,
+        hub: &Hub<D, N, R>,
+        asked: Asked,
+    ) -> Result<String, AllocError> {
+        let refusals = self.replies.refusals(self.alloc)?;
+        let (numbers, completed) = hub.numbers();
+        let counts = self.counts(hub.handle(), completed);
+        answer(self.alloc, asked, &numbers, &counts, refusals.as_slice())
+    }
+
+    /// What the server has done, where its actors have completed this.
+    fn counts(&self, clock: &impl Clock, completed: Completed) -> Counts {
+        Counts {
+            groups: completed.groups,
+            seals: completed.seals,
+            checkpoints: completed.checkpoints,
+            sessions: self.seats.taken().min(MOST_SESSIONS),
+            started: self.door.started(),
+            refused: self.turned_away.all(),
+            registered: self.replies.of(ReplyKind::Registered),
+            found: self.replies.of(ReplyKind::Found),
+            purged: self.replies.of(ReplyKind::Purged),
+            removed: self.replies.of(ReplyKind::Removed),
+            seconds: self.seconds(clock),
+        }
+    }
+
+    /// How many seconds the server has run; 0 where the clock can't be read.
+    fn seconds(&self, clock: &impl Clock) -> u64 {
+        let Some(begun) = self.begun else {
+            return 0;
+        };
+        match begun.elapsed(clock) {
+            Ok(elapsed) => elapsed.as_secs(),
+            Err(_) => 0,
+        }
+    }
+}

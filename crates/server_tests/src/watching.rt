@@ -1,0 +1,337 @@
+//! Requests of a server's numbers, at its second listener.
+
+use crate::peers::{EMPTY_LOOKUP, NO_DESTINATION, Peer};
+use crate::rows::{FOUND, LOOKUP, PURGE, REGISTERED, REGISTRATION};
+use crate::stores::{LEAST, formatted, opens_to};
+use crate::worlds::{Clients, Counts, Outside, World, listen, options, serve_watched};
+use path_server::bound_accepts;
+use std::alloc::Global;
+use std::io;
+use std::io::{ErrorKind, Read, Write};
+use std::net::{Shutdown, SocketAddr, TcpListener, TcpStream};
+use std::test::Fail;
+use std::time::{Duration, Instant};
+
+/// How long a peer waits for an answer, in seconds.
+const PATIENCE: u64 = 20;
+
+/// The request of the numbers.
+const GET_NUMBERS: &str = "GET /metrics HTTP/1.1\r\nHost: localhost\r\n\r\n";
+
+/// A listener for requests of the numbers, and its address.
+fn listen_for_status<R: World>(rt: R) -> (Option<TcpListener>, SocketAddr) {
+    let (listener, at) = listen(rt);
+    assert!(&rt; bound_accepts(&listener).is_ok());
+    (Some(listener), at)
+}
+
+/// Connects to the listener for requests of the numbers.
+fn connect<R: Outside>(rt: R, at: SocketAddr) -> io::Result<TcpStream> {
+    let stream = TcpStream::connect(&rt, at)?;
+    stream.set_read_timeout(Some(Duration::from_secs(PATIENCE)))?;
+    Ok(stream)
+}
+
+/// Sends a text, and then no more: what the server answers until it ends the connection.
+fn answer_to<R: Outside>(rt: R, alloc: Global, at: SocketAddr, text: &str) -> io::Result<String> {
+    let mut stream = connect(rt, at)?;
+    stream.write_all(text.as_bytes())?;
+    stream.shutdown(Shutdown::Write)?;
+    received(alloc, &mut stream)
+}
+
+/// What is received until the server ends the connection.
+fn received(alloc: Global, stream: &mut TcpStream) -> io::Result<String> {
+    let mut text = String::new(alloc);
+    stream.read_to_string(&mut text)?;
+    Ok(text)
+}
+
+/// One session of each kind of message, and the page while it is open.
+#[derive(Drop)]
+struct Counting {
+    at: SocketAddr,
+}
+
+/// Registers no segments, and the place 1 with nothing inserted.
+const EMPTY_REGISTRATION: &str = "0000000101";
+
+const PLACE_1: &str = "0000001981000000000000000100000000000000000000000000000000";
+
+/// What a purge is replied at the place 2.
+const PURGED_AT_2: &str = "0000001983000000000000000200000000000000000000000000000000";
+
+/// Removes the down segment whose id is 32 zeros, which nobody has registered, and the place 3.
+const REMOVAL: &str =
+    "0000002204030000000000000000000000000000000000000000000000000000000000000000";
+
+const REMOVED_AT_3: &str = "0000001984000000000000000300000000000000000000000000000000";
+
+/// Removes a segment of the type 9, of which there is none, and its refusal.
+const STRANGE_REMOVAL: &str =
+    "0000002204090000000000000000000000000000000000000000000000000000000000000000";
+
+const NO_TYPE: &str = "00000002ff29";
+
+/// What is asked, and the replies.
+const ASKED: [(&str, &str); 8] = [
+    (REGISTRATION, REGISTERED),
+    (LOOKUP, FOUND),
+    (EMPTY_LOOKUP, NO_DESTINATION),
+    (EMPTY_REGISTRATION, PLACE_1),
+    (PURGE, PURGED_AT_2),
+    (REMOVAL, REMOVED_AT_3),
+    (STRANGE_REMOVAL, NO_TYPE),
+    (EMPTY_LOOKUP, NO_DESTINATION),
+];
+
+impl Clients for Counting {
+    type Seen = (bool, String);
+
+    fn meet<R: Outside>(&self, rt: R, alloc: Global, to: SocketAddr) -> io::Result<(bool, String)> {
+        let mut peer = Peer::connect(rt, alloc, to)?;
+        let mut is_replied = true;
+        for (request, reply) in &ASKED {
+            is_replied &= peer.asks(*request, *reply)?;
+        }
+        let answer = answer_to(rt, alloc, self.at, GET_NUMBERS)?;
+        drop(peer);
+        Ok((is_replied, answer))
+    }
+}
+
+/// The page before the number of seconds.
+const BEFORE_SECONDS: &str = "\
+# TYPE pathd_rows gauge
+pathd_rows 1
+# TYPE pathd_rows_bytes gauge
+pathd_rows_bytes 93
+# TYPE pathd_rows_limit_bytes gauge
+pathd_rows_limit_bytes 992
+# TYPE pathd_commands_total counter
+pathd_commands_total 4
+# TYPE pathd_commands_pending gauge
+pathd_commands_pending 0
+# TYPE pathd_stopped gauge
+pathd_stopped 0
+# TYPE pathd_epoch gauge
+pathd_epoch 1
+# TYPE pathd_format_version gauge
+pathd_format_version 2
+# TYPE pathd_journal_sealed gauge
+pathd_journal_sealed 0
+# TYPE pathd_flusher_phase gauge
+pathd_flusher_phase{phase=\"resting\"} 1
+pathd_flusher_phase{phase=\"staged\"} 0
+pathd_flusher_phase{phase=\"written\"} 0
+pathd_flusher_phase{phase=\"stable\"} 0
+pathd_flusher_phase{phase=\"opened\"} 0
+pathd_flusher_phase{phase=\"doubtful\"} 0
+pathd_flusher_phase{phase=\"durable\"} 0
+# TYPE pathd_checkpointer_phase gauge
+pathd_checkpointer_phase{phase=\"ready\"} 1
+pathd_checkpointer_phase{phase=\"sealed\"} 0
+pathd_checkpointer_phase{phase=\"planned\"} 0
+pathd_checkpointer_phase{phase=\"laid\"} 0
+pathd_checkpointer_phase{phase=\"switched\"} 0
+pathd_checkpointer_phase{phase=\"switch_failed\"} 0
+pathd_checkpointer_phase{phase=\"live\"} 0
+pathd_checkpointer_phase{phase=\"closing\"} 0
+pathd_checkpointer_phase{phase=\"close_failed\"} 0
+# TYPE pathd_groups_total counter
+pathd_groups_total 4
+# TYPE pathd_seals_total counter
+pathd_seals_total 0
+# TYPE pathd_checkpoints_total counter
+pathd_checkpoints_total 0
+# TYPE pathd_sessions gauge
+pathd_sessions 1
+# TYPE pathd_sessions_started_total counter
+pathd_sessions_started_total 1
+# TYPE pathd_sessions_refused_total counter
+pathd_sessions_refused_total 0
+# TYPE pathd_replies_total counter
+pathd_replies_total{kind=\"found\"} 1
+pathd_replies_total{kind=\"registered\"} 2
+pathd_replies_total{kind=\"purged\"} 1
+pathd_replies_total{kind=\"removed\"} 1
+# TYPE pathd_uptime_seconds gauge
+pathd_uptime_seconds ";
+
+/// The page after the number of seconds.
+const AFTER_SECONDS: &str = "
+# TYPE pathd_refusals_total counter
+pathd_refusals_total{code=\"29\"} 1
+pathd_refusals_total{code=\"41\"} 2
+";
+
+/// The page in an answer, without the number of seconds.
+fn is_page(answer: &str) -> bool {
+    let Some((head, page)) = answer.split_once("\r\n\r\n") else {
+        return false;
+    };
+    let Some(rest) = page.strip_prefix(BEFORE_SECONDS) else {
+        return false;
+    };
+    let rest = rest.trim_start_matches(|letter: char| letter.is_ascii_digit());
+    head.starts_with("HTTP/1.1 200 OK\r\n") && rest == AFTER_SECONDS
+}
+
+#[test]
+fn page_after_a_session(rt: HostRuntime) -> Result<(), Fail> {
+    let alloc = rt.alloc();
+    let device = formatted(&rt, alloc, LEAST);
+    let options = options(&rt, alloc, 1);
+    let (status, at) = listen_for_status(&rt);
+    let clients = Counting { at };
+    let (device, served, seen) = serve_watched(
+        &rt,
+        alloc,
+        device,
+        status,
+        &options,
+        &clients,
+        &Counts::new(),
+    );
+    assert_eq!(rt; served, Ok(1));
+    let (is_replied, answer) = seen?;
+    assert!(rt; is_replied && is_page(answer.as_str()), "{answer}");
+    let _device = opens_to(&rt, alloc, device, (1, 93, 4));
+    Ok(())
+}
+
+/// Asks for other things than the page.
+#[derive(Drop)]
+struct Asking {
+    at: SocketAddr,
+}
+
+/// How often a head that is too large has a line.
+const MANY_LINES: u64 = 200;
+
+/// A line of it, with 32 bytes.
+const LINE: &str = "A: 123456789 123456789 1234567\r\n";
+
+/// The head of a request with this number of bytes more than its first line.
+fn large_head(alloc: Global) -> io::Result<String> {
+    let mut head = String::from_str(alloc, "GET /metrics HTTP/1.1\r\n")?;
+    for _ in 0..MANY_LINES {
+        head.push_str(LINE)?;
+    }
+    Ok(head)
+}
+
+/// Requests, and the first line of the answer to each.
+const REQUESTS: [(&str, &str); 6] = [
+    ("GET / HTTP/1.1\r\n\r\n", "HTTP/1.1 404 Not Found"),
+    ("POST / HTTP/1.1\r\n\r\n", "HTTP/1.1 404 Not Found"),
+    (
+        "POST /metrics HTTP/1.1\r\nContent-Length: 4\r\n\r\nbody",
+        "HTTP/1.1 405 Method Not Allowed",
+    ),
+    ("GET /metrics", "HTTP/1.1 400 Bad Request"),
+    ("\u{7f}\r\n\r\n", "HTTP/1.1 400 Bad Request"),
+    ("", "HTTP/1.1 400 Bad Request"),
+];
+
+/// Whether an answer begins with this line, and has nothing after its head.
+fn is_refusal(answer: &str, line: &str) -> bool {
+    let Some((head, body)) = answer.split_once("\r\n\r\n") else {
+        return false;
+    };
+    body.is_empty() && head.starts_with(line) && head.ends_with("\r\nConnection: close")
+}
+
+impl Clients for Asking {
+    type Seen = bool;
+
+    fn meet<R: Outside>(&self, rt: R, alloc: Global, to: SocketAddr) -> io::Result<bool> {
+        let mut are_refused = true;
+        for (request, line) in &REQUESTS {
+            let answer = answer_to(rt, alloc, self.at, *request)?;
+            are_refused &= is_refusal(answer.as_str(), *line);
+        }
+        let large = large_head(alloc)?;
+        let answer = answer_to(rt, alloc, self.at, large.as_str())?;
+        are_refused &= is_refusal(answer.as_str(), "HTTP/1.1 400 Bad Request");
+        let is_served = Peer::connect(rt, alloc, to)?.asks(EMPTY_LOOKUP, NO_DESTINATION)?;
+        Ok(are_refused && is_served)
+    }
+}
+
+#[test]
+fn other_requests_are_refused(rt: HostRuntime) -> Result<(), Fail> {
+    let alloc = rt.alloc();
+    let device = formatted(&rt, alloc, LEAST);
+    let options = options(&rt, alloc, 1);
+    let (status, at) = listen_for_status(&rt);
+    let clients = Asking { at };
+    let (device, served, seen) = serve_watched(
+        &rt,
+        alloc,
+        device,
+        status,
+        &options,
+        &clients,
+        &Counts::new(),
+    );
+    assert_eq!(rt; served, Ok(1));
+    assert!(rt; seen?);
+    let _device = opens_to(&rt, alloc, device, (0, 0, 0));
+    Ok(())
+}
+
+/// One peer is silent at the listener for requests, while a session is served; another one asks for the numbers after it.
+#[derive(Drop)]
+struct Hushed {
+    at: SocketAddr,
+}
+
+/// The time within which a silent peer is closed: a second, and what a busy machine adds.
+const SOON: u64 = 10;
+
+impl Clients for Hushed {
+    type Seen = bool;
+
+    fn meet<R: Outside>(&self, rt: R, alloc: Global, to: SocketAddr) -> io::Result<bool> {
+        let begun = Instant::now(&rt)?;
+        let mut silent = connect(rt, self.at)?;
+        silent.write_all(b"GET /met")?;
+        let mut next = connect(rt, self.at)?;
+        next.write_all(GET_NUMBERS.as_bytes())?;
+        let mut peer = Peer::connect(rt, alloc, to)?;
+        let is_served = peer.asks(EMPTY_LOOKUP, NO_DESTINATION)?;
+        let rest = received(alloc, &mut silent)?;
+        let is_soon = begun.elapsed(&rt)? < Duration::from_secs(SOON);
+        let answer = received(alloc, &mut next)?;
+        drop(peer);
+        Ok(
+            is_served
+                && is_soon
+                && rest.is_empty()
+                && answer.as_str().starts_with("HTTP/1.1 200 OK"),
+        )
+    }
+}
+
+#[test]
+fn silent_peers_are_closed_soon(rt: HostRuntime) -> Result<(), Fail> {
+    let alloc = rt.alloc();
+    let device = formatted(&rt, alloc, LEAST);
+    let options = options(&rt, alloc, 1);
+    let (status, at) = listen_for_status(&rt);
+    let clients = Hushed { at };
+    let (device, served, seen) = serve_watched(
+        &rt,
+        alloc,
+        device,
+        status,
+        &options,
+        &clients,
+        &Counts::new(),
+    );
+    assert_eq!(rt; served, Ok(1));
+    assert!(rt; seen?);
+    let _device = opens_to(&rt, alloc, device, (0, 0, 0));
+    Ok(())
+}

@@ -1,0 +1,27 @@
+-- What a peer is sent.
+use Rattle.std.specs.Prelude.{ℕ, List, codes}
+use Rattle.group_core.specs.declared.numbers.Numbers.{Numbers}
+use Rattle.status_page.specs.declared.counts.Counts.{Counts}
+use Rattle.status_page.specs.declared.counts.CodeCount.{CodeCount}
+use Rattle.status_page.specs.declared.request.Asked.{Asked}
+use Rattle.status_page.specs.declared.request.Asked.TheVariants.{Page, OtherPath, OtherMethod, More, Unreadable}
+use Rattle.status_page.specs.Page.{page_text}
+use Rattle.status_page.specs.Response.{response_text}
+
+-- the responses without a page
+abbrev pub not_found : List ℕ
+not_found = codes "HTTP/1.1 404 Not Found\r\nContent-Length: 0\r\nConnection: close\r\n\r\n"
+
+abbrev pub not_allowed : List ℕ
+not_allowed = codes "HTTP/1.1 405 Method Not Allowed\r\nAllow: GET\r\nContent-Length: 0\r\nConnection: close\r\n\r\n"
+
+abbrev pub bad_request : List ℕ
+bad_request = codes "HTTP/1.1 400 Bad Request\r\nContent-Length: 0\r\nConnection: close\r\n\r\n"
+
+-- The text that a peer is sent for what it asks: the page, or why it isn't sent.
+abbrev pub answer_text : Asked → Numbers → Counts → List CodeCount → List ℕ
+answer_text Page numbers counts refused = response_text (page_text numbers counts refused)
+answer_text OtherPath numbers counts refused = not_found
+answer_text OtherMethod numbers counts refused = not_allowed
+answer_text More numbers counts refused = bad_request
+answer_text Unreadable numbers counts refused = bad_request

@@ -1,0 +1,81 @@
+//! The connection of a peer that asks for the numbers of a server.
+
+use crate::deadline::Deadline;
+use status_page::{Asked, read_head};
+use std::alloc::Global;
+use std::io::{Read, Write};
+use std::net::{Shutdown, TcpStream};
+use std::time::Clock;
+
+/// How many bytes the head of a request may have, rounded up to a whole read.
+pub const MOST_HEAD: usize = 4_096;
+
+/// How many bytes one read takes at most.
+const PIECE: usize = 1_024;
+
+/// Reads what a peer asks for: `More` where its first `MOST_HEAD` bytes, or all that it sends, have no whole head. `None`: the time is
+/// over, the connection or the clock failed, or memory was refused.
+pub fn read_request(
+    clock: &impl Clock,
+    alloc: Global,
+    stream: &TcpStream,
+    deadline: &Deadline,
+) -> Option<Asked> {
+    let mut head = Vec::new(alloc);
+    for _ in 0..MOST_HEAD {
+        let mut piece = [0u8; PIECE];
+        let count = read_by(clock, stream, deadline, &mut piece)?;
+        head.extend_from_slice(piece.get(..count)?).ok()?;
+        match read_head(head.as_slice()) {
+            Asked::More if count > 0 && head.len() < MOST_HEAD => {}
+            asked => return Some(asked),
+        }
+    }
+    Some(Asked::More)
+}
+
+/// Reads once: how many bytes there were, of which 0 is the end. `None`: the time is over, or the connection or the clock failed.
+fn read_by(
+    clock: &impl Clock,
+    mut stream: &TcpStream,
+    deadline: &Deadline,
+    piece: &mut [u8],
+) -> Option<usize> {
+    stream.set_read_timeout(Some(deadline.left(clock)?)).ok()?;
+    stream.read(piece).ok()
+}
+
+/// Sends a text, or the front of it that the peer takes in time.
+pub fn send(clock: &impl Clock, stream: &TcpStream, deadline: &Deadline, text: &str) {
+    let mut rest = text.as_bytes();
+    for _ in 0..text.len() {
+        match write_by(clock, stream, deadline, rest) {
+            Some(count) if count > 0 && count < rest.len() => rest = rest.split_at(count).1,
+            Some(_) | None => return,
+        }
+    }
+}
+
+/// Writes once: how many bytes were taken. `None`: the time is over, or the connection or the clock failed.
+fn write_by(
+    clock: &impl Clock,
+    mut stream: &TcpStream,
+    deadline: &Deadline,
+    bytes: &[u8],
+) -> Option<usize> {
+    stream.set_write_timeout(Some(deadline.left(clock)?)).ok()?;
+    stream.write(bytes).ok()
+}
+
+/// Ends a connection. A close over input that wasn't read would reset it, and the peer might lose its answer: so what comes until the
+/// peer has closed the connection, or the time is over, is read and dropped.
+pub fn part(clock: &impl Clock, stream: &TcpStream, deadline: &Deadline) {
+    let _shut = stream.shutdown(Shutdown::Write);
+    let mut piece = [0u8; PIECE];
+    for _ in 0..u64::MAX {
+        match read_by(clock, stream, deadline, &mut piece) {
+            Some(count) if count > 0 => {}
+            Some(_) | None => return,
+        }
+    }
+}

@@ -1,0 +1,40 @@
+//! The time that a connection has.
+
+ghost use Rattle.std.specs.Prelude.{◌≡◌, ◌+◌, ◌<◌, ◌↔◌, IsSome, IfSome};
+ghost use Rattle.std.specs.Duration.{as_nanos};
+
+use std::io;
+use std::time::{Clock, Duration, Instant};
+
+/// A moment by which all has to be done.
+#[derive(Clone, Copy)]
+pub struct Deadline {
+    begun: Instant,
+    time: Duration,
+}
+
+impl Deadline {
+    /// This time from now on. The error is that the clock can't be read.
+    pub fn after(clock: &impl Clock, time: Duration) -> io::Result<Deadline> {
+        let begun = Instant::now(clock)?;
+        Ok(Deadline { begun, time })
+    }
+
+    /// The time that is left. `None`: there is none, or the clock can't be read.
+    pub fn left(&self, clock: &impl Clock) -> Option<Duration> {
+        let elapsed = self.begun.elapsed(clock).ok()?;
+        time_left(self.time, elapsed)
+    }
+}
+
+/// What is left of a time of which some has gone.
+fn time_left(time: Duration, gone: Duration) -> Option<Duration>
+    ensures variant { IsSome result ↔ (as_nanos gone < as_nanos time) }
+    ensures some { IfSome result (λ left. as_nanos left + as_nanos gone ≡ as_nanos time) }
+{
+    let left = time.checked_sub(gone)?;
+    if left.is_zero() {
+        return None;
+    }
+    Some(left)
+}
