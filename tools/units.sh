@@ -35,7 +35,10 @@ end() {
     kill "$container" 2>/dev/null || true
     wait "$container" 2>/dev/null || true
   fi
-  [ -z "${loop:-}" ] || losetup -d "$loop" 2>/dev/null || true
+  if [ -n "${loop:-}" ]; then
+    losetup -d "$loop" 2>/dev/null || true
+    chown "$owner" "$loop" # its node is the machine's own, and the page gives it to the user pathd
+  fi
   echo $$ >"$work/cgroup/$group/cgroup.procs" 2>/dev/null || true
   for _ in $(seq 50); do
     find "$work/cgroup/$name" -depth -type d -exec rmdir {} + 2>/dev/null && break
@@ -60,7 +63,7 @@ cp -r "$top/deploy" "$top/docs" "$top/clients" "$top/tools" "$repository"
 rm -rf "$root/var/lib/pathd" "$root/opt/pathd-client" "$root/var/log/journal" "$root/usr/local/bin/pathd"
 sed -i '/^pathd:/d' "$root/etc/passwd" "$root/etc/group" "$root/etc/shadow" "$root/etc/gshadow" 2>/dev/null || true
 # Nothing of the machine's own services starts there, and nothing that sets the machine's clock, devices or kernel.
-rm -f "$root"/etc/systemd/system/*.wants/* "$root"/etc/systemd/system/*.requires/*
+rm -f "$root"/etc/systemd/system/*.wants/* "$root"/etc/systemd/system/*.requires/* "$root"/etc/rc?.d/S*
 for unit in systemd-sysctl systemd-modules-load systemd-udevd systemd-udev-trigger systemd-random-seed systemd-timesyncd systemd-binfmt systemd-hwdb-update \
   systemd-networkd systemd-networkd-wait-online systemd-resolved systemd-logind e2scrub_reap; do
   ln -sf /dev/null "$root/etc/systemd/system/$unit.service"
@@ -84,6 +87,7 @@ echo $$ >"$work/cgroup/$name/cgroup.procs"
 umount -l /sys/fs/cgroup 2>/dev/null || true
 mount -t cgroup2 cgroup2 /sys/fs/cgroup
 loop=$(losetup -f)
+owner=$(stat -c %u:%g "$loop")
 
 leader() { # the container's first process, as this machine numbers it
   pgrep -P "$container" -x systemd | head -1
@@ -94,8 +98,12 @@ inside() { # runs words in the container
 }
 
 is_up() { # waits until the container has started its units
+  local state
   for _ in $(seq 300); do
-    [ -n "$(leader)" ] && inside systemctl is-system-running 2>/dev/null | grep -qE 'running|degraded' && return
+    if [ -n "$(leader)" ]; then
+      state=$(inside systemctl is-system-running 2>/dev/null) || true # its status is 1 where a unit of the machine has failed
+      case $state in running | degraded) return ;; esac
+    fi
     sleep 0.2
   done
   echo "the container doesn't start" >&2

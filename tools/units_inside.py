@@ -19,6 +19,7 @@ import struct
 import subprocess
 import sys
 import time
+import urllib.request
 from collections.abc import Callable
 from pathlib import Path
 
@@ -31,6 +32,7 @@ STATE = Path("/var/lib/pathd-units.state")
 DROP_IN = Path("/etc/systemd/system/pathd.service.d")
 TIMER_DROP_IN = Path("/etc/systemd/system/pathd-purge.timer.d")
 PORT = 30252
+NUMBERS_PORT = 30253
 CORE = 0x0001_FF00_0000_0110
 LEAF = 0x0001_FF00_0000_0111
 PAGE_BYTES = 4096
@@ -394,6 +396,37 @@ def back_up() -> None:
     start()
 
 
+def numbers() -> dict[str, float]:
+    """The numbers of the server, by the name and the labels of each."""
+    with urllib.request.urlopen(f"http://127.0.0.1:{NUMBERS_PORT}/metrics", timeout=10) as answer:
+        lines = answer.read().decode("ascii").splitlines()
+    return {name: float(value) for name, value in (line.rsplit(" ", 1) for line in lines if not line.startswith("#"))}
+
+
+def watch() -> None:
+    """'Watching a server': its numbers under the unit."""
+    exec_start = re.search(r"^ExecStart=.*", (TOP / "deploy/pathd.service").read_text(), re.M).group()
+    drop_in = DROP_IN / "watch.conf"
+    DROP_IN.mkdir(exist_ok=True)
+    drop_in.write_text(f"[Service]\nExecStart=\n{exec_start} --status 127.0.0.1:{NUMBERS_PORT}\n")
+    must("systemctl", "daemon-reload")
+    must("systemctl", "stop", "pathd")
+    begun = time.time()
+    STEPS.expect("with `--status` the unit starts", start(), run("systemctl", "status", "pathd").stdout)
+    text = journal("pathd", begun)
+    STEPS.expect("the journal has the line of the second address", f"pathd: status at 127.0.0.1:{NUMBERS_PORT}" in text, text)
+    before = numbers()
+    ROWS.register_many(3)
+    after = numbers()
+    more = {name: after[name] - before[name] for name in ("pathd_rows", "pathd_commands_total", 'pathd_replies_total{kind="registered"}')}
+    STEPS.expect("the numbers have three registrations more", set(more.values()) == {3.0}, more)
+    STEPS.expect("they say that the store takes commands", after["pathd_stopped"] == 0)
+    drop_in.unlink()
+    must("systemctl", "daemon-reload")
+    must("systemctl", "stop", "pathd")
+    STEPS.expect("without the option it starts and nothing listens there", start() and must("ss", "-Hltn", f"sport = :{NUMBERS_PORT}") == "")
+
+
 def lost_pages(device: str, disk: Path) -> int:
     """How many pages of a device read otherwise than its disk has them."""
     with open(device, "rb") as held, disk.open("rb") as kept:
@@ -429,6 +462,7 @@ class Volume:
         """Takes the device apart."""
         must("losetup", "-d", self.device)
         must("umount", self.folder)
+        self.folder.rmdir()
 
 
 def serve_volume(device: str) -> None:
@@ -616,6 +650,7 @@ def main() -> None:
         end_by_status()
         purge(options.short)
         back_up()
+        watch()
         must("systemctl", "stop", "pathd")
         fail_device(options.loop, by_hand=True)
         fail_device(options.loop, by_hand=False)
