@@ -1,5 +1,7 @@
 //! Peers that ask for the numbers of a server.
 
+ghost use Rattle.std.specs.Prelude.{◌≡◌};
+
 use crate::accepting::{Failure, after_failure};
 use crate::reports::Reports;
 use crate::seats::MOST_SESSIONS;
@@ -75,7 +77,11 @@ impl<L: OpenListener<Stream = TcpStream> + Drop, V: Verifier, O: Reports> Server
     }
 
     /// What the server has done, where its actors have completed this.
-    fn counts(&self, clock: &impl Clock, completed: Completed) -> Counts {
+    fn counts(&self, clock: &impl Clock, completed: Completed) -> Counts
+        ensures groups { result.groups ≡ completed.groups }
+        ensures seals { result.seals ≡ completed.seals }
+        ensures checkpoints { result.checkpoints ≡ completed.checkpoints }
+    {
         Counts {
             groups: completed.groups,
             seals: completed.seals,
