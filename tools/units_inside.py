@@ -396,9 +396,9 @@ def back_up() -> None:
     start()
 
 
-def numbers() -> dict[str, float]:
+def numbers(host: str = "127.0.0.1", timeout: float = 10) -> dict[str, float]:
     """The numbers of the server, by the name and the labels of each."""
-    with urllib.request.urlopen(f"http://127.0.0.1:{NUMBERS_PORT}/metrics", timeout=10) as answer:
+    with urllib.request.urlopen(f"http://{host}:{NUMBERS_PORT}/metrics", timeout=timeout) as answer:
         lines = answer.read().decode("ascii").splitlines()
     return {name: float(value) for name, value in (line.rsplit(" ", 1) for line in lines if not line.startswith("#"))}
 
@@ -520,9 +520,9 @@ def fail_device(device: str, by_hand: bool) -> None:
     must("systemctl", "daemon-reload")
 
 
-def reaches(source: str, host: str) -> bool:
-    """Whether a lookup from a network namespace is answered; '' is the server's own."""
-    words = [sys.executable, "-B", __file__, "--probe", host]
+def reaches(source: str, host: str, *more: str) -> bool:
+    """Whether a lookup from a network namespace is answered, or with `--numbers` a request of the numbers; '' is the server's own."""
+    words = [sys.executable, "-B", __file__, "--probe", host, *more]
     return run(*(["ip", "netns", "exec", source] if source else []), *words, timeout=30).returncode == 0
 
 
@@ -533,6 +533,19 @@ def probe(host: str) -> bool:
             return session.ask(model.lookup_frame(LEAF, CORE))[0] == 0x82
     except OSError:
         return False
+
+
+def probe_numbers(host: str) -> bool:
+    """Asks for the numbers once."""
+    try:
+        return "pathd_rows" in numbers(host, 2)
+    except OSError:
+        return False
+
+
+def all_reach(*more: str) -> tuple[bool, bool, bool]:
+    """Whether the server is reached from itself, from 192.0.2.0/24 and from another network."""
+    return reaches("", "127.0.0.1", *more), reaches("near", "192.0.2.1", *more), reaches("far", "198.51.100.1", *more)
 
 
 def seats_of(source: str, host: str, count: int) -> int:
@@ -565,6 +578,7 @@ def limit_access() -> None:
         must("ip", "-n", name, "link", "set", "peer", "up")
         must("ip", "-n", name, "link", "set", "lo", "up")
     exec_start = re.search(r"^ExecStart=.*", (TOP / "deploy/pathd.service").read_text(), re.M).group().replace("127.0.0.1:", "0.0.0.0:")
+    exec_start += f" --status 0.0.0.0:{NUMBERS_PORT}"
     drop_in = DROP_IN / "access.conf"
     DROP_IN.mkdir(exist_ok=True)
 
@@ -573,7 +587,7 @@ def limit_access() -> None:
         must("systemctl", "daemon-reload")
         must("systemctl", "stop", "pathd")
         start()
-        return reaches("", "127.0.0.1"), reaches("near", "192.0.2.1"), reaches("far", "198.51.100.1")
+        return all_reach()
 
     begun = time.time()
     seen = allow("")
@@ -581,21 +595,26 @@ def limit_access() -> None:
         STEPS.leave_out("IPAddressAllow=", "systemd finds no support of the kernel")
     else:
         STEPS.expect("with the unit's IPAddressAllow= the loopback alone reaches a server at 0.0.0.0", seen == (True, False, False), seen)
+        seen = all_reach("--numbers")
+        STEPS.expect("the same holds for the address of its numbers", seen == (True, False, False), seen)
         seen = allow("IPAddressAllow=192.0.2.0/24\n")
         STEPS.expect("with IPAddressAllow=192.0.2.0/24 these addresses do, too", seen == (True, True, False), seen)
     seen = allow("IPAddressAllow=any\n")
     STEPS.expect("with IPAddressAllow=any all do", seen == (True, True, True), seen)
     done = run_block("Access")
     STEPS.expect("the block of 'Access' runs", done.returncode == 0, done.stdout + done.stderr)
-    seen = reaches("", "127.0.0.1"), reaches("near", "192.0.2.1"), reaches("far", "198.51.100.1")
+    seen = all_reach()
     STEPS.expect("by the firewall's rules 192.0.2.0/24 and the loopback reach it, and no other address", seen == (True, True, False), seen)
     seats = seats_of("near", "192.0.2.1", 20)
     STEPS.expect("by these rules an address has at most 8 connections", seats == 8, seats)
     STEPS.expect("others are served beside them", reaches("", "127.0.0.1"))
+    seen = all_reach("--numbers")
+    STEPS.expect("these rules are for the port of sessions alone", seen == (True, True, True), seen)
     must("nft", "delete", "table", "inet", "pathd")
     drop_in.unlink()
     must("systemctl", "daemon-reload")
     must("systemctl", "restart", "pathd")
+    STEPS.expect("after the drop-in and the table were taken away the unit serves as before", until(is_up))
     for name in ("near", "far"):
         must("ip", "netns", "delete", name)
 
@@ -633,12 +652,14 @@ def main() -> None:
     parser.add_argument("--after-restart", action="store_true")
     parser.add_argument("--probe", help=argparse.SUPPRESS)
     parser.add_argument("--connections", type=int, help=argparse.SUPPRESS)
+    parser.add_argument("--numbers", action="store_true", help=argparse.SUPPRESS)
     options = parser.parse_args()
     if options.probe and options.connections:
         print(probe_seats(options.probe, options.connections))
         return
     if options.probe:
-        sys.exit(0 if probe(options.probe) else 1)
+        is_reached = (probe_numbers if options.numbers else probe)(options.probe)
+        sys.exit(0 if is_reached else 1)
     if options.after_restart:
         after_restart()
     else:
