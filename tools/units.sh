@@ -7,7 +7,7 @@
 #
 # PROGRAM is crates/pathd/out/pathd if left out, which `rt run` builds. With --short the timer's times are seconds; without it they are its own, and the script waits six
 # minutes for the second purge. It has to be run as root, on Debian 12 with systemd-container, python3-venv, python3-setuptools, python3-wheel, python3-protobuf,
-# protobuf-compiler, nftables and iproute2 (tools/need.sh says what is missing), and a free loop device.
+# protobuf-compiler, nftables and iproute2 (tools/need.sh says what is missing), and a free loop device, which nobody else may take meanwhile.
 #
 # The container's root is an overlay in memory over the machine's /, its network has nothing but a loopback and what the script makes, and all of it is gone at the end. The one
 # setting of the machine's kernel that is written is drop_caches. What the container's cgroups can't do, as MemoryMax= where the machine has the memory controller in a
@@ -36,7 +36,7 @@ end() {
     wait "$container" 2>/dev/null || true
   fi
   if [ -n "${loop:-}" ]; then
-    losetup -d "$loop" 2>/dev/null || true
+    case $(losetup -nO BACK-FILE "$loop" 2>/dev/null) in */small/disk*) losetup -d "$loop" || true ;; esac
     chown "$owner" "$loop" # its node is the machine's own, and the page gives it to the user pathd
   fi
   echo $$ >"$work/cgroup/$group/cgroup.procs" 2>/dev/null || true
@@ -111,17 +111,21 @@ is_up() { # waits until the container has started its units
   exit 2
 }
 
-SYSTEMD_NSPAWN_UNIFIED_HIERARCHY=1 systemd-nspawn --directory="$root" --machine="$name" --register=no --keep-unit --private-network --capability=all \
-  --system-call-filter="bpf @privileged" --bind="$loop" --link-journal=no --resolv-conf=off --timezone=off --console=pipe --boot \
-  </dev/null >"$work/console" 2>&1 &
-container=$!
-is_up
+boot() { # starts the container, and waits until it is up
+  SYSTEMD_NSPAWN_UNIFIED_HIERARCHY=1 systemd-nspawn --directory="$root" --machine="$name" --register=no --keep-unit --private-network --capability=all \
+    --system-call-filter="bpf @privileged" --bind="$loop" --link-journal=no --resolv-conf=off --timezone=off --console=pipe --boot \
+    </dev/null >"$work/console" 2>&1 &
+  container=$!
+  is_up
+}
+
+boot
 inside /usr/bin/python3 -B tools/units_inside.py --loop "$loop" $short
-before=$(leader)
-inside systemctl reboot
-for _ in $(seq 100); do
-  [ "$(leader)" != "$before" ] && break
-  sleep 0.2
-done
-is_up
+# systemd-logind, which `systemctl reboot` would ask, is not there. With --keep-unit systemd-nspawn ends with the status 133 where the container restarts.
+inside systemctl start --no-block reboot.target
+status=0
+wait "$container" || status=$?
+container=
+[ "$status" = 133 ] || { echo "the container ended with the status $status, and not for a restart" >&2; cat "$work/console" >&2; exit 2; }
+boot
 inside /usr/bin/python3 -B tools/units_inside.py --after-restart
