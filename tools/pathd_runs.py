@@ -122,6 +122,10 @@ class Server:
         self.kill()
         raise RuntimeError("the server doesn't listen")
 
+    def status_port(self) -> int:
+        """The port at which the server's numbers are asked for, where `--status` is among its words."""
+        return int(re.search(r"^pathd: status at 127\.0\.0\.1:(\d+)$", self.notices.read_text(), re.M).group(1))
+
     def connect(self, timeout: float = 60.0) -> socket.socket:
         """A connection to the server."""
         connection = socket.create_connection(("127.0.0.1", self.port), timeout)

@@ -9,6 +9,7 @@
 - resets: peers that end the connection by a reset in the middle of replies;
 - deaf peers: 63 that ask for the greatest replies and never read;
 - greatest frames: 63 sessions that send registrations of the greatest size at one time, held back before their last byte;
+- watchers: at the second listener, peers that are silent, send a part of a request or bytes that are none, or reset the connection; the page has to come after them;
 - descriptors: a server that may open 40 files gets 60 connections: those that wait are served once others have ended.
 
 Meanwhile a session registers, looks up and measures how long replies take. It ends with the status 1 where that session is answered wrongly or later than after 10 seconds, where a
@@ -278,6 +279,44 @@ class Attack:
             connection.close()
 
 
+    def watcher(self, request: bytes) -> socket.socket:
+        """A connection to the second listener, over which this was sent."""
+        connection = socket.create_connection(("127.0.0.1", self.server.status_port()), 30)
+        connection.sendall(request)
+        return connection
+
+    def page(self) -> str:
+        """The server's numbers, or what is sent in their place."""
+        with self.watcher(b"GET /metrics HTTP/1.1\r\nHost: here\r\n\r\n") as connection:
+            return read_all(connection, 1 << 20).decode()
+
+    def watchers(self) -> None:
+        """Peers of the second listener."""
+        before = self.page()
+        held = [self.watcher(request) for request in (b"", b"GET /met", b"GET /metrics HTTP/1.1\r\nHost:")]
+        for count in range(200):
+            connection = self.watcher(b"GET /metrics HTTP/1.1\r\n\r\n"[: count % 27])
+            connection.setsockopt(socket.SOL_SOCKET, socket.SO_LINGER, struct.pack("ii", 1, 0))
+            connection.close()
+        refused = [self.watcher(request) for request in (bytes(100), b"a" * 10_000, b"GET " + b"/" * 5_000)]
+        begun = time.monotonic()
+        after = self.page()
+        print(f"    a page after {time.monotonic() - begun:.1f} seconds, beside {len(held)} peers that end no request")
+        for connection in held:
+            if read_all(connection, 1):
+                self.faults.append("a peer that ended no request is answered")
+            connection.close()
+        for connection in refused:
+            if not read_all(connection, 32).startswith(b"HTTP/1.1 400 "):
+                self.faults.append("what is no request isn't answered by 400")
+            connection.close()
+        for page in (before, after):
+            if not page.startswith("HTTP/1.1 200 OK\r\n") or "\npathd_stopped 0\n" not in page:
+                self.faults.append(f"the page is {page[:200]!r}")
+        if before.partition("\npathd_replies_total")[2] == after.partition("\npathd_replies_total")[2]:
+            self.faults.append("the page doesn't count the replies of the session beside it")
+
+
 def short_of_descriptors(program: str, folder: Path) -> list[str]:
     """A server that may open 40 files."""
     faults = []
@@ -323,12 +362,12 @@ def main() -> None:
     faults: list[str] = []
     with runs.scratch() as folder:
         runs.format_store(program, folder / "store", LAYOUT)
-        with runs.Server(program, folder / "store", ["--idle", "60"]) as server:
+        with runs.Server(program, folder / "store", ["--idle", "60", "--status", "127.0.0.1:0"]) as server:
             witness = Witness(server)
             witness.start()
             attack = Attack(server, witness, options.connections, options.seconds)
             print(f"  at first: VmRSS {server.status('VmRSS')} KiB", flush=True)
-            for name in ("half_frames", "slow_peers", "many_connections", "resets", "greatest_frames", "deaf_peers"):
+            for name in ("half_frames", "slow_peers", "many_connections", "resets", "watchers", "greatest_frames", "deaf_peers"):
                 witness.take()
                 getattr(attack, name)()
                 sys.stdout.flush()
