@@ -343,7 +343,8 @@ def register_expiring(seconds: int, number: int) -> None:
 
 def purge(is_short: bool) -> None:
     """'Purging', as it is written, and the timer."""
-    first, later = (4, 8) if is_short else (75, 315)
+    # How long is waited at the most; on a busy machine the client alone takes seconds.
+    first, later = (30, 40) if is_short else (100, 340)
     if is_short:
         TIMER_DROP_IN.mkdir(exist_ok=True)
         (TIMER_DROP_IN / "short.conf").write_text("[Timer]\nOnActiveSec=\nOnUnitActiveSec=\nOnActiveSec=2s\nOnUnitActiveSec=6s\nAccuracySec=100ms\n")
