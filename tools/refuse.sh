@@ -24,7 +24,7 @@ fi
 "$tools/refusals.py" --program "$program" --every "$every" || status=1
 if compgen -G "$tools/../crates/*/out/*_tests" >/dev/null; then
   most=$((every == 1 ? 2000 : 40))
-  "$tools/refused_tests.py" --most "$most" refused_ memory || status=1
+  "$tools/refused_tests.py" --most "$most" ::refused_ memory || status=1
 else
   echo "no programs of tests: \`rt test\` in the folders of the crates of tests builds them"
 fi
