@@ -9,8 +9,8 @@ use sector_dev::MemDevice;
 /// How many groups of one purge the store has: the place that a run starts from.
 pub const FIRST: u64 = 255;
 
-/// How far the reads are apart that are tried: an opening makes three for each of those groups.
-pub const READS: u64 = 97;
+/// How far the reads are apart that are tried: each is, and an opening makes three for each of those groups.
+pub const READS: u64 = 1;
 
 /// A group of one purge of what expires at moment 0, up to the place, and after it.
 const BEFORE_PLACE: [u8; 8] = [1, 1, 0, 0, 0, 0, 0, 13];
