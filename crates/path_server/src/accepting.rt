@@ -16,6 +16,9 @@ const EOPNOTSUPP: i32 = 95;
 
 const ENOBUFS: i32 = 105;
 
+/// How long descriptors or memory are waited for, in milliseconds.
+pub(crate) const PAUSE: u64 = 50;
+
 /// What is done after an accept that failed.
 #[derive(Clone, Copy, Debug, PartialEq, Eq)]
 pub enum Failure {

@@ -1,14 +1,11 @@
 //! The door of a server: where its peers come in.
 
-use crate::accepting::{Failure, after_failure};
+use crate::accepting::{Failure, PAUSE, after_failure};
 use std::net::{OpenListener, TcpStream};
 use std::sync::atomic::{AtomicU64, Ordering};
 use std::sync::{Mutex, Wait};
 use std::thread::sleep;
 use std::time::{Clock, Duration};
-
-/// How long descriptors or memory are waited for, in milliseconds.
-const PAUSE: u64 = 50;
 
 /// A listener, until it is closed, and how many sessions of how many were started.
 #[derive(Drop)]

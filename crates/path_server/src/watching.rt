@@ -2,7 +2,7 @@
 
 ghost use Rattle.std.specs.Prelude.{◌≡◌};
 
-use crate::accepting::{Failure, after_failure};
+use crate::accepting::{Failure, PAUSE, after_failure};
 use crate::reports::Reports;
 use crate::seats::MOST_SESSIONS;
 use crate::server::Server;
@@ -19,9 +19,6 @@ use std::time::{Clock, Duration};
 
 /// How long a connection is kept, in milliseconds.
 const LONGEST: u64 = 1_000;
-
-/// How long descriptors or memory are waited for, in milliseconds.
-const PAUSE: u64 = 50;
 
 impl<L: OpenListener<Stream = TcpStream> + Drop, V: Verifier, O: Reports> Server<'_, L, V, O> {
     /// Answers the peers of a listener, one after the other, until the server is at its end or the listener is broken.

@@ -81,7 +81,8 @@ const KEY_HELP: &str = "Check signatures by this key of a test profile; without 
 
 /// The program's commands and their options.
 pub fn command<'a>(alloc: Global) -> Result<Command<'a>, AllocError>
-    ensures { IfOk result (λ command. subcommand_names command ≡ codes "once" ∷ codes "format" ∷ codes "show" ∷ codes "status" ∷ codes "upgrade" ∷ codes "run" ∷ []) }
+    ensures { IfOk result (λ command. subcommand_names command
+        ≡ codes "once" ∷ codes "format" ∷ codes "show" ∷ codes "status" ∷ codes "upgrade" ∷ codes "run" ∷ []) }
 {
     let command = bare_command(alloc)?;
     let command = with_subcommand(command, once_command(alloc)?)?;
