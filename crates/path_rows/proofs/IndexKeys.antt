@@ -237,7 +237,7 @@ module _ (end : EndOf) (rows : List RowView) (now index_keys : List IndexKey) (i
 
 -- ---- rows that are new, and what was under their keys
 
-index_key_same : (end : EndOf) (p q : IndexKey) (row : RowView) → AreSame p q → is_index_key end p row ≡ is_index_key end q row
+pub index_key_same : (end : EndOf) (p q : IndexKey) (row : RowView) → AreSame p q → is_index_key end p row ≡ is_index_key end q row
 index_key_same end p q row same = rw (same.kind, same.isd_as, same.id) refl
 
 -- a row with one of two equal index keys has the other too

@@ -16,7 +16,7 @@ mod PutRow
 mod Restored
 mod Covered
 mod Removed
-mod Rebuilt
+mod Appended
 mod ShownLeft
 mod ShownFirst
 mod Walked

@@ -1,6 +1,6 @@
 //! The database.
 
-ghost use Rattle.std.specs.Prelude.{◌≡◌, ◌-◌, ◌^◌, ◌<◌, ◌≤◌, [], ◌∷◌, None, length, min, max, not, count_by, if◌then◌else◌, IfOk, IfErr, OnOk, OnErr};
+ghost use Rattle.std.specs.Prelude.{◌≡◌, ◌-◌, ◌^◌, ◌<◌, ◌≤◌, [], ◌∷◌, ◌++◌, None, length, min, max, not, count_by, if◌then◌else◌, IfOk, IfErr, OnOk, OnErr};
 ghost use Rattle.std.specs.List.{AllByRecursion};
 ghost use Rattle.std.specs.Option.{option_copied, option_map, is_some, ForSome};
 ghost use Rattle.path_rows.specs.declared.error.ApplyError.TheVariants.{Full};
@@ -8,7 +8,7 @@ ghost use Rattle.path_rows.specs.Database.{IsDatabase, AreWhole, key, row_under,
 ghost use Rattle.path_rows.specs.Put.{database_after_puts, changes_of};
 ghost use Rattle.path_rows.specs.Outcome.{outcome_of_puts, outcome_of_drops};
 ghost use Rattle.path_rows.specs.Command.{database_after, database_after_purge, database_after_removal, is_valid_beyond, outcome_of, TakesMemory};
-ghost use Rattle.path_rows.specs.Row.{row_views};
+ghost use Rattle.path_rows.specs.Row.{row_view, row_views};
 ghost use Rattle.path_rows.specs.Answer.{answer_of, segments_of};
 ghost use Rattle.seg_core.specs.Encoding.{IsSegment};
 ghost use Rattle.isd_as.specs.IsdAs.{number_of};
@@ -74,10 +74,36 @@ impl PathDb {
         ensures memory { OnErr result (0 < length rows.items) }
     {
         let mut db = PathDb::new(alloc);
-        match db.put(rows, u128::MAX) {
-            Ok(_) => Ok(db),
-            Err(_) => Err(AllocError),
+        for row in rows {
+            db = db.with_last(row)?;
         }
+        Ok(db)
+    }
+
+    /// The database with one row more, whose key is above all others. No row is under this key, so none is looked up or replaced.
+    fn with_last(self, row: Row) -> Result<PathDb, AllocError>
+        requires { IsDatabase (self ++ row_view row ∷ []) }
+        ensures { IfOk result (λ db. db ≡ self ++ row_view row ∷ []) }
+    {
+        let PathDb {
+            alloc,
+            mut rows,
+            mut by_first,
+            mut by_last,
+            bytes,
+        } = self;
+        let _count = rows.len();
+        let bytes = bytes + u128::from(row.len());
+        by_first.add(index_key_of(End::First, &row))?;
+        by_last.add(index_key_of(End::Last, &row))?;
+        rows.set(row)?;
+        Ok(PathDb {
+            alloc,
+            rows,
+            by_first,
+            by_last,
+            bytes,
+        })
     }
 
     /// Applies a command, or changes nothing where memory is refused. A purge, a removal and a registration of no segments take
