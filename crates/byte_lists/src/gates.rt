@@ -33,5 +33,5 @@ pub fn closed_gates() -> [u8; 1024]
     ensures same { result ≡ laws.closed_gate ++ laws.closed_gate }
     ensures size { length result ≡ 1024 }
 {
-    [0; 1024]
+    [0; 2 * SECTOR]
 }

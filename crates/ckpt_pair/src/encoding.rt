@@ -1,6 +1,6 @@
 //! Writing checkpoints.
 
-ghost use Rattle.std.specs.Prelude.{◌≡◌, ◌<◌, ◌≤◌, ◌^◌, ◌++◌, ◌+◌, List, length, take, IfOk, OnOk};
+ghost use Rattle.std.specs.Prelude.{◌≡◌, ◌<◌, ◌^◌, ◌++◌, List, length, IfOk, OnOk};
 ghost use Rattle.image_laws.specs.Checkpoint.{checkpoint_bytes, checkpoint_encoding, CanBeCheckpoint};
 ghost use Rattle.path_rows.specs.Database.{RowView, IsDatabase, rows_len};
 ghost use Rattle.path_db.specs.RowRecord.{rows_encoding};
@@ -8,7 +8,7 @@ ghost use Rattle.ckpt_pair.specs.Rows.{rows_format};
 ghost use Rattle.ckpt_pair.specs.Checkpoint.{written_checkpoint};
 
 use crate::format::{BEFORE_ROWS, CHECKPOINT_MAGIC, LATEST};
-use byte_lists::{SECTOR, pad, sector_count};
+use byte_lists::{SECTOR, pad, put, sector_count};
 use path_db::{PathDb, write_rows};
 use std::alloc::{AllocError, Global};
 
@@ -58,15 +58,6 @@ pub fn checkpoint_front(epoch: u64, place: u64, size: u32, count: u32) -> [u8; 3
     put(&mut head, 24, &size.to_be_bytes());
     put(&mut head, 28, &count.to_be_bytes());
     head
-}
-
-/// Puts bytes at an offset. The bytes before the offset are unchanged.
-fn put(head: &mut [u8], at: usize, bytes: &[u8])
-    requires { at + length bytes.now ≤ length head.old }
-    ensures put { take (at + length bytes.now) head.new ≡ take at head.old ++ bytes.now }
-    ensures size { length head.new ≡ length head.old }
-{
-    head[at..at + bytes.len()].copy_from_slice(bytes);
 }
 
 /// The number of rows of a database whose records have less than 4 GiB.

@@ -1,4 +1,8 @@
-//! Constants of a checkpoint's format.
+//! The numbers of a checkpoint's format.
+
+ghost use Rattle.std.specs.Prelude.{◌≡◌, ◌-◌, ◌*◌};
+
+use byte_lists::SECTOR;
 
 /// The four letters PCKP as one big-endian number: the first four bytes of a checkpoint.
 pub const CHECKPOINT_MAGIC: u32 = 0x50434b50;
@@ -6,3 +10,10 @@ pub const CHECKPOINT_MAGIC: u32 = 0x50434b50;
 pub const LATEST: u32 = 2;
 /// The length of a checkpoint before its rows, in bytes: the head (24), the length of the rows' records (4), and their number (4).
 pub const BEFORE_ROWS: usize = 32;
+
+/// The bytes of rows for which a checkpoint area of this number of sectors has room: all of its bytes but those before the rows.
+pub fn area_room(sectors: u32) -> u64
+    ensures { result ≡ 512 * sectors - 32 }
+{
+    (SECTOR as u64 * u64::from(sectors)).saturating_sub(BEFORE_ROWS as u64)
+}

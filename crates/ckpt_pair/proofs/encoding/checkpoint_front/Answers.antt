@@ -17,13 +17,13 @@ returns-clause-spelled c = λ rows size count.
     let f = c.to_be_bytes-5.result in
     let g = c.to_be_bytes-6.result in
     let records = rows_encoding rows in
-    let one = put_behind 0 4 (replicate 32 0) c.put.new.head [] a refl (omega arith) c.put.ensures.put in
-    let two = put_behind 4 4 c.put.new.head c.put-2.new.head a b one (omega arith) c.put-2.ensures.put in
-    let three = put_behind 8 8 c.put-2.new.head c.put-3.new.head (a ++ b) d two (omega arith) c.put-3.ensures.put in
-    let four = put_behind 16 8 c.put-3.new.head c.put-4.new.head ((a ++ b) ++ d) e three (omega arith) c.put-4.ensures.put in
-    let five = put_behind 24 4 c.put-4.new.head c.put-5.new.head (((a ++ b) ++ d) ++ e) f four (omega arith) c.put-5.ensures.put in
-    let six = put_behind 28 4 c.put-5.new.head c.put-6.new.head ((((a ++ b) ++ d) ++ e) ++ f) g five (omega arith) c.put-6.ensures.put in
-    let all : c.put-6.new.head ≡ ((((a ++ b) ++ d) ++ e) ++ f) ++ g = sym (take_all 32 c.put-6.new.head (omega (arith, c.put-6.ensures.size))) ∙ six in
+    let one = put_behind 0 4 (replicate 32 0) c.put.new.bytes [] a refl (omega arith) c.put.ensures.front in
+    let two = put_behind 4 4 c.put.new.bytes c.put-2.new.bytes a b one (omega arith) c.put-2.ensures.front in
+    let three = put_behind 8 8 c.put-2.new.bytes c.put-3.new.bytes (a ++ b) d two (omega arith) c.put-3.ensures.front in
+    let four = put_behind 16 8 c.put-3.new.bytes c.put-4.new.bytes ((a ++ b) ++ d) e three (omega arith) c.put-4.ensures.front in
+    let five = put_behind 24 4 c.put-4.new.bytes c.put-5.new.bytes (((a ++ b) ++ d) ++ e) f four (omega arith) c.put-5.ensures.front in
+    let six = put_behind 28 4 c.put-5.new.bytes c.put-6.new.bytes ((((a ++ b) ++ d) ++ e) ++ f) g five (omega arith) c.put-6.ensures.front in
+    let all : c.put-6.new.bytes ≡ ((((a ++ b) ++ d) ++ e) ++ f) ++ g = sym (take_all 32 c.put-6.new.bytes (omega (arith, c.put-6.ensures.size))) ∙ six in
     ap (λ (list : List ℕ). list ++ records) all ∙ six_parts a b d e f g records
     ∙ search (rules, records_len rows, size, count)
 
