@@ -2,7 +2,7 @@
 
 ghost use Rattle.std.specs.Prelude.{◌≡◌, length};
 
-/// The place of a row in an index: the number of its type, the ISD-AS at one of its ends as 64 bits, and its id of 32 bytes.
+/// What a row stands under in an index: the number of its type, the ISD-AS at one of its ends as 64 bits, and its id of 32 bytes.
 /// Index keys are ordered by the type, then by the ISD-AS, then by the bytes of the id.
 #[derive(Clone, Copy, PartialEq, Eq, PartialOrd, Ord)]
 pub struct IndexKey {

@@ -12,9 +12,5 @@ pub const ROW_HEAD: usize = 5;
 pub fn type_byte(kind: SegType) -> u8
     ensures { result ≡ type_number kind }
 {
-    match kind {
-        SegType::Up => 1,
-        SegType::Down => 2,
-        SegType::Core => 3,
-    }
+    kind.number() as u8
 }

@@ -72,7 +72,7 @@ record FoundBehind (earlier : List EntryView) (verifies : Verdicts) (info : List
   entry : EntryView
   later : List EntryView
   stands : entries ≡ before ++ entry ∷ later
-  place : length (earlier ++ before) ≡ at
+  index : length (earlier ++ before) ≡ at
   verified : AllBehind earlier verifies info before
   unverified : ¬ IsTrue (is_verified verifies info (earlier ++ before) entry)
 
@@ -88,7 +88,7 @@ some_found earlier verifies info (x ∷ xs) at some = elim (cases_Bool (is_verif
         entry = found.entry;
         later = found.later;
         stands = ap (λ l. x ∷ l) found.stands;
-        place = ap length (sym moved) ∙ found.place;
+        index = ap length (sym moved) ∙ found.index;
         verified = all_more earlier verifies info x found.before good found.verified;
         unverified = subst (λ l. ¬ IsTrue (is_verified verifies info l found.entry)) moved found.unverified;
       }
@@ -98,7 +98,7 @@ some_found earlier verifies info (x ∷ xs) at some = elim (cases_Bool (is_verif
         entry = x;
         later = xs;
         stands = refl;
-        place = ap length (append-nil earlier) ∙ some_is (length earlier) at (rw bad at some);
+        index = ap length (append-nil earlier) ∙ some_is (length earlier) at (rw bad at some);
         verified = all_nil earlier verifies info;
         unverified = λ good. let still : is_verified verifies info earlier x ≡ true = subst (λ l. is_verified verifies info l x ≡ true) (append-nil earlier) good in cc;
       }
@@ -128,13 +128,13 @@ AllVerified-none = all_none []
 some-HasFirstBad : (verifies : Verdicts) (info : List ℕ) (entries : List EntryView) (at : ℕ) → first_bad verifies info entries ≡ Some at → HasFirstBad verifies info entries at
 some-HasFirstBad verifies info entries at some =
     let found = some_found [] verifies info entries at some in
-    record { earlier = found.before; entry = found.entry; later = found.later; stands = found.stands; place = found.place; verified = found.verified; unverified = found.unverified }
+    record { earlier = found.before; entry = found.entry; later = found.later; stands = found.stands; index = found.index; verified = found.verified; unverified = found.unverified }
 
 HasFirstBad-some : (verifies : Verdicts) (info : List ℕ) (entries : List EntryView) (at : ℕ) → HasFirstBad verifies info entries at → first_bad verifies info entries ≡ Some at
 HasFirstBad-some verifies info entries at has =
     ap (first_bad verifies info) has.stands
     ∙ found_some [] verifies info has.earlier has.later has.entry has.verified has.unverified
-    ∙ ap Some has.place
+    ∙ ap Some has.index
 
 -- ---- the refusal
 
@@ -146,7 +146,7 @@ refusal-none (Some at) expired is = absurd cc
 refusal-bad : (bad : Option ℕ) (expired : Bool) (at : ℕ) → refusal_of bad expired ≡ Some (BadSignature at) → bad ≡ Some at
 refusal-bad None true at is = absurd cc
 refusal-bad None false at is = absurd cc
-refusal-bad (Some place) expired at is = cc
+refusal-bad (Some index) expired at is = cc
 
 refusal-expired : (bad : Option ℕ) (expired : Bool) → refusal_of bad expired ≡ Some Expired → (bad ≡ None) × (expired ≡ true)
 refusal-expired None true is = (refl, refl)

@@ -15,13 +15,13 @@ pub record IsAccepted (verifies : Verdicts) (now : ℕ) (s : SegmentView) : Type
   pub verified : AllVerified verifies s.info s.entries
   pub lasting : now < expiry_of s
 
--- The entry at this place, counted from 0, is the first whose signature is not good.
+-- The entry at this index, counted from 0, is the first whose signature is not good.
 pub record HasFirstBad (verifies : Verdicts) (info : List ℕ) (entries : List EntryView) (at : ℕ) : Type 0 where
   pub earlier : List EntryView
   pub entry : EntryView
   pub later : List EntryView
   pub stands : entries ≡ earlier ++ entry ∷ later
-  pub place : length earlier ≡ at
+  pub index : length earlier ≡ at
   pub verified : AllVerified verifies info earlier
   pub unverified : ¬ IsTrue (is_verified verifies info earlier entry)
 
@@ -32,7 +32,7 @@ pub record HasExpired (verifies : Verdicts) (now : ℕ) (s : SegmentView) : Type
 
 -- ---- the test of these definitions
 
--- the place of the first of the entries whose signature is not good; the earlier entries come before them
+-- the index of the first of the entries whose signature is not good; the earlier entries come before them
 abbrev pub first_bad_behind : List EntryView → Verdicts → List ℕ → List EntryView → Option ℕ
 first_bad_behind earlier verifies info [] = None
 first_bad_behind earlier verifies info (e ∷ entries) =

@@ -29,7 +29,7 @@ pub fn check<V: Verifier>(segment: &Segment, verifier: &V, now: u64) -> Result<(
     Ok(())
 }
 
-/// The place of the first entry whose signature is not good, counted from 0.
+/// The index of the first entry whose signature is not good, counted from 0.
 fn first_bad<V: Verifier>(segment: &Segment, verifier: &V) -> Option<usize>
     ensures first { result ≡ first_bad (V.verifies verifier.now) segment.now.info segment.now.entries }
     ensures whole { IsSegment segment.now }

@@ -12,7 +12,7 @@ use Rattle.seg_core.specs.Encoding.{bytes_encoding, entries_encoding, segment_en
 use Rattle.seg_core.specs.Digest.{segment_digest}
 use Rattle.seg_core.specs.Kept.{IsKept}
 use Rattle.seg_core.proofs.Whole.{decoding-IsSegment}
-use Rattle.seg_core.proofs.Places.{IsWithin-kept, piece-kept}
+use Rattle.seg_core.proofs.PiecesKept.{IsWithin-kept, piece-kept}
 
 -- the segment with these parts and this information
 abbrev pub view_with : Parts → List ℕ → SegmentView

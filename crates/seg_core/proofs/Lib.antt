@@ -10,7 +10,7 @@ pub mod Types
 pub mod Rows
 pub mod EncodedLengths
 pub mod Written
-pub mod Places
+pub mod PiecesKept
 pub mod Kept
 pub mod Responses
 pub mod MessageSizes

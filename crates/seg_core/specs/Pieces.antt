@@ -1,4 +1,4 @@
--- The pieces of an entry, by their places in an encoding: what is signed, its signature, and what is not signed, which
+-- The pieces of an entry, by their ranges in an encoding: what is signed, its signature, and what is not signed, which
 -- may be missing.
 use Rattle.std.specs.Prelude.{ℕ, List, length, ◌≤◌}
 use Rattle.std.specs.Arc.{arc_value}
@@ -9,16 +9,16 @@ use Rattle.seg_core.specs.declared.pieces.Span.{Span}
 use Rattle.seg_core.specs.declared.pieces.Spans.{Spans}
 use Rattle.seg_core.specs.declared.pieces.Pieces.TheInside.{Inside}
 
--- the bytes at this place
+-- the bytes of this range
 abbrev pub piece_at : List ℕ → Span → List ℕ
 piece_at bytes span = between span.start span.end bytes
 
--- the place is within the bytes
+-- the range is within the bytes
 pub record IsWithin (bytes : List ℕ) (span : Span) : Type 0 where
   pub ordered : span.start ≤ span.end
   pub within : span.end ≤ length bytes
 
--- the pieces of an entry at these places
+-- the pieces of an entry in these ranges
 abbrev pub pieces_at : List ℕ → Spans → PiecesView
 pieces_at bytes spans = record {
   signed = piece_at bytes spans.signed;
@@ -26,7 +26,7 @@ pieces_at bytes spans = record {
   unsigned = option_map (λ span. piece_at bytes span) spans.unsigned;
 }
 
--- all of these places are within the bytes
+-- all of these ranges are within the bytes
 pub record AreWithin (bytes : List ℕ) (spans : Spans) : Type 0 where
   pub signed : IsWithin bytes spans.signed
   pub signature : IsWithin bytes spans.signature

@@ -34,7 +34,7 @@ pub struct Entry {
 }
 
 impl Entry {
-    /// The entry whose pieces are at these places of the encoding.
+    /// The entry whose pieces are in these ranges of the encoding.
     pub(crate) fn new(encoding: &Arc<Vec<u8>>, marked: MarkedEntry) -> Result<Entry, AllocError>
         requires { AreWithin (arc_value encoding.now).items marked.spans }
         ensures { IfOk result (λ entry. entry_view entry ≡ marked_view (arc_value encoding.now).items marked) }
@@ -90,7 +90,7 @@ pub(crate) struct BorrowedEntry<'a> {
     pub unsigned: Option<&'a [u8]>,
 }
 
-/// An entry that was put: the numbers of its body, and the places of its pieces.
+/// An entry that was put: the numbers of its body, and the ranges of its pieces.
 #[derive(Clone, Copy)]
 pub(crate) struct MarkedEntry {
     pub body: Body,

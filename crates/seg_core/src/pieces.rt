@@ -9,7 +9,7 @@ use std::alloc::AllocError;
 use std::marker::Model;
 use std::sync::Arc;
 
-/// The place of a piece in an encoding, which has at most 16,384 bytes.
+/// The range of a piece in an encoding, which has at most 16,384 bytes: where it starts, and where it ends.
 #[derive(Clone, Copy)]
 pub(crate) struct Span {
     pub start: u16,
@@ -17,7 +17,7 @@ pub(crate) struct Span {
 }
 
 impl Span {
-    /// The bytes at this place.
+    /// The bytes of this range.
     pub(crate) fn of(self, bytes: &[u8]) -> &[u8]
         requires { IsWithin bytes.now self }
         ensures { result.now ≡ piece_at bytes.now self }
@@ -26,7 +26,7 @@ impl Span {
     }
 }
 
-/// The places of an entry's pieces: what its AS has signed, its signature, and what is not signed, which may be missing.
+/// The ranges of an entry's pieces: what its AS has signed, its signature, and what is not signed, which may be missing.
 #[derive(Clone, Copy)]
 pub(crate) struct Spans {
     pub signed: Span,
@@ -54,7 +54,7 @@ impl Model for Pieces {
 }
 
 impl Pieces {
-    /// The pieces at these places of an encoding, whose reference count rises by one. An error means that the count is 2^63 already.
+    /// The pieces in these ranges of an encoding, whose reference count rises by one. An error means that the count is 2^63 already.
     pub(crate) fn new(encoding: &Arc<Vec<u8>>, spans: Spans) -> Result<Pieces, AllocError>
         requires { AreWithin (arc_value encoding.now).items spans }
         ensures { IfOk result (λ pieces. pieces ≡ pieces_at (arc_value encoding.now).items spans) }

@@ -1,4 +1,4 @@
-//! Putting an entry after other bytes, in its one encoding. Each call returns the places of the pieces that it puts.
+//! Putting an entry after other bytes, in its one encoding. Each call returns the ranges of the pieces that it puts.
 
 ghost use Rattle.std.specs.Prelude.{◌≡◌, ◌+◌, ◌<◌, ◌≤◌, ◌++◌, length, IfOk, OnOk};
 ghost use Rattle.std.specs.Option.{option_map, ForSome};

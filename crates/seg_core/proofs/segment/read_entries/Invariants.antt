@@ -9,7 +9,7 @@ use Rattle.seg_slots.specs.Message.{bytes_fields}
 use Rattle.seg_core.specs.Entry.{as_entry_decoding}
 use Rattle.seg_core.specs.EntryView.{marked_views}
 use Rattle.seg_core.specs.Encoding.{entries_encoding}
-use Rattle.seg_core.proofs.Places.{AllWithin}
+use Rattle.seg_core.proofs.PiecesKept.{AllWithin}
 use Rattle.seg_core.proofs.segment.read_entries.Given as goal
 
 -- The messages that were read and those that are left are all of them; the entries read were put, and there is room for the others.

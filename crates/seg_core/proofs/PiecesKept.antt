@@ -1,4 +1,4 @@
--- A piece that is in some bytes is in the same place of these bytes with more bytes after them.
+-- A piece that is in some bytes is in the same range of these bytes with more bytes after them.
 use Rattle.std.proofs.Common.{◌≡◌, ℕ, ◌+◌, ◌-◌, ◌≤◌, List, [], ◌∷◌, ◌++◌, length, take, drop, Result, Ok, Err, Option, Some, None, refl, sym, ap, ◌∙◌, subst, arith, append_assoc, length-append, length-drop}
 use Rattle.std.specs.Prelude.{All}
 use Rattle.std.specs.Option.{option_map, ForSome}
