@@ -12,18 +12,12 @@ ghost use Rattle.path_db.specs.RowRecord.{rows_encoding, HasOutline};
 ghost use Rattle.path_db.specs.CommandRecord.{IsWithinLimits, command_encoding, items_decoding, registration_decoding, purge_decoding, removal_decoding, command_decoding, allows_removals, WantsItems, WantsMemory};
 
 use crate::error::DbError;
+use crate::format::{PURGE_RECORD, REGISTER_RECORD, REMOVE_RECORD, allows_removals};
 use crate::row_records::{put_row, read_row, type_from};
 use byte_lists::read_u64;
 use path_rows::{Command, ROW_HEAD, Registration, type_byte};
 use seg_core::{MOST_REGISTERED, MOST_REGISTERED_BYTES, SegType, Segment};
 use std::alloc::{AllocError, Global};
-
-/// The kind of a record that registers segments.
-const REGISTER_RECORD: u8 = 1;
-/// The kind of a record that purges.
-const PURGE_RECORD: u8 = 2;
-/// The kind of a record that removes.
-const REMOVE_RECORD: u8 = 3;
 
 /// Appends the record of a command: its kind (1 byte); after it, for a registration, the count of its segments (1) and the record
 /// of a row for each; for a purge, a moment (8); for a removal, a type (1) and an id (32). Numbers are big-endian. Where memory is
@@ -109,7 +103,7 @@ pub fn read_command(alloc: Global, bytes: &[u8], version: u32) -> Result<Command
     match *kind {
         REGISTER_RECORD => read_registration(alloc, body),
         PURGE_RECORD => read_purge(body),
-        REMOVE_RECORD if version >= 2 => read_removal(body),
+        REMOVE_RECORD if allows_removals(version) => read_removal(body),
         _ => Err(DbError::BadRecord),
     }
 }

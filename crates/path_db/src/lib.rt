@@ -7,6 +7,7 @@
 
 mod command_records;
 mod error;
+mod format;
 mod key;
 mod one_key;
 mod record_laws;
@@ -16,12 +17,14 @@ mod rows_reader;
 
 pub use command_records::{read_command, write_command};
 pub use error::DbError;
+pub use format::allows_removals;
 pub use key::Key;
 pub use one_key::row_after;
 pub use path_rows::{
-    ApplyError, Command, Outcome, PathDb, ROW_HEAD, Registration, Row, Rows, commands_append,
-    commands_keep_database, database_is_canonical, each_put_is_counted, keys_are_separate,
-    purge_leaves_valid, register_leaves_newest, remove_leaves_others, rows_are_counted, type_byte,
+    ApplyError, Command, MOST_ROW_BYTES, Outcome, PathDb, ROW_HEAD, Registration, Row, Rows,
+    commands_append, commands_keep_database, database_is_canonical, each_put_is_counted,
+    keys_are_separate, purge_leaves_valid, register_leaves_newest, remove_leaves_others,
+    rows_are_counted, type_byte,
 };
 pub use record_laws::{
     command_refusals_are_exact, commands_are_read_on, read_commands_are_spelled,

@@ -1,6 +1,6 @@
 //! Reading rows one after the other from pieces of their records, without keeping them.
 
-ghost use Rattle.std.specs.Prelude.{◌≡◌, ◌≢◌, ◌≤◌, ◌<◌, ◌∷◌, ◌++◌, [], List, ℕ, length, drop, true, false, IfOk, IfErr, IfSome, IfNone, OnOk, OnErr, MatchOption, nat_lt};
+ghost use Rattle.std.specs.Prelude.{◌≡◌, ◌≢◌, ◌≤◌, ◌<◌, ◌∷◌, ◌++◌, [], List, ℕ, length, drop, true, false, IfOk, IfErr, IfSome, IfNone, OnOk, OnErr, MatchOption, nat_lt, IsTrue, ◌↔◌};
 ghost use Rattle.path_db.specs.declared.error.DbError.TheVariants.{NoMemory, BadRecord};
 ghost use Rattle.path_rows.specs.Database.{RowView};
 ghost use Rattle.path_rows.specs.Row.{row_view};
@@ -10,8 +10,8 @@ ghost use Rattle.path_db.specs.RowWalk.{HasGiven, IsNextRow, IsNoNextRow, IsTooL
 
 use crate::error::DbError;
 use crate::key::Key;
-use crate::row_records::read_row;
-use byte_lists::read_u32;
+use crate::row_records::{read_row, size_of_row};
+use byte_lists::{drop_front, read_u32};
 use path_rows::{ROW_HEAD, Row};
 use seg_core::MOST_SEGMENT_BYTES;
 use std::alloc::{AllocError, Global};
@@ -61,7 +61,9 @@ impl RowWalk {
         if piece.is_empty() {
             return Ok(());
         }
-        self.at = forget_front(&mut self.rest, self.at);
+        let count = self.at;
+        self.at = 0;
+        drop_front(&mut self.rest, count);
         self.rest.extend_from_slice(piece)?;
         Ok(())
     }
@@ -79,7 +81,7 @@ impl RowWalk {
         ensures kept { OnErr result (self.new ≡ self.old) }
         ensures memory { IfErr result (λ e. e ≡ NoMemory → HasOutline self.old.rest) }
     {
-        let left = from_place(&self.rest, self.at);
+        let left = bytes_from(&self.rest, self.at);
         match next_of(self.alloc, &self.last, left)? {
             Some((row, size)) => {
                 self.last = Some(Key::of_row(&row));
@@ -99,7 +101,7 @@ impl RowWalk {
 }
 
 /// The bytes from an index on.
-fn from_place(bytes: &[u8], at: usize) -> &[u8]
+fn bytes_from(bytes: &[u8], at: usize) -> &[u8]
     requires { at ≤ length bytes.now }
     ensures { result.now ≡ drop at bytes.now }
 {
@@ -129,17 +131,17 @@ fn size_of_next(left: &[u8]) -> Result<Option<usize>, DbError>
         (λ size. (has_row left.now ≡ true) × (size ≡ row_size left.now) × (size ≤ length left.now))) }
     ensures refused { IfErr result (λ e. (e ≡ BadRecord) × IsTooLong left.now) }
 {
-    if left.len() < ROW_HEAD {
-        return Ok(None);
-    }
-    let size = read_u32(left, 1) as usize;
-    if size > MOST_SEGMENT_BYTES {
+    if is_too_long(left) {
         return Err(DbError::BadRecord);
     }
-    if left.len() - ROW_HEAD < size {
-        return Ok(None);
-    }
-    Ok(Some(ROW_HEAD + size))
+    Ok(size_of_row(left).ok())
+}
+
+/// Whether the length of the record's segment is there, and is above 16,384 bytes.
+fn is_too_long(left: &[u8]) -> bool
+    ensures { IsTrue result ↔ IsTooLong left.now }
+{
+    left.len() >= ROW_HEAD && read_u32(left, 1) as usize > MOST_SEGMENT_BYTES
 }
 
 /// Whether there is no key, or the row's key is strictly above it.
@@ -150,16 +152,4 @@ fn is_above(last: &Option<Key>, row: &Row) -> bool
         Some(key) => key.order(&Key::of_row(row)).is_lt(),
         None => true,
     }
-}
-
-/// Drops this number of bytes at the front, and returns the index at which the other bytes begin.
-fn forget_front(bytes: &mut Vec<u8>, count: usize) -> usize
-    requires { count ≤ length bytes.old.items }
-    ensures left { bytes.new.items ≡ drop count bytes.old.items }
-    ensures front { result ≡ 0 }
-{
-    let size = bytes.len();
-    bytes.copy_within(count..size, 0);
-    bytes.truncate(size - count);
-    0
 }

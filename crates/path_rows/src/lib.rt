@@ -31,7 +31,7 @@ pub use command_laws::{
 };
 pub use database::PathDb;
 pub use error::ApplyError;
-pub use format::{ROW_HEAD, type_byte};
+pub use format::{MOST_ROW_BYTES, ROW_HEAD, type_byte};
 pub use outcome::Outcome;
 pub use outcome_laws::{each_put_is_counted, rows_are_counted};
 pub use row::Row;

@@ -4,7 +4,7 @@ use Rattle.std.specs.List.{flat_map, AllByRecursion}
 use Rattle.std.specs.Int.{w32, w64, to_be_bytes, from_be_bytes}
 use Rattle.session_core.specs.declared.message.Message.{Message}
 use Rattle.session_core.specs.declared.message.Message.TheVariants.{Register, Lookup, Purge, Remove}
-use Rattle.session_core.specs.declared.frames.TheConstants.{MOST_LENGTH}
+use Rattle.session_core.specs.declared.format.TheConstants.{MOST_LENGTH}
 
 -- a message with the bytes of its body
 abbrev pub MessageView : Type 0

@@ -8,7 +8,7 @@ use Rattle.seg_core.specs.Encoding.{response_encoding}
 use Rattle.session_core.specs.declared.service.Ack.{Ack}
 use Rattle.hex.specs.Hex.{encode_lower}
 use Rattle.session_core.specs.declared.reply.Form.{Form}
-use Rattle.session_core.specs.declared.reply.TheConstants.{MOST_REPLY}
+use Rattle.session_core.specs.declared.format.TheConstants.{MOST_REPLY}
 use Rattle.session_core.specs.declared.reply.Form.TheVariants.{Frames, Lines}
 use Rattle.session_core.specs.Frames.{frame_encoding}
 

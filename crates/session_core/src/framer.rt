@@ -7,8 +7,8 @@ ghost use Rattle.session_core.specs.Framer.{message_view, message_views, fault_o
 
 use crate::error::FrameError;
 use crate::frames::next_frame;
-use crate::front::drop_front;
 use crate::message::Message;
+use byte_lists::drop_front;
 use std::alloc::{AllocError, Global};
 use std::marker::Model;
 

@@ -5,28 +5,11 @@ ghost use Rattle.session_core.specs.Frames.{kind_of, body_of, IsFrameLength, IsM
 ghost use Rattle.session_core.specs.Front.{message_at, IsFront};
 
 use crate::error::FrameError;
+use crate::format::{
+    LENGTH_SIZE, LOOKUP, MOST_LENGTH, PURGE, PURGE_LENGTH, REGISTER, REMOVE, REMOVE_LENGTH,
+};
 use crate::message::Message;
 use byteorder::{BigEndian, ByteOrder};
-
-/// The number of bytes of a frame's length.
-const LENGTH_SIZE: usize = 4;
-
-/// The greatest length of a message's frame: 1 byte for its kind, and 131,072 bytes.
-pub const MOST_LENGTH: usize = 131_073;
-
-const REGISTER: u8 = 1;
-
-const LOOKUP: u8 = 2;
-
-const PURGE: u8 = 3;
-
-const REMOVE: u8 = 4;
-
-/// The length of a purge's frame: its kind and the eight bytes of a moment.
-const PURGE_LENGTH: usize = 9;
-
-/// The length of a removal's frame: its kind, a type of one byte and an id of 32.
-const REMOVE_LENGTH: usize = 34;
 
 /// The message at the front of the bytes, and how many bytes its frame has. `None` means that the bytes are less than a frame.
 ///

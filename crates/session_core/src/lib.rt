@@ -6,9 +6,9 @@
 #![tactic(auto)]
 
 mod error;
+mod format;
 mod framer;
 mod frames;
-mod front;
 mod inbox;
 pub mod laws;
 mod lines;
@@ -22,13 +22,13 @@ mod source;
 mod writing;
 
 pub use error::FrameError;
+pub use format::{MOST_LENGTH, MOST_REPLY};
 pub use framer::{Fed, Framer};
-pub use frames::MOST_LENGTH;
 pub use lines::serve_in_lines;
 pub use message::Message;
 pub use path_rows::Outcome;
 pub use reading::read_all;
-pub use reply::{Form, MOST_REPLY, Reply};
+pub use reply::{Form, Reply};
 pub use service::{Ack, Code, MOST_SEGMENTS, Service};
 pub use serving::serve;
 pub use source::{MOST_PIECE, Source};

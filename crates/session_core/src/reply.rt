@@ -7,29 +7,13 @@ ghost use Rattle.session_core.specs.Frames.{frame_encoding};
 ghost use Rattle.session_core.specs.Reply.{ack_encoding, reply_frame, HasReplySize, Found, Refused};
 ghost use Rattle.session_core.specs.ReplyViews.{reply_view};
 
+use crate::format::{
+    ACK_FRAME, ACK_LENGTH, FOUND, MOST_REPLY, PURGED, REFUSED, REGISTERED, REMOVED,
+};
 use crate::service::{Ack, Code};
 use byteorder::{BigEndian, ByteOrder};
 use seg_core::{SegType, Segment, write_response_of};
 use std::alloc::{AllocError, Global};
-
-/// The kind of a reply to a registration.
-pub(crate) const REGISTERED: u8 = 0x81;
-
-const FOUND: u8 = 0x82;
-
-/// The kind of a reply to a purge.
-pub(crate) const PURGED: u8 = 0x83;
-
-/// The kind of a reply to a removal.
-pub(crate) const REMOVED: u8 = 0x84;
-
-const REFUSED: u8 = 0xff;
-
-/// The greatest length of a reply's frame: its kind, and the bytes that belong to it.
-pub const MOST_REPLY: usize = 1_114_112;
-
-/// The number of bytes of an acknowledgement's frame: its length (4), the kind (1), the place (8) and four counts (4 each).
-pub(crate) const ACK_FRAME: usize = 29;
 
 /// How replies are written.
 #[derive(Clone, Copy)]
@@ -60,7 +44,7 @@ pub(crate) fn ack_frame(kind: u8, ack: Ack) -> [u8; ACK_FRAME]
     ensures { result ≡ frame_encoding (kind ∷ ack_encoding ack) }
 {
     let mut frame = [0; ACK_FRAME];
-    BigEndian::write_u32(&mut frame, 25);
+    BigEndian::write_u32(&mut frame, ACK_LENGTH as u32);
     frame[4] = kind;
     BigEndian::write_u64(&mut frame[5..], ack.place);
     BigEndian::write_u32_into(

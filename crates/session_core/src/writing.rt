@@ -7,10 +7,8 @@ ghost use Rattle.session_core.specs.ReplyViews.{reply_view};
 ghost use Rattle.session_core.specs.Answered.{FailsToWrite, FailsWithin};
 
 use crate::error::FrameError;
-use crate::reply::{
-    Form, PURGED, REGISTERED, REMOVED, Reply, ack_frame, found_head, refusal_frame, response_of,
-    whole_frame,
-};
+use crate::format::{PURGED, REGISTERED, REMOVED};
+use crate::reply::{Form, Reply, ack_frame, found_head, refusal_frame, response_of, whole_frame};
 use seg_core::{SegType, Segment};
 use std::alloc::{AllocError, Global};
 use std::io::Write;
@@ -100,7 +98,7 @@ fn write_both<W: Write>(writer: &mut W, head: &[u8], body: &[u8]) -> Result<(), 
 }
 
 /// Writes all of the bytes. A write that takes no byte is an error, and no failed write is repeated.
-pub fn write_all<W: Write>(writer: &mut W, bytes: &[u8]) -> Result<(), FrameError>
+pub(crate) fn write_all<W: Write>(writer: &mut W, bytes: &[u8]) -> Result<(), FrameError>
     ensures ok { OnOk result (Appends (W.contents writer.old) (W.contents writer.new) bytes.now) }
     ensures err { IfErr result (FailsWithin (W.contents writer.old) (W.contents writer.new) bytes.now) }
 {

@@ -14,16 +14,16 @@ returns-in_err-row-clause-refused c =
     let p = err_from_is_err_and c.from_residual.result c.from_residual.ensures.1 in
     let s = c.self.inside in
     let walk : WalkView = record { last = option_map key_bytes s.last; rest = drop s.at s.rest.items } in
-    let left : c.from_place-left.result.now ≡ drop s.at s.rest.items = c.from_place-left.ensures ∙ ap (drop s.at) c.deref.ensures.value in
+    let left : c.bytes_from-left.result.now ≡ drop s.at s.rest.items = c.bytes_from-left.ensures ∙ ap (drop s.at) c.deref.ensures.value in
     rw (p.1, p.2) (λ other fed given is.
-    no_next fed given walk (subst (λ (w : WalkView). HasGiven fed given w) (sym c.self.view_is) is) c.from_place-left.result.now left s.last refl c.in_err-row.field-0.0 (c.in_err-row.ensures.refused other))
+    no_next fed given walk (subst (λ (w : WalkView). HasGiven fed given w) (sym c.self.view_is) is) c.bytes_from-left.result.now left s.last refl c.in_err-row.field-0.0 (c.in_err-row.ensures.refused other))
 
 pub returns-in-Some-clause-row : goal.returns-in-Some-clause-row
 returns-in-Some-clause-row c = λ fed given is.
     let s = c.self.inside in
     let walk : WalkView = record { last = option_map key_bytes s.last; rest = drop s.at s.rest.items } in
-    let left : c.from_place-left.result.now ≡ drop s.at s.rest.items = c.from_place-left.ensures ∙ ap (drop s.at) c.deref.ensures.value in
+    let left : c.bytes_from-left.result.now ≡ drop s.at s.rest.items = c.bytes_from-left.ensures ∙ ap (drop s.at) c.deref.ensures.value in
     let next = rw c.in-Some.is at c.in_ok-row.ensures.row in
-    given_more fed given walk (subst (λ (w : WalkView). HasGiven fed given w) (sym c.self.view_is) is) c.from_place-left.result.now left (row_view c.in-Some.row)
+    given_more fed given walk (subst (λ (w : WalkView). HasGiven fed given w) (sym c.self.view_is) is) c.bytes_from-left.result.now left (row_view c.in-Some.row)
     (key_bytes c.of_row.result) (drop (s.at + c.in-Some.size) s.rest.items) next.bytes next.read next.whole next.above c.of_row.ensures
-    (sym (drop-drop c.in-Some.size s.at s.rest.items) ∙ ap (drop c.in-Some.size) (sym left) ∙ ap (λ (n : ℕ). drop n c.from_place-left.result.now) next.sized)
+    (sym (drop-drop c.in-Some.size s.at s.rest.items) ∙ ap (drop c.in-Some.size) (sym left) ∙ ap (λ (n : ℕ). drop n c.bytes_from-left.result.now) next.sized)

@@ -9,7 +9,6 @@ pub returns-clause-fed : goal.returns-clause-fed
 returns-clause-fed c = λ fed given is.
     let s = c.self.inside in
     let walk : WalkView = record { last = option_map key_bytes s.last; rest = drop s.at s.rest.items } in
-    let more : drop c.forget_front-self-inside.result c.extend_from_slice.new.self.items ≡ drop s.at s.rest.items ++ c.args.piece.now =
-    ap (λ (n : ℕ). drop n c.extend_from_slice.new.self.items) c.forget_front-self-inside.ensures.front
-    ∙ c.in_ok-extend_from_slice.ensures.items ∙ ap (λ (l : List ℕ). l ++ c.args.piece.now) c.forget_front-self-inside.ensures.left in
+    let more : c.extend_from_slice.new.self.items ≡ drop s.at s.rest.items ++ c.args.piece.now =
+    c.in_ok-extend_from_slice.ensures.items ∙ ap (λ (l : List ℕ). l ++ c.args.piece.now) c.drop_front.ensures in
     fed_more fed c.args.piece.now given walk _ (subst (λ (w : WalkView). HasGiven fed given w) (sym c.self.view_is) is) more

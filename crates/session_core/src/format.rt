@@ -1,0 +1,42 @@
+//! The kinds of frames, and how many bytes they have.
+
+use seg_core::MOST_REGISTERED_BYTES;
+
+/// The number of bytes of a frame's length.
+pub(crate) const LENGTH_SIZE: usize = 4;
+/// The number of bytes of a frame's kind.
+const KIND_SIZE: usize = 1;
+
+/// The kind of a registration.
+pub(crate) const REGISTER: u8 = 1;
+/// The kind of a lookup.
+pub(crate) const LOOKUP: u8 = 2;
+/// The kind of a purge.
+pub(crate) const PURGE: u8 = 3;
+/// The kind of a removal.
+pub(crate) const REMOVE: u8 = 4;
+
+/// The greatest length of a message's frame: its kind, and the most bytes of a registration.
+pub const MOST_LENGTH: usize = KIND_SIZE + MOST_REGISTERED_BYTES;
+/// The length of a purge's frame: its kind and the eight bytes of a moment.
+pub(crate) const PURGE_LENGTH: usize = KIND_SIZE + 8;
+/// The length of a removal's frame: its kind, a type of one byte and an id of 32.
+pub(crate) const REMOVE_LENGTH: usize = KIND_SIZE + 1 + 32;
+
+/// The kind of a reply to a registration.
+pub(crate) const REGISTERED: u8 = 0x81;
+/// The kind of a reply to a lookup.
+pub(crate) const FOUND: u8 = 0x82;
+/// The kind of a reply to a purge.
+pub(crate) const PURGED: u8 = 0x83;
+/// The kind of a reply to a removal.
+pub(crate) const REMOVED: u8 = 0x84;
+/// The kind of a refusal.
+pub(crate) const REFUSED: u8 = 0xff;
+
+/// The greatest length of a reply's frame: its kind, and the bytes that belong to it.
+pub const MOST_REPLY: usize = 1_114_112;
+/// The length of an acknowledgement's frame: its kind, the place (8) and four counts (4 each).
+pub(crate) const ACK_LENGTH: usize = KIND_SIZE + 8 + 4 * 4;
+/// The number of bytes of an acknowledgement's frame: its length, and what the length counts.
+pub(crate) const ACK_FRAME: usize = LENGTH_SIZE + ACK_LENGTH;
