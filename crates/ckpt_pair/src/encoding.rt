@@ -7,7 +7,9 @@ ghost use Rattle.path_db.specs.RowRecord.{rows_encoding};
 ghost use Rattle.ckpt_pair.specs.Rows.{rows_format};
 ghost use Rattle.ckpt_pair.specs.Checkpoint.{written_checkpoint};
 
-use crate::format::{BEFORE_ROWS, CHECKPOINT_MAGIC, LATEST};
+use crate::format::{
+    BEFORE_ROWS, CHECKPOINT_MAGIC, COUNT_AT, EPOCH_AT, LATEST, PLACE_AT, SIZE_AT, VERSION_AT,
+};
 use byte_lists::{SECTOR, pad, put, sector_count};
 use path_db::{PathDb, write_rows};
 use std::alloc::{AllocError, Global};
@@ -52,11 +54,11 @@ pub fn checkpoint_front(epoch: u64, place: u64, size: u32, count: u32) -> [u8; 3
 {
     let mut head = [0; BEFORE_ROWS];
     put(&mut head, 0, &CHECKPOINT_MAGIC.to_be_bytes());
-    put(&mut head, 4, &LATEST.to_be_bytes());
-    put(&mut head, 8, &epoch.to_be_bytes());
-    put(&mut head, 16, &place.to_be_bytes());
-    put(&mut head, 24, &size.to_be_bytes());
-    put(&mut head, 28, &count.to_be_bytes());
+    put(&mut head, VERSION_AT, &LATEST.to_be_bytes());
+    put(&mut head, EPOCH_AT, &epoch.to_be_bytes());
+    put(&mut head, PLACE_AT, &place.to_be_bytes());
+    put(&mut head, SIZE_AT, &size.to_be_bytes());
+    put(&mut head, COUNT_AT, &count.to_be_bytes());
     head
 }
 

@@ -9,7 +9,7 @@ ghost use Rattle.ckpt_pair.specs.Heads.{head_view, head_seen};
 ghost use Rattle.ckpt_pair.specs.Versions.{latest};
 
 use crate::error::PairError;
-use crate::format::{CHECKPOINT_MAGIC, LATEST};
+use crate::format::{CHECKPOINT_MAGIC, EPOCH_AT, LATEST, PLACE_AT, VERSION_AT};
 use byte_lists::{is_open, read_u32, read_u64};
 
 /// The head of a checkpoint: the version of its format, the epoch, which is greater in the newer half, and the place, which is
@@ -45,7 +45,7 @@ pub(crate) fn open_head(area: &[u8]) -> Result<Head, PairError>
     requires { 24 ≤ length area.now }
     ensures { Reads head_view result (head_in latest area.now) }
 {
-    let version = read_u32(area, 4);
+    let version = read_u32(area, VERSION_AT);
     if read_u32(area, 0) != CHECKPOINT_MAGIC || version == 0 {
         return Err(PairError::BadCheckpoint);
     }
@@ -54,7 +54,7 @@ pub(crate) fn open_head(area: &[u8]) -> Result<Head, PairError>
     }
     Ok(Head {
         version,
-        epoch: read_u64(area, 8),
-        place: read_u64(area, 16),
+        epoch: read_u64(area, EPOCH_AT),
+        place: read_u64(area, PLACE_AT),
     })
 }

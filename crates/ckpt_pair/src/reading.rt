@@ -12,7 +12,7 @@ ghost use Rattle.ckpt_pair.specs.Rows.{rows_format, as_counted};
 ghost use Rattle.ckpt_pair.specs.Reading.{front_view, front_in, checkpoint_view, or_bad, HasRowsToRead};
 
 use crate::error::PairError;
-use crate::format::BEFORE_ROWS;
+use crate::format::{BEFORE_ROWS, COUNT_AT, SIZE_AT};
 use crate::head::{Head, open_head};
 use byte_lists::read_u32;
 use path_db::{DbError, PathDb, read_rows};
@@ -40,8 +40,8 @@ pub fn read_front(bytes: &[u8], area: u64) -> Result<Front, PairError>
     ensures { Reads front_view result (front_in latest area bytes.now) }
 {
     let head = open_head(bytes)?;
-    let size = read_u32(bytes, 24);
-    let count = read_u32(bytes, 28);
+    let size = read_u32(bytes, SIZE_AT);
+    let count = read_u32(bytes, COUNT_AT);
     if BEFORE_ROWS as u64 + u64::from(size) > area {
         return Err(PairError::BadCheckpoint);
     }

@@ -7,7 +7,7 @@ ghost use Rattle.image_laws.specs.Group.{record_encoding, records_of, with_heade
 ghost use Rattle.gate_journal.specs.Commands.{command_format};
 ghost use Rattle.gate_journal.specs.Payload.{IsWithinGroupLimits};
 
-use crate::format::{GROUP, HEADER, MOST_RECORD_BYTES, SEAL};
+use crate::format::{GROUP, HEADER, MOST_COMMANDS, MOST_RECORD_BYTES, PLACE_AT, PREFIX, SEAL};
 use crate::sizes::{is_within_limits, record_len};
 use byte_lists::{SECTOR, pad};
 use path_db::{Command, write_command};
@@ -20,7 +20,7 @@ pub fn can_be_group(commands: &[Command], place: u64) -> bool
 {
     let count = commands.len();
     1 <= count
-        && count <= 32
+        && count <= MOST_COMMANDS
         && place <= u64::MAX - count as u64
         && commands.iter().all(|command| is_within_limits(command))
         && records_len(commands) <= MOST_RECORD_BYTES
@@ -46,7 +46,7 @@ pub fn encode_seal(place: u64) -> [u8; 512]
 {
     let mut sector = [0; SECTOR];
     sector[0] = SEAL;
-    sector[8..HEADER].copy_from_slice(&place.to_be_bytes());
+    sector[PLACE_AT..HEADER].copy_from_slice(&place.to_be_bytes());
     sector
 }
 
@@ -89,7 +89,7 @@ fn put_record(command: &Command, out: &mut Vec<u8>) -> Result<(), AllocError>
     requires { IsWithinLimits command.now }
     ensures { OnOk result (out.new.items ≡ out.old.items ++ record_encoding command_format command.now) }
 {
-    let size = record_len(command) as u32 - 4;
+    let size = (record_len(command) - PREFIX) as u32;
     out.extend_from_slice(&size.to_be_bytes())?;
     write_command(command, out)
 }

@@ -7,8 +7,22 @@ ghost use Rattle.image_laws.specs.Limits.{limits_of};
 pub const GROUP: u8 = 1;
 /// The kind of a seal's header.
 pub const SEAL: u8 = 2;
-/// The bytes of a header.
+/// The bytes of a header: the kind, the number of commands, two zeros, the length of the records and the place.
 pub const HEADER: usize = 16;
+/// The offset of the number of commands in a header, a byte.
+pub const COUNT_AT: usize = 1;
+/// The offset of the length of the records in a header, four bytes.
+pub const SIZE_AT: usize = 4;
+/// The offset of the place in a header, eight bytes.
+pub const PLACE_AT: usize = 8;
+/// The bytes of the length before each command's own record.
+pub(crate) const PREFIX: usize = 4;
+/// The bytes before the rows of a registration's own record, and before the id of a removal's.
+pub(crate) const COMMAND_HEAD: usize = 2;
+/// The bytes of a purge's own record.
+pub(crate) const PURGE_RECORD: usize = 9;
+/// The most commands of a group in any version.
+pub(crate) const MOST_COMMANDS: usize = 32;
 /// The most bytes that the records of a group have together.
 pub const MOST_RECORD_BYTES: usize = 262_144;
 
@@ -18,5 +32,5 @@ pub fn most_commands(version: u32) -> usize
     ensures some { 1 ≤ result }
     ensures few { result ≤ 32 }
 {
-    if version <= 1 { 8 } else { 32 }
+    if version <= 1 { 8 } else { MOST_COMMANDS }
 }

@@ -7,7 +7,9 @@ ghost use Rattle.gate_journal.specs.declared.error.JournalError.TheVariants.{NoM
 ghost use Rattle.gate_journal.specs.Reading.{header_reading, Gives};
 
 use crate::error::JournalError;
-use crate::format::{GROUP, HEADER, MOST_RECORD_BYTES, SEAL, most_commands};
+use crate::format::{
+    COUNT_AT, GROUP, HEADER, MOST_RECORD_BYTES, PLACE_AT, SEAL, SIZE_AT, most_commands,
+};
 use crate::sizes::{fits, payload_sectors};
 use byte_lists::{read_u32, read_u64};
 
@@ -30,20 +32,20 @@ pub(crate) fn read_header(
     ensures reading { Gives (λ header. header) result (header_reading (limits_of version) sector.now gate place sectors) }
     ensures memory { IfErr result (λ e. e ≢ NoMemory) }
 {
-    let size = read_u32(sector, 4);
+    let size = read_u32(sector, SIZE_AT);
     if is_group_header(sector, version) {
-        if read_u64(sector, 8) != place {
+        if read_u64(sector, PLACE_AT) != place {
             return Err(JournalError::Gap(place));
         }
         if !fits(gate, payload_sectors(u64::from(size)), sectors) {
             return Err(JournalError::PastEnd);
         }
-        return Ok(Header::Group(sector[1], size));
+        return Ok(Header::Group(sector[COUNT_AT], size));
     }
     if !is_seal_header(sector) {
         return Err(JournalError::BadHeader);
     }
-    if read_u64(sector, 8) != place {
+    if read_u64(sector, PLACE_AT) != place {
         return Err(JournalError::Gap(place));
     }
     if !are_zeros(&sector[HEADER..]) {
@@ -80,14 +82,14 @@ fn is_header(sector: &[u8], kind: u8, few: u8, many: u8, longest: u32) -> bool
     requires { length sector.now ≡ 512 }
     ensures { result ≡ header_of kind few many longest sector.now }
 {
-    let count = sector[1];
+    let count = sector[COUNT_AT];
     sector[0] == kind
         && few <= count
         && count <= many
         && sector[2] == 0
         && sector[3] == 0
-        && read_u32(sector, 4) <= longest
-        && read_u64(sector, 8) <= u64::MAX - u64::from(count)
+        && read_u32(sector, SIZE_AT) <= longest
+        && read_u64(sector, PLACE_AT) <= u64::MAX - u64::from(count)
 }
 
 /// Whether all bytes are zero.

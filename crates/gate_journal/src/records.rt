@@ -9,7 +9,7 @@ ghost use Rattle.gate_journal.specs.declared.error.JournalError.TheVariants.{NoM
 ghost use Rattle.gate_journal.specs.Reading.{Gives, Appends, found_in_records, payload_reading, FirstWantsMemory, PayloadWantsMemory};
 
 use crate::error::JournalError;
-use crate::format::HEADER;
+use crate::format::{HEADER, PREFIX};
 use crate::header::are_zeros;
 use byte_lists::read_u32;
 use path_db::{Command, read_command};
@@ -65,13 +65,13 @@ fn read_record(alloc: Global, bytes: &[u8], version: u32) -> Result<(Command, &[
     ensures some { OnOk result (FirstWantsMemory (limits_of version) bytes.now) }
     ensures memory { IfErr result (λ e. e ≡ NoMemory → FirstWantsMemory (limits_of version) bytes.now) }
 {
-    if bytes.len() < 4 {
+    if bytes.len() < PREFIX {
         return Err(JournalError::BadRecord);
     }
     let size = read_u32(bytes, 0) as usize;
-    if bytes.len() - 4 < size {
+    if bytes.len() - PREFIX < size {
         return Err(JournalError::BadRecord);
     }
-    let command = read_command(alloc, &bytes[4..4 + size], version)?;
-    Ok((command, &bytes[4 + size..]))
+    let command = read_command(alloc, &bytes[PREFIX..PREFIX + size], version)?;
+    Ok((command, &bytes[PREFIX + size..]))
 }

@@ -8,7 +8,7 @@ ghost use Rattle.path_db.specs.RecordLaws.{CanBeWritten};
 ghost use Rattle.image_laws.specs.Group.{HasRoom, record_encoding, payload_sectors as sectors_of_payload};
 ghost use Rattle.gate_journal.specs.Commands.{command_format};
 
-use crate::format::HEADER;
+use crate::format::{COMMAND_HEAD, HEADER, PREFIX, PURGE_RECORD};
 use byte_lists::SECTOR;
 use path_db::{Command, ROW_HEAD};
 use seg_core::{MOST_REGISTERED, MOST_REGISTERED_BYTES, SegType, Segment, encoded_len};
@@ -37,9 +37,11 @@ pub fn record_len(command: &Command) -> usize
     ensures most { result ≤ 131158 }
 {
     match command {
-        Command::Register(registration) => 6 + rows_len(registration.as_slice()),
-        Command::Purge(_) => 13,
-        Command::Remove(_, id) => 6 + id_len(id),
+        Command::Register(registration) => PREFIX
+            + COMMAND_HEAD
+            + rows_len(registration.as_slice()),
+        Command::Purge(_) => PREFIX + PURGE_RECORD,
+        Command::Remove(_, id) => PREFIX + COMMAND_HEAD + id_len(id),
     }
 }
 

@@ -4,7 +4,7 @@ use Rattle.std.specs.Prelude.{◌≡◌, ℕ, ◌≤◌, Bool, ◌&&◌, List, �
 use Rattle.std.specs.Int.{w32, w64, to_be_bytes}
 use Rattle.byte_lists.specs.Numbers.{four_at, eight_at}
 use Rattle.byte_lists.specs.Sectors.{whole_sectors, padded}
-use Rattle.image_laws.specs.Layout.{Geometry, IsGeometry, image_sectors}
+use Rattle.image_laws.specs.Layout.{Geometry, IsGeometry, fewest_of_area, fewest_of_journal, most_of_region, image_sectors}
 
 -- the eight letters SCPATHDB as one number
 abbrev pub store_magic : ℕ
@@ -35,8 +35,8 @@ sizes_in image = record { checkpoint = four_at 12 image; journal = four_at 16 im
 
 abbrev pub is_geometry : Geometry → Bool
 is_geometry geometry =
-    nat_le 2 geometry.checkpoint && nat_le geometry.checkpoint 1048576
-    && nat_le 516 geometry.journal && nat_le geometry.journal 1048576
+    nat_le fewest_of_area geometry.checkpoint && nat_le geometry.checkpoint most_of_region
+    && nat_le fewest_of_journal geometry.journal && nat_le geometry.journal most_of_region
 
 -- whether an image is a store's, by its sector 0 and by its size
 abbrev pub is_store : List ℕ → Bool

@@ -1,4 +1,4 @@
--- The places of the regions of an image. Places and sizes count sectors of 512 bytes; sector 0 has the sizes.
+-- Where the regions of an image are. Positions and sizes count sectors of 512 bytes; sector 0 has the sizes.
 use Rattle.std.specs.Prelude.{ℕ, ◌+◌, ◌*◌, ◌≤◌, List}
 use Rattle.byte_lists.specs.Content.{part}
 use Rattle.byte_lists.specs.Sectors.{sector_at}
@@ -10,12 +10,24 @@ pub record Geometry : Type 0 where
   pub checkpoint : ℕ
   pub journal : ℕ
 
--- the sizes that are allowed: at most 512 MiB each, and room in a journal for the largest group and a seal
+-- the fewest sectors of a checkpoint area
+abbrev pub fewest_of_area : ℕ
+fewest_of_area = 2
+
+-- the fewest sectors of a journal: room for the largest group and a seal
+abbrev pub fewest_of_journal : ℕ
+fewest_of_journal = 516
+
+-- the most sectors of either: 512 MiB
+abbrev pub most_of_region : ℕ
+most_of_region = 1048576
+
+-- the sizes that are allowed
 pub record IsGeometry (geometry : Geometry) : Type 0 where
-  pub least_checkpoint : 2 ≤ geometry.checkpoint
-  pub most_checkpoint : geometry.checkpoint ≤ 1048576
-  pub least_journal : 516 ≤ geometry.journal
-  pub most_journal : geometry.journal ≤ 1048576
+  pub least_checkpoint : fewest_of_area ≤ geometry.checkpoint
+  pub most_checkpoint : geometry.checkpoint ≤ most_of_region
+  pub least_journal : fewest_of_journal ≤ geometry.journal
+  pub most_journal : geometry.journal ≤ most_of_region
 
 abbrev pub other : Half → Half
 other First = Second

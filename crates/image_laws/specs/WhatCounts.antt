@@ -48,8 +48,8 @@ spans_in format image opening = spans_of format opening (is_open_gate (gate_of o
 
 -- two images have the same bytes in a span
 abbrev pub IsSameSpan : List ℕ → List ℕ → Span → Type 0
-IsSameSpan one two place = part place.at place.size two ≡ part place.at place.size one
+IsSameSpan one two counted = part counted.at counted.size two ≡ part counted.at counted.size one
 
 -- this number of bytes at an offset is before the span or after it
 abbrev pub IsApart : ℕ → ℕ → Span → Type 0
-IsApart at size place = (at + size ≤ place.at) ⊎ (place.at + place.size ≤ at)
+IsApart at size counted = (at + size ≤ counted.at) ⊎ (counted.at + counted.size ≤ at)

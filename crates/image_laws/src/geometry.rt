@@ -5,14 +5,8 @@ ghost use Rattle.image_laws.specs.Layout.{IsGeometry, image_sectors, area_at, ga
 ghost use Rattle.image_laws.specs.Layout as laws;
 ghost use Rattle.image_laws.specs.Geometry.{geometry_view};
 
+use crate::format::{LEAST_CHECKPOINT, LEAST_JOURNAL, MOST_SECTORS};
 use crate::half::Half;
-
-/// The fewest sectors of a checkpoint area.
-pub const LEAST_CHECKPOINT: u32 = 2;
-/// The fewest sectors of a journal: enough for the largest group and a seal, with their gates.
-pub const LEAST_JOURNAL: u32 = 516;
-/// The most sectors of a checkpoint area, and of a journal.
-pub const MOST_SECTORS: u32 = 1_048_576;
 
 /// The sizes of both halves of a store, in sectors of 512 bytes: of the checkpoint area, and of the journal.
 #[derive(Clone, Copy, Debug, PartialEq, Eq)]

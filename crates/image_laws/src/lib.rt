@@ -5,6 +5,7 @@
 #![tactic(auto)]
 
 mod checkpoint_laws;
+mod format;
 mod geometry;
 mod growth_laws;
 mod half;
@@ -18,7 +19,8 @@ pub use checkpoint_laws::{
     checkpoints_are_read, checkpoints_are_written, first_checkpoints_can_be,
     first_sectors_are_read, heads_are_read,
 };
-pub use geometry::{Geometry, LEAST_CHECKPOINT, LEAST_JOURNAL, MOST_SECTORS};
+pub use format::{LEAST_CHECKPOINT, LEAST_JOURNAL, MOST_SECTORS};
+pub use geometry::Geometry;
 pub use growth_laws::{
     closed_areas_may_change, halves_switch_by_their_gate, halves_take_over_the_same,
     older_halves_may_change, stores_are_sealed_by_their_gate, stores_go_by_their_last_journal,
