@@ -28,7 +28,7 @@ pub use lines::serve_in_lines;
 pub use message::Message;
 pub use path_rows::Outcome;
 pub use reading::read_all;
-pub use reply::{Form, Reply};
+pub use reply::{Form, Reply, refusal_frame};
 pub use service::{Ack, Code, MOST_SEGMENTS, Service};
 pub use serving::serve;
 pub use source::{MOST_PIECE, Source};

@@ -59,9 +59,9 @@ pub(crate) fn ack_frame(kind: u8, ack: Ack) -> [u8; ACK_FRAME]
     frame
 }
 
-/// The frame of a refusal.
+/// The frame of a refusal: its length, 2, in four bytes, the kind of a refusal, and the code.
 #[tactic(auto, unfolding(crate::specs::Reply::reply_frame))]
-pub(crate) fn refusal_frame(code: Code) -> [u8; 6]
+pub fn refusal_frame(code: Code) -> [u8; 6]
     ensures { result ≡ reply_frame (Refused code.0) }
 {
     [0, 0, 0, 2, REFUSED, code.0]
