@@ -1,4 +1,4 @@
-//! Slots by rising number, and the place of a number among them.
+//! Slots by rising number, and where a number is among them.
 
 ghost use Rattle.std.specs.Prelude.{◌≡◌, ◌≤◌, length, insert, OnOk, OnErr};
 ghost use Rattle.rising_map.specs.Slots.{entries_of, IsFound, IsRising};
