@@ -12,9 +12,9 @@ use crate::state::State;
 use ckpt_pair::BEFORE_ROWS;
 use group_laws::{Check, Flush};
 use path_db::written_rows_are_counted;
+use rising_map::RisingMap;
 use sector_dev::{Device, SECTOR};
 use std::alloc::Global;
-use std::collections::BTreeMap;
 use store_open::Store;
 
 /// Before the first commit value of an actor.
@@ -52,7 +52,7 @@ impl<D: Device, S: Showcase> State<D, S> {
             place,
             tip,
             pending: Vec::new(alloc),
-            kept: BTreeMap::new(alloc),
+            kept: RisingMap::new(alloc),
             taken: 0,
             staged: Vec::new(alloc),
             flush: Flush::Resting,

@@ -5,10 +5,10 @@ use crate::showcase::Showcase;
 use group_laws::{Check, Flush};
 use image_laws::Half;
 use path_db::{Command, Outcome, PathDb};
+use rising_map::RisingMap;
 use sealed_merge::Merge;
 use sector_dev::Device;
 use std::alloc::Global;
-use std::collections::BTreeMap;
 use std::marker::Model;
 use store_open::Geometry;
 
@@ -31,7 +31,7 @@ pub struct State<D: Device, S: Showcase> {
     /// The commands that are accepted and not committed yet, in the order of their places; at most 256.
     pub(crate) pending: Vec<Command>,
     /// The outcome of each accepted command whose ticket is not redeemed yet, by the command's place.
-    pub(crate) kept: BTreeMap<u64, Outcome>,
+    pub(crate) kept: RisingMap<Outcome>,
     /// How many of the first pending commands are in flight: 0 while the flusher rests, and where a seal is in flight.
     pub(crate) taken: usize,
     /// The bytes of the one write of what is in flight, in whole sectors: a group with the closed gate after it, or a seal.
@@ -74,7 +74,7 @@ impl<D: Device, S: Showcase> Model for State<D, S> {
       home = s.home;
       value = S.value s.show;
       pending = s.pending.items;
-      kept = s.kept.entries;
+      kept = s.kept;
       taken = s.taken;
       flush = s.flush;
       group = s.group;
@@ -95,7 +95,7 @@ impl<D: Device, S: Showcase> Model for State<D, S> {
       home = s.home;
       value = S.value s.show;
       pending = s.pending.items;
-      kept = s.kept.entries;
+      kept = s.kept;
       taken = s.taken;
       flush = s.flush;
       group = s.group;

@@ -1,0 +1,6 @@
+mod Rising
+mod Entries
+mod Found
+mod Holes
+mod Places
+mod Steps

@@ -1,0 +1,33 @@
+-- Slots by rising number, and the entries in them.
+use Rattle.std.specs.Prelude.{ℕ, ◌+◌, ◌<◌, ◌≤◌, ◌≡◌, List, [], ◌∷◌, length, Option, Some, None, Result, MatchResult}
+use Rattle.std.specs.List.{AllByRecursion, HoldsAt}
+use Rattle.std.specs.List.Sorted.{IsPartitionPoint}
+use Rattle.rising_map.specs.declared.slots.Slot.{Slot}
+
+module _ {V : Type 0} where
+  -- these entries, after one of this number where there is a value
+  abbrev pub with_entry : ℕ → Option V → List (ℕ × V) → List (ℕ × V)
+  with_entry number None entries = entries
+  with_entry number (Some value) entries = (number, value) ∷ entries
+
+  -- the entries in these slots, without the holes
+  abbrev pub entries_of : List (Slot V) → List (ℕ × V)
+  entries_of [] = []
+  entries_of (s ∷ slots) = with_entry s.number s.value (entries_of slots)
+
+  -- each slot's number is below those of the slots after it
+  abbrev pub IsRising : List (Slot V) → Type 0
+  IsRising [] = Unit {0}
+  IsRising (s ∷ slots) = AllByRecursion (λ t. s.number < t.number) slots × IsRising slots
+
+  -- the slot that has this number, or how many are below it where none has it
+  abbrev pub IsFound : List (Slot V) → ℕ → Result ℕ ℕ → Type 0
+  IsFound slots number found =
+      MatchResult found (λ at. (at < length slots) × HoldsAt (λ s. s.number ≡ number) slots at)
+      (λ at. (at ≤ length slots) × IsPartitionPoint (λ s. s.number < number) (λ s. number < s.number) slots at)
+
+  -- the slots rise, so many of them are holes, and there are no more holes than entries
+  pub record AreSlots (slots : List (Slot V)) (holes : ℕ) : Type 0 where
+    pub rising : IsRising slots
+    pub counted : holes + length (entries_of slots) ≡ length slots
+    pub half : holes ≤ length (entries_of slots)
