@@ -27,20 +27,25 @@ pub record StateView : Type 0 where
   pub kept : List (ℕ × Outcome)
   -- how many of the first pending commands are in flight: none while the flusher rests, and where a seal is in flight
   pub taken : ℕ
-  -- how far the flusher is, and its last commit value
+  -- how far the flusher is
   pub flush : Flush
+  -- the flusher's last commit value
   pub group : Turn
-  -- how far the checkpointer is, and its last commit value
+  -- how far the checkpointer is
   pub check : Check
+  -- the checkpointer's last commit value
   pub plan : Turn
-  -- the half whose journal has the tail, and the tail's gate, in sectors from the start of that journal
+  -- the half whose journal has the tail
   pub half : Half
+  -- the tail's gate, in sectors from the start of that journal
   pub gate : ℕ
-  -- the epoch and the format version of the half that counts
+  -- the epoch of the half that counts
   pub epoch : ℕ
+  -- the format version of that half
   pub version : ℕ
-  -- the bytes of the last checkpoint that was begun, and how many sectors of it are written
+  -- the bytes of the last checkpoint that was begun
   pub checkpoint : List ℕ
+  -- how many sectors of that checkpoint are written
   pub written : ℕ
   -- whether the state has stopped, which is for good
   pub stopped : Bool

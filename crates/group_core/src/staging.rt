@@ -65,7 +65,7 @@ struct Front {
 
 impl<D: Device, S: Showcase> State<D, S> {
     /// Stages the longest front of the pending commands that fits one group. Where the journal has no room for it, a seal is
-    /// staged in its place, once the other half is ready.
+    /// staged instead, once the other half is ready.
     pub fn stage(&mut self) -> Result<Staged, StageError>
         ensures step { Stages result self.old self.new }
         ensures any_moment { StepLeaves self.old self.new }

@@ -16,8 +16,8 @@ ghost use Rattle.sealed_merge.specs.Beginning.{MergesSealed, PoursCheckpoint};
 use crate::making::make_piece;
 use crate::merge::{Merge, WINDOW};
 use crate::old_area::{plan_rows, read_old_front};
-use byte_lists::{SECTOR, sector_count};
-use ckpt_pair::{BEFORE_ROWS, checkpoint_front};
+use byte_lists::sector_count;
+use ckpt_pair::{BEFORE_ROWS, area_room, checkpoint_front};
 use image_laws::{Geometry, Half};
 use row_edits::{Plan, Pour};
 use sector_dev::Device;
@@ -48,7 +48,7 @@ pub fn begin_merge<D: Device>(
     let area = geometry.area_at(half);
     let mut window = vec![in alloc; 0; WINDOW]?;
     let (plan, note) = plan_rows(alloc, device, area, front, &journal.commands, &mut window)?;
-    if plan.size > SECTOR as u64 * u64::from(geometry.checkpoint) - BEFORE_ROWS as u64 {
+    if plan.size > area_room(geometry.checkpoint) {
         return Err(SealedError::Damaged);
     }
     let note = note.after(&journal.commands);

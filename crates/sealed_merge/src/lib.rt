@@ -12,4 +12,4 @@ mod old_area;
 mod sectors;
 
 pub use beginning::begin_merge;
-pub use merge::Merge;
+pub use merge::{Merge, PIECE_SECTORS};

@@ -8,6 +8,7 @@ ghost use Rattle.row_edits.specs.Pouring.{untaken, untaken_len, end_of};
 ghost use Rattle.sealed_merge.specs.Merge.{IsReady, MakesOn};
 ghost use Rattle.sealed_merge.specs.Making.{WhyPoured};
 
+use crate::merge::PIECE_SECTORS;
 use crate::sectors::read_sectors;
 use byte_lists::SECTOR;
 use ckpt_pair::BEFORE_ROWS;
@@ -59,7 +60,7 @@ fn count_wanted(at: u64, size: u32, first: u64, made: usize) -> u64
     let before = at + BEFORE_ROWS as u64 - sector * first;
     let wanted = (before + (PIECE - made) as u64 + (sector - 1)) / sector;
     let left = (BEFORE_ROWS as u64 + u64::from(size) + (sector - 1)) / sector - first;
-    wanted.min(left).min(256)
+    wanted.min(left).min(PIECE_SECTORS)
 }
 
 /// Makes what it can of sectors of an area, which a window has.
@@ -75,10 +76,10 @@ fn pour_sectors(pour: &mut Pour, size: u32, first: u64, count: u64, window: &[u8
     ensures stops { WhyPoured (512 * first) (min (512 * (first + count)) (32 + size)) pour.new }
 {
     let head = BEFORE_ROWS as u64;
-    let place = SECTOR as u64 * first;
-    let start = head - place.min(head);
-    let to = (SECTOR as u64 * count).min(head + u64::from(size) - place);
-    pour.pour(place + start - head, &window[start as usize..to as usize]);
+    let offset = SECTOR as u64 * first;
+    let start = head - offset.min(head);
+    let to = (SECTOR as u64 * count).min(head + u64::from(size) - offset);
+    pour.pour(offset + start - head, &window[start as usize..to as usize]);
 }
 
 /// Puts the next piece of what is made into a window: at most 131,072 bytes, with zeros up to a whole sector. The answer is how many

@@ -5,11 +5,15 @@ ghost use Rattle.sector_dev.specs.Calls.{WriteCall};
 ghost use Rattle.sealed_merge.specs.Merge.{encoding_made, next_piece, after_piece, IsReady, MakesOn};
 
 use crate::making::{make_piece, put_piece};
+use byte_lists::SECTOR;
 use row_edits::{PIECE, Pour, RowsNote};
 use sector_dev::{DevError, Device};
 use std::marker::Model;
 
-/// The bytes of the window: 256 sectors of 512 bytes.
+/// The sectors of a piece of a checkpoint: that many are written, and read of the old area, at a time at most.
+pub const PIECE_SECTORS: u64 = (PIECE / SECTOR) as u64;
+
+/// The bytes of the window: a piece.
 pub(crate) const WINDOW: usize = PIECE;
 
 /// The checkpoint of a half whose journal a seal ends, made while it is written. Beside what the edits and the rows of the journal's

@@ -12,6 +12,7 @@ ghost use Rattle.row_edits.specs.Planner.{IsPlanOf};
 ghost use Rattle.store_open.specs.Refusals.{LooksFor};
 ghost use Rattle.sealed_merge.specs.OldArea.{FrontSo, RowsSo};
 
+use crate::merge::PIECE_SECTORS;
 use crate::sectors::read_sectors;
 use byte_lists::SECTOR;
 use ckpt_pair::{BEFORE_ROWS, Front, RowStream, checkpoints_are_read_by_their_fronts, read_front};
@@ -76,7 +77,7 @@ pub(crate) fn plan_rows<D: Device>(
                 if first == sectors {
                     return Ok((planner.finish(alloc, commands)?, note));
                 }
-                let count = (sectors - first).min(256);
+                let count = (sectors - first).min(PIECE_SECTORS);
                 read_sectors(device, area + first, count, window)?;
                 let start = BEFORE_ROWS - (SECTOR * first as usize).min(BEFORE_ROWS);
                 stream.push(&window[start..SECTOR * count as usize])?;

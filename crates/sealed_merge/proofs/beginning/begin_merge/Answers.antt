@@ -65,13 +65,13 @@ returns-in_err-plan-clause-merges g c =
     (at_start (λ (reads : List ℕ). RowsSo (Err e) (as_counted front.count (rows_decoding (part (512 * c.area_at-area.result + 32) front.size reads)))) disk (g.D.Device.disk c.scan_journal.new.device)
     (stays_then _ _ _ (stays_for _ _ _ c.in_ok-front.ensures.looks) (stays_for _ _ _ c.in_ok-journal.ensures.looks)) c.in_err-plan.ensures.rows honest)))
 
-pub returns-then-plan-from-clause-looks : goal.returns-then-plan-from-clause-looks
-returns-then-plan-from-clause-looks g c =
+pub returns-then-plan-area_room-clause-looks : goal.returns-then-plan-area_room-clause-looks
+returns-then-plan-area_room-clause-looks g c =
     looks_damaged (g.D.Device.disk c.args.device.now) (g.D.Device.disk c.plan_rows.new.device)
     (stays_then _ _ _ (stays_then _ _ _ (stays_for _ _ _ c.in_ok-front.ensures.looks) (stays_for _ _ _ c.in_ok-journal.ensures.looks)) (stays_for _ _ _ c.in_ok-plan.ensures.looks))
 
-pub returns-then-plan-from-clause-merges : goal.returns-then-plan-from-clause-merges
-returns-then-plan-from-clause-merges g c =
+pub returns-then-plan-area_room-clause-merges : goal.returns-then-plan-area_room-clause-merges
+returns-then-plan-area_room-clause-merges g c =
     let disk = g.D.Device.disk c.args.device.now in
     let geometry = geometry_view c.args.geometry in
     let front = c.in_ok-front.front in
@@ -92,7 +92,7 @@ returns-then-plan-from-clause-merges g c =
     (at_start (λ (reads : List ℕ). scan_in geometry c.args.half reads (head_view front.head) ≡ Ok (reading_of journal)) disk (g.D.Device.disk c.read_old_front.new.device)
     one c.in_ok-journal.ensures.scan honest)
     sealed)
-    plan.size (omega (arith, c.if-plan-from.true, c.from.ensures))
+    plan.size (omega (arith, c.if-plan-area_room.true, c.area_room.ensures))
 
 pub returns-in_err-pour-clause-looks : goal.returns-in_err-pour-clause-looks
 returns-in_err-pour-clause-looks g c =
@@ -108,7 +108,7 @@ make_piece-requires-clause-room g c =
 pub invariant_of-result : goal.invariant_of-result
 invariant_of-result g c =
     let plan = c.in_ok-plan.ensures.plan in
-    let fits : c.in_ok-plan.plan.size < 2 ^ 32 = omega (arith, c.if-plan-from.false, c.from.ensures, c.requires.allowed.most_checkpoint) in
+    let fits : c.in_ok-plan.plan.size < 2 ^ 32 = omega (arith, c.if-plan-area_room.false, c.area_room.ensures, c.requires.allowed.most_checkpoint) in
     let size = not_cut (rows_len (database_after_all c.in_ok-plan.note.rows c.deref.result.now)) c.in_ok-plan.plan.size plan.size fits in
     let rows : c.after-note.result.rows ≡ database_after_all c.in_ok-plan.note.rows c.deref.result.now =
     c.after-note.ensures ∙ ap (database_after_all c.in_ok-plan.note.rows) (c.deref-2.ensures.value ∙ sym c.deref.ensures.value) in
@@ -142,7 +142,7 @@ returns-in-Ok-clause-merges g c =
     let three = stays_then _ _ _ two (stays_for _ _ _ c.in_ok-plan.ensures.looks) in
     let plan : IsPlanOf c.in_ok-plan.note.rows c.in_ok-journal.journal.commands.items c.in_ok-plan.plan =
     subst (λ (l : List Command). IsPlanOf c.in_ok-plan.note.rows l c.in_ok-plan.plan) c.deref.ensures.value c.in_ok-plan.ensures.plan in
-    let small : c.in_ok-plan.plan.size < 2 ^ 32 = omega (arith, c.if-plan-from.false, c.from.ensures, c.requires.allowed.most_checkpoint) in
+    let small : c.in_ok-plan.plan.size < 2 ^ 32 = omega (arith, c.if-plan-area_room.false, c.area_room.ensures, c.requires.allowed.most_checkpoint) in
     let size = not_cut (rows_len (database_after_all c.in_ok-plan.note.rows c.in_ok-journal.journal.commands.items)) c.in_ok-plan.plan.size plan.size small in
     begun geometry c.args.half c.args.epoch disk (head_view front.head) at front.size front.count rows journal c.in_ok-pour.pour c.make_piece.new.pour
     c.in_ok-front.ensures.front
@@ -160,7 +160,7 @@ returns-in-Ok-clause-merges g c =
     (at_start (λ (reads : List ℕ). scan_in geometry c.args.half reads (head_view front.head) ≡ Ok (reading_of journal)) disk (g.D.Device.disk c.read_old_front.new.device) one c.in_ok-journal.ensures.scan)
     sealed
     (c.in_ok-pour.ensures.can (database_after_all rows journal.commands.items) plan.database (omega (arith, size, small)))
-    (omega (arith, size, c.if-plan-from.false, c.from.ensures, c.requires.allowed.least_checkpoint)) c.in_ok-front.ensures.fits
+    (omega (arith, size, c.if-plan-area_room.false, c.area_room.ensures, c.requires.allowed.least_checkpoint)) c.in_ok-front.ensures.fits
     c.in-Ok.ensures.made.len c.in-Ok.ensures.ready
 
 pub returns-clause-looks : goal.returns-clause-looks
