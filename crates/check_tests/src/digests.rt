@@ -5,21 +5,21 @@ use seg_check::seg_id;
 use seg_core::read_segment;
 use sha2::{Digest, Sha256};
 use std::test::Fail;
+use worked_segments::{ID, leaving_by};
 
 // The id depends on the path alone: it is the same with another time and with other peers, and not with another egress.
 #[test]
 fn ids_tell_the_path(rt: HostRuntime) -> Result<(), Fail> {
-    let same = "8adcea68dc57cbbe68da7142af88b68a9d27a590e1d5157c53c2bb2c762345ff";
+    let id = hex::encode(rt.alloc(), &ID)?;
+    let same = id.as_str();
     let other = "be3e32a19b42c4f9e0860ee2ace91013c58b8e188f2144964d172f4b549092a7";
     let mut later = SEGMENT;
     later[3] += 1;
-    let mut elsewhere = SEGMENT;
-    elsewhere[39] = 3;
     let cases: [(&[u8], &str); 4] = [
         (&SEGMENT, same),
         (&later, same),
         (&PEERED, same),
-        (&elsewhere, other),
+        (&leaving_by(3), other),
     ];
     for (message, id) in cases {
         let segment = read_segment(rt.alloc(), message)?;

@@ -6,16 +6,15 @@ use seg_core::SegType;
 use std::alloc::Global;
 use std::process::Abort;
 use std::test::Fail;
+use worked_segments::leaving_by;
 
 /// The error for bytes that are no record.
 const BAD: DbError = DbError::BadRecord;
 
 /// Appends the row of the worked segment under the type of this number. It leaves its first AS by this interface, below 128.
 fn put_row(bytes: &mut Vec<u8>, kind: u8, egress: u8) -> Result<(), Fail> {
-    let mut segment = SEGMENT;
-    segment[39] = egress;
     bytes.extend_from_slice(&[kind, 0, 0, 0, 88])?;
-    bytes.extend_from_slice(&segment)?;
+    bytes.extend_from_slice(&leaving_by(egress))?;
     Ok(())
 }
 

@@ -13,25 +13,17 @@ pub(crate) fn segment(alloc: Global) -> Result<Segment, Fail> {
 
 /// The worked segment with another timestamp and another segment id, both below 128. It has the same hops, and so the same id.
 pub(crate) fn dated(alloc: Global, timestamp: u8, segment_id: u8) -> Result<Segment, Fail> {
-    let mut message = Vec::from_slice(alloc, &[0x0a, 0x04, 0x08, timestamp, 0x10, segment_id])?;
-    message.extend_from_slice(&SEGMENT[10..])?;
-    Ok(read_segment(alloc, &message)?)
+    Ok(read_segment(alloc, &worked_segments::dated(timestamp, segment_id))?)
 }
 
 /// The worked segment, which leaves its first AS by this interface, below 128: its id is another.
 pub(crate) fn leaving_by(alloc: Global, egress: u8) -> Result<Segment, Fail> {
-    let mut message = SEGMENT;
-    message[39] = egress;
-    Ok(read_segment(alloc, &message)?)
+    Ok(read_segment(alloc, &worked_segments::leaving_by(egress))?)
 }
 
 /// The worked segment with another timestamp, below 128, which leaves its first AS by this interface, below 128.
 pub(crate) fn dated_by(alloc: Global, timestamp: u8, egress: u8) -> Result<Segment, Fail> {
-    let mut message = Vec::from_slice(alloc, &[0x0a, 0x04, 0x08, timestamp, 0x10, 7])?;
-    message.extend_from_slice(&SEGMENT[10..39])?;
-    message.push(egress)?;
-    message.extend_from_slice(&SEGMENT[40..])?;
-    Ok(read_segment(alloc, &message)?)
+    Ok(read_segment(alloc, &worked_segments::dated_by(timestamp, egress))?)
 }
 
 /// The command that registers this segment.
