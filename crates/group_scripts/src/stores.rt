@@ -6,7 +6,7 @@ use seg_core::{SegType, Segment, read_segment};
 use std::alloc::{AllocError, Global};
 use store_open::{Geometry, OpenError, Store, format, open};
 use test_host::{TestHost, assert_same, assert_true};
-use worked_segments::{EGRESS, SEGMENT};
+use worked_segments::leaving_by;
 
 /// The least sizes that are allowed: sector 0, and then for each half two sectors of checkpoint area, a gate, and 516 sectors of
 /// journal.
@@ -17,6 +17,12 @@ pub const LEAST: Geometry = Geometry {
 
 /// How many sectors a store of these sizes takes.
 pub const SECTORS: u64 = 1039;
+
+/// How many groups of one purge its journal has room for.
+pub const GROUPS: u64 = 257;
+
+/// How many changes of a device are noted at most.
+pub const MOST_CHANGES: usize = 1000;
 
 /// A group of one command at place 0, which registers one segment as a down segment: what is before the segment.
 pub const REGISTERED: [u8; 27] = [
@@ -95,9 +101,7 @@ pub fn old_store(rt: &impl TestHost, alloc: Global) -> MemDevice {
 
 /// The segment, its first AS being left by this interface, below 128.
 pub fn segment(egress: u8) -> [u8; 88] {
-    let mut message = SEGMENT;
-    message[EGRESS] = egress;
-    message
+    leaving_by(egress)
 }
 
 /// Where in the segment its first AS's entry ends.

@@ -1,7 +1,7 @@
 //! The segments of a database that a lookup shows.
 
 use crate::same::assert_same;
-use crate::worked::{CORE_SEGMENT, EGRESS, EXP_TIME, SEGMENT, register, roster};
+use crate::worked::{CORE_SEGMENT, EXP_TIME, SEGMENT, leaving_by, register, roster};
 use isd_as::parse;
 use path_rows::PathDb;
 use seg_core::{SegType, Segment};
@@ -137,9 +137,7 @@ const BY_ID: [u16; 65] = [
 fn all_rows(alloc: Global) -> Result<PathDb, Fail> {
     let mut db = PathDb::new(alloc);
     for egress in 1..=65 {
-        let mut bytes = SEGMENT;
-        bytes[EGRESS] = egress;
-        register(alloc, &mut db, SegType::Down, &bytes)?;
+        register(alloc, &mut db, SegType::Down, &leaving_by(egress))?;
     }
     Ok(db)
 }

@@ -6,7 +6,7 @@ use seg_core::{SegType, read_segment};
 use seg_lookup::Roster;
 use std::alloc::Global;
 use std::test::Fail;
-pub(crate) use worked_segments::{CORE_SEGMENT, EGRESS, EXP_TIME, SEGMENT};
+pub(crate) use worked_segments::{CORE_SEGMENT, EXP_TIME, SEGMENT, leaving_by};
 
 /// A roster of these texts.
 pub(crate) fn roster(alloc: Global, texts: &[&str]) -> Result<Roster, Fail> {

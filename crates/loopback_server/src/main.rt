@@ -6,6 +6,7 @@
 mod peers;
 
 use crate::peers::{ask, turned_away, with_a_seat};
+use image_laws::{LEAST_CHECKPOINT, LEAST_JOURNAL};
 use isd_as::IsdAs;
 use path_server::{Listeners, Options, RunError, Silent, run_on};
 use sector_dev::MemDevice;
@@ -18,11 +19,12 @@ use std::thread::Threads;
 use std::time::{Clock, Duration};
 use std::{io, thread};
 use store_open::{Geometry, Store, format, open};
+use worked_segments::digits::{LOOKUP, REGISTER_2096};
 
 /// The sizes of the store.
 const SIZES: Geometry = Geometry {
-    checkpoint: 2,
-    journal: 516,
+    checkpoint: LEAST_CHECKPOINT,
+    journal: LEAST_JOURNAL,
 };
 
 /// The core AS of the server.
@@ -33,13 +35,6 @@ const SESSIONS: u64 = 69;
 
 /// How many sessions are open at one time.
 const OPEN: usize = 64;
-
-/// Registers a down segment from 1-ff00:0:110 to 1-ff00:0:111.
-const REGISTRATION: &str =
-    "00000061010a5e0802125a0a580a080880d0acf30e100712290a270a251223089082808080e07f109182808080e07f1a0e0a0c1001183f220601020304050628c00b12210a1f0a1d121b089182808080e07f1a0e0a0c0802183f22060a0b0c0d0e0f28c00b";
-
-/// Asks for the segments from the one to the other.
-const LOOKUP: &str = "0000001102089082808080e07f109182808080e07f";
 
 /// Three purges.
 const PURGES: &str =
@@ -78,7 +73,7 @@ fn meet<R: Net<Listener = TcpListener, Stream = TcpStream> + Print>(
     alloc: Global,
     to: SocketAddr,
 ) -> io::Result<()> {
-    for requests in &[REGISTRATION, LOOKUP, PURGES, FAULTY] {
+    for requests in &[REGISTER_2096, LOOKUP, PURGES, FAULTY] {
         let replies = ask(rt, alloc, to, requests)?;
         println!(rt; "{replies}")?;
     }

@@ -3,9 +3,9 @@
 
 use crate::host::Host;
 use group_core::{BeginError, StageError, SubmitError};
+use group_scripts::acts::INSERTED;
 use group_scripts::stores::{assert_half, opened, opens_to, register, sealed_store};
 use group_scripts::work::{Paid, Told, Work, work_of};
-use path_db::Outcome;
 use sector_dev::MemDevice;
 use std::alloc::Global;
 use std::process::Abort;
@@ -93,14 +93,6 @@ fn check_all_again(rt: &Host<impl Abort>, work: Work<MemDevice>) -> Work<MemDevi
     }
     work
 }
-
-/// What a new segment does.
-const INSERTED: Outcome = Outcome {
-    inserted: 1,
-    updated: 0,
-    kept: 0,
-    purged: 0,
-};
 
 #[test]
 fn refused_calls_may_be_tried_again(rt: HostRuntime) -> Result<(), Fail> {

@@ -1,6 +1,7 @@
 //! The commands over a device in memory.
 
 use crate::writers::{with_memory, with_room};
+use image_laws::{LEAST_CHECKPOINT, LEAST_JOURNAL};
 use sector_dev::{Device, FaultDevice, MemDevice, SECTOR};
 use std::alloc::Global;
 use std::process::Abort;
@@ -10,8 +11,8 @@ use store_open::{Geometry, OpenError};
 
 // The least sizes that are allowed: a store of them takes 1,039 sectors.
 pub(crate) const LEAST: Geometry = Geometry {
-    checkpoint: 2,
-    journal: 516,
+    checkpoint: LEAST_CHECKPOINT,
+    journal: LEAST_JOURNAL,
 };
 
 pub(crate) const SECTORS: u64 = 1039;

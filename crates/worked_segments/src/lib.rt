@@ -8,6 +8,6 @@ mod signed;
 
 pub use crate::core_segment::CORE_SEGMENT;
 pub use crate::segment::{
-    EGRESS, EXP_TIME, EXPIRY, ID, LOOKUP, REGISTER, SEGMENT, dated, dated_by, leaving_by,
+    EGRESS, ENTRIES, EXP_TIME, EXPIRY, ID, LOOKUP, REGISTER, SEGMENT, dated, dated_by, leaving_by,
 };
 pub use crate::signed::{KEY, SIGNED};

@@ -1,11 +1,10 @@
 //! A segment of two entries, its registration and its lookup, and segments that differ from it.
 
-/// The bytes of the segment after these.
-macro_rules! after {
-    ($($head:literal),*) => {
+/// These bytes, and the two entries.
+macro_rules! entries {
+    ($($head:expr),*) => {
         [
             $($head,)*
-            0x0a, 0x08, 0x08, 0x80, 0xe2, 0xcf, 0xaa, 0x06, 0x10, 0x07, // the segment's information
             0x12, 0x29, 0x0a, 0x27, 0x0a, 0x25, // the first entry, its signed message, header and body
             0x12, 0x23, 0x08, 0x90, 0x82, 0x80, 0x80, 0x80, 0xe0, 0x7f, // its AS
             0x10, 0x91, 0x82, 0x80, 0x80, 0x80, 0xe0, 0x7f, // the next AS
@@ -19,8 +18,18 @@ macro_rules! after {
     };
 }
 
+/// These bytes, and the segment: its information, and its entries.
+macro_rules! segment {
+    ($($head:expr),*) => {
+        entries!($($head,)* 0x0a, 0x08, 0x08, 0x80, 0xe2, 0xcf, 0xaa, 0x06, 0x10, 0x07)
+    };
+}
+
 /// Two entries, from 1-ff00:0:110 to 1-ff00:0:111.
-pub const SEGMENT: [u8; 88] = after!();
+pub const SEGMENT: [u8; 88] = segment!();
+
+/// Its entries alone, without the segment's information.
+pub const ENTRIES: [u8; 78] = entries!();
 
 /// The id of `SEGMENT`: SHA-256 over `0001ff0000000110 0000 0001 0001ff0000000111 0002 0000`.
 pub const ID: [u8; 32] = [
@@ -38,7 +47,7 @@ pub const EGRESS: usize = 39;
 pub const EXP_TIME: usize = 41;
 
 /// The frame of the registration of `SEGMENT` as a down segment. It has a length of 97; the message is one segment, of 94 bytes with its type.
-pub const REGISTER: [u8; 101] = after!(
+pub const REGISTER: [u8; 101] = segment!(
     0x00, 0x00, 0x00, 0x61, 0x01, 0x0a, 0x5e, 0x08, 0x02, 0x12, 0x5a, 0x0a, 0x58
 );
 
@@ -49,10 +58,8 @@ pub const LOOKUP: [u8; 21] = [
     0x10, 0x91, 0x82, 0x80, 0x80, 0x80, 0xe0, 0x7f, // to this AS
 ];
 
-/// How many bytes the information of `SEGMENT` has, and that of a segment whose timestamp is below 128.
-const INFORMATION: usize = 10;
-
-const SHORT_INFORMATION: usize = 6;
+/// How many bytes of the information a timestamp below 128 saves.
+const SAVED: usize = 4;
 
 /// `SEGMENT`, but its first AS is left by this interface, below 128: its id is another.
 pub fn leaving_by(egress: u8) -> [u8; 88] {
@@ -63,15 +70,12 @@ pub fn leaving_by(egress: u8) -> [u8; 88] {
 
 /// `SEGMENT` with another timestamp and another segment id, both below 128. It has the same hops, and so the same id.
 pub fn dated(timestamp: u8, segment_id: u8) -> [u8; 84] {
-    let mut message = [0; 84];
-    message[..SHORT_INFORMATION].copy_from_slice(&[0x0a, 0x04, 0x08, timestamp, 0x10, segment_id]);
-    message[SHORT_INFORMATION..].copy_from_slice(&SEGMENT[INFORMATION..]);
-    message
+    entries!(0x0a, 0x04, 0x08, timestamp, 0x10, segment_id)
 }
 
 /// `SEGMENT` with another timestamp, below 128, and its first AS is left by this interface, below 128.
 pub fn dated_by(timestamp: u8, egress: u8) -> [u8; 84] {
     let mut message = dated(timestamp, 7);
-    message[EGRESS + SHORT_INFORMATION - INFORMATION] = egress;
+    message[EGRESS - SAVED] = egress;
     message
 }
