@@ -133,30 +133,18 @@ impl<V: Verifier> Service for LoneService<'_, V> {
     ghost answers = { λ old message reply new. Answers (served_by V.verifies old) message reply (served_by V.verifies new) };
 
     fn register(&mut self, alloc: Global, message: &[u8]) -> Result<Ack, Code> {
-        match self.accept(alloc, message) {
-            Ok(ack) => Ok(ack),
-            Err(refusal) => Err(refusal.code()),
-        }
+        Ok(self.accept(alloc, message)?)
     }
 
     fn lookup(&mut self, _alloc: Global, message: &[u8]) -> Result<(SegType, Vec<Segment>), Code> {
-        match self.find(message) {
-            Ok(found) => Ok(found),
-            Err(refusal) => Err(refusal.code()),
-        }
+        Ok(self.find(message)?)
     }
 
     fn purge(&mut self, moment: u64) -> Result<Ack, Code> {
-        match self.drop_expired(moment) {
-            Ok(ack) => Ok(ack),
-            Err(refusal) => Err(refusal.code()),
-        }
+        Ok(self.drop_expired(moment)?)
     }
 
     fn remove(&mut self, kind: u8, id: &[u8; 32]) -> Result<Ack, Code> {
-        match self.drop_one(kind, id) {
-            Ok(ack) => Ok(ack),
-            Err(refusal) => Err(refusal.code()),
-        }
+        Ok(self.drop_one(kind, id)?)
     }
 }

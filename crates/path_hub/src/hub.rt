@@ -35,7 +35,9 @@ pub struct Hub<D: Device, N: HubName, R: Wait + Clock> {
 
 impl<D: Device, N: HubName, R: Wait + Clock> Hub<D, N, R> {
     /// The handle that the hub waits by.
-    pub fn handle(&self) -> &R {
+    pub fn handle(&self) -> &R
+        ensures { result.now ≡ self.now.rt }
+    {
         &self.rt
     }
 

@@ -18,7 +18,7 @@ mod running;
 mod seats;
 mod server;
 mod sessions;
-mod status_place;
+mod status_listener;
 mod turned_away;
 mod turning_away;
 mod watching;

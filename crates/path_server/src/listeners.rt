@@ -19,8 +19,13 @@ pub struct Listeners<L> {
 }
 
 impl<L> Listeners<L> {
+    ghost use Rattle.std.specs.Prelude.{◌≡◌, None};
+
     /// For sessions alone.
-    pub fn of_sessions(sessions: L) -> Listeners<L> {
+    pub fn of_sessions(sessions: L) -> Listeners<L>
+        ensures sessions { result.sessions ≡ sessions }
+        ensures status { result.status ≡ None }
+    {
         Listeners {
             sessions,
             status: None,
@@ -28,7 +33,9 @@ impl<L> Listeners<L> {
     }
 }
 
-/// Has each accept of a listener fail where no peer comes within 200 milliseconds.
+/// Has each accept of a listener fail where no peer comes within 200 milliseconds. The error is the system's, where it gives no second
+/// handle or doesn't set the time. No contract of the system's calls says which time a socket has, nor that a call succeeds, so there is
+/// no clause.
 pub fn bound_accepts(listener: &TcpListener) -> io::Result<()> {
     // A second handle of the listening socket, with a stream's methods: it sets the time of both.
     let socket = TcpStream::from(OwnedFd::from(listener.try_clone()?));

@@ -1,5 +1,6 @@
 //! What a server reports while it runs.
 
+use crate::seats::MOST_SESSIONS;
 use std::fmt;
 use std::fmt::{Display, Formatter};
 
@@ -8,7 +9,7 @@ use std::fmt::{Display, Formatter};
 pub enum Report {
     /// The device failed, and the store takes no more commands; lookups go on.
     Stopped,
-    /// This number of peers, since the last such report, were turned away, because 64 sessions were open.
+    /// This number of peers, since the last such report, were turned away, because [`MOST_SESSIONS`] sessions were open.
     TurnedAway(u64),
 }
 
@@ -19,7 +20,9 @@ impl Display for Report {
                 f,
                 "the store has stopped at a fault of its device; lookups go on"
             ),
-            Report::TurnedAway(count) => write!(f, "sessions refused, as 64 are open: {count}"),
+            Report::TurnedAway(count) => {
+                write!(f, "sessions refused, as {MOST_SESSIONS} are open: {count}")
+            }
         }
     }
 }

@@ -8,7 +8,7 @@ use crate::options::Options;
 use crate::reports::{Report, Reports};
 use crate::seats::Seats;
 use crate::sessions::{part, serve_stream};
-use crate::status_place::StatusPlace;
+use crate::status_listener::StatusListener;
 use crate::turned_away::TurnedAway;
 use crate::turning_away::turn_away;
 use path_hub::{Crew, Hub, HubName};
@@ -28,7 +28,7 @@ pub(crate) struct Server<'a, L, V, O> {
     pub(crate) alloc: Global,
     pub(crate) door: Door<L>,
     pub(crate) seats: Seats,
-    status: StatusPlace<L>,
+    status: StatusListener<L>,
     options: &'a Options,
     verifier: &'a V,
     reports: &'a O,
@@ -57,7 +57,7 @@ impl<'a, L: OpenListener<Stream = TcpStream> + Drop, V: Verifier, O: Reports> Se
             alloc,
             door: Door::new(sessions, options.sessions),
             seats: Seats::new(),
-            status: StatusPlace::new(status),
+            status: StatusListener::new(status),
             options,
             verifier,
             reports,

@@ -158,30 +158,18 @@ impl<D: Device, N: HubName, R: Wait + Clock, V: Verifier, C: Now> Service
         HubAnswers N.opening (serving V.verifies C.moment old) message reply (serving V.verifies C.moment new) };
 
     fn register(&mut self, alloc: Global, message: &[u8]) -> Result<Ack, Code> {
-        match self.accept(alloc, message) {
-            Ok(ack) => Ok(ack),
-            Err(refusal) => Err(refusal.code()),
-        }
+        Ok(self.accept(alloc, message)?)
     }
 
     fn lookup(&mut self, _alloc: Global, message: &[u8]) -> Result<(SegType, Vec<Segment>), Code> {
-        match self.find(message) {
-            Ok(found) => Ok(found),
-            Err(refusal) => Err(refusal.code()),
-        }
+        Ok(self.find(message)?)
     }
 
     fn purge(&mut self, moment: u64) -> Result<Ack, Code> {
-        match self.drop_expired(moment) {
-            Ok(ack) => Ok(ack),
-            Err(refusal) => Err(refusal.code()),
-        }
+        Ok(self.drop_expired(moment)?)
     }
 
     fn remove(&mut self, kind: u8, id: &[u8; 32]) -> Result<Ack, Code> {
-        match self.drop_one(kind, id) {
-            Ok(ack) => Ok(ack),
-            Err(refusal) => Err(refusal.code()),
-        }
+        Ok(self.drop_one(kind, id)?)
     }
 }

@@ -9,12 +9,15 @@ use seg_check::CheckError;
 use seg_core::SegError;
 use seg_lookup::LookupError;
 
+/// The code where memory was refused.
+pub(crate) const NO_MEMORY: u8 = 0x01;
+
 /// The code of a message that is refused when it is read.
 pub(crate) fn seg_code(error: SegError) -> u8
     ensures { result ≡ seg_code error }
 {
     match error {
-        SegError::NoMemory => 0x01,
+        SegError::NoMemory => NO_MEMORY,
         SegError::Wire(error) => wire_code(error),
         SegError::KindOfField => 0x22,
         SegError::RepeatedMessage => 0x23,
@@ -71,7 +74,7 @@ pub(crate) fn submit_code(error: SubmitError) -> u8
         SubmitError::TooLarge => 0x53,
         SubmitError::Stopped => 0x54,
         SubmitError::Exhausted => 0x55,
-        SubmitError::NoMemory => 0x01,
+        SubmitError::NoMemory => NO_MEMORY,
         SubmitError::OldStore => 0x57,
     }
 }

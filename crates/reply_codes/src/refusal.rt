@@ -2,7 +2,7 @@
 
 ghost use Rattle.std.specs.Prelude.{◌≡◌};
 
-use crate::codes::{check_code, lookup_code, seg_code, submit_code};
+use crate::codes::{NO_MEMORY, check_code, lookup_code, seg_code, submit_code};
 use group_core::SubmitError;
 use seg_check::CheckError;
 use seg_core::SegError;
@@ -45,7 +45,7 @@ impl Refusal {
         ensures { result.0 ≡ refusal_code self }
     {
         Code(match self {
-            Refusal::NoMemory => 0x01,
+            Refusal::NoMemory => NO_MEMORY,
             Refusal::Message(error) => seg_code(error),
             Refusal::Check(error) => check_code(error),
             Refusal::Lookup(error) => lookup_code(error),
@@ -53,6 +53,17 @@ impl Refusal {
             Refusal::NoReader => 0x61,
             Refusal::Stopped => 0x62,
         })
+    }
+}
+
+/// A refusal is replied by its code.
+impl From<Refusal> for Code {
+    ghost use Rattle.reply_codes.specs.Refusal.{refusal_code};
+
+    ghost from_gives = { λ refusal code. code.0 ≡ refusal_code refusal };
+
+    fn from(refusal: Refusal) -> Code {
+        refusal.code()
     }
 }
 

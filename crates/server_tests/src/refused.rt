@@ -1,5 +1,5 @@
-//! Want of memory for the actors of a server. The test is run with each of its allocations refused in turn: a server whose actors aren't
-//! given ends by that, and reports no fault of its device.
+//! Want of memory for the threads of a server. Each test is run with each of its allocations refused in turn: a server whose actors aren't
+//! given, or the thread of its second listener, ends by that, and reports no fault of its device.
 
 use crate::stores::{LEAST, formatted, opened, opens_to};
 use crate::worlds::{Counts, World};
@@ -22,8 +22,8 @@ impl OpenListener for Broken {
     }
 }
 
-/// Has a server begin over a new store: whether its actors were given.
-fn has_actors<R: World>(rt: R, alloc: Global) -> bool {
+/// Has a server begin over a new store, with a second listener or without one: whether its threads were given.
+fn has_threads<R: World>(rt: R, alloc: Global, status: Option<Broken>) -> bool {
     let store = opened(&rt, alloc, formatted(&rt, alloc, LEAST));
     let options = Options {
         cores: Roster::new(Vec::new(alloc)),
@@ -35,7 +35,10 @@ fn has_actors<R: World>(rt: R, alloc: Global) -> bool {
     let (device, served) = serve_store(
         rt,
         alloc,
-        Listeners::of_sessions(Broken),
+        Listeners {
+            sessions: Broken,
+            status,
+        },
         store,
         &options,
         &counts,
@@ -52,8 +55,16 @@ fn has_actors<R: World>(rt: R, alloc: Global) -> bool {
 // At most one allocation is refused, so that of two servers one has its actors.
 #[test]
 fn refused_memory_of_actors(rt: HostRuntime) -> Result<(), Fail> {
-    let first = has_actors(&rt, rt.alloc());
-    let second = has_actors(&rt, rt.alloc());
+    let first = has_threads(&rt, rt.alloc(), None);
+    let second = has_threads(&rt, rt.alloc(), None);
+    assert!(rt; first || second);
+    Ok(())
+}
+
+#[test]
+fn refused_memory_of_a_second_listener(rt: HostRuntime) -> Result<(), Fail> {
+    let first = has_threads(&rt, rt.alloc(), Some(Broken));
+    let second = has_threads(&rt, rt.alloc(), Some(Broken));
     assert!(rt; first || second);
     Ok(())
 }

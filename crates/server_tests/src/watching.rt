@@ -9,6 +9,7 @@ use std::alloc::Global;
 use std::io;
 use std::io::{ErrorKind, Read, Write};
 use std::net::{Shutdown, SocketAddr, TcpListener, TcpStream};
+use std::os::fd::OwnedFd;
 use std::test::Fail;
 use std::time::{Duration, Instant};
 
@@ -332,6 +333,46 @@ fn silent_peers_are_closed_soon(rt: HostRuntime) -> Result<(), Fail> {
     );
     assert_eq!(rt; served, Ok(1));
     assert!(rt; seen?);
+    let _device = opens_to(&rt, alloc, device, (0, 0, 0));
+    Ok(())
+}
+
+/// Two sessions, one after the other.
+struct Twice;
+
+impl Clients for Twice {
+    type Seen = [bool; 2];
+
+    fn meet<R: Outside>(&self, rt: R, alloc: Global, to: SocketAddr) -> io::Result<[bool; 2]> {
+        let first = Peer::connect(rt, alloc, to)?.asks(EMPTY_LOOKUP, NO_DESTINATION)?;
+        let second = Peer::connect(rt, alloc, to)?.asks(EMPTY_LOOKUP, NO_DESTINATION)?;
+        Ok([first, second])
+    }
+}
+
+// The second listener is shut down before the server begins, so that its first accept says that it is broken.
+#[test]
+fn a_broken_second_listener_ends_its_thread_alone(rt: HostRuntime) -> Result<(), Fail> {
+    let alloc = rt.alloc();
+    let device = formatted(&rt, alloc, LEAST);
+    let options = options(&rt, alloc, 2);
+    let (listener, _at) = listen(&rt);
+    let stop = TcpStream::from(OwnedFd::from(listener.try_clone()?));
+    stop.shutdown(Shutdown::Both)?;
+    let counts = Counts::new();
+    let (device, served, seen) = serve_watched(
+        &rt,
+        alloc,
+        device,
+        Some(listener),
+        &options,
+        &Twice,
+        &counts,
+    );
+    assert_eq!(rt; served, Ok(2));
+    let [first, second] = seen?;
+    assert!(rt; first && second);
+    assert_eq!(rt; counts.stopped(), 0);
     let _device = opens_to(&rt, alloc, device, (0, 0, 0));
     Ok(())
 }

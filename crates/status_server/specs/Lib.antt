@@ -1,3 +1,4 @@
 pub mod Answers
 pub mod Kinds
 pub mod Refusals
+pub mod Requests

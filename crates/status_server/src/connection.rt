@@ -1,8 +1,11 @@
 //! The connection of a peer that asks for the numbers of a server.
 
+ghost use Rattle.std.specs.Prelude.{◌≡◌, ◌++◌, OnOk, IfOk, IfSome};
+ghost use Rattle.status_server.specs.Requests.{IsRead, IsTaken};
+
 use crate::deadline::Deadline;
 use status_page::{Asked, read_head};
-use std::alloc::Global;
+use std::alloc::{AllocError, Global};
 use std::io::{Read, Write};
 use std::net::{Shutdown, TcpStream};
 use std::time::Clock;
@@ -14,24 +17,38 @@ pub const MOST_HEAD: usize = 4_096;
 const PIECE: usize = 1_024;
 
 /// Reads what a peer asks for: `More` where its first `MOST_HEAD` bytes, or all that it sends, have no whole head. `None`: the time is
-/// over, the connection or the clock failed, or memory was refused.
+/// over, the connection or the clock failed, or memory was refused. No contract of the system's calls says which bytes a peer sent.
+#[tactic(auto, using(crate::proofs::RequestLemmas::is_read))]
 pub fn read_request(
     clock: &impl Clock,
     alloc: Global,
     stream: &TcpStream,
     deadline: &Deadline,
-) -> Option<Asked> {
+) -> Option<Asked>
+    ensures { IfSome result IsRead }
+{
     let mut head = Vec::new(alloc);
     for _ in 0..MOST_HEAD {
         let mut piece = [0u8; PIECE];
         let count = read_by(clock, stream, deadline, &mut piece)?;
-        head.extend_from_slice(piece.get(..count)?).ok()?;
-        match read_head(head.as_slice()) {
-            Asked::More if count > 0 && head.len() < MOST_HEAD => {}
-            asked => return Some(asked),
+        if let Some(asked) = take_piece(&mut head, piece.get(..count)?).ok()? {
+            return Some(asked);
         }
     }
-    Some(Asked::More)
+    Some(read_head(head.as_slice()))
+}
+
+/// Takes the next piece of what a peer sends, of which an empty one is the end: what the peer asks for by all of it. `None`: its head isn't
+/// whole yet, and there may be more of it.
+fn take_piece(head: &mut Vec<u8>, piece: &[u8]) -> Result<Option<Asked>, AllocError>
+    ensures taken { OnOk result (head.new.items ≡ head.old.items ++ piece.now) }
+    ensures asked { IfOk result (IsTaken MOST_HEAD head.old.items piece.now) }
+{
+    head.extend_from_slice(piece)?;
+    match read_head(head.as_slice()) {
+        Asked::More if !piece.is_empty() && head.len() < MOST_HEAD => Ok(None),
+        asked => Ok(Some(asked)),
+    }
 }
 
 /// Reads once: how many bytes there were, of which 0 is the end. `None`: the time is over, or the connection or the clock failed.

@@ -1,6 +1,6 @@
 //! The time that a connection has.
 
-ghost use Rattle.std.specs.Prelude.{◌≡◌, ◌+◌, ◌<◌, ◌↔◌, IsSome, IfSome};
+ghost use Rattle.std.specs.Prelude.{◌≡◌, ◌+◌, ◌<◌, ◌≤◌, ◌↔◌, IsSome, IfSome, IfOk};
 ghost use Rattle.std.specs.Duration.{as_nanos};
 
 use std::io;
@@ -14,14 +14,20 @@ pub struct Deadline {
 }
 
 impl Deadline {
-    /// This time from now on. The error is that the clock can't be read.
-    pub fn after(clock: &impl Clock, time: Duration) -> io::Result<Deadline> {
+    /// This time from now on. The error is that the clock can't be read. No clause can say which moment is now.
+    pub fn after(clock: &impl Clock, time: Duration) -> io::Result<Deadline>
+        ensures { IfOk result (λ deadline. deadline.time ≡ time) }
+    {
         let begun = Instant::now(clock)?;
         Ok(Deadline { begun, time })
     }
 
-    /// The time that is left. `None`: there is none, or the clock can't be read.
-    pub fn left(&self, clock: &impl Clock) -> Option<Duration> {
+    /// The time that is left: some, and no more than there was at first. `None`: there is none, or the clock can't be read. No clause can
+    /// say how much has gone.
+    pub fn left(&self, clock: &impl Clock) -> Option<Duration>
+        ensures some { IfSome result (λ left. 0 < as_nanos left) }
+        ensures most { IfSome result (λ left. as_nanos left ≤ as_nanos self.now.time) }
+    {
         let elapsed = self.begun.elapsed(clock).ok()?;
         time_left(self.time, elapsed)
     }

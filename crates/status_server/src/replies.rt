@@ -1,5 +1,8 @@
 //! How many replies of each kind there were.
 
+ghost use Rattle.std.specs.Prelude.{IfOk};
+ghost use Rattle.status_server.specs.Refusals.{AreRefusals};
+
 use crate::refusals::{CODES, refusals_of};
 use crate::reply_kind::ReplyKind;
 use status_page::CodeCount;
@@ -7,7 +10,8 @@ use std::alloc::{AllocError, Global};
 use std::array;
 use std::sync::atomic::{AtomicU64, Ordering};
 
-/// How many replies of each kind there were. Threads share it.
+/// How many replies of each kind there were. Threads share it, so that no clause says what a count is: the type has one for each kind, and
+/// for each code.
 #[derive(Drop)]
 pub struct Replies {
     registered: AtomicU64,
@@ -19,7 +23,7 @@ pub struct Replies {
 }
 
 impl Replies {
-    /// None yet.
+    /// None yet. No clause says that the counts are 0.
     pub fn new() -> Replies {
         Replies {
             registered: AtomicU64::new(0),
@@ -35,7 +39,7 @@ impl Replies {
         self.counter(kind).fetch_add(1, Ordering::SeqCst);
     }
 
-    /// How many replies of a kind there were.
+    /// How many replies of a kind there were, by one look at its count. No clause says which number that is.
     pub fn of(&self, kind: ReplyKind) -> u64 {
         self.counter(kind).load(Ordering::SeqCst)
     }
@@ -51,8 +55,11 @@ impl Replies {
         }
     }
 
-    /// How many messages were refused with each code, for codes with which one was, in rising order.
-    pub fn refusals(&self, alloc: Global) -> Result<Vec<CodeCount>, AllocError> {
+    /// How many messages were refused with each code, for codes with which one was, in rising order. Which numbers the counts had is open.
+    #[tactic(auto, using(crate::proofs::RefusalLemmas::are_refusals))]
+    pub fn refusals(&self, alloc: Global) -> Result<Vec<CodeCount>, AllocError>
+        ensures { IfOk result (λ refusals. AreRefusals CODES refusals.items) }
+    {
         let mut counts = [0u64; CODES];
         for (count, refused) in counts.iter_mut().zip(&self.refused) {
             *count = refused.load(Ordering::SeqCst);

@@ -5,7 +5,7 @@ use std::sync::{Mutex, Wait};
 
 /// The listener for requests of the numbers, until it is handed out.
 #[derive(Drop)]
-pub(crate) struct StatusPlace<L> {
+pub(crate) struct StatusListener<L> {
     listener: Mutex<Option<L>>,
     /// Whether it was handed out, and no other guest was since.
     is_last: AtomicBool,
@@ -13,10 +13,10 @@ pub(crate) struct StatusPlace<L> {
     is_missed: AtomicBool,
 }
 
-impl<L: Drop> StatusPlace<L> {
+impl<L: Drop> StatusListener<L> {
     /// Of this listener, if there is one.
-    pub(crate) fn new(listener: Option<L>) -> StatusPlace<L> {
-        StatusPlace {
+    pub(crate) fn new(listener: Option<L>) -> StatusListener<L> {
+        StatusListener {
             listener: Mutex::new(listener),
             is_last: AtomicBool::new(false),
             is_missed: AtomicBool::new(false),

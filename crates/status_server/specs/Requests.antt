@@ -1,0 +1,16 @@
+-- What a peer asks for, by what it has sent.
+use Rattle.std.specs.Prelude.{ℕ, ◌<◌, List, ◌++◌, length, Option, Some, None}
+use Rattle.status_page.specs.declared.request.Asked.{Asked}
+use Rattle.status_page.specs.declared.request.Asked.TheVariants.{More}
+use Rattle.status_page.specs.Request.{IsAsked}
+
+-- this is asked by some bytes
+pub record IsRead (asked : Asked) : Type 0 where
+  pub head : List ℕ
+  pub asks : IsAsked head asked
+
+-- A piece came after others, of which an empty one is the end: what they ask for together; or they have no whole head, are fewer bytes than
+-- this number, and the piece was not the end.
+abbrev pub IsTaken : ℕ → List ℕ → List ℕ → Option Asked → Type 0
+IsTaken most head piece (Some asked) = IsAsked (head ++ piece) asked
+IsTaken most head piece None = IsAsked (head ++ piece) More × ((0 < length piece) × (length (head ++ piece) < most))
