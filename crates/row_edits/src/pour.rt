@@ -4,16 +4,17 @@ ghost use Rattle.std.specs.Prelude.{◌≡◌, ◌<◌, ◌≤◌, ◌∷◌, []
 ghost use Rattle.row_edits.specs.declared.edit.Edit.TheVariants.{Keep};
 
 use crate::edit::Edit;
-use crate::pour_buffer::{cut_front, put, put_if_any, put_part};
-use path_db::Row;
+use crate::pour_buffer::{cut_front, put_if_any, put_part};
+use byte_lists::{SECTOR, put};
+use path_db::{MOST_ROW_BYTES, Row};
 use std::alloc::{AllocError, Global};
 use std::marker::Model;
 
 /// The bytes of a piece: 256 sectors of 512 bytes.
-pub const PIECE: usize = 131_072;
+pub const PIECE: usize = 256 * SECTOR;
 
 /// The bytes of the buffer: a piece, and the greatest record of a row.
-const BUFFER: usize = 147_461;
+const BUFFER: usize = PIECE + MOST_ROW_BYTES;
 
 /// Makes the records after commands of the records before. Both go through it in pieces: the records before are given in
 /// windows, which may be cut anywhere, and what was made is taken. It has a buffer of 147,461 bytes, and takes no memory once it is

@@ -5,6 +5,7 @@ ghost use Rattle.std.specs.Option.{option_map};
 ghost use Rattle.path_rows.specs.Row.{row_view};
 ghost use Rattle.row_edits.specs.Edits.{record_if_any};
 
+use byte_lists::put;
 use path_db::{ROW_HEAD, Row, row_head};
 
 /// Appends the record of a row, where there is one. The answer is how many bytes are in use then.
@@ -23,15 +24,6 @@ pub(crate) fn put_if_any(buffer: &mut [u8], used: usize, row: &Option<Row>) -> u
         }
         None => used,
     }
-}
-
-/// Writes bytes from an offset on.
-pub(crate) fn put(buffer: &mut [u8], at: usize, bytes: &[u8])
-    requires { at + length bytes.now ≤ length buffer.old }
-    ensures put { take (at + length bytes.now) buffer.new ≡ take at buffer.old ++ bytes.now }
-    ensures size { length buffer.new ≡ length buffer.old }
-{
-    buffer[at..at + bytes.len()].copy_from_slice(bytes);
 }
 
 /// Appends bytes of a window. The answer is how many bytes are in use then.

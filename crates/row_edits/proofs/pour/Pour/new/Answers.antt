@@ -7,10 +7,10 @@ use Rattle.row_edits.proofs.pour.Pour.new.Goals as goal
 
 pub returns : goal.returns
 returns c =
-    let new = c.put.new.buffer in
+    let new = c.put.new.bytes in
     let size : length new ≡ c.in_ok-buffer.buffer.len = omega (arith, c.put.ensures.size, c.in_ok-buffer.buffer.ok.0, ap length c.deref_mut.ensures.value) in
     let head : length c.args.head.now ≡ 32 = search rules in
     let long : 32 ≡ 0 + length c.args.head.now = omega (arith, head) in
-    let front : take 32 new ≡ c.args.head.now = ap (λ (n : ℕ). take n new) long ∙ c.put.ensures.put in
+    let front : take 32 new ≡ c.args.head.now = ap (λ (n : ℕ). take n new) long ∙ c.put.ensures.front in
     ap (λ (out : List ℕ). let r : PourView = record { out = out; edits = Keep 0 ∷ c.args.edits.items; rows = views_if_any c.args.rows.items; position = 0 } in r)
     (ap (take 32) (with_items_is c.in_ok-buffer.buffer new size) ∙ front)

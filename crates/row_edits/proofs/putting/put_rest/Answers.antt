@@ -4,7 +4,7 @@ use Rattle.path_db.specs.declared.key.Key.{Key}
 use Rattle.row_edits.specs.declared.edit.Edit.{Edit}
 use Rattle.row_edits.specs.Planning.{IsEnding}
 use Rattle.row_edits.proofs.Plans.{ending_from, put_end, all_made}
-use Rattle.row_edits.proofs.placing.put_rest.Goals as goal
+use Rattle.row_edits.proofs.putting.put_rest.Goals as goal
 
 abbrev no_key : Key
 no_key = record { kind = Up; id = [] }

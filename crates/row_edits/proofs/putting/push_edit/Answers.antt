@@ -3,7 +3,7 @@ use Rattle.std.specs.Prelude.{Option}
 use Rattle.std.specs.Option.{option_to_list}
 use Rattle.row_edits.specs.declared.edit.Edit.{Edit}
 use Rattle.row_edits.proofs.Plans.{joined}
-use Rattle.row_edits.proofs.placing.push_edit.Goals as goal
+use Rattle.row_edits.proofs.putting.push_edit.Goals as goal
 
 pub returns-in_ok-push-in-Some-joined : goal.returns-in_ok-push-in-Some-joined
 returns-in_ok-push-in-Some-joined c =

@@ -1,7 +1,7 @@
 use Rattle.std.proofs.Common.{ℕ, ◌-◌, length, Bool, List}
 use Rattle.path_rows.specs.Database.{RowView}
 use Rattle.row_edits.specs.Planning.{IsPlanned, IsEnding}
-use Rattle.row_edits.proofs.placing.put_rest.Given as goal
+use Rattle.row_edits.proofs.putting.put_rest.Given as goal
 
 -- The edits are those after the last row, with a key more each time.
 abbrev pub invariant-loop-at : goal.invariant-loop-at

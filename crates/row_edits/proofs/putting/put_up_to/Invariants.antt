@@ -2,7 +2,7 @@ use Rattle.std.proofs.Common.{ℕ, ◌-◌, length, Bool, List}
 use Rattle.path_rows.specs.Database.{RowView}
 use Rattle.path_rows.specs.Row.{row_view}
 use Rattle.row_edits.specs.Planning.{IsBefore}
-use Rattle.row_edits.proofs.placing.put_up_to.Given as goal
+use Rattle.row_edits.proofs.putting.put_up_to.Given as goal
 
 -- The edits are those before the row has one, with a key more each time.
 abbrev pub invariant-loop-at : goal.invariant-loop-at

@@ -3,7 +3,7 @@ use Rattle.path_rows.specs.Row.{row_view}
 use Rattle.row_edits.specs.declared.edit.Edit.{Edit}
 use Rattle.row_edits.specs.Planning.{IsBefore, IsFound}
 use Rattle.row_edits.proofs.Plans.{put_below, put_same, none_same, none_left, is_greater, is_equal, is_less}
-use Rattle.row_edits.proofs.placing.put_up_to.Goals as goal
+use Rattle.row_edits.proofs.putting.put_up_to.Goals as goal
 
 pub returns-then-eq : goal.returns-then-eq
 returns-then-eq c = λ p seen kept olds before.

@@ -12,8 +12,8 @@ use path_db::{Key, Row};
 use std::alloc::AllocError;
 use std::cmp::Ordering;
 
-/// Appends a `Put` for each key from a place on that is below a row's, and for the row's own, where it is one of them. The answer
-/// is the place of the next key, and whether the row's is one of them.
+/// Appends a `Put` for each key from an index on that is below a row's, and for the row's own, where it is one of them. The answer
+/// is the index of the next key, and whether the row's is one of them.
 pub(crate) fn put_up_to(
     keys: &[Key],
     at: usize,
@@ -46,7 +46,7 @@ fn order_to(key: &Key, row: &Row) -> Ordering
     key.order(&Key::of_row(row))
 }
 
-/// Appends a `Put` for each key from a place on.
+/// Appends a `Put` for each key from an index on.
 pub(crate) fn put_rest(keys: &[Key], at: usize, edits: &mut Vec<Edit>) -> Result<(), AllocError>
     ensures { OnOk result ((p : RowView → Bool) (seen : List RowView) (kept : ℕ) (olds : List RowView)
         → IsPlanned keys.now p seen at edits.old.items kept olds → MakesAll keys.now p seen edits.new.items kept olds) }
