@@ -9,11 +9,11 @@ ghost use Rattle.group_core.specs.Starting.{value_in, GoesOn, IsStarted, check_i
 use crate::bookkeeping::Turn;
 use crate::showcase::Showcase;
 use crate::state::State;
-use ckpt_pair::BEFORE_ROWS;
+use ckpt_pair::area_room;
 use group_laws::{Check, Flush};
 use path_db::written_rows_are_counted;
 use rising_map::RisingMap;
-use sector_dev::{Device, SECTOR};
+use sector_dev::Device;
 use std::alloc::Global;
 use store_open::Store;
 
@@ -77,7 +77,7 @@ fn goes_on<D: Device>(store: &Store<D>) -> bool
     if store.is_broken() {
         return false;
     }
-    let most = SECTOR as u64 * u64::from(store.geometry().checkpoint) - BEFORE_ROWS as u64;
+    let most = area_room(store.geometry().checkpoint);
     store.db().encoded_len() <= most && (!store.is_sealed() || store.sealed_len() <= most)
 }
 

@@ -12,10 +12,10 @@ use crate::showcase::Showcase;
 use crate::state::State;
 use crate::submit_error::SubmitError;
 use crate::ticket::Ticket;
-use ckpt_pair::BEFORE_ROWS;
+use ckpt_pair::area_room;
 use gate_journal::{commands_are_allowed, is_within_limits};
 use path_db::{Command, written_rows_are_counted};
-use sector_dev::{Device, SECTOR};
+use sector_dev::Device;
 use std::snapshot::Snapshot;
 
 /// The most commands that are pending.
@@ -34,7 +34,7 @@ impl<D: Device, S: Showcase> State<D, S> {
         }
         let place = self.next_place();
         let shown = Snapshot::of(&command);
-        let most = SECTOR as u64 * u64::from(self.geometry.checkpoint) - BEFORE_ROWS as u64;
+        let most = area_room(self.geometry.checkpoint);
         let accepted = accept(
             &mut self.tip,
             &mut self.kept,

@@ -7,7 +7,7 @@ ghost use Rattle.store_open.specs.Looking.{LooksAt};
 
 use crate::walking::{End, Walk, walk_journal};
 use byte_lists::read_u32;
-use ckpt_pair::{Head, Heads, PairError, choose, read_head, tail_half};
+use ckpt_pair::{COUNT_AT, Head, Heads, PairError, SIZE_AT, choose, read_head, tail_half};
 use image_laws::Half;
 use sector_dev::{DevError, Device};
 use store_open::{Geometry, read_sector};
@@ -84,8 +84,8 @@ pub(crate) fn read_half<D: Device>(
     )?;
     Ok(HalfFound {
         head: read_head(&gate, &area),
-        size: read_u32(&area, 24),
-        count: read_u32(&area, 28),
+        size: read_u32(&area, SIZE_AT),
+        count: read_u32(&area, COUNT_AT),
         journal,
     })
 }

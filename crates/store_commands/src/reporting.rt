@@ -7,8 +7,8 @@ ghost use Rattle.store_commands.specs.Status.{ReportsSo, number_line, part_line,
 
 use crate::error::Fault;
 use crate::writing::write_all;
-use ckpt_pair::BEFORE_ROWS;
-use sector_dev::{Device, SECTOR};
+use ckpt_pair::area_room;
+use sector_dev::Device;
 use std::alloc::{AllocError, Global};
 use std::io::Write;
 use store_open::{Folded, look};
@@ -60,8 +60,7 @@ fn head_lines(alloc: Global, folded: &Folded) -> Result<String, AllocError>
 fn use_lines(alloc: Global, folded: &Folded) -> Result<String, AllocError>
     ensures { IfOk result (λ text. string_bytes text ≡ use_lines (folded_status folded.now)) }
 {
-    let area = SECTOR as u64 * u64::from(folded.geometry.checkpoint);
-    let most = area.saturating_sub(BEFORE_ROWS as u64);
+    let most = area_room(folded.geometry.checkpoint);
     let bytes = part_line(alloc, "bytes", folded.db.encoded_len(), most)?;
     let sectors = u64::from(folded.geometry.journal);
     let journal = part_line(alloc, "journal", folded.gate, sectors)?;

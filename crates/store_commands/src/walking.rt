@@ -5,7 +5,7 @@ ghost use Rattle.store_open.specs.Looking.{LooksAt};
 ghost use Rattle.store_commands.specs.Walking.{GoesOnBehind};
 
 use byte_lists::{is_open, read_u32, read_u64};
-use gate_journal::{GROUP, SEAL, payload_sectors};
+use gate_journal::{COUNT_AT, GROUP, PLACE_AT, SEAL, SIZE_AT, payload_sectors};
 use sector_dev::{DevError, Device};
 use store_open::read_sector;
 
@@ -108,8 +108,8 @@ fn step_behind(header: &[u8; 512], gate: u64) -> Step
 {
     match header[0] {
         GROUP => {
-            let payload = payload_sectors(u64::from(read_u32(header, 4)));
-            let behind = read_u64(header, 8).saturating_add(u64::from(header[1]));
+            let payload = payload_sectors(u64::from(read_u32(header, SIZE_AT)));
+            let behind = read_u64(header, PLACE_AT).saturating_add(u64::from(header[COUNT_AT]));
             Step::Group(gate + 1 + payload, behind)
         }
         SEAL => Step::End(End::Sealed),

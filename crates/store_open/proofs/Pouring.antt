@@ -98,7 +98,7 @@ pub poured_none : (at : ℕ) (bytes : List ℕ) (start : Disk) → (IsHonest sta
 poured_none at bytes start whole inside = record {
   front = [];
   parts = refl;
-  place = omega arith;
+  reached = omega arith;
   written = λ honest. sym (overwrite_same (512 * at) 0 (reads_of start) (omega (arith, (whole honest).size, inside)));
 }
 
@@ -117,13 +117,13 @@ row_more start now at sector used more before after rows all left bytes so_far n
   room = omega (
     arith,
     size,
-    poured.place,
+    poured.reached,
     ap length poured.parts,
     length-append poured.front (take more after ++ rows_encoding left),
     length-append (take more after) (rows_encoding left),
     length-append bytes (replicate (512 * sectors_of (length bytes) - length bytes) 0),
   );
-  since = omega (arith, poured.place);
+  since = omega (arith, poured.reached);
 }
   where
     poured : IsPoured start now at sector (take more after ++ rows_encoding left) bytes
@@ -144,12 +144,12 @@ pub poured_piece : {T E : Type 0} (at sector count : ℕ) (held piece rest left 
 poured_piece at sector count held piece rest left bytes answer start now later so_far keeps parts call done size whole inside = record {
   front = so_far.front ++ piece;
   parts = append_assoc so_far.front piece (rest ++ left) ∙ ap (λ (list : List ℕ). so_far.front ++ list) (sym (append_assoc piece rest left) ∙ ap (λ (list : List ℕ). list ++ left) parts) ∙ so_far.parts;
-  place = ap (λ (n : ℕ). 512 * at + n) (length-append so_far.front piece) ∙ omega (arith, so_far.place, size);
+  reached = ap (λ (n : ℕ). 512 * at + n) (length-append so_far.front piece) ∙ omega (arith, so_far.reached, size);
   written = λ honest.
       let lands = call.lands (honest_after start now keeps honest) in
       ap (λ (h : History). h.now.reads) lands.history
       ∙ ap (λ (list : List ℕ). overwrite (512 * sector) list (reads_of now)) (done lands.landed lands.done)
-      ∙ (λ i. overwrite (sym so_far.place i) piece (so_far.written honest i))
+      ∙ (λ i. overwrite (sym so_far.reached i) piece (so_far.written honest i))
       ∙ overwrite_more (512 * at) so_far.front piece (reads_of start) (omega (arith, inside, (whole honest).size));
 }
 
@@ -175,13 +175,13 @@ module _ (start now : Disk) (at sector : ℕ) (rest bytes : List ℕ) (so_far : 
       ∙ ap padded so_far.parts
     where
       zeros : 512 * sectors_of (length rest) - length rest ≡ 512 * sectors_of (length (so_far.front ++ rest)) - length (so_far.front ++ rest)
-      zeros = omega (arith, so_far.place, length-append so_far.front rest)
+      zeros = omega (arith, so_far.reached, length-append so_far.front rest)
 
   pub rest_room : 512 * sector + length (padded rest) ≡ 512 * at + length (padded bytes)
-  rest_room = omega (arith, so_far.place, ap length rest_padded, length-append so_far.front (padded rest))
+  rest_room = omega (arith, so_far.reached, ap length rest_padded, length-append so_far.front (padded rest))
 
   pub rest_since : 512 * at ≤ 512 * sector
-  rest_since = omega (arith, so_far.place)
+  rest_since = omega (arith, so_far.reached)
 
   pub rest_written : {T E : Type 0} (answer : Result T E) (later : Disk) → Keeps start now → WriteCall sector (padded rest) answer now later → ((landed : List ℕ) → OnOk answer (landed ≡ padded rest) → landed ≡ padded rest)
       → (IsHonest start → IsWhole start) → 512 * at ≤ 512 * start.sectors → IsHonest start → reads_of later ≡ overwrite (512 * at) (padded bytes) (reads_of start)
@@ -189,6 +189,6 @@ module _ (start now : Disk) (at sector : ℕ) (rest bytes : List ℕ) (so_far : 
       let lands = call.lands (honest_after start now keeps honest) in
       ap (λ (h : History). h.now.reads) lands.history
       ∙ ap (λ (list : List ℕ). overwrite (512 * sector) list (reads_of now)) (done lands.landed lands.done)
-      ∙ (λ i. overwrite (sym so_far.place i) (padded rest) (so_far.written honest i))
+      ∙ (λ i. overwrite (sym so_far.reached i) (padded rest) (so_far.written honest i))
       ∙ overwrite_more (512 * at) so_far.front (padded rest) (reads_of start) (omega (arith, inside, (whole honest).size))
       ∙ ap (λ (list : List ℕ). overwrite (512 * at) list (reads_of start)) rest_padded

@@ -14,5 +14,5 @@ record_if_any (Some row) = row_record row
 pub record IsPoured (old new : Disk) (at sector : ℕ) (rest bytes : List ℕ) : Type 0 where
   pub front : List ℕ
   pub parts : front ++ rest ≡ bytes
-  pub place : 512 * at + length front ≡ 512 * sector
+  pub reached : 512 * at + length front ≡ 512 * sector
   pub written : IsHonest old → reads_of new ≡ overwrite (512 * at) front (reads_of old)

@@ -10,9 +10,9 @@ use crate::laying::BUFFER;
 use crate::store::Store;
 use crate::store_error::StoreError;
 use crate::taking_over::take_over;
-use ckpt_pair::{BEFORE_ROWS, Head, LATEST, checkpoint_head};
+use ckpt_pair::{Head, LATEST, area_room, checkpoint_head};
 use path_db::written_rows_are_counted;
-use sector_dev::{Device, SECTOR};
+use sector_dev::Device;
 
 impl<D: Device> Store<D> {
     /// Writes all rows to the other half, with the next epoch, in version `LATEST`, piece by piece; syncs, opens that
@@ -72,9 +72,7 @@ impl<D: Device> Store<D> {
         if self.head.epoch == u64::MAX {
             return Err(StoreError::Exhausted);
         }
-        if self.db.encoded_len()
-            > SECTOR as u64 * u64::from(self.geometry.checkpoint) - BEFORE_ROWS as u64
-        {
+        if self.db.encoded_len() > area_room(self.geometry.checkpoint) {
             return Err(StoreError::Unfit);
         }
         Ok(())

@@ -12,9 +12,9 @@ ghost use Rattle.store_open.specs.NewStore.{HasRoomFor};
 ghost use Rattle.store_open.specs.Closing.{IsClosing, IsClosingUnused, HasClosedGates, HasNoGateToClose, synced_by};
 
 use crate::reading::read_sector;
-use byte_lists::is_open;
+use byte_lists::{closed_gate, closed_gates, is_open};
 use image_laws::{Geometry, Half};
-use sector_dev::{DevError, Device, SECTOR};
+use sector_dev::{DevError, Device};
 
 /// Closes those of a half's two gates that read open: both in one write where the half gate does, and else the journal's first gate
 /// alone. Nothing may be dirty before the call.
@@ -41,10 +41,11 @@ pub(crate) fn close_half<D: Device>(
 {
     let gate = geometry.gate_at(half);
     if is_open_at(device, gate)? {
-        return device.write(gate, &[0; 2 * SECTOR]);
+        return device.write(gate, &closed_gates());
     }
-    if is_open_at(device, gate + 1)? {
-        return device.write(gate + 1, &[0; SECTOR]);
+    let journal = geometry.journal_at(half);
+    if is_open_at(device, journal)? {
+        return device.write(journal, &closed_gate());
     }
     Ok(())
 }

@@ -12,7 +12,7 @@ ghost use Rattle.image_laws.specs.Layout.{IsGeometry, image_sectors};
 ghost use Rattle.image_laws.specs.Geometry.{geometry_view};
 ghost use Rattle.store_open.specs.NewStore.{HasRoomFor};
 
-use crate::sectors::{LAYOUT, STORE_MAGIC};
+use crate::title::{CHECKPOINT_AT, JOURNAL_AT, LAYOUT, LAYOUT_AT, STORE_MAGIC};
 use byte_lists::{read_u32, read_u64};
 use image_laws::Geometry;
 use sector_dev::{DevError, Device, SECTOR};
@@ -45,8 +45,8 @@ fn geometry_of(sector: &[u8], sectors: u64) -> Option<Geometry>
         return None;
     }
     let geometry = Geometry {
-        checkpoint: read_u32(sector, 12),
-        journal: read_u32(sector, 16),
+        checkpoint: read_u32(sector, CHECKPOINT_AT),
+        journal: read_u32(sector, JOURNAL_AT),
     };
     if !geometry.is_allowed() || sectors < geometry.sectors() {
         return None;
@@ -59,5 +59,5 @@ fn is_named(sector: &[u8]) -> bool
     requires { length sector.now ≡ 512 }
     ensures { IsTrue result ↔ ((eight_at 0 sector.now ≡ store_magic) × (four_at 8 sector.now ≡ layout_number)) }
 {
-    read_u64(sector, 0) == STORE_MAGIC && read_u32(sector, 8) == LAYOUT
+    read_u64(sector, 0) == STORE_MAGIC && read_u32(sector, LAYOUT_AT) == LAYOUT
 }

@@ -14,20 +14,23 @@ ghost use Rattle.store_open.specs.Pouring.{IsPoured, record_if_any};
 ghost use Rattle.store_open.specs.TakingOver.{IsTornAt};
 ghost use Rattle.store_open.specs.declared.laying.TheConstants.{BUFFER, WRITE_BYTES};
 
-use crate::sectors::put;
-use byte_lists::sector_count;
+use byte_lists::{put, sector_count};
 use ckpt_pair::BEFORE_ROWS;
 use path_db::{PathDb, ROW_HEAD, Row, Rows, row_head};
 use sector_dev::{DevError, Device, SECTOR};
+use seg_core::MOST_SEGMENT_BYTES;
 
 /// The bytes of one write.
 const WRITE_BYTES: usize = 131_072;
 
 /// The sectors of one write.
-const WRITE_SECTORS: u64 = 256;
+const WRITE_SECTORS: u64 = (WRITE_BYTES / SECTOR) as u64;
+
+/// The most bytes of a row's record.
+const MOST_ROW: usize = ROW_HEAD + MOST_SEGMENT_BYTES;
 
 /// The length of the buffer in bytes: a piece and the seven greatest rows, in whole sectors.
-pub(crate) const BUFFER: usize = 246_272;
+pub(crate) const BUFFER: usize = (WRITE_BYTES + 7 * MOST_ROW + (SECTOR - 1)) / SECTOR * SECTOR;
 
 /// Writes the front of a checkpoint and its rows from a sector on, padded with zeros to whole sectors, piece by piece from one
 /// buffer; then syncs. Nothing may be dirty before the call.

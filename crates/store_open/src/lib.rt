@@ -27,6 +27,7 @@ mod sectors;
 mod store;
 mod store_error;
 mod taking_over;
+mod title;
 
 pub use closing_laws::openings_are_kept_by_closing;
 pub use error::OpenError;

@@ -22,7 +22,7 @@ use ckpt_pair::{
 };
 use image_laws::{Geometry, Half};
 use path_db::RowsReader;
-use sector_dev::Device;
+use sector_dev::{Device, SECTOR};
 use std::alloc::Global;
 
 /// The most sectors that are read at a time: 1 MiB.
@@ -39,20 +39,21 @@ pub(crate) fn feed_area<D: Device>(
     ensures looks { LooksFor result (D.disk device.old) (D.disk device.new) }
     ensures rows { IsHonest (D.disk device.old) → FeedsSo (part (512 * area + 32) size (reads_of (D.disk device.old))) result }
 {
+    let sector = SECTOR as u64;
     let end = BEFORE_ROWS as u64 + u64::from(size);
-    let sectors = (end + 511) / 512;
+    let sectors = (end + (sector - 1)) / sector;
     let mut reader = RowsReader::new(alloc);
     let mut fed = BEFORE_ROWS as u64;
     'pieces: while fed < end {
-        let first = fed / 512;
+        let first = fed / sector;
         let count = (sectors - first).min(MOST_READ);
-        let is_small = count <= 2048;
+        let is_small = count <= MOST_READ;
         prove!(is_small);
         let piece = read_piece(alloc, device, area + first, count)?;
-        let from = fed - 512 * first;
-        let to = (end - 512 * first).min(512 * count);
+        let from = fed - sector * first;
+        let to = (end - sector * first).min(sector * count);
         reader = feed_rows(reader, &piece[from as usize..to as usize])?;
-        fed = 512 * first + to;
+        fed = sector * first + to;
     }
     Ok(reader)
 }
@@ -76,7 +77,7 @@ pub(crate) fn read_checkpoint<D: Device>(
     checkpoints_are_read_by_their_fronts();
     let at = geometry.area_at(half);
     let sector = read_sector(device, at)?;
-    let front = read_front(&sector, 512 * u64::from(geometry.checkpoint))?;
+    let front = read_front(&sector, SECTOR as u64 * u64::from(geometry.checkpoint))?;
     let reader = feed_area(alloc, device, at, front.size)?;
     let db = finish_rows(reader, front.count)?;
     Ok(Checkpoint {

@@ -13,10 +13,10 @@ ghost use Rattle.store_open.specs.declared.laying.TheConstants.{BUFFER};
 ghost use Rattle.store_open.specs.TakingOver.{IsTornAt, IsTakingOver, taken};
 
 use crate::laying::lay;
-use byte_lists::open_gate;
+use byte_lists::{closed_gates, open_gate};
 use image_laws::{Geometry, Half};
 use path_db::PathDb;
-use sector_dev::{DevError, Device, SECTOR};
+use sector_dev::{DevError, Device};
 
 /// Writes a checkpoint to the other half's area, opens that half, and closes the old half and its journal in one write. Each of the
 /// three writes is synced before the next one. Nothing may be dirty before the call.
@@ -48,7 +48,7 @@ pub(crate) fn take_over<D: Device>(
     let new = half.other();
     lay(device, geometry.area_at(new), head, db, buffer)?;
     write_through(device, geometry.gate_at(new), &open_gate())?;
-    write_through(device, geometry.gate_at(half), &[0; 2 * SECTOR])
+    write_through(device, geometry.gate_at(half), &closed_gates())
 }
 
 /// Writes whole sectors, and syncs. Nothing may be dirty before the call.

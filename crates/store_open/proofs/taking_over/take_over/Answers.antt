@@ -26,6 +26,7 @@ write_through-requires-2-clause-inside g c =
       c.write_through.ensures.any_moment.keeps.sectors,
       c.requires.room,
       c.gate_at-2.ensures,
+      c.closed_gates.ensures.size,
       gates_inside (geometry_view c.args.geometry) c.args.half (omega (arith, c.requires.allowed)),
     )
 
@@ -33,7 +34,7 @@ pub returns-clause-any_moment : goal.returns-clause-any_moment
 returns-clause-any_moment g c =
     third_taking (geometry_view c.args.geometry) c.args.half _ c.other-new.ensures (padded (c.args.head.now ++ rows_encoding c.args.db.now)) _ _ _ c.area_at.ensures c.lay.ensures.any_moment
     c.in_ok-lay.ensures.written _ _ _ c.gate_at.ensures c.open_gate.ensures c.write_through.ensures.any_moment
-    c.in_ok-write_through.ensures.written _ _ _ c.gate_at-2.ensures refl c.write_through-2.ensures.any_moment
+    c.in_ok-write_through.ensures.written _ _ _ c.gate_at-2.ensures c.closed_gates.ensures.same c.write_through-2.ensures.any_moment
 
 pub returns-clause-settled : goal.returns-clause-settled
 returns-clause-settled g c =
@@ -47,5 +48,5 @@ returns-clause-taken g c =
     let honest_one = honest_after _ _ c.lay.ensures.any_moment.keeps honest in
     all_taken (geometry_view c.args.geometry) c.args.half _ c.other-new.ensures (padded (c.args.head.now ++ rows_encoding c.args.db.now)) _ _ _ c.area_at.ensures c.lay.ensures.any_moment
     c.in_ok-lay.ensures.written _ _ _ c.gate_at.ensures c.open_gate.ensures c.write_through.ensures.any_moment
-    c.in_ok-write_through.ensures.written _ _ _ c.gate_at-2.ensures refl c.write_through-2.ensures.any_moment honest honest_one
+    c.in_ok-write_through.ensures.written _ _ _ c.gate_at-2.ensures c.closed_gates.ensures.same c.write_through-2.ensures.any_moment honest honest_one
     (written (honest_after _ _ c.write_through.ensures.any_moment.keeps honest_one))) c.write_through-2.ensures.written
