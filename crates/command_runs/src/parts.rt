@@ -2,9 +2,10 @@
 
 use crate::images::{
     CLOSED, Change, EPOCH_0, EPOCH_1, FIRST_AREA, FIRST_GATE, FIRST_JOURNAL, LARGE_AT_1,
-    LAST_EPOCH, OPEN, PURGE, PURGE_AND_A_BYTE, PURGE_AT_1, SEAL, SECOND_AREA, SECOND_GATE, SECTORS,
-    TITLE, VERSION_1, VERSION_3,
+    LAST_EPOCH, OPEN, PURGE, PURGE_AND_A_BYTE, PURGE_AT_1, REGISTRATION, SEAL, SECOND_AREA,
+    SECOND_GATE, SECTORS, TITLE, VERSION_1, VERSION_3,
 };
+use worked_segments::ENTRIES;
 use worked_segments::digits::{LOOKUP, REGISTER_2096};
 
 /// A command line, and what it reads from standard input.
@@ -233,6 +234,21 @@ pub(crate) const PARTS: &[Part] = &[
         before: Before::Changes(&[(FIRST_AREA, LAST_EPOCH)]),
         sessions: &[],
         lines: &[("pathd upgrade damaged", ""), ("pathd show damaged", "")],
+    },
+    Part {
+        what: "version 1, and a row that no checkpoint has room for",
+        before: Before::Changes(&[
+            (FIRST_AREA, VERSION_1),
+            (FIRST_JOURNAL, OPEN),
+            (FIRST_JOURNAL + 1, REGISTRATION),
+            (FIRST_JOURNAL + 3, &ENTRIES),
+        ]),
+        sessions: &[],
+        lines: &[
+            ("pathd status damaged", ""),
+            ("pathd upgrade damaged", ""),
+            ("pathd status damaged", ""),
+        ],
     },
     Part {
         what: "sessions",
