@@ -3,10 +3,11 @@
 use crate::host::Host;
 use group_core::StageError;
 use group_runs::{Event, Reply, Run, run};
+use group_scripts::acts::NOTHING;
 use hub_scripts::acts::{Answer, GROUPS, Watch, fill, fold, refuse_stage, spend, submit};
 use hub_scripts::fakes::state_of;
 use hub_scripts::stores::{LEAST, ended, formatted, opened, opens_to};
-use path_db::{Command, Outcome};
+use path_db::Command;
 use path_hub::{Hub, HubJob, HubName, Steps, with_hub};
 use sector_dev::{Device, Gate, HeldDevice, MemDevice};
 use std::alloc::Global;
@@ -16,14 +17,6 @@ use std::sync::atomic::{AtomicU64, Ordering};
 use std::test::Fail;
 use std::time::Clock;
 use store_open::Store;
-
-/// What a purge does that takes no row away.
-const NOTHING: Outcome = Outcome {
-    inserted: 0,
-    updated: 0,
-    kept: 0,
-    purged: 0,
-};
 
 /// How many lines the script has: 513 purges that are committed at once, the one that a seal is staged before, and the one that is left.
 const LINES: usize = 8 * 513 + 15 + 18;

@@ -56,6 +56,13 @@ pub(crate) const PURGE_AT_1: &[u8] =
 pub(crate) const LARGE_AT_1: &[u8] =
     b"\x01\x01\x00\x00\x00\x04\x00\x00\x00\x00\x00\x00\x00\x00\x00\x01";
 
+/// The first bytes of a group at place 0 whose one command registers a down segment of 1,075 bytes. In the segment's information is an
+/// unknown field of 983 zeros, which end where the group's third sector begins: the entries are there.
+pub(crate) const REGISTRATION: &[u8] =
+    b"\x01\x01\x00\x00\x00\x00\x04\x3e\x00\x00\x00\x00\x00\x00\x00\x00\
+\x00\x00\x04\x3a\x01\x01\x02\x00\x00\x04\x33\
+\x0a\xe2\x07\x08\x80\xe2\xcf\xaa\x06\x10\x07\x7a\xd7\x07";
+
 /// A seal at place 0.
 pub(crate) const SEAL: &[u8] = b"\x02\x00\x00\x00\x00\x00\x00\x00\x00\x00\x00\x00\x00\x00\x00\x00";
 

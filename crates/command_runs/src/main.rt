@@ -15,15 +15,13 @@ use crate::images::Change;
 use crate::output::Output;
 use crate::parts::{Before, PARTS, Part};
 use crate::peers::meet;
+use byte_lists::SECTOR;
 use path_program::carry_out;
 use std::fs::{File, OpenOptions};
 use std::net::{TcpListener, TcpStream};
 use std::os::unix::fs::FileExt;
 use std::rt::Files;
 use std::{fs, io, thread};
-
-/// The length of a sector in bytes.
-const SECTOR: u64 = 512;
 
 /// The file of a store, and the one that is made of it.
 const STORED: &str = "store";
@@ -102,7 +100,7 @@ fn change<R: AllocGlobal + Files<File = File>>(rt: &R, changes: &[Change]) -> io
     fs::copy(rt, STORED, CHANGED)?;
     let file = OpenOptions::new().write(true).open(rt, CHANGED)?;
     for (sector, bytes) in changes {
-        file.write_all_at(bytes, sector.wrapping_mul(SECTOR))?;
+        file.write_all_at(bytes, sector.wrapping_mul(SECTOR as u64))?;
     }
     Ok(())
 }

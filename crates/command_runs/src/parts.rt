@@ -2,9 +2,11 @@
 
 use crate::images::{
     CLOSED, Change, EPOCH_0, EPOCH_1, FIRST_AREA, FIRST_GATE, FIRST_JOURNAL, LARGE_AT_1,
-    LAST_EPOCH, OPEN, PURGE, PURGE_AND_A_BYTE, PURGE_AT_1, SEAL, SECOND_AREA, SECOND_GATE, SECTORS,
-    TITLE, VERSION_1, VERSION_3,
+    LAST_EPOCH, OPEN, PURGE, PURGE_AND_A_BYTE, PURGE_AT_1, REGISTRATION, SEAL, SECOND_AREA,
+    SECOND_GATE, SECTORS, TITLE, VERSION_1, VERSION_3,
 };
+use worked_segments::ENTRIES;
+use worked_segments::digits::{LOOKUP, REGISTER_2096};
 
 /// A command line, and what it reads from standard input.
 pub(crate) type Line = (&'static str, &'static str);
@@ -28,13 +30,6 @@ pub(crate) struct Part {
     pub(crate) sessions: &'static [&'static str],
     pub(crate) lines: &'static [Line],
 }
-
-/// Registers a down segment from 1-ff00:0:110 to 1-ff00:0:111.
-const REGISTRATION: &str =
-    "00000061010a5e0802125a0a580a080880d0acf30e100712290a270a251223089082808080e07f109182808080e07f1a0e0a0c1001183f220601020304050628c00b12210a1f0a1d121b089182808080e07f1a0e0a0c0802183f22060a0b0c0d0e0f28c00b";
-
-/// Asks for the segments from the one to the other.
-const LOOKUP: &str = "0000001102089082808080e07f109182808080e07f";
 
 /// A frame of no kind.
 const NO_KIND: &str = "0000000105";
@@ -241,9 +236,24 @@ pub(crate) const PARTS: &[Part] = &[
         lines: &[("pathd upgrade damaged", ""), ("pathd show damaged", "")],
     },
     Part {
+        what: "version 1, and a row that no checkpoint has room for",
+        before: Before::Changes(&[
+            (FIRST_AREA, VERSION_1),
+            (FIRST_JOURNAL, OPEN),
+            (FIRST_JOURNAL + 1, REGISTRATION),
+            (FIRST_JOURNAL + 3, &ENTRIES),
+        ]),
+        sessions: &[],
+        lines: &[
+            ("pathd status damaged", ""),
+            ("pathd upgrade damaged", ""),
+            ("pathd status damaged", ""),
+        ],
+    },
+    Part {
         what: "sessions",
         before: Before::Nothing,
-        sessions: &[REGISTRATION, LOOKUP, NO_KIND],
+        sessions: &[REGISTER_2096, LOOKUP, NO_KIND],
         lines: &[(
             "pathd run store --listen ADDR --cores 1-ff00:0:110 --sessions 3 --idle 60",
             "",

@@ -1,6 +1,7 @@
 //! The calls of a state, one after the other, each of which has to be made.
 
 use group_core::{Redeemed, StageError, StepError, SubmitError, Ticket};
+pub use group_scripts::stores::GROUPS;
 use path_db::{Command, Outcome};
 use path_hub::Steps;
 use test_host::{TestHost, assert_true};
@@ -134,9 +135,6 @@ pub fn commit<S: Steps>(rt: &impl TestHost, steps: &S, watch: &mut impl Watch) {
     flush(rt, steps, watch);
     spend(rt, steps, watch, ticket);
 }
-
-/// How many groups of one purge a journal of 516 sectors has room for.
-pub const GROUPS: u64 = 257;
 
 /// Commits this number of purges, a group for each.
 pub fn commit_all<S: Steps>(rt: &impl TestHost, steps: &S, watch: &mut impl Watch, count: u64) {

@@ -6,35 +6,17 @@ use group_core::{
     BeginError, Closing, Durable, Laid, Live, Opened, PlainShow, Plan, PublishError, Redeemed,
     Stable, StageError, Staged, State, StepError, SubmitError, Switched, Ticket, Written,
 };
+pub use group_scripts::work::state_of;
 use path_db::Command;
 use path_hub::{Awaited, Steps};
-use sector_dev::{Device, MemDevice};
+use sector_dev::MemDevice;
 use std::alloc::Global;
 use std::sync::atomic::{AtomicU64, Ordering};
 use std::sync::{Mutex, MutexGuard, Wait};
-use store_open::Store;
 use test_host::{TestHost, assert_true};
 
 /// More calls, and more rests, than are made of a state here: with more the test ends.
 const MANY: u64 = 10_000;
-
-/// A state of a store, of this home. Where memory is refused for a copy of the rows, it is asked for once more.
-pub fn state_of<D: Device>(
-    rt: &impl TestHost,
-    alloc: Global,
-    store: Store<D>,
-    home: u64,
-) -> State<D, PlainShow> {
-    let copy = match store.db().try_clone() {
-        Err(_) => store.db().try_clone(),
-        copied => copied,
-    };
-    let Ok(db) = copy else {
-        rt.fail("out of memory");
-    };
-    let show = PlainShow::new(db, store.place());
-    State::new(alloc, store, show, home)
-}
 
 /// A state that stops before the call of a number, counted from 1; a rest is no call, and ends at once.
 pub struct Fake<R: Wait + TestHost> {

@@ -12,7 +12,7 @@ use seg_lookup::Query;
 use std::alloc::Global;
 use store_open::{Geometry, Store, format};
 use test_host::{TestHost, assert_same, assert_true};
-use worked_segments::{EGRESS, SEGMENT};
+use worked_segments::{SEGMENT, leaving_by};
 
 /// How long a commit is waited for, in rests of at most 10 milliseconds.
 const MOST_RESTS: u64 = 3000;
@@ -115,9 +115,8 @@ pub fn opens_to<D: Device>(rt: &impl TestHost, alloc: Global, device: D, wanted:
 /// The command that registers the segment as a down segment, its first AS being 1-ff00:0:100 and `origin` more, and being left by
 /// the interface `egress`; both are below 128. None where memory is refused.
 pub fn register(alloc: Global, origin: u8, egress: u8) -> Option<Command> {
-    let mut message = SEGMENT;
+    let mut message = leaving_by(egress);
     message[FIRST_AS] = 0x80 | origin;
-    message[EGRESS] = egress;
     let segment = read_segment(alloc, &message).ok()?;
     let mut rows = Vec::new(alloc);
     rows.push((SegType::Down, segment)).ok()?;

@@ -5,25 +5,11 @@ use path_commands::key_of;
 use seg_check::TrustAll;
 use std::alloc::Global;
 use std::process::Abort;
+use worked_segments::digits::{REMOVE, REMOVE_NO_TYPE, REMOVE_UP};
+use worked_segments::{CORE_SEGMENT, EXPIRY, KEY, SIGNED};
 
-/// The worked segment's id, of which this is the removal as a down segment.
-const REMOVE: &str = "0000002204028adcea68dc57cbbe68da7142af88b68a9d27a590e1d5157c53c2bb2c762345ff";
-
-/// The worked segment's registration, with both entries signed by the key 000102030405060708.
-const SIGNED: &str =
-    "000000a8010aa4010802129f010a9c010a080880e2cfaa061007124b0a490a251223089082808080\
-     e07f109182808080e07f1a0e0a0c1001183f220601020304050628c00b12202e6b43c4fffa0ecc8b\
-     15b7afbd691712590e57d5e09df04e919ca94f268806e412430a410a1d121b089182808080e07f1a\
-     0e0a0c0802183f22060a0b0c0d0e0f28c00b12206121ac98cbbb259c6c9bff0ee321a304b0dacade\
-     eb259080a1dc9f804caa3b32";
-
-/// The same, but for one bit of the second signature.
-const BADLY_SIGNED: &str =
-    "000000a8010aa4010802129f010a9c010a080880e2cfaa061007124b0a490a251223089082808080\
-     e07f109182808080e07f1a0e0a0c1001183f220601020304050628c00b12202e6b43c4fffa0ecc8b\
-     15b7afbd691712590e57d5e09df04e919ca94f268806e412430a410a1d121b089182808080e07f1a\
-     0e0a0c0802183f22060a0b0c0d0e0f28c00b12206121ac98cbbb259d6c9bff0ee321a304b0dacade\
-     eb259080a1dc9f804caa3b32";
+/// What comes before the signed segment in the frame that registers it as a down segment.
+const BEFORE_SIGNED: &str = "000000a8010aa4010802129f010a9c01";
 
 /// Commands between the registration of the worked segment and its lookup, and the replies to both.
 const COMMANDS: [(&str, &str, &str, &str); 5] = [
@@ -35,16 +21,11 @@ const COMMANDS: [(&str, &str, &str, &str); 5] = [
     ),
     (
         "removal_of_another_type",
-        "0000002204018adcea68dc57cbbe68da7142af88b68a9d27a590e1d5157c53c2bb2c762345ff",
+        REMOVE_UP,
         "0000001984000000000000000100000000000000000000000000000000",
         FOUND,
     ),
-    (
-        "removal_of_no_type",
-        "0000002204048adcea68dc57cbbe68da7142af88b68a9d27a590e1d5157c53c2bb2c762345ff",
-        "00000002ff29",
-        FOUND,
-    ),
+    ("removal_of_no_type", REMOVE_NO_TYPE, "00000002ff29", FOUND),
     (
         "purge_at_the_expiry",
         "000000090300000000caa88ac0",
@@ -92,10 +73,19 @@ fn assert_at(rt: &impl Abort, alloc: Global, now: u64, wanted: &[&str]) {
 #[test]
 fn segments_expire(rt: HostRuntime) {
     let alloc = rt.alloc();
-    assert_at(&rt, alloc, 3_400_043_199, &[INSERTED, FOUND]);
-    assert_at(&rt, alloc, 3_400_043_200, &["00000002ff32", NONE_FOUND]);
+    assert_at(&rt, alloc, EXPIRY - 1, &[INSERTED, FOUND]);
+    assert_at(&rt, alloc, EXPIRY, &["00000002ff32", NONE_FOUND]);
     assert_at(&rt, alloc, u64::MAX, &["00000002ff32", NONE_FOUND]);
 }
+
+/// The frame that registers the signed segment, of these bytes.
+fn registration(rt: &impl Abort, alloc: Global, signed: &[u8]) -> String {
+    let digits = hex::encode(alloc, signed).expect(rt, "no memory");
+    text_of(rt, alloc, &[BEFORE_SIGNED, digits.as_str()])
+}
+
+/// The last byte of the second signature.
+const LAST: usize = SIGNED.len() - 1;
 
 /// Asserts what a registration is replied, and an empty one after it, where signatures are checked by this key.
 fn assert_keyed(rt: &impl Abort, alloc: Global, key: &str, first: &str, wanted: &[&str]) {
@@ -108,25 +98,32 @@ fn assert_keyed(rt: &impl Abort, alloc: Global, key: &str, first: &str, wanted: 
 #[test]
 fn keyed_signature_refused(rt: HostRuntime) {
     let alloc = rt.alloc();
-    let key = "000102030405060708";
+    let digits = hex::encode(alloc, &KEY).expect(&rt, "no memory");
+    let key = digits.as_str();
+    let signed = registration(&rt, alloc, &SIGNED);
+    let mut badly = SIGNED;
+    badly[LAST] ^= 1;
+    let badly_signed = registration(&rt, alloc, &badly);
     let second = "0000001981000000000000000100000000000000000000000000000000";
     let refused = ["00000002ff31", NONE_INSERTED];
-    assert_keyed(&rt, alloc, key, SIGNED, &[INSERTED, second]);
-    assert_keyed(&rt, alloc, key, BADLY_SIGNED, &refused);
+    assert_keyed(&rt, alloc, key, signed.as_str(), &[INSERTED, second]);
+    assert_keyed(&rt, alloc, key, badly_signed.as_str(), &refused);
     assert_keyed(&rt, alloc, key, REGISTER, &refused);
-    assert_keyed(&rt, alloc, "", SIGNED, &refused);
+    assert_keyed(&rt, alloc, "", signed.as_str(), &refused);
 }
 
-/// Registers a core segment of two ASes, from 2-64512 to 1-ff00:0:110.
-const REGISTER_CORE: &str =
-    "00000062010a5f0803125b0a590a080880e2cfaa061007122a0a280a2612240880f8838080808001\
-     109082808080e07f1a0e0a0c1001183f220601010101010128c00b12210a1f0a1d121b0890828080\
-     80e07f1a0e0a0c0802183f220602020202020228c00b";
+/// The message of the core segment from 2-64512 to 1-ff00:0:110.
+fn core_message(rt: &impl Abort, alloc: Global) -> String {
+    let digits = hex::encode(alloc, &CORE_SEGMENT).expect(rt, "no memory");
+    text_of(rt, alloc, &["0a5f0803125b0a59", digits.as_str()])
+}
 
 /// Asserts what a lookup is replied after the registration of the core segment.
 fn assert_shown(rt: &impl Abort, alloc: Global, name: &str, lookup: &str, wanted: &[&str]) {
     let cores = roster(rt, alloc, "1-ff00:0:110,2-64512");
-    let frames = [REGISTER_CORE, lookup];
+    let message = core_message(rt, alloc);
+    let frame = text_of(rt, alloc, &["0000006201", message.as_str()]);
+    let frames = [frame.as_str(), lookup];
     let output = replies(rt, alloc, &cores, &TrustAll, 0, &frames, Ok(2));
     assert_written(rt, alloc, name, output.as_slice(), wanted);
 }
@@ -149,8 +146,8 @@ const NOT_SHOWN: [(&str, &str, &str); 3] = [
 #[test]
 fn wildcard_core_lookup(rt: HostRuntime) {
     let alloc = rt.alloc();
-    let (_, message) = REGISTER_CORE.split_at(10);
-    let shown = [INSERTED, "0000006282", message];
+    let message = core_message(&rt, alloc);
+    let shown = [INSERTED, "0000006282", message.as_str()];
     assert_shown(
         &rt,
         alloc,

@@ -7,6 +7,8 @@ mod commands;
 #[cfg(test)]
 mod digits;
 #[cfg(test)]
+mod frames;
+#[cfg(test)]
 mod full_store;
 #[cfg(test)]
 mod many_commands;

@@ -4,6 +4,7 @@ use crate::worked::*;
 use seg_check::TrustAll;
 use std::alloc::Global;
 use std::process::Abort;
+use worked_segments::digits::{REGISTER_LOOP, REGISTER_NO_CHAIN};
 
 /// Names of messages, their frames, and the replies.
 const REPLIES: [(&str, &str, &str); 17] = [
@@ -30,20 +31,8 @@ const REPLIES: [(&str, &str, &str); 17] = [
         "00000018010a15080212110a0f0a0b08ffffffffffffffffff011200",
         "00000002ff25",
     ),
-    (
-        "chain",
-        "00000061010a5e0802125a0a580a080880e2cfaa06100712290a270a251223089082808080e0\
-         7f109182808080e07f1a0e0a0c1001183f220601020304050628c00b12210a1f0a1d121b0891\
-         82808080e07f1a0e0a0c0800183f22060a0b0c0d0e0f28c00b",
-        "00000002ff26",
-    ),
-    (
-        "loop",
-        "00000061010a5e0802125a0a580a080880e2cfaa06100712290a270a251223089082808080e0\
-         7f109082808080e07f1a0e0a0c1001183f220601020304050628c00b12210a1f0a1d121b0890\
-         82808080e07f1a0e0a0c0802183f22060a0b0c0d0e0f28c00b",
-        "00000002ff27",
-    ),
+    ("chain", REGISTER_NO_CHAIN, "00000002ff26"),
+    ("loop", REGISTER_LOOP, "00000002ff27"),
     ("no_entries", "00000009010a06080212020a00", "00000002ff28"),
     ("bad_type", "00000003010a00", "00000002ff29"),
     ("unknown_field_accepted", "00000003011000", NONE_INSERTED),

@@ -8,24 +8,10 @@ use session_core::{FrameError, Source};
 use std::alloc::Global;
 use std::io::Write;
 use std::process::Abort;
-
-/// Registers a segment of two ASes, from 1-ff00:0:110 to 1-ff00:0:111.
-pub const REGISTER: &str =
-    "00000061010a5e0802125a0a580a080880e2cfaa06100712290a270a251223089082808080e07f1091828080\
- 80e07f1a0e0a0c1001183f220601020304050628c00b12210a1f0a1d121b089182808080e07f1a0e0a0c0802\
- 183f22060a0b0c0d0e0f28c00b";
-
-/// Looks that segment up.
-pub const LOOKUP: &str = "0000001102089082808080e07f109182808080e07f";
+pub use worked_segments::digits::{FOUND, LOOKUP, REGISTER};
 
 /// A place and one row inserted.
 pub const INSERTED: &str = "0000001981000000000000000000000001000000000000000000000000";
-
-/// The segment.
-pub const FOUND: &str =
-    "00000061820a5e0802125a0a580a080880e2cfaa06100712290a270a251223089082808080e07f1091828080\
- 80e07f1a0e0a0c1001183f220601020304050628c00b12210a1f0a1d121b089182808080e07f1a0e0a0c0802\
- 183f22060a0b0c0d0e0f28c00b";
 
 /// A response with no segments.
 pub const NONE_FOUND: &str = "0000000182";

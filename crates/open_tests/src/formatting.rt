@@ -1,13 +1,8 @@
 //! New stores, to the byte.
+use crate::stores::LEAST;
 use sector_dev::{Device, FaultDevice, MemDevice, SECTOR};
 use std::test::Fail;
 use store_open::{FormatError, Geometry, format, read_geometry};
-
-// The least sizes that are allowed: a store of them takes 1,039 sectors.
-const LEAST: Geometry = Geometry {
-    checkpoint: 2,
-    journal: 516,
-};
 
 // How many calls of the device it takes to make a store.
 const CALLS: u64 = 7;

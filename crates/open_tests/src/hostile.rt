@@ -1,12 +1,13 @@
 //! New stores in which some bytes are others: what opening them answers, and which refusal comes first.
 
 use crate::stores::{
-    Answer, EGRESS, REGISTER, SEGMENT, answer_of, change, new_store, opened, pair_of, put, state_of,
+    Answer, REGISTER, answer_of, change, new_store, opened, pair_of, put, state_of,
 };
 use std::alloc::Global;
 use std::process::Abort;
 use std::test::Fail;
 use store_open::StoreError;
+use worked_segments::leaving_by;
 
 /// Bytes that are in a sector from an offset on.
 type Change = (u64, usize, &'static [u8]);
@@ -273,13 +274,6 @@ fn new_stores_of_version_1_are_opened(rt: HostRuntime) -> Result<(), Fail> {
 /// By which interface the first AS of each segment is left, in the order of the ids.
 const BY_ID: [u8; 10] = [7, 2, 6, 5, 10, 1, 9, 3, 8, 4];
 
-/// The segment that is left so.
-fn segment(egress: u8) -> [u8; 88] {
-    let mut segment = SEGMENT;
-    segment[EGRESS] = egress;
-    segment
-}
-
 // Ten rows of 93 bytes are the most that an area of two sectors has room for; the journal registers one more.
 #[test]
 fn fold_larger_than_area(rt: HostRuntime) -> Result<(), Fail> {
@@ -289,13 +283,13 @@ fn fold_larger_than_area(rt: HostRuntime) -> Result<(), Fail> {
     bytes.extend_from_slice(&[0, 0, 0, 0, 0, 0, 0, 0, 0, 0, 3, 0xa2, 0, 0, 0, 10])?;
     for egress in BY_ID {
         bytes.extend_from_slice(&[2, 0, 0, 0, 88])?;
-        bytes.extend_from_slice(&segment(egress))?;
+        bytes.extend_from_slice(&leaving_by(egress))?;
     }
     put(&mut device, 1, &bytes)?;
     bytes.clear();
     bytes.extend_from_slice(&[1, 1, 0, 0, 0, 0, 0, 99, 0, 0, 0, 0, 0, 0, 0, 0])?;
     bytes.extend_from_slice(&REGISTER)?;
-    bytes.extend_from_slice(&segment(11))?;
+    bytes.extend_from_slice(&leaving_by(11))?;
     put(&mut device, 5, &bytes)?;
     put(&mut device, 4, OPEN)?;
     let mut store = opened(rt.alloc(), device)?;

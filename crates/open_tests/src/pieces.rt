@@ -1,12 +1,13 @@
 //! Checkpoints at rest that are more than one piece.
 
-use crate::stores::{EGRESS, SEGMENT, opened, pair_of, put, read_sector, state_of};
+use crate::stores::{opened, pair_of, put, read_sector, state_of};
 use image_laws::Half;
 use path_db::{PathDb, read_command, write_rows};
 use sector_dev::{Device, MemDevice};
 use std::alloc::Global;
 use std::test::Fail;
 use store_open::{Geometry, format};
+use worked_segments::leaving_by;
 
 /// 512 KiB of checkpoint area.
 const LARGE: Geometry = Geometry {
@@ -36,9 +37,8 @@ fn large_db(alloc: Global) -> Result<PathDb, Fail> {
     let mut db = PathDb::new(alloc);
     for first in 0xa0..0xbe {
         for egress in 2..102 {
-            let mut segment = SEGMENT;
+            let mut segment = leaving_by(egress);
             segment[FIRST] = first;
-            segment[EGRESS] = egress;
             let mut bytes = Vec::with_capacity(alloc, 96)?;
             bytes.extend_from_slice(&[1, 1, 2, 0, 0, 0, 88])?;
             bytes.extend_from_slice(&segment)?;

@@ -1,9 +1,10 @@
 //! Stores as a stop leaves them while a checkpoint takes over, on devices in memory.
 
-use crate::stores::{EGRESS, PLAIN, REGISTER, SEGMENT, Worked, put, read_sector, worked_store};
+use crate::stores::{PLAIN, REGISTER, Worked, put, read_sector, worked_store};
 use sector_dev::{Device, MemDevice, SECTOR};
 use std::alloc::Global;
 use std::test::Fail;
+use worked_segments::leaving_by;
 
 /// What such a store represents: four rows in 372 bytes, at place 260.
 pub(crate) const PAIR: (usize, u64, u64) = (4, 372, 260);
@@ -35,12 +36,10 @@ pub(crate) fn stopped_store(alloc: Global, both_are_open: bool) -> Result<MemDev
 
 /// The payload of the tail's group: the segment is registered with another id.
 fn tail() -> [u8; 512] {
-    let mut segment = SEGMENT;
-    segment[EGRESS] = 2;
     let mut sector = [0; SECTOR];
     for (byte, wanted) in sector
         .iter_mut()
-        .zip(ONE.iter().chain(&REGISTER).chain(&segment))
+        .zip(ONE.iter().chain(&REGISTER).chain(&leaving_by(2)))
     {
         *byte = *wanted;
     }

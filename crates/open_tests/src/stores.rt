@@ -1,15 +1,17 @@
 //! Stores that were worked through by hand, on devices in memory.
 
+use image_laws::{LEAST_CHECKPOINT, LEAST_JOURNAL};
 use sector_dev::{Device, MemDevice, SECTOR};
 use std::alloc::Global;
 use std::test::Fail;
 use store_open::{Geometry, OpenError, Store, format, open};
+use worked_segments::{SEGMENT, leaving_by};
 
 /// The least sizes that are allowed: sector 0, and then for each half two sectors of checkpoint area, a gate, and 516 sectors of
 /// journal.
 pub(crate) const LEAST: Geometry = Geometry {
-    checkpoint: 2,
-    journal: 516,
+    checkpoint: LEAST_CHECKPOINT,
+    journal: LEAST_JOURNAL,
 };
 
 /// How many sectors a store of these sizes takes.
@@ -55,8 +57,6 @@ pub(crate) const PLAIN: Worked = Worked {
     sealed: false,
     twelve: false,
 };
-
-pub(crate) use worked_segments::{EGRESS, SEGMENT};
 
 /// Reads a sector that the device has.
 pub(crate) fn read_sector<D: Device>(device: &mut D, at: u64) -> Option<[u8; 512]> {
@@ -125,10 +125,8 @@ pub(crate) fn worked_store(alloc: Global, worked: Worked) -> Result<MemDevice, F
     if worked.twelve {
         bytes.extend_from_slice(&TWELVE)?;
         for egress in 2..14 {
-            let mut segment = SEGMENT;
-            segment[EGRESS] = egress;
             bytes.extend_from_slice(&REGISTER)?;
-            bytes.extend_from_slice(&segment)?;
+            bytes.extend_from_slice(&leaving_by(egress))?;
         }
     } else {
         bytes.extend_from_slice(&PURGE)?;

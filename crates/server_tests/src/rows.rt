@@ -8,20 +8,12 @@ use std::alloc::Global;
 use std::io;
 use std::net::SocketAddr;
 use std::test::Fail;
-
-/// Registers one down segment, which was made in the year 2096: its two entries lead from 1-ff00:0:110 to 1-ff00:0:111.
-pub(crate) const REGISTRATION: &str =
-    "00000061010a5e0802125a0a580a080880d0acf30e100712290a270a251223089082808080e07f109182808080e07f1a0e0a0c1001183f220601020304050628c00b12210a1f0a1d121b089182808080e07f1a0e0a0c0802183f22060a0b0c0d0e0f28c00b";
+pub(crate) use worked_segments::digits::{
+    FOUND_2096 as FOUND, LOOKUP, REGISTER_2096 as REGISTRATION,
+};
 
 /// The place 0, and one segment inserted.
 pub(crate) const REGISTERED: &str = "0000001981000000000000000000000001000000000000000000000000";
-
-/// Asks for the segments from 1-ff00:0:110 to 1-ff00:0:111.
-pub(crate) const LOOKUP: &str = "0000001102089082808080e07f109182808080e07f";
-
-/// The segment.
-pub(crate) const FOUND: &str =
-    "00000061820a5e0802125a0a580a080880d0acf30e100712290a270a251223089082808080e07f109182808080e07f1a0e0a0c1001183f220601020304050628c00b12210a1f0a1d121b089182808080e07f1a0e0a0c0802183f22060a0b0c0d0e0f28c00b";
 
 /// No segments.
 pub(crate) const NOTHING: &str = "0000000182";

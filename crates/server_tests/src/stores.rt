@@ -1,5 +1,6 @@
 //! Stores on devices in memory.
 
+use image_laws::{LEAST_CHECKPOINT, LEAST_JOURNAL};
 use sector_dev::{Device, FaultDevice, MemDevice};
 use std::alloc::Global;
 use std::process::Abort;
@@ -7,8 +8,8 @@ use store_open::{Geometry, OpenError, Store, format, open};
 
 /// The least sizes that are allowed: there is room for ten rows of the segments here, which take 93 bytes each.
 pub(crate) const LEAST: Geometry = Geometry {
-    checkpoint: 2,
-    journal: 516,
+    checkpoint: LEAST_CHECKPOINT,
+    journal: LEAST_JOURNAL,
 };
 
 /// More calls of a device than its opening makes.

@@ -2,25 +2,8 @@
 
 use std::alloc::Global;
 use std::process::Abort;
-
-/// Registers a down segment of two ASes, from 1-ff00:0:110 to 1-ff00:0:111. It expires at moment 3,400,043,200: twice its timestamp of
-/// 1,700,000,000, and 64 times 675.
-pub(crate) const REGISTER: &str =
-    "00000061010a5e0802125a0a580a080880e2cfaa06100712290a270a251223089082808080e07f1091828080\
-     80e07f1a0e0a0c1001183f220601020304050628c00b12210a1f0a1d121b089182808080e07f1a0e0a0c0802\
-     183f22060a0b0c0d0e0f28c00b";
-
-/// Where in that frame the interface is by which the first AS is left. With another one the segment's id is another.
-const EGRESS: usize = 52;
-
-/// Looks that segment up.
-pub(crate) const LOOKUP: &str = "0000001102089082808080e07f109182808080e07f";
-
-/// The segment.
-pub(crate) const FOUND: &str =
-    "00000061820a5e0802125a0a580a080880e2cfaa06100712290a270a251223089082808080e07f1091828080\
-     80e07f1a0e0a0c1001183f220601020304050628c00b12210a1f0a1d121b089182808080e07f1a0e0a0c0802\
-     183f22060a0b0c0d0e0f28c00b";
+use worked_segments::EGRESS;
+pub(crate) use worked_segments::digits::{FOUND, LOOKUP, REGISTER, REMOVE};
 
 /// The acknowledgement of that registration, at place 0.
 pub(crate) const INSERTED: &str = "0000001981000000000000000000000001000000000000000000000000";
@@ -34,9 +17,8 @@ pub(crate) const REGISTER_NONE: &str = "0000000101";
 /// Drops what expires at moment 0: nothing.
 pub(crate) const PURGE: &str = "00000009030000000000000000";
 
-/// Removes the worked segment as a down segment, by its id.
-pub(crate) const REMOVE: &str =
-    "0000002204028adcea68dc57cbbe68da7142af88b68a9d27a590e1d5157c53c2bb2c762345ff";
+/// How many bytes of the registration come before the segment.
+const BEFORE: usize = 13;
 
 /// The bytes of these hexadecimal texts. Where memory is refused, it is asked for once more.
 pub(crate) fn joined(rt: &impl Abort, alloc: Global, texts: &[&str]) -> Vec<u8> {
@@ -56,10 +38,9 @@ pub(crate) fn joined(rt: &impl Abort, alloc: Global, texts: &[&str]) -> Vec<u8> 
 }
 
 /// The frame that registers the segment which is left by this interface, below 128.
-pub(crate) fn register_by(rt: &impl Abort, alloc: Global, egress: u8) -> Vec<u8> {
-    let mut frame = joined(rt, alloc, &[REGISTER]);
-    assert!(rt; EGRESS < frame.len());
-    frame[EGRESS] = egress;
+pub(crate) fn register_by(egress: u8) -> [u8; 101] {
+    let mut frame = worked_segments::REGISTER;
+    frame[BEFORE + EGRESS] = egress;
     frame
 }
 

@@ -13,18 +13,13 @@ use std::alloc::Global;
 use std::process::Abort;
 use std::sync::Wait;
 use std::time::Clock;
+use worked_segments::ID;
 
 /// How many bytes of a frame come before its body: the length and the kind.
 const HEAD: usize = 5;
 
 /// The number of the type of down segments.
 const DOWN: u8 = 2;
-
-/// The worked segment's id.
-const ID: [u8; 32] = [
-    0x8a, 0xdc, 0xea, 0x68, 0xdc, 0x57, 0xcb, 0xbe, 0x68, 0xda, 0x71, 0x42, 0xaf, 0x88, 0xb6, 0x8a,
-    0x9d, 0x27, 0xa5, 0x90, 0xe1, 0xd5, 0x15, 0x7c, 0x53, 0xc2, 0xbb, 0x2c, 0x76, 0x23, 0x45, 0xff,
-];
 
 /// What a command does that changes no rows.
 const NOTHING: Outcome = Outcome {

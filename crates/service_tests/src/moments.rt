@@ -10,9 +10,7 @@ use std::alloc::Global;
 use std::process::Abort;
 use std::sync::Wait;
 use std::time::Clock;
-
-/// The moment at which the segment expires.
-const EXPIRY: u64 = 3_400_043_200;
+use worked_segments::EXPIRY;
 
 /// A session whose segment expires between two lookups. The clock gives a moment for the registration and for each lookup, and none
 /// for a purge, a removal, a registration that can't be read, or a lookup that can't be read or asks for nothing.

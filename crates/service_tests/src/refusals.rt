@@ -124,7 +124,7 @@ impl Talk for Overflows {
         let roster = cores(rt, self.alloc);
         let mut replies = Vec::new(self.alloc);
         for egress in 1..=MOST_ROWS {
-            let frame = register_by(rt, self.alloc, egress);
+            let frame = register_by(egress);
             let mut reply_to_one = Vec::new(self.alloc);
             reply(
                 hub,
@@ -134,7 +134,7 @@ impl Talk for Overflows {
                 &mut reply_to_one,
             )?;
         }
-        let frame = register_by(rt, self.alloc, MOST_ROWS + 1);
+        let frame = register_by(MOST_ROWS + 1);
         reply(hub, self.alloc, &roster, frame.as_slice(), &mut replies)?;
         Some(replies)
     }
@@ -239,7 +239,7 @@ impl Talk for Meets {
         let mut replies = Vec::new(self.alloc);
         reply(hub, self.alloc, &roster, first.as_slice(), &mut replies)?;
         for egress in 2..=3 {
-            let frame = register_by(rt, self.alloc, egress);
+            let frame = register_by(egress);
             reply(hub, self.alloc, &roster, frame.as_slice(), &mut replies)?;
         }
         reply(hub, self.alloc, &roster, lookup.as_slice(), &mut replies)?;

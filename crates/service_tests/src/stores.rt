@@ -1,5 +1,6 @@
 //! Stores on devices in memory, and their core AS.
 
+use image_laws::{LEAST_CHECKPOINT, LEAST_JOURNAL};
 use isd_as::IsdAs;
 use sector_dev::{Device, FaultDevice, MemDevice, SECTOR};
 use seg_lookup::Roster;
@@ -9,8 +10,8 @@ use store_open::{Geometry, OpenError, Store, format, open};
 
 /// The least sizes that are allowed. There is room for ten rows of the segments here, which take 93 bytes each.
 const LEAST: Geometry = Geometry {
-    checkpoint: 2,
-    journal: 516,
+    checkpoint: LEAST_CHECKPOINT,
+    journal: LEAST_JOURNAL,
 };
 
 /// Where in the first sector of a checkpoint area the last byte of its version is.

@@ -1,21 +1,13 @@
 //! How many commands a group takes, and the order in which tickets are redeemed.
 
 use crate::host::Host;
+use group_scripts::acts::NOTHING;
 use group_scripts::stores::{new_store, old_store, opened, opens_to, read_sector};
 use group_scripts::work::{Paid, Work, work_of};
-use path_db::Outcome;
 use sector_dev::MemDevice;
 use std::alloc::Global;
 use std::process::Abort;
 use std::test::Fail;
-
-/// What a purge of no rows does.
-const NOTHING: Outcome = Outcome {
-    inserted: 0,
-    updated: 0,
-    kept: 0,
-    purged: 0,
-};
 
 /// A version, how many commands a group takes at most, and how the payloads of two groups begin: of this number of purges, whose records
 /// have 13 bytes each, and of one more.

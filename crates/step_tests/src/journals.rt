@@ -2,15 +2,12 @@
 
 use crate::host::Host;
 use group_core::StageError;
-use group_scripts::stores::{new_store, opened, opens_to, read_sector};
+use group_scripts::stores::{GROUPS, new_store, opened, opens_to, read_sector};
 use group_scripts::work::{Paid, Told, Work, work_of};
 use sector_dev::{Device, MemDevice};
 use std::alloc::Global;
 use std::process::Abort;
 use std::test::Fail;
-
-/// How many groups of one purge a journal of 516 sectors has room for.
-const GROUPS: u64 = 257;
 
 /// The seal of the first half, after these groups.
 const SEAL: [u8; 16] = [2, 0, 0, 0, 0, 0, 0, 0, 0, 0, 0, 0, 0, 0, 1, 1];

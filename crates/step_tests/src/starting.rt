@@ -3,7 +3,7 @@
 use crate::host::Host;
 use group_core::{StageError, SubmitError};
 use group_scripts::stores::{
-    Pair, REGISTERED, change, new_store, old_store, opened, opens_to, register, segment,
+    Pair, REGISTERED, SEAL, change, new_store, old_store, opened, opens_to, register, segment,
 };
 use group_scripts::work::{Told, assert_stopped, work_of};
 use path_db::Command;
@@ -95,9 +95,7 @@ fn overfull_store(rt: &Host<impl Abort>, alloc: Global) -> MemDevice {
     device
 }
 
-/// A seal at place 1, and after it a group that purges all rows.
-const SEAL: [u8; 16] = [2, 0, 0, 0, 0, 0, 0, 0, 0, 0, 0, 0, 0, 0, 0, 1];
-
+/// A group at place 1 that purges all rows.
 const PURGE: [u8; 29] = [
     1, 1, 0, 0, 0, 0, 0, 13, 0, 0, 0, 0, 0, 0, 0, 1, 0, 0, 0, 9, 2, 0xff, 0xff, 0xff, 0xff, 0xff,
     0xff, 0xff, 0xff,

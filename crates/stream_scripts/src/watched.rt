@@ -1,11 +1,9 @@
 //! A device that notes what changes it, and that may lie.
 
+use group_scripts::stores::MOST_CHANGES;
 use sector_dev::{DevError, Device, SECTOR};
 use std::alloc::Global;
 use test_host::TestHost;
-
-/// How many changes are noted at most.
-const MOST: usize = 1000;
 
 /// A call that writes this number of sectors from one on, or that syncs.
 #[derive(Clone, Copy, Debug, PartialEq, Eq)]
@@ -27,8 +25,8 @@ pub struct Watched<D> {
 impl<D> Watched<D> {
     /// The device, which lies after this number of reads. Where memory is refused for its changes, it is asked for once more.
     pub fn over(rt: &impl TestHost, alloc: Global, device: D, honest: u64) -> Watched<D> {
-        let room = match Vec::with_capacity(alloc, MOST) {
-            Err(_) => Vec::with_capacity(alloc, MOST),
+        let room = match Vec::with_capacity(alloc, MOST_CHANGES) {
+            Err(_) => Vec::with_capacity(alloc, MOST_CHANGES),
             given => given,
         };
         let Ok(changes) = room else {
@@ -65,7 +63,7 @@ impl<D> Watched<D> {
 
 /// Notes a change, where there is room.
 fn note(changes: &mut Vec<Change>, change: Change) {
-    if changes.len() < MOST {
+    if changes.len() < MOST_CHANGES {
         let _ = changes.push(change);
     }
 }
