@@ -18,7 +18,7 @@ const PIECE: usize = 1_024;
 
 /// Reads what a peer asks for: `More` where its first `MOST_HEAD` bytes, or all that it sends, have no whole head. `None`: the time is
 /// over, the connection or the clock failed, or memory was refused. No contract of the system's calls says which bytes a peer sent.
-#[tactic(auto, using(crate::proofs::RequestLemmas::is_read))]
+#[tactic(auto, using(crate::proofs::RequestLemmas::is_read, crate::proofs::RequestLemmas::taken_is_read))]
 pub fn read_request(
     clock: &impl Clock,
     alloc: Global,
@@ -31,8 +31,10 @@ pub fn read_request(
     for _ in 0..MOST_HEAD {
         let mut piece = [0u8; PIECE];
         let count = read_by(clock, stream, deadline, &mut piece)?;
-        if let Some(asked) = take_piece(&mut head, piece.get(..count)?).ok()? {
-            return Some(asked);
+        match take_piece(&mut head, piece.get(..count)?) {
+            Ok(Some(asked)) => return Some(asked),
+            Ok(None) => {}
+            Err(_refused) => return None,
         }
     }
     Some(read_head(head.as_slice()))
