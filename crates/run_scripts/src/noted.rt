@@ -1,11 +1,9 @@
 //! Which calls of a device write or sync: between two of them a device stays as it is.
 
+use group_scripts::stores::MOST_CHANGES;
 use sector_dev::{DevError, Device};
 use std::alloc::Global;
 use test_host::TestHost;
-
-/// How many writes and syncs are noted at most.
-const MOST: usize = 1000;
 
 /// A device that counts its calls, and notes the numbers of those that write or sync.
 #[derive(Drop)]
@@ -26,7 +24,7 @@ impl Calls {
     fn note_change(&mut self) {
         let number = self.count;
         self.count = number.saturating_add(1);
-        if self.changes.len() < MOST {
+        if self.changes.len() < MOST_CHANGES {
             let _ = self.changes.push(number);
         }
     }
@@ -45,8 +43,8 @@ impl Calls {
 impl<D> Noted<D> {
     /// The device, with no calls noted. Where memory is refused for their numbers, it is asked for once more.
     pub fn over(rt: &impl TestHost, alloc: Global, device: D) -> Noted<D> {
-        let room = match Vec::with_capacity(alloc, MOST) {
-            Err(_) => Vec::with_capacity(alloc, MOST),
+        let room = match Vec::with_capacity(alloc, MOST_CHANGES) {
+            Err(_) => Vec::with_capacity(alloc, MOST_CHANGES),
             given => given,
         };
         let Ok(changes) = room else {
