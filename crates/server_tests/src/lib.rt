@@ -11,11 +11,11 @@ mod ends;
 #[cfg(test)]
 mod peers;
 #[cfg(test)]
-mod places;
-#[cfg(test)]
 mod refused;
 #[cfg(test)]
 mod rows;
+#[cfg(test)]
+mod seats;
 #[cfg(test)]
 mod stops;
 #[cfg(test)]

@@ -1,4 +1,4 @@
-//! The 64 places of a server.
+//! The 64 seats of a server.
 
 use crate::doors::nap;
 use crate::peers::{Peer, seated};
