@@ -13,14 +13,14 @@ use Rattle.store_open.proofs.laying.lay.Goals as goal
 pub pour-requires-clause-inside : goal.pour-requires-clause-inside
 pour-requires-clause-inside g c =
     let size : length c.args.head.now ≡ 32 = search rules in
-    let front : take 32 c.put.new.bytes ≡ c.args.head.now = put_first 32 c.args.head.now c.args.buffer.now c.put.new.bytes size (omega (arith, c.requires.buffer)) c.put.ensures in
+    let front : take 32 c.put.new.bytes ≡ c.args.head.now = put_first 32 c.args.head.now c.args.buffer.now c.put.new.bytes size (omega (arith, c.requires.buffer)) c.put.ensures.put in
     let same : take 32 c.put.new.bytes ++ rows_encoding c.rows.result ≡ c.args.head.now ++ rows_encoding c.args.db.now = (λ i. front i ++ rows_encoding (c.rows.ensures.same i)) in
     omega (arith, ap (λ (all : List ℕ). length (padded all)) same, c.requires.inside)
 
 pub returns-in_err-sector-clause-any_moment : goal.returns-in_err-sector-clause-any_moment
 returns-in_err-sector-clause-any_moment g c =
     let size : length c.args.head.now ≡ 32 = search rules in
-    let front : take 32 c.put.new.bytes ≡ c.args.head.now = put_first 32 c.args.head.now c.args.buffer.now c.put.new.bytes size (omega (arith, c.requires.buffer)) c.put.ensures in
+    let front : take 32 c.put.new.bytes ≡ c.args.head.now = put_first 32 c.args.head.now c.args.buffer.now c.put.new.bytes size (omega (arith, c.requires.buffer)) c.put.ensures.put in
     let same : take 32 c.put.new.bytes ++ rows_encoding c.rows.result ≡ c.args.head.now ++ rows_encoding c.args.db.now = (λ i. front i ++ rows_encoding (c.rows.ensures.same i)) in
     let start = g.D.Device.disk c.args.device.now in
     let torn = subst (λ (all : List ℕ). Stretch start (g.D.Device.disk c.pour.new.device) (IsTornAt (512 * c.args.at) (length (padded all)) (reads_of start))) same c.pour.ensures.any_moment in
@@ -29,7 +29,7 @@ returns-in_err-sector-clause-any_moment g c =
 pub write_rest-requires-clause-inside : goal.write_rest-requires-clause-inside
 write_rest-requires-clause-inside g c =
     let size : length c.args.head.now ≡ 32 = search rules in
-    let front : take 32 c.put.new.bytes ≡ c.args.head.now = put_first 32 c.args.head.now c.args.buffer.now c.put.new.bytes size (omega (arith, c.requires.buffer)) c.put.ensures in
+    let front : take 32 c.put.new.bytes ≡ c.args.head.now = put_first 32 c.args.head.now c.args.buffer.now c.put.new.bytes size (omega (arith, c.requires.buffer)) c.put.ensures.put in
     let same : take 32 c.put.new.bytes ++ rows_encoding c.rows.result ≡ c.args.head.now ++ rows_encoding c.args.db.now = (λ i. front i ++ rows_encoding (c.rows.ensures.same i)) in
     let start = g.D.Device.disk c.args.device.now in
     let torn = subst (λ (all : List ℕ). Stretch start (g.D.Device.disk c.pour.new.device) (IsTornAt (512 * c.args.at) (length (padded all)) (reads_of start))) same c.pour.ensures.any_moment in
@@ -40,7 +40,7 @@ write_rest-requires-clause-inside g c =
 pub returns-in_err-write_rest-clause-any_moment : goal.returns-in_err-write_rest-clause-any_moment
 returns-in_err-write_rest-clause-any_moment g c =
     let size : length c.args.head.now ≡ 32 = search rules in
-    let front : take 32 c.put.new.bytes ≡ c.args.head.now = put_first 32 c.args.head.now c.args.buffer.now c.put.new.bytes size (omega (arith, c.requires.buffer)) c.put.ensures in
+    let front : take 32 c.put.new.bytes ≡ c.args.head.now = put_first 32 c.args.head.now c.args.buffer.now c.put.new.bytes size (omega (arith, c.requires.buffer)) c.put.ensures.put in
     let same : take 32 c.put.new.bytes ++ rows_encoding c.rows.result ≡ c.args.head.now ++ rows_encoding c.args.db.now = (λ i. front i ++ rows_encoding (c.rows.ensures.same i)) in
     let start = g.D.Device.disk c.args.device.now in
     let torn = subst (λ (all : List ℕ). Stretch start (g.D.Device.disk c.pour.new.device) (IsTornAt (512 * c.args.at) (length (padded all)) (reads_of start))) same c.pour.ensures.any_moment in
@@ -52,7 +52,7 @@ returns-in_err-write_rest-clause-any_moment g c =
 pub returns-clause-any_moment : goal.returns-clause-any_moment
 returns-clause-any_moment g c =
     let size : length c.args.head.now ≡ 32 = search rules in
-    let front : take 32 c.put.new.bytes ≡ c.args.head.now = put_first 32 c.args.head.now c.args.buffer.now c.put.new.bytes size (omega (arith, c.requires.buffer)) c.put.ensures in
+    let front : take 32 c.put.new.bytes ≡ c.args.head.now = put_first 32 c.args.head.now c.args.buffer.now c.put.new.bytes size (omega (arith, c.requires.buffer)) c.put.ensures.put in
     let same : take 32 c.put.new.bytes ++ rows_encoding c.rows.result ≡ c.args.head.now ++ rows_encoding c.args.db.now = (λ i. front i ++ rows_encoding (c.rows.ensures.same i)) in
     let start = g.D.Device.disk c.args.device.now in
     let torn = subst (λ (all : List ℕ). Stretch start (g.D.Device.disk c.pour.new.device) (IsTornAt (512 * c.args.at) (length (padded all)) (reads_of start))) same c.pour.ensures.any_moment in
@@ -64,7 +64,7 @@ returns-clause-any_moment g c =
 pub returns-clause-written : goal.returns-clause-written
 returns-clause-written g c =
     let size : length c.args.head.now ≡ 32 = search rules in
-    let front : take 32 c.put.new.bytes ≡ c.args.head.now = put_first 32 c.args.head.now c.args.buffer.now c.put.new.bytes size (omega (arith, c.requires.buffer)) c.put.ensures in
+    let front : take 32 c.put.new.bytes ≡ c.args.head.now = put_first 32 c.args.head.now c.args.buffer.now c.put.new.bytes size (omega (arith, c.requires.buffer)) c.put.ensures.put in
     let same : take 32 c.put.new.bytes ++ rows_encoding c.rows.result ≡ c.args.head.now ++ rows_encoding c.args.db.now = (λ i. front i ++ rows_encoding (c.rows.ensures.same i)) in
     let start = g.D.Device.disk c.args.device.now in
     let torn = subst (λ (all : List ℕ). Stretch start (g.D.Device.disk c.pour.new.device) (IsTornAt (512 * c.args.at) (length (padded all)) (reads_of start))) same c.pour.ensures.any_moment in
