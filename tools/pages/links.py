@@ -53,7 +53,7 @@ def dead_paths(page: Path) -> list[str]:
                 continue
             if re.match(r"(?:bench|clients|crates|deploy|docs|tools)/", path):
                 found.append((path, TOP / path))
-            elif crate and re.match(r"(?:src|specs|proofs|must-fail)/\w", path):
+            elif crate and re.match(r"(?:src|specs|proofs|must-fail|more-edits)/\w", path):
                 found.append((path, TOP / crate / path))
     return [path for path, target in found if not target.exists()]
 
