@@ -14,7 +14,7 @@ TYPE = re.compile(r"^(pub )?(?:pub\([a-z]+\) )?(struct|enum|trait|type) (\w+)")
 CLAUSE = re.compile(r"^\s*(ensures|requires)\s+(\w+)?\s*\{")
 DEFINITION = re.compile(r"^(\s*)(?:unfoldable (?:pub )?|abbrev (?:pub )?|(?:pub )?(?:data|record) (?=.* (?:: Type|where)))([^\s:{]+)(?=\s|$)")
 # What only crates of tests use.
-OF_TESTS = ("worked_segments", "test_host", "group_scripts", "run_scripts", "stream_scripts", "hub_scripts", "loopback_server", "command_runs")
+OF_TESTS = ("test_support", "test_support", "test_group_scripts", "run_scripts", "stream_scripts", "test_hub_scripts", "loopback_server", "test_program")
 IMPORT = re.compile(r"^\s*(?:pub )?(?:ghost )?use ([\w.◌]+)(?:\.\{([^}]*)\}| as (\w+));?\s*$")
 WORD = re.compile(r"[^\s(){}\[\];,λ]+")
 

@@ -4,9 +4,9 @@ use Rattle.std.specs.Prelude.{Result, Option, IsOk, if◌then◌else◌}
 use Rattle.std.specs.Int.{w32, w64, from_be_bytes}
 use Rattle.byte_lists.specs.Content.{part}
 use Rattle.byte_lists.specs.Numbers.{four_at, eight_at}
-use Rattle.image_laws.specs.GroupReading.{check}
-use Rattle.image_laws.specs.Checkpoint as laws
-use Rattle.image_laws.specs.CheckpointReading.{PairRefusal, BadCheckpoint, NewerFormat, head_in, rows_size, rows_count, with_rows, checkpoint_in}
+use Rattle.store_layout.specs.GroupReading.{check}
+use Rattle.store_layout.specs.Checkpoint as laws
+use Rattle.store_layout.specs.CheckpointReading.{PairRefusal, BadCheckpoint, NewerFormat, head_in, rows_size, rows_count, with_rows, checkpoint_in}
 use Rattle.path_rows.specs.Database.{RowView}
 use Rattle.path_db.specs.RowRecord.{rows_decoding, HasOutline}
 use Rattle.ckpt_pair.specs.declared.error.PairError.{PairError}

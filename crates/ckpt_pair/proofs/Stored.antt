@@ -3,8 +3,8 @@ use Rattle.std.proofs.Common.{◌≡◌, ◌+◌, Bool, true, false, leb, List, 
 use Rattle.std.specs.Prelude.{Result, Option, if◌then◌else◌}
 use Rattle.byte_lists.specs.Content.{part}
 use Rattle.byte_lists.proofs.Contents.{bytes-part}
-use Rattle.image_laws.specs.Checkpoint as laws
-use Rattle.image_laws.specs.CheckpointReading.{PairRefusal, head_in, rows_size, rows_count, db_in, with_rows}
+use Rattle.store_layout.specs.Checkpoint as laws
+use Rattle.store_layout.specs.CheckpointReading.{PairRefusal, head_in, rows_size, rows_count, db_in, with_rows}
 use Rattle.path_rows.specs.Database.{RowView}
 use Rattle.path_db.specs.RowRecord.{rows_decoding}
 use Rattle.path_db.proofs.RowsBack.{rows_back, rows_spelled}

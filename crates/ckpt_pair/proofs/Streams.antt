@@ -12,7 +12,7 @@ use Rattle.ckpt_pair.specs.Rows.{as_counted, counted_rows}
 use Rattle.ckpt_pair.specs.Reading.{FrontView, with_head, with_rows_behind, rows_behind}
 use Rattle.ckpt_pair.specs.Stream.{StreamView, HasStreamed, AreNoStreamedRows, IsRefusedWalk, StreamsBeginRows, StreamsReadHalves}
 use Rattle.ckpt_pair.proofs.Fronts.{by_fronts}
-use Rattle.image_laws.specs.CheckpointReading.{PairRefusal}
+use Rattle.store_layout.specs.CheckpointReading.{PairRefusal}
 
 -- ---- the bytes that were pushed
 

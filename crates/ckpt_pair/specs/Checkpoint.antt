@@ -1,10 +1,10 @@
 -- Checkpoints of the database.
 use Rattle.std.specs.Prelude.{◌≡◌, ℕ, ◌<◌, ◌^◌, List, Ok}
 use Rattle.byte_lists.specs.Content.{AreBytes}
-use Rattle.image_laws.specs.Checkpoint as laws
-use Rattle.image_laws.specs.Checkpoint.{CanBeHead, CanBeCheckpoint}
-use Rattle.image_laws.specs.CheckpointReading.{checkpoint_in}
-use Rattle.image_laws.specs.StoreFormat.{IsStorable}
+use Rattle.store_layout.specs.Checkpoint as laws
+use Rattle.store_layout.specs.Checkpoint.{CanBeHead, CanBeCheckpoint}
+use Rattle.store_layout.specs.CheckpointReading.{checkpoint_in}
+use Rattle.store_layout.specs.StoreFormat.{IsStorable}
 use Rattle.path_rows.specs.Database.{RowView, IsDatabase, rows_len}
 use Rattle.ckpt_pair.specs.Versions.{latest}
 use Rattle.ckpt_pair.specs.Rows.{rows_format}

@@ -1,15 +1,15 @@
 -- Heads as values, and the half that has the tail of a store.
 use Rattle.std.specs.Prelude.{◌≡◌, Bool, true, false, Result, Ok, Err, Option}
 use Rattle.std.specs.Option.{option_map}
-use Rattle.image_laws.specs.declared.half.Half.{Half}
-use Rattle.image_laws.specs.declared.half.Half.TheVariants.{First, Second}
-use Rattle.image_laws.specs.GroupReading.{JournalRefusal}
-use Rattle.image_laws.specs.Journal.{Reading}
-use Rattle.image_laws.specs.Layout.{other}
-use Rattle.image_laws.specs.Checkpoint as laws
-use Rattle.image_laws.specs.CheckpointReading.{PairRefusal, SealedNewer}
-use Rattle.image_laws.specs.Opening.{Opening}
-use Rattle.image_laws.specs.OpeningReading.{BadPair, read_tail, behind_journal}
+use Rattle.store_layout.specs.declared.half.Half.{Half}
+use Rattle.store_layout.specs.declared.half.Half.TheVariants.{First, Second}
+use Rattle.store_layout.specs.GroupReading.{JournalRefusal}
+use Rattle.store_layout.specs.Journal.{Reading}
+use Rattle.store_layout.specs.Layout.{other}
+use Rattle.store_layout.specs.Checkpoint as laws
+use Rattle.store_layout.specs.CheckpointReading.{PairRefusal, SealedNewer}
+use Rattle.store_layout.specs.Opening.{Opening}
+use Rattle.store_layout.specs.OpeningReading.{BadPair, read_tail, behind_journal}
 use Rattle.ckpt_pair.specs.declared.head.Head.{Head}
 use Rattle.ckpt_pair.specs.declared.head.Heads.{Heads}
 

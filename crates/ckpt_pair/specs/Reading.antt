@@ -1,8 +1,8 @@
 -- Reading an area: its front first, and then its rows.
 use Rattle.std.specs.Prelude.{◌≡◌, ℕ, ◌+◌, ◌≤◌, Bool, true, false, List, ◌++◌, length, take, Result, Ok, Err, IsOk, Option, Some, None, nat_le}
 use Rattle.byte_lists.specs.Content.{part}
-use Rattle.image_laws.specs.Checkpoint as laws
-use Rattle.image_laws.specs.CheckpointReading.{PairRefusal, BadCheckpoint, head_in, rows_size, rows_count, checkpoint_in}
+use Rattle.store_layout.specs.Checkpoint as laws
+use Rattle.store_layout.specs.CheckpointReading.{PairRefusal, BadCheckpoint, head_in, rows_size, rows_count, checkpoint_in}
 use Rattle.path_rows.specs.Database.{RowView}
 use Rattle.path_db.specs.RowRecord.{rows_decoding, HasOutline}
 use Rattle.ckpt_pair.specs.declared.reading.Front.{Front}

@@ -1,6 +1,6 @@
--- Refusals of `image_laws` as errors, and results of calls by the result of a reading.
+-- Refusals of `store_layout` as errors, and results of calls by the result of a reading.
 use Rattle.std.specs.Prelude.{◌≡◌, ◌≢◌, Result, Ok, Err}
-use Rattle.image_laws.specs.CheckpointReading.{PairRefusal, NoHalf, SameEpoch, BadCheckpoint, SealedNewer, NewerFormat}
+use Rattle.store_layout.specs.CheckpointReading.{PairRefusal, NoHalf, SameEpoch, BadCheckpoint, SealedNewer, NewerFormat}
 use Rattle.ckpt_pair.specs.declared.error.PairError.{PairError}
 use Rattle.ckpt_pair.specs.declared.error.PairError.TheVariants as errors
 

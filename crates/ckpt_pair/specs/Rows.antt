@@ -1,7 +1,7 @@
 -- The rows of a checkpoint are the records of the database's rows, one after the other.
 use Rattle.std.specs.Prelude.{◌≡◌, ℕ, Bool, true, false, List, length, Result, Ok, Err, Option, Some, None, if◌then◌else◌, ◌==◌}
 use Rattle.std.proofs.Common.{refl, sym, ap, ◌∙◌, eqb-true}
-use Rattle.image_laws.specs.StoreFormat.{RowsFormat}
+use Rattle.store_layout.specs.StoreFormat.{RowsFormat}
 use Rattle.path_db.specs.declared.error.DbError.{DbError}
 use Rattle.path_rows.specs.Database.{RowView}
 use Rattle.path_db.specs.RowRecord.{rows_encoding, rows_decoding}

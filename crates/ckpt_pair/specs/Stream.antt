@@ -1,6 +1,6 @@
 -- Rows that a stream returns: the bytes that were pushed, the rows that were returned, and what is still to come.
 use Rattle.std.specs.Prelude.{◌≡◌, ℕ, ◌+◌, ◌-◌, ◌≤◌, List, ◌++◌, length, take, drop, Ok, Some, None}
-use Rattle.image_laws.specs.CheckpointReading.{checkpoint_in}
+use Rattle.store_layout.specs.CheckpointReading.{checkpoint_in}
 use Rattle.path_rows.specs.Database.{RowView}
 use Rattle.path_db.specs.declared.error.DbError.{DbError}
 use Rattle.path_db.specs.RowRecord.{rows_decoding}

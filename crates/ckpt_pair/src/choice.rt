@@ -2,15 +2,15 @@
 
 ghost use Rattle.std.specs.Prelude.{◌==◌, nat_lt};
 ghost use Rattle.std.specs.Option.{is_some};
-ghost use Rattle.image_laws.specs.OpeningReading.{choice};
-ghost use Rattle.image_laws.specs.OpeningReading as laws;
+ghost use Rattle.store_layout.specs.OpeningReading.{choice};
+ghost use Rattle.store_layout.specs.OpeningReading as laws;
 ghost use Rattle.ckpt_pair.specs.Refusals.{Reads};
 ghost use Rattle.ckpt_pair.specs.Heads.{head_seen, head_at, tail_of, GoesOnWhereTailStands};
-ghost use Rattle.image_laws.specs.Layout.{other};
+ghost use Rattle.store_layout.specs.Layout.{other};
 
 use crate::error::PairError;
 use crate::head::Heads;
-use image_laws::Half;
+use store_layout::Half;
 
 /// The half that is chosen: the open one, and of two open halves the one with the greater epoch. The error is `NoHalf` where no half
 /// is open, and `SameEpoch` where both have the same epoch.

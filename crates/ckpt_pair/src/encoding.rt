@@ -1,7 +1,7 @@
 //! Writing checkpoints.
 
 ghost use Rattle.std.specs.Prelude.{◌≡◌, ◌<◌, ◌^◌, ◌++◌, List, length, IfOk, OnOk};
-ghost use Rattle.image_laws.specs.Checkpoint.{checkpoint_bytes, checkpoint_encoding, CanBeCheckpoint};
+ghost use Rattle.store_layout.specs.Checkpoint.{checkpoint_bytes, checkpoint_encoding, CanBeCheckpoint};
 ghost use Rattle.path_rows.specs.Database.{RowView, IsDatabase, rows_len};
 ghost use Rattle.path_db.specs.RowRecord.{rows_encoding};
 ghost use Rattle.ckpt_pair.specs.Rows.{rows_format};

@@ -2,8 +2,8 @@
 
 ghost use Rattle.std.specs.Prelude.{◌≤◌, length};
 ghost use Rattle.byte_lists.specs.Sectors.{is_open_gate};
-ghost use Rattle.image_laws.specs.CheckpointReading.{head_in};
-ghost use Rattle.image_laws.specs.OpeningReading.{head_behind};
+ghost use Rattle.store_layout.specs.CheckpointReading.{head_in};
+ghost use Rattle.store_layout.specs.OpeningReading.{head_behind};
 ghost use Rattle.ckpt_pair.specs.Refusals.{Reads};
 ghost use Rattle.ckpt_pair.specs.Heads.{head_view, head_seen};
 ghost use Rattle.ckpt_pair.specs.Versions.{latest};

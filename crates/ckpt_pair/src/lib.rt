@@ -1,6 +1,6 @@
 //! The two halves of a store: how their heads and checkpoints are read and written, and which half is chosen.
 //!
-//! To the layer above, each call returns what the definitions of `image_laws` give for the bytes, with the rows of `path_db`,
+//! To the layer above, each call returns what the definitions of `store_layout` give for the bytes, with the rows of `path_db`,
 //! and an error exactly where they give one.
 #![tactic(auto)]
 

@@ -4,7 +4,7 @@ ghost use Rattle.std.specs.Prelude.{◌≡◌, ◌≤◌, ◌+◌, ◌==◌, len
 ghost use Rattle.byte_lists.specs.Content.{part};
 ghost use Rattle.path_rows.specs.Database.{IsDatabase};
 ghost use Rattle.path_db.specs.RowRecord.{rows_decoding, HasOutline};
-ghost use Rattle.image_laws.specs.CheckpointReading.{checkpoint_in};
+ghost use Rattle.store_layout.specs.CheckpointReading.{checkpoint_in};
 ghost use Rattle.ckpt_pair.specs.declared.error.PairError.TheVariants.{NoMemory};
 ghost use Rattle.ckpt_pair.specs.Refusals.{Reads, Gives};
 ghost use Rattle.ckpt_pair.specs.Versions.{latest};

@@ -2,9 +2,9 @@
 use Rattle.std.proofs.Common.{◌≡◌, ℕ, ◌+◌, ◌-◌, ◌*◌, ◌≤◌, List, take, drop, sym, ◌∙◌, ap, subst, arith}
 use Rattle.byte_lists.specs.Content.{AreBytes, part}
 use Rattle.byte_lists.specs.Sectors.{whole_sectors}
-use Rattle.image_laws.specs.Limits.{Limits}
-use Rattle.image_laws.specs.JournalReading.{journal_scan}
-use Rattle.image_laws.proofs.Exports.{journal_refused}
+use Rattle.store_layout.specs.Limits.{Limits}
+use Rattle.store_layout.specs.JournalReading.{journal_scan}
+use Rattle.store_layout.proofs.Exports.{journal_refused}
 use Rattle.gate_journal.specs.declared.error.JournalError.{JournalError}
 use Rattle.gate_journal.specs.declared.error.JournalError.TheVariants.{NoMemory, BadHeader, BadRecord, Gap, PastEnd}
 use Rattle.gate_journal.specs.Commands.{command_format}

@@ -8,9 +8,9 @@ use Rattle.path_rows.specs.declared.command.Command.{Command}
 use Rattle.path_db.specs.declared.error.DbError.{DbError}
 use Rattle.path_db.specs.declared.error.DbError.TheVariants.{NoMemory as RecordWantsMemory, BadRecord as RecordIsBad, Order}
 use Rattle.path_db.specs.CommandRecord.{allows_removals, command_decoding}
-use Rattle.image_laws.specs.Limits.{Limits, limits_of}
-use Rattle.image_laws.specs.GroupReading.{JournalRefusal, record_size, first_command, with_first, commands_in}
-use Rattle.image_laws.specs.GroupReading.{BadRecord as IsBadRecord}
+use Rattle.store_layout.specs.Limits.{Limits, limits_of}
+use Rattle.store_layout.specs.GroupReading.{JournalRefusal, record_size, first_command, with_first, commands_in}
+use Rattle.store_layout.specs.GroupReading.{BadRecord as IsBadRecord}
 use Rattle.gate_journal.specs.declared.error.JournalError.{JournalError}
 use Rattle.gate_journal.specs.declared.error.JournalError.TheVariants.{NoMemory, BadHeader, BadRecord, Gap, PastEnd}
 use Rattle.gate_journal.specs.Commands.{command_format}

@@ -3,13 +3,13 @@ use Rattle.std.proofs.Common.{◌≡◌, ℕ, zero, suc, ◌+◌, ◌-◌, ◌*�
 use Rattle.byte_lists.specs.Sectors.{whole_sectors, sector_at, is_open_gate}
 use Rattle.byte_lists.proofs.Padding.{open_true}
 use Rattle.path_rows.specs.declared.command.Command.{Command}
-use Rattle.image_laws.specs.Limits.{Limits, limits_of}
-use Rattle.image_laws.specs.Group.{payload_sectors}
-use Rattle.image_laws.specs.GroupReading.{JournalRefusal, Payload, payload_at}
-use Rattle.image_laws.specs.GroupReading.{Group as IsGroupOf, Seal as IsSealOf}
-use Rattle.image_laws.specs.Journal.{IsJournal, Reading, all_of, sectors_to, sectors_read}
-use Rattle.image_laws.specs.JournalReading.{with_front, ends, at_gate, scan_from}
-use Rattle.image_laws.proofs.Exports.{chain_forward, chain_scan, journal_read}
+use Rattle.store_layout.specs.Limits.{Limits, limits_of}
+use Rattle.store_layout.specs.Group.{payload_sectors}
+use Rattle.store_layout.specs.GroupReading.{JournalRefusal, Payload, payload_at}
+use Rattle.store_layout.specs.GroupReading.{Group as IsGroupOf, Seal as IsSealOf}
+use Rattle.store_layout.specs.Journal.{IsJournal, Reading, all_of, sectors_to, sectors_read}
+use Rattle.store_layout.specs.JournalReading.{with_front, ends, at_gate, scan_from}
+use Rattle.store_layout.proofs.Exports.{chain_forward, chain_scan, journal_read}
 use Rattle.gate_journal.specs.declared.header.Header.{Header}
 use Rattle.gate_journal.specs.declared.scanner.Stage.{Stage}
 use Rattle.gate_journal.specs.declared.scanner.Stage.TheVariants.{AtGate, AtHeader, AtPayload}

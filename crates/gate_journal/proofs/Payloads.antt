@@ -5,11 +5,11 @@ use Rattle.std.specs.Int.{w32, w64, from_be_bytes}
 use Rattle.byte_lists.specs.Content.{part}
 use Rattle.byte_lists.specs.Sectors.{whole_sectors, sector_at}
 use Rattle.path_rows.specs.declared.command.Command.{Command}
-use Rattle.image_laws.specs.Limits.{Limits}
-use Rattle.image_laws.specs.Group.{payload_sectors, most_record_bytes, last_place, HasRoom}
-use Rattle.image_laws.specs.GroupReading.{JournalRefusal, BadHeader, BadRecord, Gap, PastEnd, check, count_in, size_in, place_in, is_header, IsGroupHeader, is_group_header, is_seal_header, record_size, first_command, with_first, none_left, commands_in, are_zeros, Payload, OfGroup, OfSeal, OfNone, kind_of, group_of, group_in, by_kind, payload_at}
-use Rattle.image_laws.specs.GroupReading.{Group as IsGroupOf, Seal as IsSealOf}
-use Rattle.image_laws.proofs.Exports.{check_passed, group_header_from}
+use Rattle.store_layout.specs.Limits.{Limits}
+use Rattle.store_layout.specs.Group.{payload_sectors, most_record_bytes, last_place, HasRoom}
+use Rattle.store_layout.specs.GroupReading.{JournalRefusal, BadHeader, BadRecord, Gap, PastEnd, check, count_in, size_in, place_in, is_header, IsGroupHeader, is_group_header, is_seal_header, record_size, first_command, with_first, none_left, commands_in, are_zeros, Payload, OfGroup, OfSeal, OfNone, kind_of, group_of, group_in, by_kind, payload_at}
+use Rattle.store_layout.specs.GroupReading.{Group as IsGroupOf, Seal as IsSealOf}
+use Rattle.store_layout.proofs.Exports.{check_passed, group_header_from}
 use Rattle.gate_journal.specs.declared.header.Header.{Header}
 use Rattle.gate_journal.specs.declared.header.Header.TheVariants.{Group, Seal}
 use Rattle.gate_journal.specs.Commands.{command_format}

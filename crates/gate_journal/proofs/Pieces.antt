@@ -3,13 +3,13 @@ use Rattle.std.proofs.Common.{◌≡◌, ◌≢◌, ℕ, ◌+◌, ◌*◌, ◌�
 use Rattle.byte_lists.specs.Content.{AreBytes, part}
 use Rattle.byte_lists.specs.Sectors.{whole_sectors, sector_at, IsOpenGate}
 use Rattle.path_rows.specs.declared.command.Command.{Command}
-use Rattle.image_laws.specs.Limits.{Limits, limits_of}
-use Rattle.image_laws.specs.Group.{payload_sectors, group_sectors}
-use Rattle.image_laws.specs.GroupReading.{JournalRefusal, Payload, payload_at}
-use Rattle.image_laws.specs.GroupReading.{Group as IsGroupOf, Seal as IsSealOf}
-use Rattle.image_laws.specs.Journal.{IsChain, IsJournal, HasGroup, all_of}
-use Rattle.image_laws.specs.JournalRefusals.{IsRefused, IsRefusedAt}
-use Rattle.image_laws.proofs.Exports.{payload_from, payload_refused, chain_more, all_of_more}
+use Rattle.store_layout.specs.Limits.{Limits, limits_of}
+use Rattle.store_layout.specs.Group.{payload_sectors, group_sectors}
+use Rattle.store_layout.specs.GroupReading.{JournalRefusal, Payload, payload_at}
+use Rattle.store_layout.specs.GroupReading.{Group as IsGroupOf, Seal as IsSealOf}
+use Rattle.store_layout.specs.Journal.{IsChain, IsJournal, HasGroup, all_of}
+use Rattle.store_layout.specs.JournalRefusals.{IsRefused, IsRefusedAt}
+use Rattle.store_layout.proofs.Exports.{payload_from, payload_refused, chain_more, all_of_more}
 use Rattle.gate_journal.specs.declared.error.JournalError.{JournalError}
 use Rattle.gate_journal.specs.declared.error.JournalError.TheVariants.{NoMemory, BadHeader, BadRecord, Gap, PastEnd}
 use Rattle.gate_journal.specs.declared.header.Header.{Header}

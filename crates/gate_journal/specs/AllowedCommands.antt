@@ -3,8 +3,8 @@ use Rattle.path_rows.specs.declared.command.Command.{Command}
 use Rattle.path_rows.specs.Command.{HasWholeSegments}
 use Rattle.path_db.specs.CommandRecord.{IsWithinLimits}
 use Rattle.path_db.specs.RecordLaws.{HasWidths, IsAllowedBy}
-use Rattle.image_laws.specs.Limits.{Limits}
-use Rattle.image_laws.specs.CommandFormat.{IsAllowed}
+use Rattle.store_layout.specs.Limits.{Limits}
+use Rattle.store_layout.specs.CommandFormat.{IsAllowed}
 use Rattle.gate_journal.specs.Commands.{command_format}
 
 -- The limits of a journal allow each command within its own limits, a removal where they allow these.

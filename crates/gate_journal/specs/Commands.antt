@@ -5,7 +5,7 @@ use Rattle.std.proofs.Common.{ap}
 use Rattle.path_rows.specs.declared.command.Command.{Command}
 use Rattle.path_db.specs.CommandRecord.{command_encoding, command_decoding}
 use Rattle.path_db.proofs.Exports.{command_spelled, command_read_on}
-use Rattle.image_laws.specs.CommandFormat.{CommandFormat}
+use Rattle.store_layout.specs.CommandFormat.{CommandFormat}
 
 -- a reading that gives a command didn't refuse it
 pub read_from : {T E : Type 0} (reading : Result T E) (value : T) → result_ok reading ≡ Some value → reading ≡ Ok value

@@ -3,7 +3,7 @@ use Rattle.std.specs.Prelude.{ℕ, ◌+◌, ◌≤◌, List, length}
 use Rattle.std.specs.List.{All}
 use Rattle.path_rows.specs.declared.command.Command.{Command}
 use Rattle.path_db.specs.CommandRecord.{IsWithinLimits}
-use Rattle.image_laws.specs.Group.{most_record_bytes, last_place, records_of}
+use Rattle.store_layout.specs.Group.{most_record_bytes, last_place, records_of}
 use Rattle.gate_journal.specs.Commands.{command_format}
 
 -- 1 to 32 commands, each within its limits, with records of at most 262,144 bytes, and with places for all of them

@@ -3,10 +3,10 @@ use Rattle.std.specs.Prelude.{◌≡◌, ◌⊎◌, ℕ, ◌+◌, ◌-◌, ◌*�
 use Rattle.byte_lists.specs.Content.{part}
 use Rattle.path_rows.specs.declared.command.Command.{Command}
 use Rattle.path_db.specs.CommandRecord.{WantsMemory}
-use Rattle.image_laws.specs.Limits.{Limits}
-use Rattle.image_laws.specs.Group.{payload_sectors}
-use Rattle.image_laws.specs.GroupReading.{JournalRefusal, check, count_in, size_in, place_in, is_group_header, is_seal_header, are_zeros, record_size, first_command, commands_in}
-use Rattle.image_laws.specs.GroupReading.{BadHeader as IsBadHeader, BadRecord as IsBadRecord, Gap as IsGap, PastEnd as IsPastEnd}
+use Rattle.store_layout.specs.Limits.{Limits}
+use Rattle.store_layout.specs.Group.{payload_sectors}
+use Rattle.store_layout.specs.GroupReading.{JournalRefusal, check, count_in, size_in, place_in, is_group_header, is_seal_header, are_zeros, record_size, first_command, commands_in}
+use Rattle.store_layout.specs.GroupReading.{BadHeader as IsBadHeader, BadRecord as IsBadRecord, Gap as IsGap, PastEnd as IsPastEnd}
 use Rattle.gate_journal.specs.declared.error.JournalError.{JournalError}
 use Rattle.gate_journal.specs.declared.error.JournalError.TheVariants.{NoMemory, BadHeader, BadRecord, Gap, PastEnd}
 use Rattle.gate_journal.specs.declared.header.Header.{Header}

@@ -1,7 +1,7 @@
 -- What contracts see of a scanner.
 use Rattle.std.specs.Prelude.{ℕ, ◌+◌, ◌≤◌, List}
 use Rattle.path_rows.specs.declared.command.Command.{Command}
-use Rattle.image_laws.specs.Group.{last_place, payload_sectors, HasRoom}
+use Rattle.store_layout.specs.Group.{last_place, payload_sectors, HasRoom}
 use Rattle.gate_journal.specs.declared.scanner.Stage.{Stage}
 use Rattle.gate_journal.specs.declared.scanner.Stage.TheVariants.{AtGate, AtHeader, AtPayload}
 

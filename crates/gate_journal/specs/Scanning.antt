@@ -3,11 +3,11 @@ use Rattle.std.specs.Prelude.{◌≡◌, ℕ, ◌+◌, ◌-◌, ◌*◌, ◌<◌
 use Rattle.byte_lists.specs.Content.{AreBytes, part}
 use Rattle.byte_lists.specs.Sectors.{whole_sectors, sector_at, IsOpenGate}
 use Rattle.path_rows.specs.declared.command.Command.{Command}
-use Rattle.image_laws.specs.Limits.{Limits, limits_of}
-use Rattle.image_laws.specs.Group.{payload_sectors}
-use Rattle.image_laws.specs.GroupReading.{BadHeader as IsBadHeader, BadRecord as IsBadRecord, Gap as IsGap, PastEnd as IsPastEnd}
-use Rattle.image_laws.specs.Journal.{Reading, IsChain, IsJournal, all_of, sectors_read}
-use Rattle.image_laws.specs.JournalRefusals.{IsRefused}
+use Rattle.store_layout.specs.Limits.{Limits, limits_of}
+use Rattle.store_layout.specs.Group.{payload_sectors}
+use Rattle.store_layout.specs.GroupReading.{BadHeader as IsBadHeader, BadRecord as IsBadRecord, Gap as IsGap, PastEnd as IsPastEnd}
+use Rattle.store_layout.specs.Journal.{Reading, IsChain, IsJournal, all_of, sectors_read}
+use Rattle.store_layout.specs.JournalRefusals.{IsRefused}
 use Rattle.gate_journal.specs.declared.error.JournalError.{JournalError}
 use Rattle.gate_journal.specs.declared.error.JournalError.TheVariants.{NoMemory, BadHeader, BadRecord, Gap, PastEnd}
 use Rattle.gate_journal.specs.declared.header.Header.TheVariants.{Group}

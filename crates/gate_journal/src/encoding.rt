@@ -3,7 +3,7 @@
 ghost use Rattle.std.specs.Prelude.{◌≡◌, ◌↔◌, ◌≤◌, ◌++◌, [], length, IfOk, IsTrue, OnOk};
 ghost use Rattle.std.specs.List.{All};
 ghost use Rattle.path_db.specs.CommandRecord.{IsWithinLimits};
-ghost use Rattle.image_laws.specs.Group.{record_encoding, records_of, with_header, group_encoding, seal_encoding};
+ghost use Rattle.store_layout.specs.Group.{record_encoding, records_of, with_header, group_encoding, seal_encoding};
 ghost use Rattle.gate_journal.specs.Commands.{command_format};
 ghost use Rattle.gate_journal.specs.Payload.{IsWithinGroupLimits};
 

@@ -1,7 +1,7 @@
 //! The numbers of a group's format.
 
 ghost use Rattle.std.specs.Prelude.{◌≡◌, ◌≤◌};
-ghost use Rattle.image_laws.specs.Limits.{limits_of};
+ghost use Rattle.store_layout.specs.Limits.{limits_of};
 
 /// The kind of a group's header.
 pub const GROUP: u8 = 1;

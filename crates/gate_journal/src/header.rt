@@ -1,8 +1,8 @@
 //! The first sector of a payload.
 
 ghost use Rattle.std.specs.Prelude.{◌≡◌, ◌≢◌, length, IfErr};
-ghost use Rattle.image_laws.specs.Limits.{limits_of};
-ghost use Rattle.image_laws.specs.GroupReading.{is_group_header as group_header, is_seal_header as seal_header, is_header as header_of, are_zeros as all_zeros};
+ghost use Rattle.store_layout.specs.Limits.{limits_of};
+ghost use Rattle.store_layout.specs.GroupReading.{is_group_header as group_header, is_seal_header as seal_header, is_header as header_of, are_zeros as all_zeros};
 ghost use Rattle.gate_journal.specs.declared.error.JournalError.TheVariants.{NoMemory};
 ghost use Rattle.gate_journal.specs.Reading.{header_reading, Gives};
 

@@ -1,9 +1,9 @@
 //! The records of a group.
 
 ghost use Rattle.std.specs.Prelude.{◌≡◌, ◌+◌, ◌*◌, length, drop, IfOk, IfErr, OnOk};
-ghost use Rattle.image_laws.specs.Limits.{limits_of};
-ghost use Rattle.image_laws.specs.Group.{payload_sectors};
-ghost use Rattle.image_laws.specs.GroupReading.{first_command, commands_in, record_size};
+ghost use Rattle.store_layout.specs.Limits.{limits_of};
+ghost use Rattle.store_layout.specs.Group.{payload_sectors};
+ghost use Rattle.store_layout.specs.GroupReading.{first_command, commands_in, record_size};
 ghost use Rattle.gate_journal.specs.Commands.{command_format};
 ghost use Rattle.gate_journal.specs.declared.error.JournalError.TheVariants.{NoMemory};
 ghost use Rattle.gate_journal.specs.Reading.{Gives, Appends, found_in_records, payload_reading, FirstWantsMemory, PayloadWantsMemory};

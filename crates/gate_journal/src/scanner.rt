@@ -59,7 +59,7 @@ pub struct Scanner {
 
 impl Model for Scanner {
     ghost use Rattle.std.specs.Prelude.{◌≤◌};
-    ghost use Rattle.image_laws.specs.Group.{last_place};
+    ghost use Rattle.store_layout.specs.Group.{last_place};
     ghost use Rattle.gate_journal.specs.ScannerView.{ScannerView, IsInside};
 
     ghost Value = { ScannerView };

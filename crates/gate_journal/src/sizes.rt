@@ -5,7 +5,7 @@ ghost use Rattle.path_rows.specs.declared.command.Command.TheVariants.{Register}
 ghost use Rattle.path_rows.specs.Database.{AreWhole};
 ghost use Rattle.path_db.specs.CommandRecord.{IsWithinLimits, segments_len};
 ghost use Rattle.path_db.specs.RecordLaws.{CanBeWritten};
-ghost use Rattle.image_laws.specs.Group.{HasRoom, record_encoding, payload_sectors as sectors_of_payload};
+ghost use Rattle.store_layout.specs.Group.{HasRoom, record_encoding, payload_sectors as sectors_of_payload};
 ghost use Rattle.gate_journal.specs.Commands.{command_format};
 
 use crate::format::{COMMAND_HEAD, HEADER, PREFIX, PURGE_RECORD};

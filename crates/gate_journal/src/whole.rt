@@ -2,8 +2,8 @@
 
 ghost use Rattle.std.specs.Prelude.{◌≡◌, ◌*◌, ◌≤◌, length, IfErr};
 ghost use Rattle.byte_lists.specs.Sectors.{whole_sectors};
-ghost use Rattle.image_laws.specs.Limits.{limits_of};
-ghost use Rattle.image_laws.specs.JournalReading.{journal_scan};
+ghost use Rattle.store_layout.specs.Limits.{limits_of};
+ghost use Rattle.store_layout.specs.JournalReading.{journal_scan};
 ghost use Rattle.gate_journal.specs.declared.error.JournalError.TheVariants.{NoMemory};
 ghost use Rattle.gate_journal.specs.Commands.{command_format};
 ghost use Rattle.gate_journal.specs.Reading.{Gives};

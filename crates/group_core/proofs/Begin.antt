@@ -10,36 +10,36 @@ use Rattle.sector_dev.specs.Image.{IsFromImage}
 use Rattle.sector_dev.specs.Stretch.{Leaves}
 use Rattle.sector_dev.proofs.Images.{image_of_reads}
 use Rattle.sector_dev.proofs.Stretches.{honest_before, leaves_here}
-use Rattle.image_laws.specs.Limits.{limits_of}
-use Rattle.image_laws.specs.Journal.{all_of}
-use Rattle.image_laws.specs.declared.half.Half.{Half}
-use Rattle.image_laws.specs.Layout.{Geometry, other, area_of, journal_of}
-use Rattle.image_laws.specs.StoreFormat.{db_after}
-use Rattle.image_laws.specs.CheckpointReading.{checkpoint_in}
-use Rattle.image_laws.specs.Checkpoint.{Checkpoint, checkpoint_bytes, checkpoint_encoding}
-use Rattle.image_laws.proofs.Exports.{checkpoint_read, journal_read, store_journal}
+use Rattle.store_layout.specs.Limits.{limits_of}
+use Rattle.store_layout.specs.Journal.{all_of}
+use Rattle.store_layout.specs.declared.half.Half.{Half}
+use Rattle.store_layout.specs.Layout.{Geometry, other, area_of, journal_of}
+use Rattle.store_layout.specs.StoreFormat.{db_after}
+use Rattle.store_layout.specs.CheckpointReading.{checkpoint_in}
+use Rattle.store_layout.specs.Checkpoint.{Checkpoint, checkpoint_bytes, checkpoint_encoding}
+use Rattle.store_layout.proofs.Exports.{checkpoint_read, journal_read, store_journal}
 use Rattle.gate_journal.specs.Commands.{command_format}
 use Rattle.ckpt_pair.specs.Versions.{latest}
 use Rattle.ckpt_pair.specs.Checkpoint.{written_checkpoint}
 use Rattle.ckpt_pair.specs.Rows.{rows_format}
-use Rattle.sealed_merge.specs.Merge.{MergeView, encoding_made}
-use Rattle.sealed_merge.specs.Beginning.{IsMergeOf, MergesSealed}
+use Rattle.ckpt_stream.specs.Merge.{MergeView, encoding_made}
+use Rattle.ckpt_stream.specs.Beginning.{IsMergeOf, MergesSealed}
 use Rattle.store_open.specs.PathStores.{store_format}
 use Rattle.store_open.specs.Behind.{SameBehind}
 use Rattle.store_open.specs.Sealed.{SealedHalf, sealed_half, folded_in, folded_behind, LooksAtHalf}
 use Rattle.store_open.specs.declared.sealed.SealedError.{SealedError}
 use Rattle.store_open.specs.declared.sealed.SealedError.TheVariants as half
-use Rattle.group_laws.specs.declared.phases.Flush.TheVariants.{Durable}
-use Rattle.group_laws.specs.declared.phases.Check.{Check}
-use Rattle.group_laws.specs.declared.phases.Check.TheVariants.{Ready, Sealed, Planned}
-use Rattle.group_laws.specs.Tail.{Seal, place_of, with_load}
-use Rattle.group_laws.specs.BasePart.{Base, sealed_of, OldStands, FoldsTo, CanBeWritten, BasePart}
-use Rattle.group_laws.specs.CheckpointerSteps.{with_new}
-use Rattle.group_laws.specs.Standing.{base_of, IsHeldBy}
-use Rattle.group_laws.specs.HeldSteps.{OpensAroundCall}
-use Rattle.group_laws.specs.HeldChecks.{checked}
-use Rattle.group_laws.specs.HeldTurns.{behind_plan}
-use Rattle.group_laws.proofs.Exports.{reads_by_its_part, held_when_plan_begins}
+use Rattle.group_phases.specs.declared.phases.Flush.TheVariants.{Durable}
+use Rattle.group_phases.specs.declared.phases.Check.{Check}
+use Rattle.group_phases.specs.declared.phases.Check.TheVariants.{Ready, Sealed, Planned}
+use Rattle.group_phases.specs.Tail.{Seal, place_of, with_load}
+use Rattle.group_phases.specs.BasePart.{Base, sealed_of, OldStands, FoldsTo, CanBeWritten, BasePart}
+use Rattle.group_phases.specs.CheckpointerSteps.{with_new}
+use Rattle.group_phases.specs.Standing.{base_of, IsHeldBy}
+use Rattle.group_phases.specs.HeldSteps.{OpensAroundCall}
+use Rattle.group_phases.specs.HeldChecks.{checked}
+use Rattle.group_phases.specs.HeldTurns.{behind_plan}
+use Rattle.group_phases.proofs.Exports.{reads_by_its_part, held_when_plan_begins}
 use Rattle.group_core.specs.StateView.{StateView}
 use Rattle.group_core.specs.Stops.{setting_of, standing_of, StepLeaves}
 use Rattle.group_core.specs.Invariant.{Hidden, CountsAt, Sound, SoundWith, IsState}

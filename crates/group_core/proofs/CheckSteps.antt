@@ -8,23 +8,23 @@ use Rattle.path_rows.specs.declared.command.Command.{Command}
 use Rattle.sector_dev.specs.Disk.{Disk, IsHonest}
 use Rattle.sector_dev.specs.Calls.{Keeps, WriteCall, SyncCall}
 use Rattle.sector_dev.proofs.Stretches.{honest_before, honest_after}
-use Rattle.image_laws.specs.Limits.{AreAsLarge, limits_of}
-use Rattle.image_laws.specs.CommandFormat.{IsAllowed}
-use Rattle.image_laws.specs.Layout.{Geometry, other, area_at, gate_at}
-use Rattle.image_laws.specs.Checkpoint.{Checkpoint, checkpoint_encoding}
-use Rattle.image_laws.proofs.Exports.{later_allow_more}
+use Rattle.store_layout.specs.Limits.{AreAsLarge, limits_of}
+use Rattle.store_layout.specs.CommandFormat.{IsAllowed}
+use Rattle.store_layout.specs.Layout.{Geometry, other, area_at, gate_at}
+use Rattle.store_layout.specs.Checkpoint.{Checkpoint, checkpoint_encoding}
+use Rattle.store_layout.proofs.Exports.{later_allow_more}
 use Rattle.gate_journal.specs.Commands.{command_format}
 use Rattle.ckpt_pair.specs.Versions.{latest}
 use Rattle.ckpt_pair.specs.Rows.{rows_format}
-use Rattle.sealed_merge.specs.Merge.{MergeView, encoding_if_any}
-use Rattle.group_laws.specs.declared.phases.Check.{Check}
-use Rattle.group_laws.specs.declared.phases.Check.TheVariants.{Ready, Planned, Laid, Switched, SwitchFailed, Live, Closing, CloseFailed}
+use Rattle.ckpt_stream.specs.Merge.{MergeView, encoding_if_any}
+use Rattle.group_phases.specs.declared.phases.Check.{Check}
+use Rattle.group_phases.specs.declared.phases.Check.TheVariants.{Ready, Planned, Laid, Switched, SwitchFailed, Live, Closing, CloseFailed}
 use Rattle.byte_lists.specs.Sectors.{open_gate, closed_gate}
-use Rattle.group_laws.specs.Tail.{Load, Commands, Seal}
-use Rattle.group_laws.specs.Halves.{HasCheckpoint}
-use Rattle.group_laws.specs.Standing.{load_of, IsHeldBy}
-use Rattle.group_laws.specs.HeldChecks as held
-use Rattle.group_laws.proofs.Exports.{held_while_chunk_is_written, held_while_chunks_are_synced, held_while_half_is_opened, held_while_half_is_synced, held_while_half_is_closed, held_while_close_is_synced, held_under_the_new_version}
+use Rattle.group_phases.specs.Tail.{Load, Commands, Seal}
+use Rattle.group_phases.specs.Halves.{HasCheckpoint}
+use Rattle.group_phases.specs.Standing.{load_of, IsHeldBy}
+use Rattle.group_phases.specs.HeldChecks as held
+use Rattle.group_phases.proofs.Exports.{held_while_chunk_is_written, held_while_chunks_are_synced, held_while_half_is_opened, held_while_half_is_synced, held_while_half_is_closed, held_while_close_is_synced, held_under_the_new_version}
 use Rattle.group_core.specs.declared.bookkeeping.Turn.{Turn}
 use Rattle.group_core.specs.declared.error.StepError.{StepError}
 use Rattle.group_core.specs.declared.phases.AtPlan.{AtPlan}

@@ -5,16 +5,16 @@ use Rattle.path_rows.specs.declared.command.Command.{Command}
 use Rattle.sector_dev.specs.Disk.{Disk, IsHonest}
 use Rattle.sector_dev.specs.Calls.{Keeps, WriteCall, SyncCall}
 use Rattle.sector_dev.proofs.Stretches.{honest_before}
-use Rattle.image_laws.specs.Limits.{limits_of}
-use Rattle.image_laws.specs.Layout.{journal_at, image_sectors}
+use Rattle.store_layout.specs.Limits.{limits_of}
+use Rattle.store_layout.specs.Layout.{journal_at, image_sectors}
 use Rattle.gate_journal.specs.Commands.{command_format}
-use Rattle.group_laws.specs.declared.phases.Flush.{Flush}
-use Rattle.group_laws.specs.declared.phases.Flush.TheVariants.{Resting, Staged, Written, Stable, Opened, Doubtful, Durable}
+use Rattle.group_phases.specs.declared.phases.Flush.{Flush}
+use Rattle.group_phases.specs.declared.phases.Flush.TheVariants.{Resting, Staged, Written, Stable, Opened, Doubtful, Durable}
 use Rattle.byte_lists.specs.Sectors.{open_gate}
-use Rattle.group_laws.specs.Tail.{load_bytes}
-use Rattle.group_laws.specs.Standing.{load_of, IsHeldBy}
-use Rattle.group_laws.specs.HeldSteps as held
-use Rattle.group_laws.proofs.Exports.{held_while_load_is_written, held_while_gate_is_opened, held_while_load_is_synced, held_while_gate_is_synced}
+use Rattle.group_phases.specs.Tail.{load_bytes}
+use Rattle.group_phases.specs.Standing.{load_of, IsHeldBy}
+use Rattle.group_phases.specs.HeldSteps as held
+use Rattle.group_phases.proofs.Exports.{held_while_load_is_written, held_while_gate_is_opened, held_while_load_is_synced, held_while_gate_is_synced}
 use Rattle.group_core.specs.declared.bookkeeping.Turn.{Turn}
 use Rattle.group_core.specs.declared.error.StepError.{StepError}
 use Rattle.group_core.specs.declared.values.Commit.{Commit}

@@ -3,29 +3,29 @@ use Rattle.std.proofs.Common.{◌≡◌, ◌≢◌, inl, ℕ, zero, suc, ◌+◌
 use Rattle.std.specs.List.{AllByRecursion}
 use Rattle.path_rows.specs.Database.{RowView}
 use Rattle.path_rows.specs.declared.command.Command.{Command}
-use Rattle.image_laws.specs.declared.half.Half.{Half}
-use Rattle.image_laws.specs.Limits.{limits_of}
-use Rattle.image_laws.specs.Group.{group_sectors}
-use Rattle.image_laws.specs.Journal.{gate_behind}
-use Rattle.image_laws.specs.Layout.{other}
-use Rattle.image_laws.specs.StoreFormat.{db_after}
-use Rattle.image_laws.specs.Checkpoint.{Checkpoint}
-use Rattle.image_laws.specs.Opening.{StoreValue}
-use Rattle.image_laws.specs.StoreValues.{value_after}
-use Rattle.image_laws.proofs.Exports.{folds_in_parts}
+use Rattle.store_layout.specs.declared.half.Half.{Half}
+use Rattle.store_layout.specs.Limits.{limits_of}
+use Rattle.store_layout.specs.Group.{group_sectors}
+use Rattle.store_layout.specs.Journal.{gate_behind}
+use Rattle.store_layout.specs.Layout.{other}
+use Rattle.store_layout.specs.StoreFormat.{db_after}
+use Rattle.store_layout.specs.Checkpoint.{Checkpoint}
+use Rattle.store_layout.specs.Opening.{StoreValue}
+use Rattle.store_layout.specs.StoreValues.{value_after}
+use Rattle.store_layout.proofs.Exports.{folds_in_parts}
 use Rattle.gate_journal.specs.Commands.{command_format}
 use Rattle.ckpt_pair.specs.Versions.{latest}
 use Rattle.store_open.specs.PathStores.{store_format}
-use Rattle.group_laws.specs.declared.phases.Flush.{Flush}
-use Rattle.group_laws.specs.declared.phases.Flush.TheVariants.{Resting, Durable}
-use Rattle.group_laws.specs.declared.phases.Check.{Check}
-use Rattle.group_laws.specs.declared.phases.Check.TheVariants.{Ready, Sealed, Planned, Laid, Switched, SwitchFailed, Live, Closing, CloseFailed}
-use Rattle.group_laws.specs.Tail.{Load, Commands, Seal, load_bytes}
-use Rattle.group_laws.specs.BasePart.{BasePart, FoldsTo, MayBeSealed}
-use Rattle.group_laws.specs.CheckpointerSteps.{base_switched}
-use Rattle.group_laws.specs.Standing.{load_by, load_of, seals, tail_of, base_of}
-use Rattle.group_laws.specs.HeldTurns.{behind_group, behind_seal}
-use Rattle.group_laws.proofs.Exports.{held_when_group_is_published, held_when_seal_is_published, length-load}
+use Rattle.group_phases.specs.declared.phases.Flush.{Flush}
+use Rattle.group_phases.specs.declared.phases.Flush.TheVariants.{Resting, Durable}
+use Rattle.group_phases.specs.declared.phases.Check.{Check}
+use Rattle.group_phases.specs.declared.phases.Check.TheVariants.{Ready, Sealed, Planned, Laid, Switched, SwitchFailed, Live, Closing, CloseFailed}
+use Rattle.group_phases.specs.Tail.{Load, Commands, Seal, load_bytes}
+use Rattle.group_phases.specs.BasePart.{BasePart, FoldsTo, MayBeSealed}
+use Rattle.group_phases.specs.CheckpointerSteps.{base_switched}
+use Rattle.group_phases.specs.Standing.{load_by, load_of, seals, tail_of, base_of}
+use Rattle.group_phases.specs.HeldTurns.{behind_group, behind_seal}
+use Rattle.group_phases.proofs.Exports.{held_when_group_is_published, held_when_seal_is_published, length-load}
 use Rattle.group_core.specs.declared.bookkeeping.Turn.{Turn}
 use Rattle.group_core.specs.StateView.{StateView}
 use Rattle.group_core.specs.Stops.{setting_of, standing_of}

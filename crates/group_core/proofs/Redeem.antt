@@ -4,7 +4,7 @@ use Rattle.std.specs.Ordering.{nat_cmp}
 use Rattle.std.specs.BTreeMap.{is_at}
 use Rattle.path_rows.specs.Database.{RowView}
 use Rattle.path_rows.specs.declared.command.Command.{Command}
-use Rattle.image_laws.specs.Opening.{StoreValue}
+use Rattle.store_layout.specs.Opening.{StoreValue}
 use Rattle.group_core.specs.StateView.{StateView}
 use Rattle.group_core.specs.Invariant.{Hidden, Shape, IsState}
 use Rattle.group_core.specs.Keeping.{Outcomes, KeepsOutcomes}

@@ -6,15 +6,15 @@ use Rattle.std.proofs.lemmas.List.{append-nil}
 use Rattle.std.specs.List.{AllByRecursion}
 use Rattle.path_rows.specs.Database.{RowView}
 use Rattle.path_rows.specs.declared.command.Command.{Command}
-use Rattle.image_laws.specs.Limits.{Limits, limits_of}
-use Rattle.image_laws.specs.CommandFormat.{IsAllowed}
-use Rattle.image_laws.specs.Group.{record_encoding, records_of, CanBeGroup}
+use Rattle.store_layout.specs.Limits.{Limits, limits_of}
+use Rattle.store_layout.specs.CommandFormat.{IsAllowed}
+use Rattle.store_layout.specs.Group.{record_encoding, records_of, CanBeGroup}
 use Rattle.gate_journal.specs.Commands.{command_format}
-use Rattle.group_laws.specs.declared.phases.Flush.TheVariants.{Resting, Staged}
-use Rattle.group_laws.specs.Tail.{Commands, Seal, load_bytes}
-use Rattle.group_laws.specs.Standing.{load_by, IsHeldBy}
-use Rattle.group_laws.specs.HeldCommands.{staged}
-use Rattle.group_laws.proofs.Exports.{held_when_group_is_staged, held_when_seal_is_staged}
+use Rattle.group_phases.specs.declared.phases.Flush.TheVariants.{Resting, Staged}
+use Rattle.group_phases.specs.Tail.{Commands, Seal, load_bytes}
+use Rattle.group_phases.specs.Standing.{load_by, IsHeldBy}
+use Rattle.group_phases.specs.HeldCommands.{staged}
+use Rattle.group_phases.proofs.Exports.{held_when_group_is_staged, held_when_seal_is_staged}
 use Rattle.group_core.specs.declared.bookkeeping.Turn.{Turn}
 use Rattle.group_core.specs.StateView.{StateView}
 use Rattle.group_core.specs.Stops.{setting_of, standing_of}

@@ -6,13 +6,13 @@ use Rattle.path_db.specs.RecordLaws.{WrittenRowsAreCounted}
 use Rattle.sector_dev.specs.Disk.{Disk, IsHonest, IsWhole, reads_of}
 use Rattle.sector_dev.specs.Image.{EveryImage}
 use Rattle.sector_dev.proofs.Images.{image_of_reads}
-use Rattle.image_laws.specs.declared.half.Half.{Half}
-use Rattle.image_laws.specs.Group.{last_place}
-use Rattle.image_laws.specs.Journal.{Reading}
-use Rattle.image_laws.specs.Layout.{Geometry, other}
-use Rattle.image_laws.specs.StoreFormat.{db_after}
-use Rattle.image_laws.specs.Checkpoint.{Head, Checkpoint, checkpoint_size}
-use Rattle.image_laws.specs.Opening.{Opening, limits_in, IsTail, IsOpening, db_at_seal, tail_half}
+use Rattle.store_layout.specs.declared.half.Half.{Half}
+use Rattle.store_layout.specs.Group.{last_place}
+use Rattle.store_layout.specs.Journal.{Reading}
+use Rattle.store_layout.specs.Layout.{Geometry, other}
+use Rattle.store_layout.specs.StoreFormat.{db_after}
+use Rattle.store_layout.specs.Checkpoint.{Head, Checkpoint, checkpoint_size}
+use Rattle.store_layout.specs.Opening.{Opening, limits_in, IsTail, IsOpening, db_at_seal, tail_half}
 use Rattle.gate_journal.specs.Commands.{command_format}
 use Rattle.ckpt_pair.specs.Versions.{latest}
 use Rattle.ckpt_pair.specs.Rows.{rows_format}
@@ -20,12 +20,12 @@ use Rattle.store_open.specs.Closing.{HasClosedGates}
 use Rattle.store_open.specs.PathStores.{store_format}
 use Rattle.store_open.specs.Store.{StoreView, half_of_tail, IsAtRest}
 use Rattle.store_open.specs.StoreShape.{IsStoreWhole}
-use Rattle.group_laws.specs.declared.phases.Flush.TheVariants.{Resting}
-use Rattle.group_laws.specs.declared.phases.Check.TheVariants.{Planned}
-use Rattle.group_laws.specs.Setting.{Setting}
-use Rattle.group_laws.specs.Standing.{Standing, Behind, IsHeldBy}
-use Rattle.group_laws.specs.HeldOpened as opened
-use Rattle.group_laws.proofs.Exports.{checkpoint_inside, held_at_rest, held_behind_seal}
+use Rattle.group_phases.specs.declared.phases.Flush.TheVariants.{Resting}
+use Rattle.group_phases.specs.declared.phases.Check.TheVariants.{Planned}
+use Rattle.group_phases.specs.Setting.{Setting}
+use Rattle.group_phases.specs.Standing.{Standing, Behind, IsHeldBy}
+use Rattle.group_phases.specs.HeldOpened as opened
+use Rattle.group_phases.proofs.Exports.{checkpoint_inside, held_at_rest, held_behind_seal}
 use Rattle.group_core.specs.StateView.{StateView}
 use Rattle.group_core.specs.Stops.{setting_of, standing_of, MayOpen}
 use Rattle.group_core.specs.Invariant.{Hidden, FitArea, HasNextEpoch, CountsAt, Shape, Sound, SoundWith, IsBroken, IsState}

@@ -9,14 +9,14 @@ use Rattle.path_rows.specs.Database.{RowView, rows_len}
 use Rattle.path_rows.specs.declared.command.Command.{Command}
 use Rattle.path_rows.specs.Command.{database_after, outcome_of}
 use Rattle.path_db.specs.RecordLaws.{WrittenRowsAreCounted}
-use Rattle.image_laws.specs.Limits.{limits_of}
-use Rattle.image_laws.specs.StoreFormat.{db_after}
-use Rattle.image_laws.proofs.Exports.{folds_in_parts}
+use Rattle.store_layout.specs.Limits.{limits_of}
+use Rattle.store_layout.specs.StoreFormat.{db_after}
+use Rattle.store_layout.proofs.Exports.{folds_in_parts}
 use Rattle.gate_journal.specs.Commands.{command_format}
 use Rattle.store_open.specs.PathStores.{store_format}
-use Rattle.group_laws.specs.Tail.{Commands, load_bytes}
-use Rattle.group_laws.specs.Standing.{load_by, load_of}
-use Rattle.group_laws.proofs.Exports.{held_when_accepted}
+use Rattle.group_phases.specs.Tail.{Commands, load_bytes}
+use Rattle.group_phases.specs.Standing.{load_by, load_of}
+use Rattle.group_phases.proofs.Exports.{held_when_accepted}
 use Rattle.group_core.specs.StateView.{StateView}
 use Rattle.group_core.specs.Stops.{setting_of, standing_of}
 use Rattle.group_core.specs.Invariant.{Hidden, FitsLoad, MayBePending, FitArea, Shape, IsState}

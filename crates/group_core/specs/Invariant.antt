@@ -6,24 +6,24 @@ use Rattle.path_rows.specs.declared.command.Command.{Command}
 use Rattle.path_db.specs.CommandRecord.{IsWithinLimits}
 use Rattle.sector_dev.specs.Disk.{IsHonest}
 use Rattle.sector_dev.specs.Image.{EveryImage}
-use Rattle.image_laws.specs.Limits.{Limits, limits_of}
-use Rattle.image_laws.specs.CommandFormat.{IsAllowed}
-use Rattle.image_laws.specs.Group.{last_place, group_sectors, HasRoom, CanBeGroup}
-use Rattle.image_laws.specs.Layout.{Geometry, IsGeometry, image_sectors}
-use Rattle.image_laws.specs.StoreFormat.{db_after}
-use Rattle.image_laws.specs.Checkpoint.{Checkpoint, checkpoint_encoding, checkpoint_size}
+use Rattle.store_layout.specs.Limits.{Limits, limits_of}
+use Rattle.store_layout.specs.CommandFormat.{IsAllowed}
+use Rattle.store_layout.specs.Group.{last_place, group_sectors, HasRoom, CanBeGroup}
+use Rattle.store_layout.specs.Layout.{Geometry, IsGeometry, image_sectors}
+use Rattle.store_layout.specs.StoreFormat.{db_after}
+use Rattle.store_layout.specs.Checkpoint.{Checkpoint, checkpoint_encoding, checkpoint_size}
 use Rattle.gate_journal.specs.Commands.{command_format}
 use Rattle.ckpt_pair.specs.Versions.{latest}
 use Rattle.ckpt_pair.specs.Rows.{rows_format}
 use Rattle.store_open.specs.PathStores.{store_format}
-use Rattle.group_laws.specs.declared.phases.Flush.TheVariants.{Resting}
-use Rattle.group_laws.specs.declared.phases.Check.{Check}
-use Rattle.group_laws.specs.declared.phases.Check.TheVariants.{Ready, Sealed, Planned, Laid, Switched, SwitchFailed, Live, Closing, CloseFailed}
-use Rattle.group_laws.specs.Tail.{Load, Commands, Seal, load_bytes}
-use Rattle.group_laws.specs.Standing.{load_of, Behind, IsHeldBy}
+use Rattle.group_phases.specs.declared.phases.Flush.TheVariants.{Resting}
+use Rattle.group_phases.specs.declared.phases.Check.{Check}
+use Rattle.group_phases.specs.declared.phases.Check.TheVariants.{Ready, Sealed, Planned, Laid, Switched, SwitchFailed, Live, Closing, CloseFailed}
+use Rattle.group_phases.specs.Tail.{Load, Commands, Seal, load_bytes}
+use Rattle.group_phases.specs.Standing.{load_of, Behind, IsHeldBy}
 use Rattle.group_core.specs.StateView.{StateView}
 use Rattle.group_core.specs.Stops.{setting_of, standing_of, MayOpen}
-use Rattle.sealed_merge.specs.Merge.{MergeView, encoding_if_any}
+use Rattle.ckpt_stream.specs.Merge.{MergeView, encoding_if_any}
 use Rattle.group_core.specs.Keeping.{KeepsOutcomes}
 use Rattle.group_core.specs.Merging.{HasMerge, IsUnderWay, Streams}
 use Rattle.group_core.specs.Showing.{IsFront}

@@ -1,11 +1,11 @@
 -- What a state made of a store is.
 use Rattle.std.specs.Prelude.{◌≡◌, ◌↔◌, ℕ, ◌+◌, ◌*◌, ◌≤◌, Bool, true, false, List, []}
 use Rattle.path_rows.specs.Database.{RowView, rows_len}
-use Rattle.image_laws.specs.Opening.{StoreValue}
+use Rattle.store_layout.specs.Opening.{StoreValue}
 use Rattle.store_open.specs.Store.{StoreView, half_of_tail}
-use Rattle.group_laws.specs.declared.phases.Flush.TheVariants.{Resting}
-use Rattle.group_laws.specs.declared.phases.Check.{Check}
-use Rattle.group_laws.specs.declared.phases.Check.TheVariants.{Ready, Sealed}
+use Rattle.group_phases.specs.declared.phases.Flush.TheVariants.{Resting}
+use Rattle.group_phases.specs.declared.phases.Check.{Check}
+use Rattle.group_phases.specs.declared.phases.Check.TheVariants.{Ready, Sealed}
 use Rattle.group_core.specs.declared.bookkeeping.Turn.{Turn}
 use Rattle.group_core.specs.StateView.{StateView}
 

@@ -4,11 +4,11 @@ use Rattle.path_rows.specs.Database.{RowView}
 use Rattle.path_rows.specs.declared.command.Command.{Command}
 use Rattle.path_rows.specs.declared.outcome.Outcome.{Outcome}
 use Rattle.sector_dev.specs.Disk.{Disk}
-use Rattle.image_laws.specs.declared.half.Half.{Half}
-use Rattle.image_laws.specs.Layout.{Geometry}
-use Rattle.image_laws.specs.Opening.{StoreValue}
-use Rattle.group_laws.specs.declared.phases.Flush.{Flush}
-use Rattle.group_laws.specs.declared.phases.Check.{Check}
+use Rattle.store_layout.specs.declared.half.Half.{Half}
+use Rattle.store_layout.specs.Layout.{Geometry}
+use Rattle.store_layout.specs.Opening.{StoreValue}
+use Rattle.group_phases.specs.declared.phases.Flush.{Flush}
+use Rattle.group_phases.specs.declared.phases.Check.{Check}
 use Rattle.group_core.specs.declared.bookkeeping.Turn.{Turn}
 
 -- a state as contracts see it

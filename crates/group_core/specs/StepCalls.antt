@@ -3,11 +3,11 @@ use Rattle.std.specs.Prelude.{◌≡◌, ℕ, ◌+◌, ◌*◌, List, ◌++◌, 
 use Rattle.byte_lists.specs.Content.{part}
 use Rattle.sector_dev.specs.Disk.{Disk}
 use Rattle.sector_dev.specs.Calls.{WriteCall, SyncCall}
-use Rattle.image_laws.specs.Layout.{other, area_at, gate_at, journal_at}
+use Rattle.store_layout.specs.Layout.{other, area_at, gate_at, journal_at}
 use Rattle.gate_journal.specs.Commands.{command_format}
 use Rattle.byte_lists.specs.Sectors.{open_gate, closed_gate}
-use Rattle.group_laws.specs.Tail.{load_bytes}
-use Rattle.group_laws.specs.Standing.{load_of}
+use Rattle.group_phases.specs.Tail.{load_bytes}
+use Rattle.group_phases.specs.Standing.{load_of}
 use Rattle.group_core.specs.declared.error.StepError.{StepError}
 use Rattle.group_core.specs.declared.error.StepError.TheVariants.{Fault, Stopped, Stranger, NoMemory, Damaged}
 use Rattle.group_core.specs.StateView.{StateView}

@@ -8,9 +8,9 @@ use Rattle.sector_dev.specs.Stretch.{Stretch}
 use Rattle.ckpt_pair.specs.Versions.{latest}
 use Rattle.store_open.specs.PathStores.{store_format}
 use Rattle.store_open.specs.Behind.{SameBehind}
-use Rattle.group_laws.specs.Setting.{Setting}
-use Rattle.group_laws.specs.Standing.{Standing, OpensToFront}
-use Rattle.group_laws.specs.HeldSteps.{OpensAroundCall}
+use Rattle.group_phases.specs.Setting.{Setting}
+use Rattle.group_phases.specs.Standing.{Standing, OpensToFront}
+use Rattle.group_phases.specs.HeldSteps.{OpensAroundCall}
 use Rattle.group_core.specs.StateView.{StateView}
 
 -- what doesn't change, and what counts for the device

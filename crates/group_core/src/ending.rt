@@ -9,7 +9,7 @@ ghost use Rattle.group_core.specs.Ending.{Abandons, HandsOut, HoldsStoreOf};
 use crate::showcase::Showcase;
 use crate::state::State;
 use crate::values::Durable;
-use group_laws::Flush;
+use group_phases::Flush;
 use sector_dev::Device;
 
 impl<D: Device, S: Showcase> State<D, S> {

@@ -1,7 +1,7 @@
 //! The flusher's steps on the device.
 
-ghost use Rattle.group_laws.specs.declared.phases.Flush.TheVariants.{Staged as staged, Written as written, Stable as stable};
-ghost use Rattle.group_laws.specs.declared.phases.Flush.TheVariants.{Opened as opened, Doubtful as doubtful, Durable as durable};
+ghost use Rattle.group_phases.specs.declared.phases.Flush.TheVariants.{Staged as staged, Written as written, Stable as stable};
+ghost use Rattle.group_phases.specs.declared.phases.Flush.TheVariants.{Opened as opened, Doubtful as doubtful, Durable as durable};
 ghost use Rattle.group_core.specs.Stops.{StepLeaves};
 ghost use Rattle.group_core.specs.Steps.{FlushStep, TakesGroupTurn};
 ghost use Rattle.group_core.specs.StepCalls.{StepCall, Sync, load_write, gate_write};
@@ -12,7 +12,7 @@ use crate::showcase::Showcase;
 use crate::state::State;
 use crate::values::{Commit, Durable, Opened, Stable, Staged, Written};
 use byte_lists::open_gate;
-use group_laws::Flush;
+use group_phases::Flush;
 use sector_dev::Device;
 
 impl<D: Device, S: Showcase> State<D, S> {

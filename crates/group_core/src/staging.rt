@@ -3,11 +3,11 @@
 ghost use Rattle.std.specs.Prelude.{◌≡◌, ◌≢◌, ◌≤◌, length, take, IfOk, MatchResult};
 ghost use Rattle.std.specs.List.{All};
 ghost use Rattle.path_db.specs.CommandRecord.{IsWithinLimits};
-ghost use Rattle.image_laws.specs.Limits.{limits_of};
-ghost use Rattle.image_laws.specs.Group.{records_of};
+ghost use Rattle.store_layout.specs.Limits.{limits_of};
+ghost use Rattle.store_layout.specs.Group.{records_of};
 ghost use Rattle.gate_journal.specs.Commands.{command_format};
 ghost use Rattle.gate_journal.specs.Payload.{IsWithinGroupLimits};
-ghost use Rattle.group_laws.specs.Tail.{Commands, Seal, load_bytes};
+ghost use Rattle.group_phases.specs.Tail.{Commands, Seal, load_bytes};
 ghost use Rattle.group_core.specs.declared.staging.StageError.TheVariants.{NoMemory};
 ghost use Rattle.group_core.specs.Stops.{StepLeaves};
 ghost use Rattle.group_core.specs.Staging.{IsLongestFront, Takes, IsRefused, Stages};
@@ -21,7 +21,7 @@ use byte_lists::closed_gate;
 use gate_journal::{
     MOST_RECORD_BYTES, encode_group, encode_seal, fits, most_commands, payload_sectors, record_len,
 };
-use group_laws::{Check, Flush};
+use group_phases::{Check, Flush};
 use path_db::Command;
 use sector_dev::Device;
 use std::alloc::{AllocError, Global};

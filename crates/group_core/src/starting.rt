@@ -10,7 +10,7 @@ use crate::bookkeeping::Turn;
 use crate::showcase::Showcase;
 use crate::state::State;
 use ckpt_pair::area_room;
-use group_laws::{Check, Flush};
+use group_phases::{Check, Flush};
 use path_db::written_rows_are_counted;
 use rising_map::RisingMap;
 use sector_dev::Device;

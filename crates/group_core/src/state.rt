@@ -2,14 +2,14 @@
 
 use crate::bookkeeping::Turn;
 use crate::showcase::Showcase;
-use group_laws::{Check, Flush};
-use image_laws::Half;
+use ckpt_stream::Merge;
+use group_phases::{Check, Flush};
 use path_db::{Command, Outcome, PathDb};
 use rising_map::RisingMap;
-use sealed_merge::Merge;
 use sector_dev::Device;
 use std::alloc::Global;
 use std::marker::Model;
+use store_layout::Half;
 use store_open::Geometry;
 
 /// A store at work: its device, what it shows, and what is accepted and not committed yet.
@@ -61,8 +61,8 @@ pub struct State<D: Device, S: Showcase> {
 }
 
 impl<D: Device, S: Showcase> Model for State<D, S> {
-    ghost use Rattle.image_laws.specs.Geometry.{geometry_view};
-    ghost use Rattle.sealed_merge.specs.Merge.{encoding_if_any};
+    ghost use Rattle.store_layout.specs.Geometry.{geometry_view};
+    ghost use Rattle.ckpt_stream.specs.Merge.{encoding_if_any};
     ghost use Rattle.group_core.specs.StateView.{StateView};
     ghost use Rattle.group_core.specs.Invariant.{IsState};
 

@@ -6,7 +6,6 @@
 mod peers;
 
 use crate::peers::{ask, turned_away, with_a_seat};
-use image_laws::{LEAST_CHECKPOINT, LEAST_JOURNAL};
 use isd_as::IsdAs;
 use path_server::{Listeners, Options, RunError, Silent, run_on};
 use sector_dev::MemDevice;
@@ -18,8 +17,9 @@ use std::sync::Wait;
 use std::thread::Threads;
 use std::time::{Clock, Duration};
 use std::{io, thread};
+use store_layout::{LEAST_CHECKPOINT, LEAST_JOURNAL};
 use store_open::{Geometry, Store, format, open};
-use worked_segments::digits::{LOOKUP, REGISTER_2096};
+use test_support::digits::{LOOKUP, REGISTER_2096};
 
 /// The sizes of the store.
 const SIZES: Geometry = Geometry {

@@ -3,7 +3,7 @@ use Rattle.std.proofs.Common.{◌≡◌, ℕ, ◌<◌, ◌∙◌, Option, Some, 
 use Rattle.path_rows.specs.declared.command.Command.{Command}
 use Rattle.group_core.specs.declared.ticket.Ticket.{Ticket}
 use Rattle.group_core.specs.declared.ticket.Receipt.{Receipt}
-use Rattle.store_actors.specs.Receipts.{IsShownAbove, IsReceiptOf}
+use Rattle.store_loops.specs.Receipts.{IsShownAbove, IsReceiptOf}
 use Rattle.path_hub.specs.Committed.{IsCommitted}
 
 -- a hub's note is the place of what was shown

@@ -2,8 +2,8 @@
 use Rattle.std.specs.Prelude.{ℕ, List}
 use Rattle.path_rows.specs.Database.{RowView}
 use Rattle.path_rows.specs.declared.command.Command.{Command}
-use Rattle.image_laws.specs.Opening.{StoreValue, OpensTo}
-use Rattle.image_laws.specs.StoreValues.{value_after}
+use Rattle.store_layout.specs.Opening.{StoreValue, OpensTo}
+use Rattle.store_layout.specs.StoreValues.{value_after}
 use Rattle.ckpt_pair.specs.Versions.{latest}
 use Rattle.store_open.specs.PathStores.{store_format}
 use Rattle.path_hub.specs.Shown.{shown_after, AreGroups}

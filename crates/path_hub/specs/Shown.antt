@@ -7,8 +7,8 @@ use lib.ListN.{get_elem?}
 use Rattle.path_rows.specs.Database.{RowView}
 use Rattle.path_rows.specs.Command.{database_after}
 use Rattle.path_rows.specs.declared.command.Command.{Command}
-use Rattle.image_laws.specs.Opening.{StoreValue}
-use Rattle.image_laws.specs.StoreValues.{value_after}
+use Rattle.store_layout.specs.Opening.{StoreValue}
+use Rattle.store_layout.specs.StoreValues.{value_after}
 use Rattle.store_open.specs.PathStores.{store_format}
 use Rattle.path_hub.specs.declared.rule.SeenGroups.{SeenGroups}
 

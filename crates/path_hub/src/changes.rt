@@ -4,7 +4,7 @@ use crate::bells::Bells;
 use std::sync::atomic::{AtomicU64, Ordering};
 use std::sync::{Condvar, Wait};
 use std::time::Duration;
-use store_actors::Awaited;
+use store_loops::Awaited;
 
 /// The longest rest, in milliseconds.
 const LONGEST_REST: u64 = 10;

@@ -17,7 +17,7 @@ use std::sync::Wait;
 use std::thread;
 use std::thread::Threads;
 use std::time::Clock;
-use store_actors::{checkpointer_loop, flusher_loop};
+use store_loops::{checkpointer_loop, flusher_loop};
 use store_open::Store;
 
 /// What threads do with a hub: guests come one by one, and each is attended to in a thread of its own. It can't name a hub itself, so

@@ -1,7 +1,7 @@
 //! The guarded calls over a hub's state: each takes the lock for one call, and then wakes the threads that wait for what it changed.
 
 ghost use Rattle.std.specs.Prelude.{◌≡◌, true, false};
-ghost use Rattle.store_actors.specs.Receipts.{IsTaken, IsRedeemed, LeadsOn, LeadsOut, IsHandedIn};
+ghost use Rattle.store_loops.specs.Receipts.{IsTaken, IsRedeemed, LeadsOn, LeadsOut, IsHandedIn};
 
 use crate::hub::Hub;
 use crate::name::HubName;
@@ -15,7 +15,7 @@ use path_db::Command;
 use sector_dev::Device;
 use std::sync::{MutexGuard, Wait};
 use std::time::Clock;
-use store_actors::{Awaited, Steps};
+use store_loops::{Awaited, Steps};
 
 impl<D: Device, N: HubName, R: Wait + Clock> Hub<D, N, R> {
     /// Wakes all that wait, where a step found that the state must stop.
@@ -33,7 +33,7 @@ impl<D: Device, N: HubName, R: Wait + Clock> Steps for Hub<D, N, R> {
 
     ghost tells = { λ value note. note ≡ value.place };
 
-    #[tactic(auto, using(store_actors::proofs::Through::taken))]
+    #[tactic(auto, using(store_loops::proofs::Through::taken))]
     fn submit(&self, command: Command) -> Result<Ticket, (Command, SubmitError)> {
         let mut state = self.state.lock(&self.rt);
         let submitted = state.submit(command);
@@ -44,7 +44,7 @@ impl<D: Device, N: HubName, R: Wait + Clock> Steps for Hub<D, N, R> {
         submitted
     }
 
-    #[tactic(auto, using(store_actors::proofs::Through::is_redeemed))]
+    #[tactic(auto, using(store_loops::proofs::Through::is_redeemed))]
     fn redeem(&self, ticket: Ticket) -> Redeemed<HubNote<N>> {
         let mut state = self.state.lock(&self.rt);
         let redeemed = state.redeem(ticket);
@@ -66,7 +66,7 @@ impl<D: Device, N: HubName, R: Wait + Clock> Steps for Hub<D, N, R> {
         staged
     }
 
-    #[tactic(auto, using(store_actors::proofs::Through::flush_leads))]
+    #[tactic(auto, using(store_loops::proofs::Through::flush_leads))]
     fn write_group(&self, value: Staged) -> Result<Written, StepError<AtStaged>> {
         let mut state = self.state.lock(&self.rt);
         let next = state.write_group(value);
@@ -75,7 +75,7 @@ impl<D: Device, N: HubName, R: Wait + Clock> Steps for Hub<D, N, R> {
         next
     }
 
-    #[tactic(auto, using(store_actors::proofs::Through::flush_leads))]
+    #[tactic(auto, using(store_loops::proofs::Through::flush_leads))]
     fn sync_group(&self, value: Written) -> Result<Stable, StepError<AtWritten>> {
         let mut state = self.state.lock(&self.rt);
         let next = state.sync_group(value);
@@ -84,7 +84,7 @@ impl<D: Device, N: HubName, R: Wait + Clock> Steps for Hub<D, N, R> {
         next
     }
 
-    #[tactic(auto, using(store_actors::proofs::Through::flush_leads))]
+    #[tactic(auto, using(store_loops::proofs::Through::flush_leads))]
     fn open_gate(&self, value: Stable) -> Result<Opened, StepError<AtStable>> {
         let mut state = self.state.lock(&self.rt);
         let next = state.open_gate(value);
@@ -93,7 +93,7 @@ impl<D: Device, N: HubName, R: Wait + Clock> Steps for Hub<D, N, R> {
         next
     }
 
-    #[tactic(auto, using(store_actors::proofs::Through::flush_leads))]
+    #[tactic(auto, using(store_loops::proofs::Through::flush_leads))]
     fn sync_gate(&self, value: Opened) -> Result<Durable, StepError<AtOpened>> {
         let mut state = self.state.lock(&self.rt);
         let next = state.sync_gate(value);
@@ -102,7 +102,7 @@ impl<D: Device, N: HubName, R: Wait + Clock> Steps for Hub<D, N, R> {
         next
     }
 
-    #[tactic(auto, using(store_actors::proofs::Through::handed_in))]
+    #[tactic(auto, using(store_loops::proofs::Through::handed_in))]
     fn publish(&self, value: Durable) -> Result<(), PublishError> {
         let mut state = self.state.lock(&self.rt);
         let from = state.place();
@@ -130,7 +130,7 @@ impl<D: Device, N: HubName, R: Wait + Clock> Steps for Hub<D, N, R> {
         begun
     }
 
-    #[tactic(auto, using(store_actors::proofs::Through::chunk_leads))]
+    #[tactic(auto, using(store_loops::proofs::Through::chunk_leads))]
     fn write_chunk(&self, value: Plan) -> Result<Plan, StepError<AtPlan>> {
         let mut state = self.state.lock(&self.rt);
         let next = state.write_chunk(value);
@@ -139,7 +139,7 @@ impl<D: Device, N: HubName, R: Wait + Clock> Steps for Hub<D, N, R> {
         next
     }
 
-    #[tactic(auto, using(store_actors::proofs::Through::chunks_lead))]
+    #[tactic(auto, using(store_loops::proofs::Through::chunks_lead))]
     fn sync_chunks(&self, value: Plan) -> Result<Laid, StepError<AtPlan>> {
         let mut state = self.state.lock(&self.rt);
         let next = state.sync_chunks(value);
@@ -148,7 +148,7 @@ impl<D: Device, N: HubName, R: Wait + Clock> Steps for Hub<D, N, R> {
         next
     }
 
-    #[tactic(auto, using(store_actors::proofs::Through::gate_leads))]
+    #[tactic(auto, using(store_loops::proofs::Through::gate_leads))]
     fn open_half(&self, value: Laid) -> Result<Switched, StepError<AtLaid>> {
         let mut state = self.state.lock(&self.rt);
         let next = state.open_half(value);
@@ -157,7 +157,7 @@ impl<D: Device, N: HubName, R: Wait + Clock> Steps for Hub<D, N, R> {
         next
     }
 
-    #[tactic(auto, using(store_actors::proofs::Through::half_leads))]
+    #[tactic(auto, using(store_loops::proofs::Through::half_leads))]
     fn sync_half(&self, value: Switched) -> Result<Live, StepError<AtSwitched>> {
         let mut state = self.state.lock(&self.rt);
         let next = state.sync_half(value);
@@ -166,7 +166,7 @@ impl<D: Device, N: HubName, R: Wait + Clock> Steps for Hub<D, N, R> {
         next
     }
 
-    #[tactic(auto, using(store_actors::proofs::Through::gate_leads))]
+    #[tactic(auto, using(store_loops::proofs::Through::gate_leads))]
     fn close_half(&self, value: Live) -> Result<Closing, StepError<AtLive>> {
         let mut state = self.state.lock(&self.rt);
         let next = state.close_half(value);
@@ -175,7 +175,7 @@ impl<D: Device, N: HubName, R: Wait + Clock> Steps for Hub<D, N, R> {
         next
     }
 
-    #[tactic(auto, using(store_actors::proofs::Through::close_leads))]
+    #[tactic(auto, using(store_loops::proofs::Through::close_leads))]
     fn sync_close(&self, value: Closing) -> Result<(), StepError<AtClosing>> {
         let mut state = self.state.lock(&self.rt);
         let done = state.sync_close(value);

@@ -16,7 +16,7 @@ use path_db::Command;
 use sector_dev::Device;
 use std::sync::{Mutex, MutexGuard, Wait};
 use std::time::Clock;
-use store_actors::{Awaited, Steps};
+use store_loops::{Awaited, Steps};
 
 /// How many readers a hub has.
 pub const READERS: usize = 64;

@@ -7,7 +7,7 @@ use std::marker::Brand;
 pub trait HubName {
     ghost use Rattle.std.specs.Prelude.{List};
     ghost use Rattle.path_rows.specs.Database.{RowView};
-    ghost use Rattle.image_laws.specs.Opening.{StoreValue};
+    ghost use Rattle.store_layout.specs.Opening.{StoreValue};
 
     /// The rows and the place that the hub opened with.
     ghost opening: { StoreValue (List RowView) };

@@ -17,7 +17,7 @@ pub struct Published {
 impl Model for Published {
     ghost use Rattle.std.specs.Prelude.{List};
     ghost use Rattle.path_rows.specs.Database.{RowView};
-    ghost use Rattle.image_laws.specs.Opening.{StoreValue};
+    ghost use Rattle.store_layout.specs.Opening.{StoreValue};
 
     ghost Value = { StoreValue (List RowView) };
 

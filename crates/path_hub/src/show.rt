@@ -1,8 +1,8 @@
 //! The hub's showcase, and its notes.
 
 ghost use Rattle.std.specs.Prelude.{◌≡◌, ◌+◌, ◌<◌, ◌≤◌, [], length, take, drop, IfSome, MatchResult, OnOk, OnErr};
-ghost use Rattle.image_laws.specs.Group.{last_place};
-ghost use Rattle.image_laws.specs.StoreValues.{value_after};
+ghost use Rattle.store_layout.specs.Group.{last_place};
+ghost use Rattle.store_layout.specs.StoreValues.{value_after};
 ghost use Rattle.store_open.specs.PathStores.{store_format};
 ghost use Rattle.group_core.specs.Showing.{IsFront};
 ghost use Rattle.left_right.specs.Sides.{view};

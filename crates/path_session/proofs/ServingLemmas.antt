@@ -7,7 +7,7 @@ use Rattle.seg_check.specs.declared.error.CheckError.{CheckError}
 use Rattle.path_rows.specs.declared.command.Command.{Command}
 use Rattle.path_rows.specs.declared.command.Command.TheVariants as command
 use Rattle.path_rows.specs.Database.{RowView}
-use Rattle.image_laws.specs.Opening.{StoreValue}
+use Rattle.store_layout.specs.Opening.{StoreValue}
 use Rattle.session_core.specs.declared.message.Message.TheVariants.{Register, Purge, Remove}
 use Rattle.session_core.specs.declared.service.Ack.{Ack}
 use Rattle.session_core.specs.Reply.{ReplyView, Registered, Purged, Removed}

@@ -14,7 +14,7 @@ use Rattle.seg_lookup.specs.declared.error.LookupError.{LookupError}
 use Rattle.seg_lookup.specs.Query.{QueryView}
 use Rattle.seg_lookup.specs.Classification.{query_of}
 use Rattle.seg_lookup.specs.Answer.{answer_to}
-use Rattle.image_laws.specs.Opening.{StoreValue}
+use Rattle.store_layout.specs.Opening.{StoreValue}
 use Rattle.group_core.specs.declared.submit_error.SubmitError.{SubmitError}
 use Rattle.group_core.specs.declared.ticket.Receipt.{Receipt}
 use Rattle.path_hub.specs.Shown.{shown_after}

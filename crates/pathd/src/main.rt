@@ -1,9 +1,9 @@
 //! `pathd`, a path segment server for the core ASes of a SCION network.
 //!
-//! What the words of its command line ask for is done by `path_program`; here are the program's input, output and status alone.
+//! What the words of its command line ask for is done by `cli_program`; here are the program's input, output and status alone.
 #![tactic(auto)]
 
-use path_program::carry_out;
+use cli_program::carry_out;
 use std::fs::File;
 use std::net::{TcpListener, TcpStream};
 use std::process::ExitCode;

@@ -1,9 +1,9 @@
 -- How far the two actors of a store are, as lines of a page.
 use Rattle.std.specs.Prelude.{ℕ, List, ◌++◌, ◌==◌, if◌then◌else◌, codes}
-use Rattle.group_laws.specs.declared.phases.Flush.{Flush}
-use Rattle.group_laws.specs.declared.phases.Flush.TheVariants as flush
-use Rattle.group_laws.specs.declared.phases.Check.{Check}
-use Rattle.group_laws.specs.declared.phases.Check.TheVariants as check
+use Rattle.group_phases.specs.declared.phases.Flush.{Flush}
+use Rattle.group_phases.specs.declared.phases.Flush.TheVariants as flush
+use Rattle.group_phases.specs.declared.phases.Check.{Check}
+use Rattle.group_phases.specs.declared.phases.Check.TheVariants as check
 use Rattle.status_page.specs.Lines.{type_line, labelled}
 
 -- the number of a phase, in the order of the lines

@@ -4,7 +4,7 @@ ghost use Rattle.std.specs.Prelude.{◌≡◌, IfOk, string_bytes};
 ghost use Rattle.status_page.specs.Phases.{flush_number, check_number, phase_line, flush_begins, flush_ends, flush_lines, check_begins, check_switches, check_ends, check_lines, actor_lines};
 
 use crate::lines::{labelled, type_line};
-use group_laws::{Check, Flush};
+use group_phases::{Check, Flush};
 use std::alloc::{AllocError, Global};
 
 /// The name of the metric of the flusher.

@@ -7,12 +7,12 @@ use Rattle.sector_dev.specs.Image.{EveryImage, IsFromImage}
 use Rattle.sector_dev.specs.Stretch.{Stretch}
 use Rattle.sector_dev.proofs.Images.{image_of_reads, image_is_reads}
 use Rattle.sector_dev.proofs.Stretches.{honest_before, stretch_here, at_exit, stretch_honest}
-use Rattle.image_laws.specs.declared.half.Half.{Half}
-use Rattle.image_laws.specs.Journal.{Reading}
-use Rattle.image_laws.specs.Layout.{Geometry, other}
-use Rattle.image_laws.specs.Checkpoint.{Head, Checkpoint, CanBeCheckpoint, checkpoint_bytes, checkpoint_encoding}
-use Rattle.image_laws.specs.Opening.{Opening, limits_in, IsTail, IsOpening, StoreValue, value_of, db_at_seal}
-use Rattle.image_laws.specs.TakeOver.{taken_over, empty_journal}
+use Rattle.store_layout.specs.declared.half.Half.{Half}
+use Rattle.store_layout.specs.Journal.{Reading}
+use Rattle.store_layout.specs.Layout.{Geometry, other}
+use Rattle.store_layout.specs.Checkpoint.{Head, Checkpoint, CanBeCheckpoint, checkpoint_bytes, checkpoint_encoding}
+use Rattle.store_layout.specs.Opening.{Opening, limits_in, IsTail, IsOpening, StoreValue, value_of, db_at_seal}
+use Rattle.store_layout.specs.TakeOver.{taken_over, empty_journal}
 use Rattle.store_open.specs.Closing.{HasClosedGates}
 use Rattle.store_open.specs.NewStore.{HasRoomFor}
 use Rattle.store_open.specs.Behind.{SameBehind}

@@ -8,10 +8,10 @@ use Rattle.sector_dev.specs.Image.{IsFromImage}
 use Rattle.sector_dev.specs.Calls.{WriteCall, SyncCall}
 use Rattle.sector_dev.specs.Stretch.{Stretch}
 use Rattle.sector_dev.proofs.Stretches.{stretch_sync, from_here, from_write}
-use Rattle.image_laws.specs.declared.half.Half.{Half}
-use Rattle.image_laws.specs.declared.half.Half.TheVariants.{First, Second}
-use Rattle.image_laws.specs.Layout.{Geometry, IsGeometry, image_sectors, other, area_at, gate_at, journal_at}
-use Rattle.image_laws.specs.FirstSector.{first_sector}
+use Rattle.store_layout.specs.declared.half.Half.{Half}
+use Rattle.store_layout.specs.declared.half.Half.TheVariants.{First, Second}
+use Rattle.store_layout.specs.Layout.{Geometry, IsGeometry, image_sectors, other, area_at, gate_at, journal_at}
+use Rattle.store_layout.specs.FirstSector.{first_sector}
 use Rattle.store_open.specs.NewStore.{first_checkpoint_bytes, HasRoomFor}
 use Rattle.store_open.specs.Behind.{SameBehind}
 use Rattle.store_open.specs.TakingOver.{IsTornAt, laid, switched, IsTakingOver}

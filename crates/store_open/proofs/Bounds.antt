@@ -2,12 +2,12 @@
 use Rattle.std.proofs.Common.{◌≡◌, ℕ, ◌+◌, ◌*◌, ◌≤◌, Bool, true, false, List, Option, Some, None, length, sym, ◌∙◌, ap, subst, arith}
 use Rattle.path_rows.specs.Database.{RowView}
 use Rattle.path_rows.specs.declared.command.Command.{Command}
-use Rattle.image_laws.specs.declared.half.Half.{Half}
-use Rattle.image_laws.specs.Journal.{Reading, IsJournal}
-use Rattle.image_laws.specs.Checkpoint.{Head}
-use Rattle.image_laws.specs.Layout.{Geometry, IsGeometry, image_sectors, other, journal_of}
-use Rattle.image_laws.specs.Opening.{Opening, limits_in, IsTail, last_journal, IsOpening}
-use Rattle.image_laws.proofs.Exports.{stays_within_bounds}
+use Rattle.store_layout.specs.declared.half.Half.{Half}
+use Rattle.store_layout.specs.Journal.{Reading, IsJournal}
+use Rattle.store_layout.specs.Checkpoint.{Head}
+use Rattle.store_layout.specs.Layout.{Geometry, IsGeometry, image_sectors, other, journal_of}
+use Rattle.store_layout.specs.Opening.{Opening, limits_in, IsTail, last_journal, IsOpening}
+use Rattle.store_layout.proofs.Exports.{stays_within_bounds}
 use Rattle.gate_journal.specs.Commands.{command_format}
 use Rattle.ckpt_pair.specs.Versions.{latest}
 use Rattle.store_open.specs.Open.{IsOpened}

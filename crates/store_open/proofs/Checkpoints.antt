@@ -7,11 +7,11 @@ use Rattle.byte_lists.specs.Sectors.{sector_at}
 use Rattle.byte_lists.proofs.Contents.{length-part}
 use Rattle.path_rows.specs.Database.{RowView}
 use Rattle.path_db.specs.RowRecord.{rows_decoding}
-use Rattle.image_laws.specs.declared.half.Half.{Half}
-use Rattle.image_laws.specs.declared.half.Half.TheVariants.{First, Second}
-use Rattle.image_laws.specs.Checkpoint.{Checkpoint, Head}
-use Rattle.image_laws.specs.CheckpointReading.{PairRefusal, BadCheckpoint, head_in, rows_size, rows_count, checkpoint_in}
-use Rattle.image_laws.specs.Layout.{Geometry, IsGeometry, image_sectors, area_at, area_of}
+use Rattle.store_layout.specs.declared.half.Half.{Half}
+use Rattle.store_layout.specs.declared.half.Half.TheVariants.{First, Second}
+use Rattle.store_layout.specs.Checkpoint.{Checkpoint, Head}
+use Rattle.store_layout.specs.CheckpointReading.{PairRefusal, BadCheckpoint, head_in, rows_size, rows_count, checkpoint_in}
+use Rattle.store_layout.specs.Layout.{Geometry, IsGeometry, image_sectors, area_at, area_of}
 use Rattle.ckpt_pair.specs.declared.error.PairError.{PairError}
 use Rattle.ckpt_pair.specs.declared.error.PairError.TheVariants as pair
 use Rattle.ckpt_pair.specs.Versions.{latest}

@@ -6,8 +6,8 @@ use Rattle.std.specs.Int.{w32, w64, from_be_bytes}
 use Rattle.byte_lists.specs.Content.{part}
 use Rattle.byte_lists.specs.Numbers.{four_at, eight_at}
 use Rattle.byte_lists.specs.Sectors.{whole_sectors}
-use Rattle.image_laws.specs.Layout.{Geometry, IsGeometry, image_sectors}
-use Rattle.image_laws.specs.FirstSector.{store_magic, layout_number, sizes_in, is_geometry, is_store, geometry_in}
+use Rattle.store_layout.specs.Layout.{Geometry, IsGeometry, image_sectors}
+use Rattle.store_layout.specs.FirstSector.{store_magic, layout_number, sizes_in, is_geometry, is_store, geometry_in}
 
 -- a part within the front of a list
 pub part_in_front : (at n size : ℕ) (xs : List ℕ) → at + n ≤ size → part at n (take size xs) ≡ part at n xs

@@ -3,12 +3,12 @@ use Rattle.std.proofs.Common.{◌≡◌, ◌≢◌, ℕ, ◌*◌, ◌≤◌, eqb
 use Rattle.std.specs.Int.{w32, w64, from_be_bytes}
 use Rattle.byte_lists.specs.Numbers.{four_at, eight_at}
 use Rattle.byte_lists.specs.Sectors.{sector_at, is_open_gate}
-use Rattle.image_laws.specs.declared.half.Half.{Half}
-use Rattle.image_laws.specs.GroupReading.{check}
-use Rattle.image_laws.specs.Checkpoint.{checkpoint_magic}
-use Rattle.image_laws.specs.CheckpointReading.{PairRefusal, BadCheckpoint, NewerFormat, head_in}
-use Rattle.image_laws.specs.Layout.{Geometry, IsGeometry, area_at, gate_at, area_of, gate_of}
-use Rattle.image_laws.specs.OpeningReading.{head_behind, head_of}
+use Rattle.store_layout.specs.declared.half.Half.{Half}
+use Rattle.store_layout.specs.GroupReading.{check}
+use Rattle.store_layout.specs.Checkpoint.{checkpoint_magic}
+use Rattle.store_layout.specs.CheckpointReading.{PairRefusal, BadCheckpoint, NewerFormat, head_in}
+use Rattle.store_layout.specs.Layout.{Geometry, IsGeometry, area_at, gate_at, area_of, gate_of}
+use Rattle.store_layout.specs.OpeningReading.{head_behind, head_of}
 use Rattle.ckpt_pair.specs.declared.error.PairError.{PairError}
 use Rattle.ckpt_pair.specs.declared.error.PairError.TheVariants as pair
 use Rattle.ckpt_pair.specs.Refusals.{Reads}

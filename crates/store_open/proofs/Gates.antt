@@ -13,9 +13,9 @@ use Rattle.sector_dev.proofs.Images.{image_is_reads, every_written}
 use Rattle.sector_dev.proofs.Results.{success}
 use Rattle.sector_dev.proofs.Parts.{history_written}
 use Rattle.sector_dev.proofs.Stretches.{honest_after, honest_before, leaves_here, stretch_write}
-use Rattle.image_laws.specs.declared.half.Half.{Half}
-use Rattle.image_laws.specs.declared.half.Half.TheVariants.{First, Second}
-use Rattle.image_laws.specs.Layout.{Geometry, IsGeometry, image_sectors, gate_at, gate_of, journal_at, journal_of}
+use Rattle.store_layout.specs.declared.half.Half.{Half}
+use Rattle.store_layout.specs.declared.half.Half.TheVariants.{First, Second}
+use Rattle.store_layout.specs.Layout.{Geometry, IsGeometry, image_sectors, gate_at, gate_of, journal_at, journal_of}
 use Rattle.store_open.specs.Closing.{IsClosing, HasClosedGates}
 
 -- both gates are within the image

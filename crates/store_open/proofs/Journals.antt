@@ -5,12 +5,12 @@ use Rattle.byte_lists.specs.Content.{AreBytes, part}
 use Rattle.byte_lists.specs.Sectors.{whole_sectors}
 use Rattle.byte_lists.proofs.Contents.{length-part, bytes-part}
 use Rattle.sector_dev.specs.Disk.{History, Disk, IsWhole, reads_of}
-use Rattle.image_laws.specs.declared.half.Half.{Half}
-use Rattle.image_laws.specs.declared.half.Half.TheVariants.{First, Second}
-use Rattle.image_laws.specs.Limits.{Limits, limits_of}
-use Rattle.image_laws.specs.JournalReading.{journal_scan}
-use Rattle.image_laws.specs.Layout.{Geometry, IsGeometry, image_sectors, journal_at, journal_of}
-use Rattle.image_laws.proofs.Exports.{journal_refused}
+use Rattle.store_layout.specs.declared.half.Half.{Half}
+use Rattle.store_layout.specs.declared.half.Half.TheVariants.{First, Second}
+use Rattle.store_layout.specs.Limits.{Limits, limits_of}
+use Rattle.store_layout.specs.JournalReading.{journal_scan}
+use Rattle.store_layout.specs.Layout.{Geometry, IsGeometry, image_sectors, journal_at, journal_of}
+use Rattle.store_layout.proofs.Exports.{journal_refused}
 use Rattle.gate_journal.specs.declared.error.JournalError.{JournalError}
 use Rattle.gate_journal.specs.declared.error.JournalError.TheVariants.{NoMemory, BadHeader, BadRecord, Gap, PastEnd}
 use Rattle.gate_journal.specs.declared.scanner.Progress.{Progress}

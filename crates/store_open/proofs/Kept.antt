@@ -2,13 +2,13 @@
 use Rattle.std.proofs.Common.{◌≡◌, ◌⊎◌, inl, inr, ℕ, ◌+◌, ◌*◌, ◌≤◌, List, get_or, None, sym, ◌∙◌, subst, arith}
 use Rattle.std.proofs.lemmas.Bool.{cases_eq}
 use Rattle.byte_lists.specs.Sectors.{IsOpenGate}
-use Rattle.image_laws.specs.declared.half.Half.{Half}
-use Rattle.image_laws.specs.declared.half.Half.TheVariants.{First, Second}
-use Rattle.image_laws.specs.Layout.{Geometry, IsGeometry, other, area_at, gate_at, journal_at, area_of, gate_of}
-use Rattle.image_laws.specs.Checkpoint.{IsCheckpoint}
-use Rattle.image_laws.specs.StoreFormat.{StoreFormat}
-use Rattle.image_laws.specs.Journal.{IsJournal}
-use Rattle.image_laws.specs.Opening.{Opening, limits_in, HasOlderHead, IsTail, IsChosen, IsOpening}
+use Rattle.store_layout.specs.declared.half.Half.{Half}
+use Rattle.store_layout.specs.declared.half.Half.TheVariants.{First, Second}
+use Rattle.store_layout.specs.Layout.{Geometry, IsGeometry, other, area_at, gate_at, journal_at, area_of, gate_of}
+use Rattle.store_layout.specs.Checkpoint.{IsCheckpoint}
+use Rattle.store_layout.specs.StoreFormat.{StoreFormat}
+use Rattle.store_layout.specs.Journal.{IsJournal}
+use Rattle.store_layout.specs.Opening.{Opening, limits_in, HasOlderHead, IsTail, IsChosen, IsOpening}
 use Rattle.store_open.specs.Closing.{IsClosing, IsKeptByClosing}
 
 -- The bytes before both gates of the other half, or after them.

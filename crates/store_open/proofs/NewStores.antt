@@ -4,13 +4,13 @@ use Rattle.std.proofs.lemmas.List.{take-take}
 use Rattle.std.specs.Int.{w32, to_be_bytes}
 use Rattle.byte_lists.specs.Content.{AreBytes}
 use Rattle.byte_lists.specs.Sectors.{IsOpenGate, closed_gate}
-use Rattle.image_laws.specs.declared.half.Half.TheVariants.{First}
-use Rattle.image_laws.specs.Layout.{Geometry, area_of}
-use Rattle.image_laws.specs.Checkpoint.{head_encoding, first_checkpoint, IsCheckpoint, CanBeCheckpoint}
-use Rattle.image_laws.specs.StoreFormat.{StoreFormat}
+use Rattle.store_layout.specs.declared.half.Half.TheVariants.{First}
+use Rattle.store_layout.specs.Layout.{Geometry, area_of}
+use Rattle.store_layout.specs.Checkpoint.{head_encoding, first_checkpoint, IsCheckpoint, CanBeCheckpoint}
+use Rattle.store_layout.specs.StoreFormat.{StoreFormat}
 use Rattle.store_open.specs.NewStore.{first_head, IsNewStore, IsEmptyStore, IsFormattedInAny}
 use Rattle.ckpt_pair.specs.Versions.{latest}
-use Rattle.image_laws.proofs.TakeOver.{opens_empty}
+use Rattle.store_layout.proofs.TakeOver.{opens_empty}
 use Rattle.path_rows.specs.Database.{RowView}
 use Rattle.path_rows.specs.declared.command.Command.{Command}
 use Rattle.store_open.specs.PathStores.{store_format}

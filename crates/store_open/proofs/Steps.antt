@@ -3,20 +3,20 @@ use Rattle.std.proofs.Common.{◌≡◌, ◌≢◌, ℕ, Bool, true, false, List
 use Rattle.std.specs.Option.{option_map, is_some}
 use Rattle.path_rows.specs.Database.{RowView}
 use Rattle.path_rows.specs.declared.command.Command.{Command}
-use Rattle.image_laws.specs.declared.half.Half.{Half}
-use Rattle.image_laws.specs.declared.half.Half.TheVariants.{First, Second}
-use Rattle.image_laws.specs.GroupReading.{JournalRefusal}
-use Rattle.image_laws.specs.GroupReading as refusals
-use Rattle.image_laws.specs.Journal.{Reading}
-use Rattle.image_laws.specs.Layout.{other, gate_of, journal_of}
-use Rattle.image_laws.specs.Layout as laws
-use Rattle.image_laws.specs.Limits.{limits_of}
-use Rattle.image_laws.specs.JournalReading.{journal_scan}
-use Rattle.image_laws.specs.Checkpoint.{Checkpoint, Head as HeadView}
-use Rattle.image_laws.specs.CheckpointReading.{PairRefusal, SealedNewer}
-use Rattle.image_laws.specs.Opening.{Opening}
-use Rattle.image_laws.specs.OpeningReading.{OpenRefusal, BadPair, BadJournal, head_behind, head_of, behind_journal, read_tail, with_tail, by_geometry, journal_from}
-use Rattle.image_laws.specs.OpeningReading as readings
+use Rattle.store_layout.specs.declared.half.Half.{Half}
+use Rattle.store_layout.specs.declared.half.Half.TheVariants.{First, Second}
+use Rattle.store_layout.specs.GroupReading.{JournalRefusal}
+use Rattle.store_layout.specs.GroupReading as refusals
+use Rattle.store_layout.specs.Journal.{Reading}
+use Rattle.store_layout.specs.Layout.{other, gate_of, journal_of}
+use Rattle.store_layout.specs.Layout as laws
+use Rattle.store_layout.specs.Limits.{limits_of}
+use Rattle.store_layout.specs.JournalReading.{journal_scan}
+use Rattle.store_layout.specs.Checkpoint.{Checkpoint, Head as HeadView}
+use Rattle.store_layout.specs.CheckpointReading.{PairRefusal, SealedNewer}
+use Rattle.store_layout.specs.Opening.{Opening}
+use Rattle.store_layout.specs.OpeningReading.{OpenRefusal, BadPair, BadJournal, head_behind, head_of, behind_journal, read_tail, with_tail, by_geometry, journal_from}
+use Rattle.store_layout.specs.OpeningReading as readings
 use Rattle.byte_lists.specs.Sectors.{is_open_gate}
 use Rattle.gate_journal.specs.declared.error.JournalError.TheVariants as journal
 use Rattle.gate_journal.specs.declared.scanner.Scan.{Scan}
@@ -32,9 +32,9 @@ use Rattle.store_open.specs.declared.error.OpenError.{OpenError}
 use Rattle.store_open.specs.declared.error.OpenError.TheVariants.{NotAStore, Device, Pair, Journal, NoMemory}
 use Rattle.store_open.specs.Heads.{HasHeads}
 use Rattle.store_open.specs.Open.{with_tail_seen, OpensSo, RefusesOpening}
-use Rattle.image_laws.specs.declared.geometry.Geometry.{Geometry}
+use Rattle.store_layout.specs.declared.geometry.Geometry.{Geometry}
 use Rattle.store_open.specs.declared.opening.Found.{Found}
-use Rattle.image_laws.specs.Geometry.{geometry_view}
+use Rattle.store_layout.specs.Geometry.{geometry_view}
 use Rattle.store_open.specs.NewStore.{HasRoomFor}
 use Rattle.store_open.specs.PathStores.{store_format}
 use Rattle.store_open.specs.Refusals.{error_of_pair, faults_after, LooksFor, ScansSo, PairSo, OnOkOrNoMemory}

@@ -4,14 +4,14 @@ use Rattle.std.proofs.lemmas.Bool.{cases_eq}
 use Rattle.std.proofs.lemmas.List.{length-replicate}
 use Rattle.byte_lists.specs.Content.{overwrite}
 use Rattle.byte_lists.specs.Sectors.{sector_at, IsOpenGate, open_gate}
-use Rattle.image_laws.specs.declared.half.Half.{Half}
-use Rattle.image_laws.specs.Layout.{Geometry, other, area_at, gate_at, area_of, gate_of, journal_of, Area, Journal, InHalf, image_sectors}
-use Rattle.image_laws.specs.StoreFormat.{StoreFormat}
-use Rattle.image_laws.specs.Checkpoint.{Checkpoint, CanBeCheckpoint, IsCheckpoint, checkpoint_encoding}
-use Rattle.image_laws.specs.Opening.{Opening, IsOpening, value_of, OpensTo}
-use Rattle.image_laws.specs.TakeOver.{FoldsJournal, taken_over, empty_journal}
-use Rattle.image_laws.specs.Switch.{IsLaid}
-use Rattle.image_laws.proofs.Exports.{half_inside, area_long, writes_leave_others, part_written, written_there, closed_area_may_change, switches_by_the_gate_at_rest, gate_beside, other_twice, halves_differ}
+use Rattle.store_layout.specs.declared.half.Half.{Half}
+use Rattle.store_layout.specs.Layout.{Geometry, other, area_at, gate_at, area_of, gate_of, journal_of, Area, Journal, InHalf, image_sectors}
+use Rattle.store_layout.specs.StoreFormat.{StoreFormat}
+use Rattle.store_layout.specs.Checkpoint.{Checkpoint, CanBeCheckpoint, IsCheckpoint, checkpoint_encoding}
+use Rattle.store_layout.specs.Opening.{Opening, IsOpening, value_of, OpensTo}
+use Rattle.store_layout.specs.TakeOver.{FoldsJournal, taken_over, empty_journal}
+use Rattle.store_layout.specs.Switch.{IsLaid}
+use Rattle.store_layout.proofs.Exports.{half_inside, area_long, writes_leave_others, part_written, written_there, closed_area_may_change, switches_by_the_gate_at_rest, gate_beside, other_twice, halves_differ}
 use Rattle.store_open.specs.Closing.{IsClosing, HasClosedGates}
 use Rattle.store_open.specs.TakingOver.{laid, switched, taken, IsTakingOver}
 use Rattle.store_open.proofs.Gates.{gates_inside, first_gate, zero_there, closing_both}

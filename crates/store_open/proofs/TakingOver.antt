@@ -8,8 +8,8 @@ use Rattle.sector_dev.specs.Calls.{WriteCall, SyncCall}
 use Rattle.sector_dev.specs.Stretch.{Stretch}
 use Rattle.sector_dev.proofs.Images.{image_is_reads, every_written}
 use Rattle.sector_dev.proofs.Stretches.{honest_before, stretch_here, stretch_then, stretch_weaker, stretch_write, stretch_sync, stretch_honest}
-use Rattle.image_laws.specs.declared.half.Half.{Half}
-use Rattle.image_laws.specs.Layout.{Geometry, other, area_at, gate_at}
+use Rattle.store_layout.specs.declared.half.Half.{Half}
+use Rattle.store_layout.specs.Layout.{Geometry, other, area_at, gate_at}
 use Rattle.byte_lists.specs.Sectors.{open_gate}
 use Rattle.store_open.specs.TakingOver.{IsTornAt, laid, switched, taken, IsTakingOver}
 

@@ -10,9 +10,9 @@ use Rattle.sector_dev.proofs.Images.{image_is_reads}
 use Rattle.sector_dev.proofs.Results.{success}
 use Rattle.sector_dev.proofs.Parts.{history_written, history_synced}
 use Rattle.sector_dev.proofs.Stretches.{honest_after}
-use Rattle.image_laws.specs.declared.half.Half.TheVariants.{First, Second}
-use Rattle.image_laws.specs.Layout.{Geometry, IsGeometry, image_sectors, area_at, gate_at, journal_at}
-use Rattle.image_laws.specs.FirstSector.{first_sector}
+use Rattle.store_layout.specs.declared.half.Half.TheVariants.{First, Second}
+use Rattle.store_layout.specs.Layout.{Geometry, IsGeometry, image_sectors, area_at, gate_at, journal_at}
+use Rattle.store_layout.specs.FirstSector.{first_sector}
 use Rattle.store_open.specs.NewStore.{first_checkpoint_bytes, IsNewStore, IsEmptyStore, HoldsNewStore, HasRoomFor}
 use Rattle.store_open.proofs.NewStores.{empty_store}
 

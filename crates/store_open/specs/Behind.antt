@@ -1,7 +1,7 @@
 -- The bytes after a store on its device.
 use Rattle.std.specs.Prelude.{◌≡◌, ℕ, ◌*◌, ◌≤◌, List}
 use Rattle.byte_lists.specs.Content.{part}
-use Rattle.image_laws.specs.Layout.{Geometry, image_sectors}
+use Rattle.store_layout.specs.Layout.{Geometry, image_sectors}
 
 -- the bytes after a store of these sizes are unchanged
 abbrev pub SameBehind : Geometry → List ℕ → List ℕ → Type 0

@@ -3,11 +3,11 @@ use Rattle.std.specs.Prelude.{◌≡◌, ◌⊎◌, ℕ, ◌+◌, ◌*◌, ◌�
 use Rattle.byte_lists.specs.Content.{part}
 use Rattle.byte_lists.specs.Sectors.{sector_at, IsOpenGate}
 use Rattle.sector_dev.specs.Disk.{History, after_sync}
-use Rattle.image_laws.specs.declared.half.Half.{Half}
-use Rattle.image_laws.specs.Layout.{Geometry, gate_at, gate_of, journal_of}
-use Rattle.image_laws.specs.StoreFormat.{StoreFormat}
-use Rattle.image_laws.specs.Layout.{other}
-use Rattle.image_laws.specs.Opening.{Opening, IsOpening}
+use Rattle.store_layout.specs.declared.half.Half.{Half}
+use Rattle.store_layout.specs.Layout.{Geometry, gate_at, gate_of, journal_of}
+use Rattle.store_layout.specs.StoreFormat.{StoreFormat}
+use Rattle.store_layout.specs.Layout.{other}
+use Rattle.store_layout.specs.Opening.{Opening, IsOpening}
 use Rattle.std.specs.Prelude.{None}
 
 -- The gates of a half are being closed: all but the half gate and the journal's first gate, in the next sector, is unchanged, and

@@ -3,11 +3,11 @@ use Rattle.std.specs.Prelude.{false, List}
 use Rattle.path_rows.specs.Database.{RowView}
 use Rattle.path_rows.specs.declared.command.Command.{Command}
 use Rattle.sector_dev.specs.Disk.{Disk, IsHonest, reads_of}
-use Rattle.image_laws.specs.Opening.{Opening, IsOpening}
+use Rattle.store_layout.specs.Opening.{Opening, IsOpening}
 use Rattle.ckpt_pair.specs.Heads.{head_view}
 use Rattle.ckpt_pair.specs.Versions.{latest}
 use Rattle.store_open.specs.declared.folded.Folded.{Folded}
-use Rattle.image_laws.specs.Geometry.{geometry_view}
+use Rattle.store_layout.specs.Geometry.{geometry_view}
 use Rattle.store_open.specs.PathStores.{store_format}
 use Rattle.store_open.specs.Store.{StoreView, Tells}
 

@@ -1,10 +1,10 @@
 -- The half that is chosen, by the heads that reads return.
 use Rattle.std.specs.Prelude.{◌≡◌, List, ℕ, Result, Ok}
-use Rattle.image_laws.specs.declared.half.Half.{Half}
-use Rattle.image_laws.specs.declared.half.Half.TheVariants.{First, Second}
-use Rattle.image_laws.specs.CheckpointReading.{PairRefusal}
-use Rattle.image_laws.specs.Layout.{Geometry}
-use Rattle.image_laws.specs.OpeningReading.{head_of, choice_of}
+use Rattle.store_layout.specs.declared.half.Half.{Half}
+use Rattle.store_layout.specs.declared.half.Half.TheVariants.{First, Second}
+use Rattle.store_layout.specs.CheckpointReading.{PairRefusal}
+use Rattle.store_layout.specs.Layout.{Geometry}
+use Rattle.store_layout.specs.OpeningReading.{head_of, choice_of}
 use Rattle.ckpt_pair.specs.Heads.{head_seen}
 use Rattle.ckpt_pair.specs.Versions.{latest}
 use Rattle.ckpt_pair.specs.declared.head.Heads.{Heads}

@@ -5,12 +5,12 @@ use Rattle.byte_lists.specs.Sectors.{sector_at, padded, open_gate, closed_gate}
 use Rattle.sector_dev.specs.Disk.{Disk, IsHonest, reads_of}
 use Rattle.sector_dev.specs.Image.{EveryImage}
 use Rattle.sector_dev.specs.Calls.{one_more}
-use Rattle.image_laws.specs.declared.half.Half.TheVariants.{First, Second}
-use Rattle.image_laws.specs.Layout.{Geometry, IsGeometry, image_sectors, area_of, gate_of, journal_of}
-use Rattle.image_laws.specs.FirstSector.{IsStore, first_sector}
-use Rattle.image_laws.specs.Checkpoint.{Head, head_encoding}
-use Rattle.image_laws.specs.StoreFormat.{StoreFormat}
-use Rattle.image_laws.specs.TakeOver.{IsFormatted}
+use Rattle.store_layout.specs.declared.half.Half.TheVariants.{First, Second}
+use Rattle.store_layout.specs.Layout.{Geometry, IsGeometry, image_sectors, area_of, gate_of, journal_of}
+use Rattle.store_layout.specs.FirstSector.{IsStore, first_sector}
+use Rattle.store_layout.specs.Checkpoint.{Head, head_encoding}
+use Rattle.store_layout.specs.StoreFormat.{StoreFormat}
+use Rattle.store_layout.specs.TakeOver.{IsFormatted}
 use Rattle.ckpt_pair.specs.Versions.{latest}
 use Rattle.store_open.specs.PathStores.{IsStoreOf}
 use Rattle.store_open.specs.declared.new_store.FormatError.{FormatError}

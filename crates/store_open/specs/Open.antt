@@ -4,16 +4,16 @@ use Rattle.std.specs.Option.{option_map}
 use Rattle.path_rows.specs.Database.{RowView}
 use Rattle.path_rows.specs.declared.command.Command.{Command}
 use Rattle.sector_dev.specs.Disk.{History, Disk, IsHonest, reads_of, after_sync}
-use Rattle.image_laws.specs.declared.half.Half.{Half}
-use Rattle.image_laws.specs.GroupReading.{JournalRefusal}
-use Rattle.image_laws.specs.GroupReading as refusals
-use Rattle.image_laws.specs.Checkpoint.{Checkpoint}
-use Rattle.image_laws.specs.Journal.{Reading}
-use Rattle.image_laws.specs.Layout.{Geometry, other, area_of}
-use Rattle.image_laws.specs.FirstSector.{geometry_in}
-use Rattle.image_laws.specs.Opening.{Opening, IsOpening}
-use Rattle.image_laws.specs.OpeningReading.{OpenRefusal, BadPair, BadJournal, opening_of}
-use Rattle.image_laws.specs.OpeningReading as laws
+use Rattle.store_layout.specs.declared.half.Half.{Half}
+use Rattle.store_layout.specs.GroupReading.{JournalRefusal}
+use Rattle.store_layout.specs.GroupReading as refusals
+use Rattle.store_layout.specs.Checkpoint.{Checkpoint}
+use Rattle.store_layout.specs.Journal.{Reading}
+use Rattle.store_layout.specs.Layout.{Geometry, other, area_of}
+use Rattle.store_layout.specs.FirstSector.{geometry_in}
+use Rattle.store_layout.specs.Opening.{Opening, IsOpening}
+use Rattle.store_layout.specs.OpeningReading.{OpenRefusal, BadPair, BadJournal, opening_of}
+use Rattle.store_layout.specs.OpeningReading as laws
 use Rattle.gate_journal.specs.declared.error.JournalError.{JournalError}
 use Rattle.gate_journal.specs.declared.error.JournalError.TheVariants as journal
 use Rattle.gate_journal.specs.declared.scanner.Scan.{Scan}
@@ -25,7 +25,7 @@ use Rattle.store_open.specs.declared.opening.Found.{Found}
 use Rattle.store_open.specs.declared.error.OpenError.{OpenError}
 use Rattle.store_open.specs.declared.error.OpenError.TheVariants.{NotAStore, Device, Pair, Journal, NoMemory}
 use Rattle.store_open.specs.Closing.{HasNoGateToClose}
-use Rattle.image_laws.specs.Geometry.{geometry_view}
+use Rattle.store_layout.specs.Geometry.{geometry_view}
 use Rattle.store_open.specs.Heads.{choice_by_heads}
 use Rattle.store_open.specs.Behind.{SameBehind}
 use Rattle.store_open.specs.PathStores.{store_format}

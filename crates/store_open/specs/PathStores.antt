@@ -5,8 +5,8 @@ use Rattle.path_rows.specs.Database.{RowView}
 use Rattle.path_db.specs.RowRecord.{rows_within, rows_decoding}
 use Rattle.path_rows.specs.declared.command.Command.{Command}
 use Rattle.path_rows.specs.Command.{database_after}
-use Rattle.image_laws.specs.StoreFormat.{StoreFormat}
-use Rattle.image_laws.specs.Opening.{OpensTo}
+use Rattle.store_layout.specs.StoreFormat.{StoreFormat}
+use Rattle.store_layout.specs.Opening.{OpensTo}
 use Rattle.gate_journal.specs.Commands.{command_format}
 use Rattle.ckpt_pair.specs.Versions.{latest}
 use Rattle.ckpt_pair.specs.Rows.{rows_format}

@@ -3,14 +3,14 @@ use Rattle.std.specs.Prelude.{◌≡◌, ◌≢◌, ℕ, Result, Ok, Err}
 use Rattle.sector_dev.specs.Disk.{Disk, IsHonest}
 use Rattle.sector_dev.specs.Calls.{Keeps, one_more}
 use Rattle.path_rows.specs.declared.command.Command.{Command}
-use Rattle.image_laws.specs.GroupReading.{JournalRefusal}
-use Rattle.image_laws.specs.Journal.{Reading}
+use Rattle.store_layout.specs.GroupReading.{JournalRefusal}
+use Rattle.store_layout.specs.Journal.{Reading}
 use Rattle.gate_journal.specs.declared.error.JournalError.{JournalError}
 use Rattle.gate_journal.specs.declared.error.JournalError.TheVariants as journal
 use Rattle.gate_journal.specs.declared.scanner.Scan.{Scan}
 use Rattle.gate_journal.specs.Reading.{Refuses}
 use Rattle.gate_journal.specs.Scanning.{reading_of}
-use Rattle.image_laws.specs.CheckpointReading.{PairRefusal}
+use Rattle.store_layout.specs.CheckpointReading.{PairRefusal}
 use Rattle.ckpt_pair.specs.Refusals.{error_of}
 use Rattle.ckpt_pair.specs.declared.error.PairError.{PairError}
 use Rattle.ckpt_pair.specs.declared.error.PairError.TheVariants as pair

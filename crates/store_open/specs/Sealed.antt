@@ -4,14 +4,14 @@ use Rattle.path_rows.specs.Database.{RowView}
 use Rattle.path_rows.specs.declared.command.Command.{Command}
 use Rattle.sector_dev.specs.Disk.{Disk, IsHonest}
 use Rattle.sector_dev.specs.Calls.{Keeps, one_more}
-use Rattle.image_laws.specs.declared.half.Half.{Half}
-use Rattle.image_laws.specs.GroupReading.{JournalRefusal}
-use Rattle.image_laws.specs.Journal.{Reading}
-use Rattle.image_laws.specs.Layout.{Geometry, area_of}
-use Rattle.image_laws.specs.StoreFormat.{db_after}
-use Rattle.image_laws.specs.Checkpoint.{Head, Checkpoint}
-use Rattle.image_laws.specs.CheckpointReading.{PairRefusal, checkpoint_in}
-use Rattle.image_laws.specs.OpeningReading.{journal_from}
+use Rattle.store_layout.specs.declared.half.Half.{Half}
+use Rattle.store_layout.specs.GroupReading.{JournalRefusal}
+use Rattle.store_layout.specs.Journal.{Reading}
+use Rattle.store_layout.specs.Layout.{Geometry, area_of}
+use Rattle.store_layout.specs.StoreFormat.{db_after}
+use Rattle.store_layout.specs.Checkpoint.{Head, Checkpoint}
+use Rattle.store_layout.specs.CheckpointReading.{PairRefusal, checkpoint_in}
+use Rattle.store_layout.specs.OpeningReading.{journal_from}
 use Rattle.ckpt_pair.specs.Versions.{latest}
 use Rattle.ckpt_pair.specs.Rows.{rows_format}
 use Rattle.store_open.specs.PathStores.{store_format}

@@ -5,11 +5,11 @@ use Rattle.path_rows.specs.declared.command.Command.{Command}
 use Rattle.sector_dev.specs.Disk.{Disk, IsHonest}
 use Rattle.sector_dev.specs.Image.{EveryImage}
 use Rattle.sector_dev.specs.Calls.{one_more}
-use Rattle.image_laws.specs.declared.half.Half.{Half}
-use Rattle.image_laws.specs.Layout.{Geometry, other}
-use Rattle.image_laws.specs.Checkpoint.{Head}
-use Rattle.image_laws.specs.Opening.{Opening, IsOpening, db_at_seal, value_of}
-use Rattle.image_laws.specs.StoreGrowth.{last_reading}
+use Rattle.store_layout.specs.declared.half.Half.{Half}
+use Rattle.store_layout.specs.Layout.{Geometry, other}
+use Rattle.store_layout.specs.Checkpoint.{Head}
+use Rattle.store_layout.specs.Opening.{Opening, IsOpening, db_at_seal, value_of}
+use Rattle.store_layout.specs.StoreGrowth.{last_reading}
 use Rattle.ckpt_pair.specs.Versions.{latest}
 use Rattle.store_open.specs.Closing.{HasClosedGates}
 use Rattle.store_open.specs.PathStores.{store_format, IsStoreOf}

@@ -1,8 +1,8 @@
 -- How one half takes over from the other on a device: three writes, with a sync after each.
 use Rattle.std.specs.Prelude.{◌≡◌, ◌⊎◌, ℕ, ◌*◌, List, length, replicate}
 use Rattle.byte_lists.specs.Content.{overwrite}
-use Rattle.image_laws.specs.declared.half.Half.{Half}
-use Rattle.image_laws.specs.Layout.{Geometry, other, area_at, gate_at}
+use Rattle.store_layout.specs.declared.half.Half.{Half}
+use Rattle.store_layout.specs.Layout.{Geometry, other, area_at, gate_at}
 use Rattle.byte_lists.specs.Sectors.{open_gate}
 
 -- the content is the old one, except for any n bytes at an offset

@@ -5,16 +5,16 @@ ghost use Rattle.byte_lists.specs.Sectors.{sector_at, is_open_gate};
 ghost use Rattle.sector_dev.specs.Disk.{IsHonest, reads_of};
 ghost use Rattle.sector_dev.specs.Calls.{count_after};
 ghost use Rattle.sector_dev.specs.Stretch.{Stretch};
-ghost use Rattle.image_laws.specs.Layout.{IsGeometry, image_sectors, other};
-ghost use Rattle.image_laws.specs.Geometry.{geometry_view};
+ghost use Rattle.store_layout.specs.Layout.{IsGeometry, image_sectors, other};
+ghost use Rattle.store_layout.specs.Geometry.{geometry_view};
 ghost use Rattle.store_open.specs.Looking.{LooksAt};
 ghost use Rattle.store_open.specs.NewStore.{HasRoomFor};
 ghost use Rattle.store_open.specs.Closing.{IsClosing, IsClosingUnused, HasClosedGates, HasNoGateToClose, synced_by};
 
 use crate::reading::read_sector;
 use byte_lists::{closed_gate, closed_gates, is_open};
-use image_laws::{Geometry, Half};
 use sector_dev::{DevError, Device};
+use store_layout::{Geometry, Half};
 
 /// Closes those of a half's two gates that read open: both in one write where the half gate does, and else the journal's first gate
 /// alone. Nothing may be dirty before the call.

@@ -7,15 +7,15 @@ ghost use Rattle.byte_lists.specs.Numbers.{four_at, eight_at};
 ghost use Rattle.byte_lists.specs.Sectors.{whole_sectors};
 ghost use Rattle.sector_dev.specs.Disk.{IsHonest, reads_of};
 ghost use Rattle.sector_dev.specs.Calls.{Keeps, count_after};
-ghost use Rattle.image_laws.specs.FirstSector.{store_magic, layout_number, geometry_in};
-ghost use Rattle.image_laws.specs.Layout.{IsGeometry, image_sectors};
-ghost use Rattle.image_laws.specs.Geometry.{geometry_view};
+ghost use Rattle.store_layout.specs.FirstSector.{store_magic, layout_number, geometry_in};
+ghost use Rattle.store_layout.specs.Layout.{IsGeometry, image_sectors};
+ghost use Rattle.store_layout.specs.Geometry.{geometry_view};
 ghost use Rattle.store_open.specs.NewStore.{HasRoomFor};
 
 use crate::title::{CHECKPOINT_AT, JOURNAL_AT, LAYOUT, LAYOUT_AT, STORE_MAGIC};
 use byte_lists::{read_u32, read_u64};
-use image_laws::Geometry;
 use sector_dev::{DevError, Device, SECTOR};
+use store_layout::Geometry;
 
 /// The sizes of the store on a device, from its sector 0; `None` where the bytes that reads return are no store. The device is
 /// unchanged.

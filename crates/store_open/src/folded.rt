@@ -9,9 +9,9 @@ ghost use Rattle.store_open.specs.StoreShape.{IsWithin};
 use crate::folding::fold;
 use crate::opening::Found;
 use ckpt_pair::{Checkpoint, Head, LATEST};
-use image_laws::{Geometry, Half};
 use path_db::PathDb;
 use std::alloc::AllocError;
+use store_layout::{Geometry, Half};
 
 /// A store but for its device: the sizes, the half that is chosen and its head, whether its journal is sealed, the gate at which
 /// the last journal ends, the place reached, all rows, and the bytes of the rows that the chosen half has.

@@ -2,7 +2,7 @@
 
 ghost use Rattle.std.specs.Prelude.{◌≡◌, OnOk};
 ghost use Rattle.path_rows.specs.Database.{IsDatabase};
-ghost use Rattle.image_laws.specs.StoreFormat.{db_after};
+ghost use Rattle.store_layout.specs.StoreFormat.{db_after};
 ghost use Rattle.store_open.specs.PathStores.{store_format};
 
 use path_db::{Command, PathDb};

@@ -2,12 +2,12 @@
 
 ghost use Rattle.std.specs.Prelude.{◌≡◌, ◌≢◌, ◌≤◌, IfOk, IfErr};
 ghost use Rattle.sector_dev.specs.Disk.{IsHonest, reads_of};
-ghost use Rattle.image_laws.specs.Layout.{IsGeometry, image_sectors};
-ghost use Rattle.image_laws.specs.OpeningReading.{head_of};
+ghost use Rattle.store_layout.specs.Layout.{IsGeometry, image_sectors};
+ghost use Rattle.store_layout.specs.OpeningReading.{head_of};
 ghost use Rattle.ckpt_pair.specs.Heads.{head_seen};
 ghost use Rattle.ckpt_pair.specs.Versions.{latest};
 ghost use Rattle.store_open.specs.declared.error.OpenError.TheVariants.{NoMemory};
-ghost use Rattle.image_laws.specs.Geometry.{geometry_view};
+ghost use Rattle.store_layout.specs.Geometry.{geometry_view};
 ghost use Rattle.store_open.specs.Refusals.{LooksFor, PairSo};
 ghost use Rattle.store_open.specs.Heads.{chosen_half, choice_by_heads, HasHeads};
 
@@ -15,8 +15,8 @@ use crate::error::OpenError;
 use crate::reading::read_sector;
 use byte_lists::is_open;
 use ckpt_pair::{Head, Heads, choose, read_head};
-use image_laws::{Geometry, Half};
 use sector_dev::Device;
+use store_layout::{Geometry, Half};
 
 /// The head of a half; `None` where its gate reads closed, and then its area isn't read. The call takes no memory.
 pub(crate) fn head_at<D: Device>(

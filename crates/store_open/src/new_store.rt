@@ -5,15 +5,15 @@ ghost use Rattle.sector_dev.specs.Disk.{IsHonest};
 ghost use Rattle.sector_dev.specs.Calls.{Keeps, count_after};
 ghost use Rattle.sector_dev.specs.Image.{IsFromImage};
 ghost use Rattle.sector_dev.specs.Stretch.{Stretch};
-ghost use Rattle.image_laws.specs.Layout.{IsGeometry, image_sectors};
-ghost use Rattle.image_laws.specs.Geometry.{geometry_view};
+ghost use Rattle.store_layout.specs.Layout.{IsGeometry, image_sectors};
+ghost use Rattle.store_layout.specs.Geometry.{geometry_view};
 ghost use Rattle.store_open.specs.NewStore.{Formats, HoldsNewStore, HasRoomFor};
 ghost use Rattle.store_open.specs.Behind.{SameBehind};
 
 use crate::sectors::{first_checkpoint, first_sector};
 use byte_lists::{closed_gate, open_gate};
-use image_laws::{Geometry, Half};
 use sector_dev::{DevError, Device};
+use store_layout::{Geometry, Half};
 use thiserror::Error;
 
 /// Why no store was made.

@@ -7,7 +7,7 @@ ghost use Rattle.sector_dev.specs.Image.{IsFromImage};
 ghost use Rattle.sector_dev.specs.Stretch.{Stretch};
 ghost use Rattle.store_open.specs.Closing.{synced_by};
 ghost use Rattle.store_open.specs.Folded.{store_on};
-ghost use Rattle.image_laws.specs.Geometry.{geometry_view};
+ghost use Rattle.store_layout.specs.Geometry.{geometry_view};
 ghost use Rattle.store_open.specs.NewStore.{HasRoomFor};
 ghost use Rattle.store_open.specs.Open.{OpensAlike, IsOpened, ComesBack, HasNothingToClose, OnlySyncs, IsNoFault, disk_after};
 

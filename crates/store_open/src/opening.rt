@@ -4,14 +4,14 @@ ghost use Rattle.std.specs.Prelude.{◌≡◌, None, Ok, IfOk};
 ghost use Rattle.path_rows.specs.Database.{IsDatabase};
 ghost use Rattle.sector_dev.specs.Disk.{IsHonest, reads_of};
 ghost use Rattle.byte_lists.specs.Sectors.{is_open_gate};
-ghost use Rattle.image_laws.specs.Layout.{other, gate_of};
-ghost use Rattle.image_laws.specs.OpeningReading.{opening_of, by_geometry, by_choice, by_checkpoint, behind_journal, journal_from};
+ghost use Rattle.store_layout.specs.Layout.{other, gate_of};
+ghost use Rattle.store_layout.specs.OpeningReading.{opening_of, by_geometry, by_choice, by_checkpoint, behind_journal, journal_from};
 ghost use Rattle.ckpt_pair.specs.Versions.{latest};
 ghost use Rattle.ckpt_pair.specs.Reading.{checkpoint_view};
 ghost use Rattle.gate_journal.specs.Scanning.{reading_of};
 ghost use Rattle.std.specs.Option.{option_map, IfSome};
-ghost use Rattle.image_laws.specs.FirstSector.{geometry_in};
-ghost use Rattle.image_laws.specs.Geometry.{geometry_view};
+ghost use Rattle.store_layout.specs.FirstSector.{geometry_in};
+ghost use Rattle.store_layout.specs.Geometry.{geometry_view};
 ghost use Rattle.store_open.specs.Heads.{choice_by_heads, HasHeads};
 ghost use Rattle.store_open.specs.NewStore.{HasRoomFor};
 ghost use Rattle.store_open.specs.Open.{opening_view, with_tail_seen, OpensSo, HasFront, WantsMemoryToOpen};
@@ -25,9 +25,9 @@ use crate::rows::read_checkpoint;
 use crate::scanning::scan_journal;
 use ckpt_pair::{Checkpoint, PairError, tail_half};
 use gate_journal::Scan;
-use image_laws::{Geometry, Half};
 use sector_dev::Device;
 use std::alloc::Global;
+use store_layout::{Geometry, Half};
 
 /// What is found: the sizes, the half that is chosen, its checkpoint and its journal, and where that is sealed the journal of the
 /// other half, which continues it.

@@ -4,12 +4,12 @@ ghost use Rattle.std.specs.Prelude.{◌≡◌, ◌+◌, ◌*◌, ◌≤◌, IfOk
 ghost use Rattle.byte_lists.specs.Content.{part};
 ghost use Rattle.sector_dev.specs.Disk.{IsHonest, reads_of};
 ghost use Rattle.path_rows.specs.Database.{IsDatabase};
-ghost use Rattle.image_laws.specs.CheckpointReading.{checkpoint_in};
-ghost use Rattle.image_laws.specs.Layout.{IsGeometry, image_sectors, area_of};
+ghost use Rattle.store_layout.specs.CheckpointReading.{checkpoint_in};
+ghost use Rattle.store_layout.specs.Layout.{IsGeometry, image_sectors, area_of};
 ghost use Rattle.ckpt_pair.specs.Versions.{latest};
 ghost use Rattle.ckpt_pair.specs.Reading.{checkpoint_view, front_in};
 ghost use Rattle.ckpt_pair.specs.Rows.{rows_format};
-ghost use Rattle.image_laws.specs.Geometry.{geometry_view};
+ghost use Rattle.store_layout.specs.Geometry.{geometry_view};
 ghost use Rattle.store_open.specs.Refusals.{LooksFor, PairSo, OnOkOrNoMemory};
 ghost use Rattle.store_open.specs.Rows.{FeedsSo};
 
@@ -20,10 +20,10 @@ use ckpt_pair::{
     BEFORE_ROWS, Checkpoint, checkpoints_are_read_by_their_fronts, feed_rows, finish_rows,
     read_front,
 };
-use image_laws::{Geometry, Half};
 use path_db::RowsReader;
 use sector_dev::{Device, SECTOR};
 use std::alloc::Global;
+use store_layout::{Geometry, Half};
 
 /// The most sectors that are read at a time: 1 MiB.
 const MOST_READ: u64 = 2048;

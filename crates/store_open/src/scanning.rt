@@ -3,19 +3,19 @@
 ghost use Rattle.std.specs.Prelude.{◌≡◌, ◌⊎◌, ◌+◌, ◌*◌, ◌≤◌, length, IfOk, IfErr};
 ghost use Rattle.byte_lists.specs.Content.{part};
 ghost use Rattle.sector_dev.specs.Disk.{IsHonest, reads_of};
-ghost use Rattle.image_laws.specs.Limits.{limits_of};
-ghost use Rattle.image_laws.specs.JournalReading.{journal_scan};
-ghost use Rattle.image_laws.specs.Layout.{IsGeometry, image_sectors, journal_of};
+ghost use Rattle.store_layout.specs.Limits.{limits_of};
+ghost use Rattle.store_layout.specs.JournalReading.{journal_scan};
+ghost use Rattle.store_layout.specs.Layout.{IsGeometry, image_sectors, journal_of};
 ghost use Rattle.gate_journal.specs.Commands.{command_format};
 ghost use Rattle.store_open.specs.declared.error.OpenError.TheVariants.{Device as IsDevice, NoMemory};
-ghost use Rattle.image_laws.specs.Geometry.{geometry_view};
+ghost use Rattle.store_layout.specs.Geometry.{geometry_view};
 ghost use Rattle.store_open.specs.Refusals.{LooksFor, ScansSo};
 
 use crate::error::OpenError;
 use gate_journal::{Progress, Scan, Scanner};
-use image_laws::{Geometry, Half};
 use sector_dev::{Device, SECTOR};
 use std::alloc::Global;
+use store_layout::{Geometry, Half};
 
 /// Scans a half's journal by the version of its store. Its first command is to have this place. No more of it is read than what
 /// counts, a gate or a payload at a time.

@@ -2,15 +2,15 @@
 
 ghost use Rattle.std.specs.Prelude.{◌≡◌};
 ghost use Rattle.byte_lists.specs.Sectors.{padded};
-ghost use Rattle.image_laws.specs.FirstSector as laws;
-ghost use Rattle.image_laws.specs.Geometry.{geometry_view};
+ghost use Rattle.store_layout.specs.FirstSector as laws;
+ghost use Rattle.store_layout.specs.Geometry.{geometry_view};
 ghost use Rattle.store_open.specs.NewStore as written;
 
 use crate::title::{CHECKPOINT_AT, JOURNAL_AT, LAYOUT, LAYOUT_AT, STORE_MAGIC};
 use byte_lists::put;
 use ckpt_pair::checkpoint_front;
-use image_laws::Geometry;
 use sector_dev::SECTOR;
+use store_layout::Geometry;
 
 /// Sector 0: the name (8 bytes) and the number of the layout (4), and the two sizes (4 each), big-endian.
 pub(crate) fn first_sector(geometry: Geometry) -> [u8; 512]

@@ -2,16 +2,16 @@
 
 ghost use Rattle.std.specs.Prelude.{◌≡◌};
 ghost use Rattle.path_rows.specs.Database.{IsDatabase};
-ghost use Rattle.image_laws.specs.Geometry.{geometry_view};
+ghost use Rattle.store_layout.specs.Geometry.{geometry_view};
 ghost use Rattle.store_open.specs.Store.{half_of_tail};
 ghost use Rattle.store_open.specs.StoreShape.{IsStoreWhole};
 
 use ckpt_pair::Head;
-use image_laws::{Geometry, Half};
 use path_db::PathDb;
 use sector_dev::Device;
 use std::alloc::Global;
 use std::marker::Model;
+use store_layout::{Geometry, Half};
 
 /// A store on a device that was opened. All its rows are in memory.
 pub struct Store<D: Device> {
@@ -30,7 +30,7 @@ pub struct Store<D: Device> {
 
 impl<D: Device> Model for Store<D> {
     ghost use Rattle.ckpt_pair.specs.Heads.{head_view};
-    ghost use Rattle.image_laws.specs.Geometry.{geometry_view};
+    ghost use Rattle.store_layout.specs.Geometry.{geometry_view};
     ghost use Rattle.store_open.specs.Store.{StoreView};
     ghost use Rattle.store_open.specs.StoreShape.{IsStoreWhole};
 

@@ -7,16 +7,16 @@ ghost use Rattle.path_db.specs.RowRecord.{rows_encoding};
 ghost use Rattle.sector_dev.specs.Disk.{IsHonest, reads_of};
 ghost use Rattle.sector_dev.specs.Calls.{Keeps, count_after};
 ghost use Rattle.sector_dev.specs.Stretch.{Stretch};
-ghost use Rattle.image_laws.specs.Layout.{IsGeometry, image_sectors};
-ghost use Rattle.image_laws.specs.Geometry.{geometry_view};
+ghost use Rattle.store_layout.specs.Layout.{IsGeometry, image_sectors};
+ghost use Rattle.store_layout.specs.Geometry.{geometry_view};
 ghost use Rattle.store_open.specs.declared.laying.TheConstants.{BUFFER};
 ghost use Rattle.store_open.specs.TakingOver.{IsTornAt, IsTakingOver, taken};
 
 use crate::laying::lay;
 use byte_lists::{closed_gates, open_gate};
-use image_laws::{Geometry, Half};
 use path_db::PathDb;
 use sector_dev::{DevError, Device};
+use store_layout::{Geometry, Half};
 
 /// Writes a checkpoint to the other half's area, opens that half, and closes the old half and its journal in one write. Each of the
 /// three writes is synced before the next one. Nothing may be dirty before the call.

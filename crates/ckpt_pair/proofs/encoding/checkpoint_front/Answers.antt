@@ -1,7 +1,7 @@
 -- Six numbers, each after the other.
 use Rattle.std.proofs.Common.{rules, ◌≡◌, List, ℕ, [], ◌++◌, replicate, refl, sym, ap, ◌∙◌, arith}
 use Rattle.std.proofs.lemmas.List.{take_all}
-use Rattle.image_laws.specs.Checkpoint.{CanBeHead}
+use Rattle.store_layout.specs.Checkpoint.{CanBeHead}
 use Rattle.ckpt_pair.specs.Checkpoint.{written_checkpoint}
 use Rattle.path_db.specs.RowRecord.{rows_encoding}
 use Rattle.ckpt_pair.proofs.Lengths.{put_behind, six_parts, records_len}

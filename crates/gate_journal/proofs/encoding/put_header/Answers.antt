@@ -3,7 +3,7 @@ use Rattle.std.proofs.lemmas.List.{append-nil}
 use Rattle.std.specs.Prelude.{Result, OnOk, if◌then◌else◌}
 use Rattle.std.specs.Result.{is_ok}
 use Rattle.std.specs.Int.{w32, w64, to_be_bytes}
-use Rattle.image_laws.specs.Group.{with_header}
+use Rattle.store_layout.specs.Group.{with_header}
 use Rattle.gate_journal.proofs.encoding.put_header.Goals as goal
 
 on_ok : {T E : Type 0} → (r : Result T E) (new one other wanted : List ℕ) → new ≡ (if is_ok r then one else other) → one ≡ wanted → OnOk r (new ≡ wanted)

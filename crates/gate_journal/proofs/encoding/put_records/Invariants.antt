@@ -1,5 +1,5 @@
 use Rattle.std.proofs.Common.{◌≡◌, ◌++◌, drop}
-use Rattle.image_laws.specs.Group.{records_of}
+use Rattle.store_layout.specs.Group.{records_of}
 use Rattle.gate_journal.specs.Commands.{command_format}
 use Rattle.gate_journal.proofs.encoding.put_records.Given as goal
 

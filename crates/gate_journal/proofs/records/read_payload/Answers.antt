@@ -1,8 +1,8 @@
 use Rattle.std.proofs.Common.{rules, arith, ◌≡◌, ℕ, ◌+◌, ◌-◌, true, take, drop, ap, subst}
 use Rattle.std.proofs.lemmas.Result.{IfErr-weaker}
 use Rattle.byte_lists.specs.Content.{part}
-use Rattle.image_laws.specs.Limits.{limits_of}
-use Rattle.image_laws.specs.GroupReading.{are_zeros}
+use Rattle.store_layout.specs.Limits.{limits_of}
+use Rattle.store_layout.specs.GroupReading.{are_zeros}
 use Rattle.gate_journal.specs.declared.error.JournalError.{JournalError}
 use Rattle.gate_journal.specs.Reading.{padding_of, FirstWantsMemory}
 use Rattle.gate_journal.proofs.records.read_payload.Goals as goal

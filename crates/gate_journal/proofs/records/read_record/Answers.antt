@@ -1,7 +1,7 @@
 use Rattle.std.proofs.Common.{rules, arith, ◌≡◌, ℕ, ◌+◌, ◌-◌, take, drop, ap}
 use Rattle.byte_lists.specs.Content.{part}
-use Rattle.image_laws.specs.Limits.{limits_of}
-use Rattle.image_laws.specs.GroupReading.{first_command}
+use Rattle.store_layout.specs.Limits.{limits_of}
+use Rattle.store_layout.specs.GroupReading.{first_command}
 use Rattle.gate_journal.specs.Commands.{command_format}
 use Rattle.gate_journal.specs.Reading.{Refuses, found_in_records}
 use Rattle.gate_journal.specs.RecordError.{error_of_record}

@@ -1,7 +1,7 @@
 use Rattle.std.proofs.Common.{rules, arith, ◌≡◌, ◌+◌, ◌-◌, [], ◌∷◌, ◌++◌, None, Err}
-use Rattle.image_laws.specs.Limits.{limits_of}
-use Rattle.image_laws.specs.GroupReading.{first_command, commands_in}
-use Rattle.image_laws.specs.GroupReading.{BadRecord as IsBadRecord}
+use Rattle.store_layout.specs.Limits.{limits_of}
+use Rattle.store_layout.specs.GroupReading.{first_command, commands_in}
+use Rattle.store_layout.specs.GroupReading.{BadRecord as IsBadRecord}
 use Rattle.gate_journal.specs.declared.error.JournalError.{JournalError}
 use Rattle.gate_journal.specs.Commands.{command_format}
 use Rattle.gate_journal.specs.Reading.{Refuses, found_in_records, FirstWantsMemory}

@@ -1,6 +1,6 @@
 use Rattle.std.proofs.Common.{◌≡◌, ◌-◌, ◌<◌}
-use Rattle.image_laws.specs.Limits.{limits_of}
-use Rattle.image_laws.specs.GroupReading.{commands_in}
+use Rattle.store_layout.specs.Limits.{limits_of}
+use Rattle.store_layout.specs.GroupReading.{commands_in}
 use Rattle.gate_journal.specs.Commands.{command_format}
 use Rattle.gate_journal.specs.Reading.{FirstWantsMemory}
 use Rattle.gate_journal.proofs.Found.{appended}

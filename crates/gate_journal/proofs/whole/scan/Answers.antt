@@ -2,10 +2,10 @@ use Rattle.std.proofs.Common.{◌≡◌, ℕ, ◌∙◌, ap, subst, sym, arith, 
 use Rattle.std.specs.Prelude.{IfErr}
 use Rattle.std.proofs.lemmas.Result.{err_from_is_err_and}
 use Rattle.byte_lists.specs.Content.{AreBytes}
-use Rattle.image_laws.specs.Limits.{limits_of}
-use Rattle.image_laws.specs.Journal.{IsJournal}
-use Rattle.image_laws.specs.JournalReading.{journal_scan}
-use Rattle.image_laws.proofs.Exports.{journal_read}
+use Rattle.store_layout.specs.Limits.{limits_of}
+use Rattle.store_layout.specs.Journal.{IsJournal}
+use Rattle.store_layout.specs.JournalReading.{journal_scan}
+use Rattle.store_layout.proofs.Exports.{journal_read}
 use Rattle.gate_journal.specs.declared.error.JournalError.{JournalError}
 use Rattle.gate_journal.specs.declared.error.JournalError.TheVariants.{NoMemory}
 use Rattle.gate_journal.specs.declared.scanner.Progress.{Progress}

@@ -2,7 +2,7 @@
 use Rattle.std.proofs.Common.{◌∙◌, arith, refl, ap}
 use Rattle.sector_dev.specs.Disk.{History}
 use Rattle.sector_dev.proofs.Stretches.{keeps_then, honest_after}
-use Rattle.image_laws.specs.Geometry.{geometry_view}
+use Rattle.store_layout.specs.Geometry.{geometry_view}
 use Rattle.store_open.proofs.Gates.{gates_inside, gates_read, both_written, both_closed, first_written, first_closed, none_closed, gate_isnt_closed, first_isnt_closed, told}
 use Rattle.store_open.proofs.closing.close_half.Goals as goal
 

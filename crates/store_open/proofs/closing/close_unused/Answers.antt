@@ -3,7 +3,7 @@ use Rattle.std.proofs.Common.{◌∙◌, sym, ap, Result}
 use Rattle.std.proofs.lemmas.Result.{err_from_is_err_and}
 use Rattle.sector_dev.specs.declared.device.DevError.{DevError}
 use Rattle.store_open.specs.Closing.{synced_by}
-use Rattle.image_laws.specs.Geometry.{geometry_view}
+use Rattle.store_layout.specs.Geometry.{geometry_view}
 use Rattle.store_open.proofs.Rests.{left_alone, closed_and_synced, history_by_sync, nothing_closed, nothing_closed_then}
 use Rattle.store_open.proofs.closing.close_unused.Goals as goal
 

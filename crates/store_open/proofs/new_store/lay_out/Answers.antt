@@ -1,5 +1,5 @@
 -- Six writes and a sync.
-use Rattle.image_laws.specs.Geometry.{geometry_view}
+use Rattle.store_layout.specs.Geometry.{geometry_view}
 use Rattle.store_open.proofs.Written.{laid_out}
 use Rattle.store_open.proofs.Behind.{kept_here, kept_synced, kept_title, kept_area, kept_gate, kept_journal, kept_second_gate, kept_second_journal}
 use Rattle.store_open.proofs.new_store.lay_out.Goals as goal

@@ -4,9 +4,9 @@ use Rattle.std.proofs.lemmas.Result.{err_from_is_err_and}
 use Rattle.sector_dev.specs.Disk.{History, reads_of, after_sync}
 use Rattle.sector_dev.specs.Calls.{one_more}
 use Rattle.sector_dev.proofs.Stretches.{honest_before, honest_after}
-use Rattle.image_laws.specs.Layout as laws
+use Rattle.store_layout.specs.Layout as laws
 use Rattle.store_open.specs.Closing.{synced_by}
-use Rattle.image_laws.specs.Geometry.{geometry_view}
+use Rattle.store_layout.specs.Geometry.{geometry_view}
 use Rattle.store_open.specs.NewStore.{HasRoomFor}
 use Rattle.store_open.specs.Open.{opening_view, OpensAlike}
 use Rattle.store_open.specs.declared.folded.Folded.{Folded}

@@ -6,14 +6,14 @@ use Rattle.path_rows.specs.Database.{RowView}
 use Rattle.path_rows.specs.declared.command.Command.{Command}
 use Rattle.sector_dev.specs.Disk.{History, reads_of}
 use Rattle.sector_dev.proofs.Stretches.{honest_after, honest_before}
-use Rattle.image_laws.specs.GroupReading.{JournalRefusal}
-use Rattle.image_laws.specs.Journal.{Reading}
-use Rattle.image_laws.specs.Layout.{other, gate_of}
-use Rattle.image_laws.specs.Opening.{Opening}
-use Rattle.image_laws.specs.OpeningReading.{by_checkpoint, by_journal, behind_journal, journal_from}
+use Rattle.store_layout.specs.GroupReading.{JournalRefusal}
+use Rattle.store_layout.specs.Journal.{Reading}
+use Rattle.store_layout.specs.Layout.{other, gate_of}
+use Rattle.store_layout.specs.Opening.{Opening}
+use Rattle.store_layout.specs.OpeningReading.{by_checkpoint, by_journal, behind_journal, journal_from}
 use Rattle.gate_journal.specs.Scanning.{reading_of}
 use Rattle.ckpt_pair.specs.Reading.{checkpoint_view}
-use Rattle.image_laws.specs.Geometry.{geometry_view}
+use Rattle.store_layout.specs.Geometry.{geometry_view}
 use Rattle.store_open.specs.Heads.{HasHeads}
 use Rattle.store_open.specs.PathStores.{store_format}
 use Rattle.store_open.specs.Open.{opening_view, with_tail_seen, OpensSo, RefusesOpening}

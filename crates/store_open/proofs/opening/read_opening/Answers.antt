@@ -2,9 +2,9 @@
 use Rattle.std.proofs.Common.{sym, ◌∙◌, ap, subst, Option}
 use Rattle.sector_dev.specs.Disk.{History, reads_of}
 use Rattle.sector_dev.proofs.Stretches.{honest_after, honest_before}
-use Rattle.image_laws.specs.FirstSector.{geometry_in}
-use Rattle.image_laws.specs.Layout as laws
-use Rattle.image_laws.specs.OpeningReading.{by_geometry}
+use Rattle.store_layout.specs.FirstSector.{geometry_in}
+use Rattle.store_layout.specs.Layout as laws
+use Rattle.store_layout.specs.OpeningReading.{by_geometry}
 use Rattle.ckpt_pair.specs.Versions.{latest}
 use Rattle.store_open.specs.PathStores.{store_format}
 use Rattle.store_open.specs.Open.{opening_view, OpensSo, WantsMemoryToOpen}

@@ -2,10 +2,10 @@
 use Rattle.std.proofs.Common.{sym, ◌∙◌, ap, subst, Option}
 use Rattle.std.specs.Option.{option_map, IfSome}
 use Rattle.sector_dev.specs.Disk.{reads_of}
-use Rattle.image_laws.specs.OpeningReading.{by_geometry}
+use Rattle.store_layout.specs.OpeningReading.{by_geometry}
 use Rattle.ckpt_pair.specs.Versions.{latest}
-use Rattle.image_laws.specs.declared.geometry.Geometry.{Geometry}
-use Rattle.image_laws.specs.Geometry.{geometry_view}
+use Rattle.store_layout.specs.declared.geometry.Geometry.{Geometry}
+use Rattle.store_layout.specs.Geometry.{geometry_view}
 use Rattle.store_open.specs.NewStore.{HasRoomFor}
 use Rattle.store_open.specs.PathStores.{store_format}
 use Rattle.store_open.specs.Open.{opening_view, OpensSo, HasFront, WantsMemoryToOpen}

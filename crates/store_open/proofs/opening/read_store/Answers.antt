@@ -5,15 +5,15 @@ use Rattle.path_rows.specs.Database.{RowView}
 use Rattle.path_rows.specs.declared.command.Command.{Command}
 use Rattle.sector_dev.specs.Disk.{History, reads_of}
 use Rattle.sector_dev.proofs.Stretches.{honest_after, honest_before, keeps_then}
-use Rattle.image_laws.specs.CheckpointReading.{checkpoint_in}
-use Rattle.image_laws.specs.Layout.{area_of}
-use Rattle.image_laws.specs.Opening.{Opening}
-use Rattle.image_laws.specs.OpeningReading.{by_choice, by_checkpoint}
+use Rattle.store_layout.specs.CheckpointReading.{checkpoint_in}
+use Rattle.store_layout.specs.Layout.{area_of}
+use Rattle.store_layout.specs.Opening.{Opening}
+use Rattle.store_layout.specs.OpeningReading.{by_choice, by_checkpoint}
 use Rattle.ckpt_pair.specs.declared.reading.Checkpoint.{Checkpoint}
 use Rattle.ckpt_pair.specs.Versions.{latest}
 use Rattle.ckpt_pair.specs.Reading.{checkpoint_view, front_in}
 use Rattle.ckpt_pair.specs.Rows.{rows_format}
-use Rattle.image_laws.specs.Geometry.{geometry_view}
+use Rattle.store_layout.specs.Geometry.{geometry_view}
 use Rattle.store_open.specs.Heads.{chosen_half, choice_by_heads, HasHeads}
 use Rattle.store_open.specs.PathStores.{store_format}
 use Rattle.store_open.specs.Open.{opening_view, OpensSo, HasFront}

@@ -4,7 +4,7 @@ use Rattle.std.proofs.lemmas.Result.{err_from_is_err_and}
 use Rattle.sector_dev.specs.Disk.{reads_of}
 use Rattle.gate_journal.specs.Scanning.{reading_of}
 use Rattle.ckpt_pair.specs.Reading.{checkpoint_view}
-use Rattle.image_laws.specs.Geometry.{geometry_view}
+use Rattle.store_layout.specs.Geometry.{geometry_view}
 use Rattle.store_open.specs.declared.error.OpenError.{OpenError}
 use Rattle.store_open.proofs.Steps.{refused_by_half, none_behind, refused_by_scan, sealed_twice, found_behind}
 use Rattle.store_open.proofs.opening.read_tail.Goals as goal

@@ -4,13 +4,13 @@ use Rattle.std.proofs.lemmas.Result.{err_from_is_err_and}
 use Rattle.byte_lists.specs.Content.{part}
 use Rattle.sector_dev.specs.Disk.{History, reads_of}
 use Rattle.sector_dev.proofs.Stretches.{honest_after}
-use Rattle.image_laws.specs.CheckpointReading.{checkpoint_in}
-use Rattle.image_laws.specs.Layout.{area_of}
+use Rattle.store_layout.specs.CheckpointReading.{checkpoint_in}
+use Rattle.store_layout.specs.Layout.{area_of}
 use Rattle.ckpt_pair.specs.declared.reading.Checkpoint.{Checkpoint}
 use Rattle.ckpt_pair.specs.Versions.{latest}
 use Rattle.ckpt_pair.specs.Reading.{front_view, checkpoint_view}
 use Rattle.ckpt_pair.specs.Rows.{rows_format}
-use Rattle.image_laws.specs.Geometry.{geometry_view}
+use Rattle.store_layout.specs.Geometry.{geometry_view}
 use Rattle.store_open.specs.declared.error.OpenError.{OpenError}
 use Rattle.store_open.specs.Refusals.{error_of_pair, PairSo}
 use Rattle.store_open.specs.Rows.{FeedsSo}

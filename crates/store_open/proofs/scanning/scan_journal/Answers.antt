@@ -4,16 +4,16 @@ use Rattle.std.proofs.lemmas.Result.{err_from_is_err_and}
 use Rattle.byte_lists.proofs.Contents.{bytes-part}
 use Rattle.sector_dev.specs.Disk.{reads_of}
 use Rattle.sector_dev.proofs.Stretches.{honest_after, keeps_then}
-use Rattle.image_laws.specs.Limits.{limits_of}
-use Rattle.image_laws.specs.Journal.{IsJournal}
-use Rattle.image_laws.specs.JournalReading.{journal_scan}
-use Rattle.image_laws.specs.Layout.{journal_of}
-use Rattle.image_laws.proofs.Exports.{journal_read}
+use Rattle.store_layout.specs.Limits.{limits_of}
+use Rattle.store_layout.specs.Journal.{IsJournal}
+use Rattle.store_layout.specs.JournalReading.{journal_scan}
+use Rattle.store_layout.specs.Layout.{journal_of}
+use Rattle.store_layout.proofs.Exports.{journal_read}
 use Rattle.gate_journal.specs.declared.scanner.Progress.{Progress}
 use Rattle.gate_journal.specs.declared.scanner.Scan.{Scan}
 use Rattle.gate_journal.specs.Commands.{command_format}
 use Rattle.gate_journal.specs.Scanning.{reading_of, LeadsTo, GoesOn}
-use Rattle.image_laws.specs.Geometry.{geometry_view}
+use Rattle.store_layout.specs.Geometry.{geometry_view}
 use Rattle.store_open.specs.declared.error.OpenError.{OpenError}
 use Rattle.store_open.specs.Refusals.{error_of_journal, ScansSo}
 use Rattle.store_open.proofs.Journals.{journal_sectors, taken, scans_refused}

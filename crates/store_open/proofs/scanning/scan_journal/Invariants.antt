@@ -2,9 +2,9 @@
 use Rattle.std.proofs.Common.{◌≡◌}
 use Rattle.sector_dev.specs.Disk.{IsHonest, reads_of}
 use Rattle.sector_dev.specs.Calls.{Keeps}
-use Rattle.image_laws.specs.Layout.{journal_of}
+use Rattle.store_layout.specs.Layout.{journal_of}
 use Rattle.gate_journal.specs.Scanning.{pieces_left, IsReadUpTo}
-use Rattle.image_laws.specs.Geometry.{geometry_view}
+use Rattle.store_layout.specs.Geometry.{geometry_view}
 use Rattle.store_open.proofs.scanning.scan_journal.Given as goal
 
 -- The device is unchanged, and the journal is read up to the scanner's gate, by the version.

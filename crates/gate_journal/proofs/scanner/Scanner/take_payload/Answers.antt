@@ -1,6 +1,6 @@
 use Rattle.std.proofs.Common.{◌≡◌, ℕ, ◌+◌, ◌∙◌, ap, subst, sym, refl, Ok, Err, Result}
 use Rattle.std.proofs.lemmas.Result.{err_from_is_err_and}
-use Rattle.image_laws.specs.Group.{payload_sectors}
+use Rattle.store_layout.specs.Group.{payload_sectors}
 use Rattle.gate_journal.specs.declared.error.JournalError.{JournalError}
 use Rattle.gate_journal.specs.declared.scanner.Progress.{Progress}
 use Rattle.gate_journal.specs.declared.scanner.Progress.TheVariants.{More}

@@ -1,5 +1,5 @@
 use Rattle.std.proofs.Common.{◌≡◌, ℕ, ◌+◌, ◌∙◌, ap, refl}
-use Rattle.image_laws.specs.Group.{payload_sectors}
+use Rattle.store_layout.specs.Group.{payload_sectors}
 use Rattle.gate_journal.specs.declared.scanner.Stage.TheVariants.{AtGate, AtHeader, AtPayload}
 use Rattle.gate_journal.specs.ScannerView.{ScannerView}
 use Rattle.gate_journal.proofs.Needed.{stage_needed}

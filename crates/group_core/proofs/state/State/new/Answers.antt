@@ -1,7 +1,7 @@
 use Rattle.std.proofs.Common.{◌≤◌, not, [], refl, ◌∙◌, ap, subst, arith}
 use Rattle.sector_dev.specs.Disk.{Disk, IsHonest, IsWhole}
-use Rattle.image_laws.specs.Group.{last_place}
-use Rattle.group_laws.specs.declared.phases.Flush.TheVariants.{Resting}
+use Rattle.store_layout.specs.Group.{last_place}
+use Rattle.group_phases.specs.declared.phases.Flush.TheVariants.{Resting}
 use Rattle.group_core.specs.Starting.{check_in, no_turn}
 use Rattle.group_core.proofs.Start.{not_false, opens_so, started_so}
 use Rattle.group_core.proofs.state.State.new.Goals as goal

@@ -1,0 +1,17 @@
+-- The checkpoint of a plan.
+use Rattle.std.proofs.Common.{◌<◌, ◌^◌, List, arith}
+use Rattle.path_rows.specs.Database.{RowView, IsDatabase, rows_len}
+use Rattle.store_layout.specs.Checkpoint.{CanBeCheckpoint}
+use Rattle.ckpt_pair.specs.Checkpoint.{written_checkpoint}
+use Rattle.ckpt_pair.specs.Rows.{rows_format}
+use Rattle.ckpt_stream.proofs.Pours.{poured, on_ok}
+use Rattle.ckpt_stream.proofs.beginning.pour_of.Goals as goal
+
+pub returns-clause-poured : goal.returns-clause-poured
+returns-clause-poured c =
+    poured c.new.result c.checkpoint_front-head.result c.args.epoch c.args.place c.args.plan (omega arith) c.requires.size
+    (λ all size count. c.checkpoint_front-head.ensures.spelled all (omega (arith, size, c.requires.size)) (omega (arith, count, c.requires.count))) c.new.ensures
+
+pub returns-clause-can : goal.returns-clause-can
+returns-clause-can c =
+    on_ok ((rows : List RowView) → IsDatabase rows → rows_len rows < 2 ^ 32 → CanBeCheckpoint rows_format (written_checkpoint c.args.epoch c.args.place rows)) c.new.result c.checkpoint_front-head.ensures.can

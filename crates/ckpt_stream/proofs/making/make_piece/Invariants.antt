@@ -1,0 +1,26 @@
+-- How far a piece is made.
+use Rattle.std.proofs.Common.{◌≡◌, ◌+◌, ◌*◌, ◌<◌, ◌≤◌, ◌⊎◌, [], ◌∷◌, length}
+use Rattle.byte_lists.specs.Content.{part}
+use Rattle.sector_dev.specs.Disk.{IsHonest, reads_of}
+use Rattle.sector_dev.specs.Calls.{Keeps}
+use Rattle.row_edits.specs.declared.edit.Edit.TheVariants.{Keep}
+use Rattle.row_edits.specs.Pouring.{untaken, untaken_len, end_of, left_to_keep}
+use Rattle.ckpt_stream.specs.Making.{reads_left}
+use Rattle.ckpt_stream.proofs.making.make_piece.Given as goal
+
+-- The device is as it was, as many bytes are not taken as before, and making stopped for one of these reasons.
+abbrev pub invariant-pieces : goal.invariant-pieces
+invariant-pieces g l = record {
+  keeps : Keeps (g.D.Device.disk l.fn.device) (g.D.Device.disk l.device);
+  faults : (g.D.Device.disk l.device).faults ≡ (g.D.Device.disk l.fn.device).faults;
+  history : IsHonest (g.D.Device.disk l.fn.device) → (g.D.Device.disk l.device).history ≡ (g.D.Device.disk l.fn.device).history;
+  window : length l.window ≡ 131072;
+  end : end_of l.pour ≡ l.fn.size;
+  len : untaken_len l.pour ≡ untaken_len l.fn.pour;
+  same : IsHonest (g.D.Device.disk l.fn.device) → untaken l.pour (part (512 * l.fn.area + 32) l.fn.size (reads_of (g.D.Device.disk l.fn.device)))
+      ≡ untaken l.fn.pour (part (512 * l.fn.area + 32) l.fn.size (reads_of (g.D.Device.disk l.fn.device)));
+  stopped : (131072 ≤ length l.pour.out) ⊎ ((l.pour.edits ≡ Keep 0 ∷ []) ⊎ (0 < left_to_keep l.pour));
+}
+
+abbrev pub decreases-pieces : goal.decreases-pieces
+decreases-pieces g l = reads_left l.pour

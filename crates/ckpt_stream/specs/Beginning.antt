@@ -1,0 +1,58 @@
+-- What begins the checkpoint of a sealed half.
+use Rattle.std.specs.Prelude.{◌≡◌, ℕ, ◌+◌, ◌*◌, ◌≤◌, List, length, Some, Result, Ok, Err}
+use Rattle.sector_dev.specs.Disk.{Disk, IsHonest, reads_of}
+use Rattle.path_rows.specs.declared.command.Command.{Command}
+use Rattle.path_rows.specs.Database.{RowView, rows_len}
+use Rattle.path_rows.specs.Command.{database_after_all}
+use Rattle.path_db.specs.RowRecord.{rows_encoding}
+use Rattle.store_layout.specs.declared.half.Half.{Half}
+use Rattle.store_layout.specs.Layout.{Geometry, area_of}
+use Rattle.store_layout.specs.Checkpoint.{Checkpoint, CanBeCheckpoint, checkpoint_bytes, checkpoint_size}
+use Rattle.store_layout.specs.CheckpointReading.{checkpoint_in}
+use Rattle.ckpt_pair.specs.Checkpoint.{written_checkpoint}
+use Rattle.ckpt_pair.specs.Versions.{latest}
+use Rattle.ckpt_pair.specs.Rows.{rows_format}
+use Rattle.store_open.specs.Sealed.{SealedHalf, sealed_half}
+use Rattle.store_open.specs.declared.sealed.SealedError.{SealedError}
+use Rattle.store_open.specs.declared.sealed.SealedError.TheVariants.{Fault, NoMemory, Damaged}
+use Rattle.row_edits.specs.Pouring.{PourView, untaken, untaken_len, end_of}
+use Rattle.ckpt_stream.specs.Merge.{MergeView, bytes_made, IsReady}
+
+-- the checkpoint of a sealed half: its rows, at the place that it reaches, in the version that is written
+abbrev pub checkpoint_from : ℕ → SealedHalf → Checkpoint (List RowView)
+checkpoint_from epoch sealed = written_checkpoint epoch sealed.place sealed.rows
+
+-- A pour of which nothing is taken makes the checkpoint of rows after commands, from the records of these rows.
+pub record PoursCheckpoint (epoch place : ℕ) (rows : List RowView) (commands : List Command) (pour : PourView) : Type 0 where
+  pub makes : untaken pour (rows_encoding rows) ≡ checkpoint_bytes rows_format (written_checkpoint epoch place (database_after_all rows commands))
+  pub len : untaken_len pour ≡ 32 + rows_len (database_after_all rows commands)
+  pub end : end_of pour ≡ rows_len rows
+
+-- From the rows of the checkpoint in the half's area a merge makes its own.
+pub record MakesFrom (merge : MergeView) (old : Checkpoint (List RowView)) : Type 0 where
+  pub size : merge.size ≡ length (rows_encoding old.db)
+  pub makes : untaken merge.pour (rows_encoding old.db) ≡ bytes_made merge
+
+-- A merge makes the checkpoint of this epoch of a sealed half, whatever the device is, and it fits an area; of an honest one the half is
+-- what reads give, and the rows of its area are those from which the checkpoint is made.
+pub record IsMergeOf (geometry : Geometry) (half : Half) (epoch : ℕ) (disk : Disk) (merge : MergeView) : Type 0 where
+  pub sealed : SealedHalf
+  pub reads : IsHonest disk → sealed_half geometry half (reads_of disk) ≡ Some sealed
+  pub rows : merge.rows ≡ sealed.rows
+  pub place : merge.place ≡ sealed.place
+  pub epoch_is : merge.epoch ≡ epoch
+  pub can : CanBeCheckpoint rows_format (checkpoint_from epoch sealed)
+  pub fits : checkpoint_size rows_format (checkpoint_from epoch sealed) ≤ 512 * geometry.checkpoint
+  pub inside : 32 + merge.size ≤ 512 * geometry.checkpoint
+  pub len : untaken_len merge.pour ≡ length (bytes_made merge)
+  pub ready : IsReady merge.pour
+  pub makes : IsHonest disk → (old : Checkpoint (List RowView)) → checkpoint_in rows_format latest (area_of geometry half (reads_of disk)) ≡ Ok old → MakesFrom merge old
+
+-- A sealed half's checkpoint is begun; or the half is none whose checkpoint fits, unless the device failed or memory ran out.
+abbrev pub MergesSealed : Geometry → Half → ℕ → Result MergeView SealedError → Disk → Type 0
+MergesSealed geometry half epoch (Ok merge) disk = IsMergeOf geometry half epoch disk merge
+MergesSealed geometry half epoch (Err Fault) disk = Unit {0}
+MergesSealed geometry half epoch (Err NoMemory) disk = Unit {0}
+MergesSealed geometry half epoch (Err Damaged) disk =
+    IsHonest disk → (sealed : SealedHalf) → sealed_half geometry half (reads_of disk) ≡ Some sealed
+    → ¬ (checkpoint_size rows_format (checkpoint_from epoch sealed) ≤ 512 * geometry.checkpoint)

@@ -1,0 +1,42 @@
+-- What is read of the area of a sealed half.
+use Rattle.std.specs.Prelude.{◌≡◌, ℕ, ◌+◌, ◌*◌, List, Option, Some, None, Result, Ok, Err}
+use Rattle.byte_lists.specs.Content.{part}
+use Rattle.path_rows.specs.Database.{RowView}
+use Rattle.path_db.specs.RowRecord.{rows_decoding}
+use Rattle.store_layout.specs.declared.half.Half.{Half}
+use Rattle.store_layout.specs.Layout.{Geometry, area_at, area_of}
+use Rattle.store_layout.specs.CheckpointReading.{PairRefusal, checkpoint_in}
+use Rattle.ckpt_pair.specs.declared.reading.Front.{Front}
+use Rattle.ckpt_pair.specs.Heads.{head_view}
+use Rattle.ckpt_pair.specs.Versions.{latest}
+use Rattle.ckpt_pair.specs.Reading.{with_head}
+use Rattle.ckpt_pair.specs.Rows.{rows_format, as_counted}
+use Rattle.store_open.specs.declared.error.OpenError.{OpenError}
+use Rattle.store_open.specs.declared.error.OpenError.TheVariants.{NotAStore, Device, Pair, Journal, NoMemory}
+use Rattle.row_edits.specs.declared.note.RowsNote.{RowsNote}
+use Rattle.row_edits.specs.declared.plan.Plan.{Plan}
+
+-- the checkpoint of a half is refused
+pub record IsNoCheckpoint (geometry : Geometry) (half : Half) (reads : List ℕ) : Type 0 where
+  pub refusal : PairRefusal
+  pub is : checkpoint_in rows_format latest (area_of geometry half reads) ≡ Err refusal
+
+-- The checkpoint of a half is read as its front and its rows are; or it is refused by its front, unless the device failed.
+abbrev pub FrontSo : Result Front OpenError → Geometry → Half → List ℕ → Type 0
+FrontSo (Ok front) geometry half reads =
+    checkpoint_in rows_format latest (area_of geometry half reads)
+    ≡ with_head (head_view front.head) (as_counted front.count (rows_decoding (part (512 * area_at geometry half + 32) front.size reads)))
+FrontSo (Err NotAStore) geometry half reads = ⊥
+FrontSo (Err Device) geometry half reads = Unit {0}
+FrontSo (Err (Pair e)) geometry half reads = IsNoCheckpoint geometry half reads
+FrontSo (Err (Journal e)) geometry half reads = ⊥
+FrontSo (Err NoMemory) geometry half reads = Unit {0}
+
+-- The rows in bytes are those of a note; or the bytes are no rows of this count, unless the device failed or memory ran out.
+abbrev pub RowsSo : Result (Plan × RowsNote) OpenError → Option (List RowView) → Type 0
+RowsSo (Ok made) reading = reading ≡ Some made.1.rows
+RowsSo (Err NotAStore) reading = ⊥
+RowsSo (Err Device) reading = Unit {0}
+RowsSo (Err (Pair e)) reading = reading ≡ None
+RowsSo (Err (Journal e)) reading = ⊥
+RowsSo (Err NoMemory) reading = Unit {0}

@@ -1,0 +1,80 @@
+//! A checkpoint that is made while it is written.
+
+ghost use Rattle.std.specs.Prelude.{◌≡◌, ◌+◌, ◌*◌, ◌≤◌, length, OnOk};
+ghost use Rattle.sector_dev.specs.Calls.{WriteCall};
+ghost use Rattle.ckpt_stream.specs.Merge.{encoding_made, next_piece, after_piece, IsReady, MakesOn};
+
+use crate::making::{make_piece, put_piece};
+use byte_lists::SECTOR;
+use row_edits::{PIECE, Pour, RowsNote};
+use sector_dev::{DevError, Device};
+use std::marker::Model;
+
+/// The sectors of a piece of a checkpoint: that many are written, and read of the old area, at a time at most.
+pub const PIECE_SECTORS: u64 = (PIECE / SECTOR) as u64;
+
+/// The bytes of the window: a piece.
+pub(crate) const WINDOW: usize = PIECE;
+
+/// The checkpoint of a half whose journal a seal ends, made while it is written. Beside what the edits and the rows of the journal's
+/// keys take it has two buffers: a window of 131,072 bytes, and 147,461 bytes for what is made and not written yet.
+#[derive(Drop)]
+pub struct Merge {
+    pub(crate) pour: Pour,
+    pub(crate) window: Vec<u8>,
+    pub(crate) size: u32,
+    pub(crate) sectors: u64,
+    pub(crate) note: RowsNote,
+    pub(crate) epoch: u64,
+    pub(crate) place: u64,
+}
+
+impl Model for Merge {
+    ghost use Rattle.ckpt_stream.specs.Merge.{MergeView, merge_view, IsMerge};
+
+    ghost Value = { MergeView };
+
+    ghost view = { merge_view };
+
+    ghost invariant = { IsMerge };
+}
+
+impl Merge {
+    /// How many sectors the checkpoint has in all.
+    pub fn sectors(&self) -> u64
+        ensures { 512 * result ≡ length (encoding_made self.now) }
+    {
+        self.sectors
+    }
+
+    /// How many bytes the window has, and how many the buffer of what is made. Both stay as long as the merge lives.
+    pub fn buffer_lens(&self) -> (usize, usize)
+        ensures window { result.0 ≡ 131072 }
+        ensures made { result.1 ≡ 147461 }
+    {
+        (self.window.len(), self.pour.buffer_len())
+    }
+
+    /// Writes the next sectors of the checkpoint, at most 256, from the sector `at` on, and then makes those after them: it reads
+    /// the rows of the old area, which begins at the sector `area`. Where the write or a read fails, the merge is of no more use.
+    /// It takes no memory.
+    pub fn write_next<D: Device>(
+        &mut self,
+        device: &mut D,
+        area: u64,
+        at: u64,
+    ) -> Result<(), DevError>
+        requires old { 512 * area + 32 + self.old.size ≤ 512 * (D.disk device.old).sectors }
+        requires new { 512 * at + length (next_piece self.old.pour) ≤ 512 * (D.disk device.old).sectors }
+        ensures call { WriteCall at (next_piece self.old.pour) result (D.disk device.old) (D.disk device.new) }
+        ensures kept { self.new ≡ record self.old { pour = self.new.pour } }
+        ensures ready { OnOk result (IsReady self.new.pour) }
+        ensures made { OnOk result (MakesOn (D.disk device.new) area self.old.size (after_piece self.old.pour) self.new.pour) }
+    {
+        let count = put_piece(&mut self.window, self.pour.made());
+        device.write(at, &self.window[..count])?;
+        let taken = self.pour.made().len().min(PIECE);
+        self.pour.take(taken);
+        make_piece(device, area, self.size, &mut self.pour, &mut self.window)
+    }
+}

@@ -1,0 +1,61 @@
+-- A list of core ASes as a text: ISD-AS texts joined by commas.
+use Rattle.std.specs.Prelude.{◌≡◌, ℕ, List, ◌∷◌, ◌++◌, ◌==◌}
+use Rattle.std.specs.List.{AllZip, slice_split}
+use Rattle.isd_as.specs.declared.number.IsdAs.{IsdAs}
+use Rattle.isd_as.specs.declared.error.IaError.{IaError}
+use Rattle.isd_as.specs.declared.error.IaError.TheVariants.{BadText, TooLarge}
+use Rattle.isd_as.specs.Text.{IsIsdAsText, IsInGrammar, IsTooLargeText}
+use Rattle.cli_once.specs.declared.error.Fault.{Fault}
+use Rattle.cli_once.specs.declared.error.Fault.TheVariants as fault
+
+-- what is between the commas
+abbrev pub texts_of : List ℕ → List (List ℕ)
+texts_of list = slice_split (λ byte. byte == 0x2c) list
+
+-- each text, with its ISD-AS
+abbrev pub AreCores : List (List ℕ) → List IsdAs → Type 0
+AreCores texts cores = AllZip IsIsdAsText texts cores
+
+-- why a text is no ISD-AS
+abbrev pub IsRefused : List ℕ → IaError → Type 0
+IsRefused text BadText = ¬ IsInGrammar text
+IsRefused text TooLarge = IsTooLargeText text
+
+-- the program's fault for such a text
+abbrev pub RefusesText : List ℕ → Fault → Type 0
+RefusesText text (fault.Text e) = IsRefused text e
+RefusesText text fault.Memory = ⊥
+RefusesText text fault.Hex = ⊥
+RefusesText text (fault.Frame e) = ⊥
+RefusesText text fault.Output = ⊥
+
+-- The first text that is no ISD-AS, and why.
+pub record FirstRefusal (texts : List (List ℕ)) (e : IaError) : Type 0 where
+  pub front : List (List ℕ)
+  pub cores : List IsdAs
+  pub text : List ℕ
+  pub rest : List (List ℕ)
+  pub parts : texts ≡ front ++ text ∷ rest
+  pub before : AreCores front cores
+  pub refused : IsRefused text e
+
+-- Each of the texts is an ISD-AS.
+pub record IsCoreList (texts : List (List ℕ)) : Type 0 where
+  pub cores : List IsdAs
+  pub are : AreCores texts cores
+
+-- why a list is refused: a text in it is no ISD-AS, which is found without memory, or memory ran out for the core ASes
+abbrev pub RefusesList : List ℕ → Fault → Type 0
+RefusesList list (fault.Text e) = FirstRefusal (texts_of list) e
+RefusesList list fault.Memory = IsCoreList (texts_of list)
+RefusesList list fault.Hex = ⊥
+RefusesList list (fault.Frame e) = ⊥
+RefusesList list fault.Output = ⊥
+
+-- why a list is refused by the checks that take no memory
+abbrev pub RefusesTexts : List ℕ → Fault → Type 0
+RefusesTexts list (fault.Text e) = FirstRefusal (texts_of list) e
+RefusesTexts list fault.Memory = ⊥
+RefusesTexts list fault.Hex = ⊥
+RefusesTexts list (fault.Frame e) = ⊥
+RefusesTexts list fault.Output = ⊥

@@ -1,0 +1,40 @@
+-- What the program says of the fault that ended a session.
+use Rattle.std.specs.Prelude.{ℕ, List, ◌++◌, codes}
+use Rattle.std.specs.Fmt.{decimal}
+use Rattle.isd_as.specs.declared.error.IaError.{IaError}
+use Rattle.isd_as.specs.declared.error.IaError.TheVariants as ia
+use Rattle.session_core.specs.declared.error.FrameError.{FrameError}
+use Rattle.session_core.specs.declared.error.FrameError.TheVariants as error
+use Rattle.cli_once.specs.declared.error.Fault.{Fault}
+use Rattle.cli_once.specs.declared.error.Fault.TheVariants as fault
+
+-- want of memory is no fault of a frame
+abbrev pub fault_of : FrameError → Fault
+fault_of error.NoMemory = fault.Memory
+fault_of error.Length = fault.Frame error.Length
+fault_of error.Kind = fault.Frame error.Kind
+fault_of error.Read = fault.Frame error.Read
+fault_of error.Write = fault.Frame error.Write
+fault_of error.Turns = fault.Frame error.Turns
+
+-- the number of what is wrong with a text
+abbrev pub text_number : IaError → ℕ
+text_number ia.BadText = 1
+text_number ia.TooLarge = 2
+
+-- the number of what ends a session
+abbrev pub frame_number : FrameError → ℕ
+frame_number error.NoMemory = 0
+frame_number error.Length = 1
+frame_number error.Kind = 2
+frame_number error.Read = 3
+frame_number error.Write = 4
+frame_number error.Turns = 5
+
+-- the words of a fault
+abbrev pub fault_text : Fault → List ℕ
+fault_text (fault.Text e) = codes "text " ++ decimal (text_number e)
+fault_text fault.Hex = codes "hex"
+fault_text (fault.Frame e) = codes "frame " ++ decimal (frame_number e)
+fault_text fault.Memory = codes "memory"
+fault_text fault.Output = codes "output"

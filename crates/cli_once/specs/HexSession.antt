@@ -1,0 +1,66 @@
+-- A session whose input is hexadecimal text, and whose replies are lines of it.
+use Rattle.std.specs.Prelude.{◌≡◌, ℕ, ◌⊎◌, List, [], length, Option, Result, Ok, Err}
+use Rattle.std.specs.List.{concat}
+use Rattle.std.specs.Io.KnownBytes.{Appends, IsAtEnd}
+use Rattle.hex.specs.Hex.{decode_of}
+use Rattle.session_core.specs.declared.error.FrameError.{FrameError}
+use Rattle.session_core.specs.declared.error.FrameError.TheVariants as error
+use Rattle.session_core.specs.Source.{AreReads}
+use Rattle.session_core.specs.Lines.{IsServedInLines}
+use Rattle.cli_once.specs.declared.error.Fault.{Fault}
+use Rattle.cli_once.specs.Fault.{fault_of}
+use Rattle.cli_once.specs.HexInput.{without_blanks, RefusesHex}
+use Rattle.cli_once.specs.Memory.{Served, Answers}
+
+-- why reading stops before the end of the input
+abbrev pub EndsEarly : ℕ → List (List ℕ) → FrameError → Type 0
+EndsEarly turns pieces error.NoMemory = Unit {0}
+EndsEarly turns pieces error.Length = ⊥
+EndsEarly turns pieces error.Kind = ⊥
+EndsEarly turns pieces error.Read = Unit {0}
+EndsEarly turns pieces error.Write = ⊥
+EndsEarly turns pieces error.Turns = length pieces ≡ turns
+
+-- The input was not read whole, and nothing was written.
+pub record IsUnread (turns : ℕ) (pieces : List (List ℕ)) (output output_left : Option (List ℕ)) (result : Result ℕ Fault) : Type 0 where
+  pub error : FrameError
+  pub ends : EndsEarly turns pieces error
+  pub kept : Appends output output_left []
+  pub said : result ≡ Err (fault_of error)
+
+-- The input is refused as a text, and nothing was written.
+pub record IsNoText (text : List ℕ) (output output_left : Option (List ℕ)) (result : Result ℕ Fault) : Type 0 where
+  pub kept : Appends output output_left []
+  pub refusal : Fault
+  pub refused : RefusesHex text refusal
+  pub said : result ≡ Err refusal
+
+-- the program's answer for what a session ended with
+abbrev pub answer_for : Result ℕ FrameError → Result ℕ Fault
+answer_for (Ok count) = Ok count
+answer_for (Err e) = Err (fault_of e)
+
+-- The messages of these bytes were answered in lines, from this start on.
+pub record AreAnsweredInLines (start : Served) (bytes : List ℕ) (output output_left : Option (List ℕ)) (outcome : Result ℕ FrameError) : Type 0 where
+  pub left : Served
+  pub served : IsServedInLines Answers bytes start left output output_left outcome
+
+-- The input is a text that encodes bytes, whose messages were answered in lines.
+pub record IsAnsweredText (start : Served) (text : List ℕ) (output output_left : Option (List ℕ)) (result : Result ℕ Fault) : Type 0 where
+  pub bytes : List ℕ
+  pub encoded : decode_of (without_blanks text) ≡ Ok bytes
+  pub outcome : Result ℕ FrameError
+  pub answered : AreAnsweredInLines start bytes output output_left outcome
+  pub said : result ≡ answer_for outcome
+
+-- The input was read to its end, and checked as a text before anything was answered.
+pub record IsReadText (start : Served) (text : List ℕ) (input_left output output_left : Option (List ℕ)) (result : Result ℕ Fault) : Type 0 where
+  pub end : IsAtEnd input_left
+  pub ended : IsNoText text output output_left result ⊎ IsAnsweredText start text output output_left result
+
+-- What was read in at most this number of reads, and what became of it.
+pub record IsHexSession {R : Type 0} (gives : R → List ℕ → R → Type 0) (turns : ℕ) (start : Served) (source source_left : R)
+    (input_left output output_left : Option (List ℕ)) (result : Result ℕ Fault) : Type 0 where
+  pub pieces : List (List ℕ)
+  pub read : AreReads gives turns source pieces source_left
+  pub ended : IsUnread turns pieces output output_left result ⊎ IsReadText start (concat pieces) input_left output output_left result

@@ -1,0 +1,43 @@
+-- What taking a command answers.
+use Rattle.std.specs.Prelude.{◌≡◌, ◌≢◌, ◌⊎◌, ◌-◌, ◌^◌, Result, Ok, Err}
+use Rattle.path_rows.specs.declared.command.Command.{Command}
+use Rattle.path_rows.specs.Command.{database_after}
+use Rattle.session_core.specs.declared.service.Ack.{Ack}
+use Rattle.group_core.specs.declared.submit_error.SubmitError.TheVariants as submit
+use Rattle.once_store.specs.declared.error.TakeError.{TakeError}
+use Rattle.once_store.specs.declared.error.TakeError.TheVariants as take
+use Rattle.once_store.specs.Taking.{FitStore}
+use Rattle.reply_codes.specs.declared.refusal.Refusal.{Refusal}
+use Rattle.reply_codes.specs.declared.refusal.Refusal.TheVariants.{NoMemory, Message, Check, Lookup, Submit, NoReader, Stopped}
+use Rattle.cli_once.specs.Memory.{Served, ack_of, after_command}
+
+-- the refusal that says why a store didn't take a command
+abbrev pub refusal_of : TakeError → Refusal
+refusal_of take.NoMemory = NoMemory
+refusal_of take.Full = Submit submit.Full
+refusal_of take.Exhausted = Submit submit.Exhausted
+
+-- the command was taken: a place was left, and the rows after it fit
+pub record TakesCommand (old : Served) (c : Command) (new : Served) : Type 0 where
+  pub left : old.place ≢ 2 ^ 64 - 1
+  pub fits : FitStore (database_after old.rows c)
+  pub taken : new ≡ after_command old c
+
+-- The command was taken and acknowledged; or no place was left, or else the rows after it don't fit, and nothing changed. Where memory
+-- ran out nothing changed, or the command was taken, and its outcome isn't reported.
+abbrev pub MayTake : Served → Command → Result Ack Refusal → Served → Type 0
+MayTake old c (Ok ack) new = (ack ≡ ack_of old c) × TakesCommand old c new
+MayTake old c (Err NoMemory) new = (new ≡ old) ⊎ TakesCommand old c new
+MayTake old c (Err (Submit submit.Full)) new =
+    (old.place ≢ 2 ^ 64 - 1) × (¬ FitStore (database_after old.rows c)) × (new ≡ old)
+MayTake old c (Err (Submit submit.Exhausted)) new = (old.place ≡ 2 ^ 64 - 1) × (new ≡ old)
+MayTake old c (Err (Message e)) new = ⊥
+MayTake old c (Err (Check e)) new = ⊥
+MayTake old c (Err (Lookup e)) new = ⊥
+MayTake old c (Err (Submit submit.Busy)) new = ⊥
+MayTake old c (Err (Submit submit.TooLarge)) new = ⊥
+MayTake old c (Err (Submit submit.Stopped)) new = ⊥
+MayTake old c (Err (Submit submit.NoMemory)) new = ⊥
+MayTake old c (Err (Submit submit.OldStore)) new = ⊥
+MayTake old c (Err NoReader) new = ⊥
+MayTake old c (Err Stopped) new = ⊥

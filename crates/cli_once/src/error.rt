@@ -1,0 +1,67 @@
+//! Why the program ends.
+
+ghost use Rattle.std.specs.Prelude.{◌≡◌, Some};
+ghost use Rattle.cli_once.specs.Fault.{text_number, frame_number};
+
+use isd_as::IaError;
+use session_core::FrameError;
+use std::error::Error;
+use std::fmt;
+
+/// What ends the program. It prints these words after `error: `.
+#[derive(Clone, Copy, Debug, PartialEq, Eq)]
+pub enum Fault {
+    /// A text in the list of core ASes is no ISD-AS.
+    Text(IaError),
+    /// The input is no hexadecimal text.
+    Hex,
+    /// The session ended with a fault.
+    Frame(FrameError),
+    /// Memory ran out.
+    Memory,
+    /// A print outside the session failed.
+    Output,
+}
+
+impl fmt::Display for Fault {
+    ghost use Rattle.cli_once.specs.Fault.{fault_text};
+
+    ghost output = { λ fault. Some (fault_text fault) };
+
+    fn fmt<W: fmt::Write>(&self, f: &mut fmt::Formatter<W>) -> fmt::Result {
+        match self {
+            Fault::Text(error) => write!(f, "text {}", text_number(*error)),
+            Fault::Hex => write!(f, "hex"),
+            Fault::Frame(error) => write!(f, "frame {}", frame_number(*error)),
+            Fault::Memory => write!(f, "memory"),
+            Fault::Output => write!(f, "output"),
+        }
+    }
+}
+
+impl Error for Fault {}
+
+fn text_number(error: IaError) -> u8
+    ensures { result ≡ text_number error }
+{
+    error as u8
+}
+
+fn frame_number(error: FrameError) -> u8
+    ensures { result ≡ frame_number error }
+{
+    error as u8
+}
+
+impl From<FrameError> for Fault {
+    ghost use Rattle.cli_once.specs.Fault.{fault_of};
+
+    ghost from_gives = { λ error fault. fault ≡ fault_of error };
+
+    fn from(error: FrameError) -> Self {
+        match error {
+            FrameError::NoMemory => Fault::Memory,
+            error => Fault::Frame(error),
+        }
+    }
+}

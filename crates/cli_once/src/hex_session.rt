@@ -1,0 +1,52 @@
+//! A session whose input is hexadecimal text and whose replies are lines of it.
+
+ghost use Rattle.cli_once.specs.Memory.{opening};
+ghost use Rattle.cli_once.specs.HexSession.{IsHexSession, AreAnsweredInLines};
+
+use crate::error::Fault;
+use crate::hex_input::bytes_of;
+use crate::once_service::OnceService;
+use seg_check::Verifier;
+use seg_lookup::Roster;
+use session_core::{FrameError, Source, read_all, serve_in_lines};
+use std::alloc::Global;
+use std::io::Write;
+
+/// Reads all of a hexadecimal text, in at most `turns` reads, and then answers the session that it encodes, from no rows
+/// and place 0, as `once` does. Each reply is a line of digits. Returns how many there were, a count that stays at 2^64 - 1.
+pub fn once_in_hex<R: Source, W: Write, V: Verifier>(
+    alloc: Global,
+    reader: &mut R,
+    writer: &mut W,
+    cores: &Roster,
+    checker: &V,
+    now: u64,
+    turns: u64,
+) -> Result<u64, Fault>
+    ensures { IsHexSession R.gives turns (opening cores.now (V.verifies checker.now) now) reader.old reader.new
+        (R.remaining reader.new) (W.contents writer.old) (W.contents writer.new) result }
+{
+    let text = read_all(alloc, reader, turns)?;
+    let input = bytes_of(alloc, text)?;
+    let count = answer_in_lines(alloc, input, writer, cores, checker, now)?;
+    Ok(count)
+}
+
+/// Answers the messages of these bytes, from no rows and place 0, in lines.
+fn answer_in_lines<W: Write, V: Verifier>(
+    alloc: Global,
+    input: Vec<u8>,
+    writer: &mut W,
+    cores: &Roster,
+    checker: &V,
+    now: u64,
+) -> Result<u64, FrameError>
+    ensures { AreAnsweredInLines (opening cores.now (V.verifies checker.now) now) input.items (W.contents writer.old) (W.contents writer.new) result }
+{
+    let Ok(mut service) = OnceService::new(alloc, cores, checker, now) else {
+        return Err(FrameError::NoMemory);
+    };
+    let served = serve_in_lines(alloc, input, writer, &mut service);
+    service.end();
+    served
+}

@@ -1,0 +1,150 @@
+//! A service over a store in memory.
+
+ghost use Rattle.std.specs.Prelude.{◌≡◌, ◌≤◌, length, IfOk};
+ghost use Rattle.std.specs.List.{AllByRecursion};
+ghost use Rattle.seg_core.specs.Encoding.{IsSegment};
+ghost use Rattle.path_db.specs.CommandRecord.{IsWithinLimits};
+ghost use Rattle.session_core.specs.declared.message.Message.TheVariants.{Register, Lookup, Purge, Remove};
+ghost use Rattle.session_core.specs.declared.service.TheConstants.{MOST_SEGMENTS};
+ghost use Rattle.session_core.specs.Reply.{Registered, Purged, Removed};
+ghost use Rattle.reply_codes.specs.Replies.{reply_to_command, reply_to_query};
+ghost use Rattle.cli_once.specs.Kept.{served_by};
+ghost use Rattle.cli_once.specs.Memory.{Answers, opening};
+ghost use Rattle.cli_once.specs.Taking.{refusal_of, MayTake};
+
+use group_core::SubmitError;
+use once_store::{OnceStore, TakeError, Taken};
+use path_rows::{Command, Registration};
+use reply_codes::{Refusal, check_all};
+use seg_check::Verifier;
+use seg_core::{SegType, Segment, read_registration, read_registrations_are_whole, read_request};
+use seg_lookup::{Roster, classify};
+use session_core::{Ack, Code, Service};
+use std::alloc::{AllocError, Global};
+
+/// The core ASes, who judges signatures and the moment, and a store in memory. It isn't dropped: `end` ends it.
+pub struct OnceService<'a, V: Verifier> {
+    roster: &'a Roster,
+    checker: &'a V,
+    /// In half seconds since 1970.
+    moment: u64,
+    store: OnceStore,
+}
+
+impl<'a, V: Verifier> OnceService<'a, V> {
+    /// No rows, and place 0. The moment is in half seconds since 1970.
+    pub fn new(
+        alloc: Global,
+        roster: &'a Roster,
+        checker: &'a V,
+        now: u64,
+    ) -> Result<OnceService<'a, V>, AllocError>
+        ensures { IfOk result (λ service. served_by V.verifies service ≡ opening roster.now (V.verifies checker.now) now) }
+    {
+        let store = OnceStore::new(alloc)?;
+        Ok(OnceService {
+            roster,
+            checker,
+            moment: now,
+            store,
+        })
+    }
+
+    /// Ends the service, and drops its store. It takes no memory.
+    pub fn end(self) {
+        let OnceService {
+            roster: _roster,
+            checker: _checker,
+            moment: _moment,
+            store,
+        } = self;
+        store.end();
+    }
+
+    /// Applies a command at the next place, and commits it. Where memory runs out nothing changes, or the command is taken, and its
+    /// outcome isn't reported.
+    fn take(&mut self, command: Command) -> Result<Ack, Refusal>
+        requires within { IsWithinLimits command }
+        ensures { MayTake (served_by V.verifies self.old) command result (served_by V.verifies self.new) }
+    {
+        match self.store.take(command) {
+            Ok(Taken { place, outcome }) => Ok(Ack { place, outcome }),
+            Err(error) => Err(refusal_of(error)),
+        }
+    }
+
+    /// Registers the segments of a registration, once they are accepted.
+    #[tactic(auto, unfolding(crate::specs::Memory::message_step))]
+    fn accept(&mut self, alloc: Global, message: &[u8]) -> Result<Ack, Refusal>
+        ensures { Answers (served_by V.verifies self.old) (Register message.now) (reply_to_command Registered result) (served_by V.verifies self.new) }
+    {
+        read_registrations_are_whole();
+        let new = read_registration(alloc, message)?;
+        check_all(&new, self.checker, self.moment)?;
+        self.take(Command::Register(Registration::new(new)))
+    }
+
+    /// Drops what has expired by a moment.
+    #[tactic(auto, unfolding(crate::specs::Memory::message_step))]
+    fn drop_expired(&mut self, moment: u64) -> Result<Ack, Refusal>
+        ensures { Answers (served_by V.verifies self.old) (Purge moment) (reply_to_command Purged result) (served_by V.verifies self.new) }
+    {
+        self.take(Command::Purge(moment))
+    }
+
+    /// Drops the segment of a type's number and an id.
+    #[tactic(auto, unfolding(crate::specs::Memory::message_step))]
+    fn drop_one(&mut self, kind: u8, id: &[u8; 32]) -> Result<Ack, Refusal>
+        ensures { Answers (served_by V.verifies self.old) (Remove kind id.now) (reply_to_command Removed result) (served_by V.verifies self.new) }
+    {
+        let kind = SegType::from_number(u64::from(kind))?;
+        self.take(Command::Remove(kind, *id))
+    }
+
+    /// The segments that a request asks for, of one type.
+    #[tactic(auto, unfolding(crate::specs::Memory::message_step))]
+    fn find(&mut self, message: &[u8]) -> Result<(SegType, Vec<Segment>), Refusal>
+        ensures answers { Answers (served_by V.verifies self.old) (Lookup message.now) (reply_to_query result) (served_by V.verifies self.new) }
+        ensures few { IfOk result (λ found. length found.1.items ≤ MOST_SEGMENTS) }
+        ensures whole { IfOk result (λ found. AllByRecursion IsSegment found.1.items) }
+    {
+        let (source, destination) = read_request(message)?;
+        let query = classify(self.roster, source, destination)?;
+        let found = self.store.look_up(&query, self.moment)?;
+        Ok((query.kind, found))
+    }
+}
+
+/// The refusal that says why a store didn't take a command.
+fn refusal_of(error: TakeError) -> Refusal
+    ensures { result ≡ refusal_of error }
+{
+    match error {
+        TakeError::NoMemory => Refusal::NoMemory,
+        TakeError::Full => Refusal::Submit(SubmitError::Full),
+        TakeError::Exhausted => Refusal::Submit(SubmitError::Exhausted),
+    }
+}
+
+impl<V: Verifier> Service for OnceService<'_, V> {
+    ghost use Rattle.cli_once.specs.Kept.{served_by};
+    ghost use Rattle.cli_once.specs.Memory.{Answers};
+
+    ghost answers = { λ old message reply new. Answers (served_by V.verifies old) message reply (served_by V.verifies new) };
+
+    fn register(&mut self, alloc: Global, message: &[u8]) -> Result<Ack, Code> {
+        Ok(self.accept(alloc, message)?)
+    }
+
+    fn lookup(&mut self, _alloc: Global, message: &[u8]) -> Result<(SegType, Vec<Segment>), Code> {
+        Ok(self.find(message)?)
+    }
+
+    fn purge(&mut self, moment: u64) -> Result<Ack, Code> {
+        Ok(self.drop_expired(moment)?)
+    }
+
+    fn remove(&mut self, kind: u8, id: &[u8; 32]) -> Result<Ack, Code> {
+        Ok(self.drop_one(kind, id)?)
+    }
+}

@@ -1,0 +1,32 @@
+-- How the program ends.
+use Rattle.std.specs.Prelude.{ℕ, List, ◌++◌, codes, Result, Ok, Err}
+use Rattle.cli_once.specs.Fault as session
+use Rattle.cli_once.specs.declared.error.Fault.TheVariants as session_fault
+use Rattle.cli_store.specs.Fault as store
+use Rattle.path_server.specs.declared.error.RunError.{RunError}
+use Rattle.path_server.specs.declared.error.RunError.TheVariants as server
+use Rattle.cli_program.specs.declared.ending.Done.{Done}
+use Rattle.cli_program.specs.declared.ending.Done.TheVariants.{Carried, Refused}
+use Rattle.cli_program.specs.declared.ending.Ended.{Ended}
+use Rattle.cli_program.specs.declared.ending.Ended.TheVariants.{Session, Store, Net}
+
+-- the words of why the program ends
+abbrev pub ended_text : Ended → List ℕ
+ended_text (Session fault) = session.fault_text fault
+ended_text (Store fault) = store.fault_text fault
+ended_text Net = codes "net"
+
+-- its last line on standard error
+abbrev pub ended_line : Ended → List ℕ
+ended_line ended = codes "error: " ++ ended_text ended
+
+-- why the program ends where a server ended early
+abbrev pub ended_of : RunError → Ended
+ended_of server.NoMemory = Session session_fault.Memory
+ended_of server.Net = Net
+
+-- the status of the program
+abbrev pub program_status : Result Done Ended → ℕ
+program_status (Ok Carried) = 0
+program_status (Ok Refused) = 2
+program_status (Err ended) = 1

@@ -1,0 +1,67 @@
+-- What is said of a device, whatever a command over it ends with.
+use Rattle.std.specs.Prelude.{◌≡◌, ℕ, List, [], Option, Result, Ok, Err}
+use Rattle.std.specs.Io.KnownBytes.{Appends}
+use Rattle.sector_dev.specs.Disk.{Disk, IsHonest, reads_of}
+use Rattle.sector_dev.specs.Calls.{Keeps, one_more}
+use Rattle.store_layout.specs.OpeningReading.{opening_of}
+use Rattle.ckpt_pair.specs.Versions.{latest}
+use Rattle.store_open.specs.PathStores.{store_format}
+use Rattle.store_open.specs.Open.{RefusesOpening, WantsMemoryToOpen}
+use Rattle.store_open.specs.declared.error.OpenError.{OpenError}
+use Rattle.store_open.specs.declared.error.OpenError.TheVariants.{NotAStore, Device, Pair, Journal, NoMemory}
+use Rattle.store_open.specs.declared.store_error.StoreError.{StoreError}
+use Rattle.store_open.specs.declared.store_error.StoreError.TheVariants as checkpoint
+use Rattle.cli_store.specs.declared.error.Fault.{Fault}
+use Rattle.cli_store.specs.declared.error.Fault.TheVariants.{Format, Open, Checkpoint, File, Memory, Output}
+
+-- the device comes back in any case
+abbrev pub device_after : {D : Type 0} → Result D (D × Fault) → D
+device_after (Ok device) = device
+device_after (Err back) = back.0
+
+-- Nothing on the device is changed.
+pub record LeavesDevice (old new : Disk) : Type 0 where
+  pub keeps : Keeps old new
+  pub history : IsHonest old → new.history ≡ old.history
+
+-- how many calls of the device have failed, where a command ended with this fault
+abbrev pub faults_after_opening : OpenError → ℕ → ℕ
+faults_after_opening NotAStore faults = faults
+faults_after_opening Device faults = one_more faults
+faults_after_opening (Pair e) faults = faults
+faults_after_opening (Journal e) faults = faults
+faults_after_opening NoMemory faults = faults
+
+abbrev pub faults_after_checkpoint : StoreError → ℕ → ℕ
+faults_after_checkpoint checkpoint.Fault faults = one_more faults
+faults_after_checkpoint checkpoint.Sealed faults = faults
+faults_after_checkpoint checkpoint.NoMemory faults = faults
+faults_after_checkpoint checkpoint.Exhausted faults = faults
+faults_after_checkpoint checkpoint.Unfit faults = faults
+faults_after_checkpoint checkpoint.Broken faults = faults
+
+abbrev pub faults_after_fault : Fault → ℕ → ℕ
+faults_after_fault (Format e) faults = faults
+faults_after_fault (Open e) faults = faults_after_opening e faults
+faults_after_fault (Checkpoint e) faults = faults_after_checkpoint e faults
+faults_after_fault File faults = faults
+faults_after_fault Memory faults = faults
+faults_after_fault Output faults = faults
+
+abbrev pub faults_left : {D : Type 0} → Result D (D × Fault) → ℕ → ℕ
+faults_left (Ok device) faults = faults
+faults_left (Err back) faults = faults_after_fault back.1 faults
+
+abbrev pub faults_after_command : Result (Unit {0}) Fault → ℕ → ℕ
+faults_after_command (Ok done) faults = faults
+faults_after_command (Err fault) faults = faults_after_fault fault faults
+
+-- The device isn't opened for this reason, which says of what reads gave what it says there; nothing was written.
+pub record IsNotOpened (e : OpenError) (disk : Disk) (output output_left : Option (List ℕ)) : Type 0 where
+  pub refused : IsHonest disk → RefusesOpening e (opening_of store_format latest (reads_of disk))
+  pub nothing : Appends output output_left []
+
+-- Memory ran out in opening, where all was in order that is judged without; nothing was written.
+pub record WantsMemory (disk : Disk) (output output_left : Option (List ℕ)) : Type 0 where
+  pub wanted : IsHonest disk → WantsMemoryToOpen (reads_of disk)
+  pub nothing : Appends output output_left []

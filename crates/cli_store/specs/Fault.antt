@@ -1,0 +1,59 @@
+-- What the program says of a fault, and of which errors it makes which fault.
+use Rattle.std.specs.Prelude.{ℕ, List, ◌++◌, codes}
+use Rattle.std.specs.Fmt.{decimal}
+use Rattle.gate_journal.specs.ErrorNumber as journal
+use Rattle.ckpt_pair.specs.ErrorNumber as pair
+use Rattle.store_open.specs.declared.error.OpenError.{OpenError}
+use Rattle.store_open.specs.declared.error.OpenError.TheVariants.{NotAStore, Device, Pair, Journal, NoMemory}
+use Rattle.store_open.specs.declared.store_error.StoreError.{StoreError}
+use Rattle.store_open.specs.declared.store_error.StoreError.TheVariants as checkpoint
+use Rattle.store_open.specs.declared.new_store.FormatError.{FormatError}
+use Rattle.store_open.specs.declared.new_store.FormatError.TheVariants as format
+use Rattle.cli_store.specs.declared.error.Fault.{Fault}
+use Rattle.cli_store.specs.declared.error.Fault.TheVariants.{Format, Open, Checkpoint, File, Memory, Output}
+
+-- the numbers of an error of opening, from the outside in
+abbrev pub open_numbers : OpenError → List ℕ
+open_numbers NotAStore = decimal 1
+open_numbers Device = decimal 2
+open_numbers (Pair e) = codes "3 " ++ decimal (pair.number_of e)
+open_numbers (Journal e) = codes "4 " ++ decimal (journal.number_of e)
+open_numbers NoMemory = decimal 5
+
+abbrev pub format_number : FormatError → ℕ
+format_number format.BadGeometry = 1
+format_number format.TooSmall = 2
+format_number format.Fault = 3
+
+abbrev pub checkpoint_number : StoreError → ℕ
+checkpoint_number checkpoint.Fault = 1
+checkpoint_number checkpoint.Sealed = 2
+checkpoint_number checkpoint.NoMemory = 3
+checkpoint_number checkpoint.Exhausted = 4
+checkpoint_number checkpoint.Unfit = 5
+checkpoint_number checkpoint.Broken = 6
+
+-- the words of a fault
+abbrev pub fault_text : Fault → List ℕ
+fault_text (Format e) = codes "format " ++ decimal (format_number e)
+fault_text (Open e) = codes "open " ++ open_numbers e
+fault_text (Checkpoint e) = codes "device " ++ decimal (checkpoint_number e)
+fault_text File = codes "device 1"
+fault_text Memory = codes "memory"
+fault_text Output = codes "output"
+
+-- want of memory is that, whoever wants it
+abbrev pub fault_of_opening : OpenError → Fault
+fault_of_opening NotAStore = Open NotAStore
+fault_of_opening Device = Open Device
+fault_of_opening (Pair e) = Open (Pair e)
+fault_of_opening (Journal e) = Open (Journal e)
+fault_of_opening NoMemory = Memory
+
+abbrev pub fault_of_checkpoint : StoreError → Fault
+fault_of_checkpoint checkpoint.Fault = Checkpoint checkpoint.Fault
+fault_of_checkpoint checkpoint.Sealed = Checkpoint checkpoint.Sealed
+fault_of_checkpoint checkpoint.NoMemory = Memory
+fault_of_checkpoint checkpoint.Exhausted = Checkpoint checkpoint.Exhausted
+fault_of_checkpoint checkpoint.Unfit = Checkpoint checkpoint.Unfit
+fault_of_checkpoint checkpoint.Broken = Checkpoint checkpoint.Broken

@@ -1,0 +1,21 @@
+-- The status of a store whose commands are folded.
+use Rattle.std.specs.Prelude.{◌*◌, ◌-◌, length}
+use Rattle.ckpt_pair.specs.Heads.{head_view}
+use Rattle.store_layout.specs.Geometry.{geometry_view}
+use Rattle.store_open.specs.declared.folded.Folded.{Folded}
+use Rattle.store_open.specs.Store.{counted_len}
+use Rattle.cli_store.specs.Status.{Status}
+
+-- its numbers
+abbrev pub folded_status : Folded → Status
+folded_status folded = record {
+  version = (head_view folded.head).version;
+  epoch = (head_view folded.head).epoch;
+  place = folded.place;
+  rows = length folded.db;
+  bytes = counted_len folded.db;
+  most_bytes = 512 * (geometry_view folded.geometry).checkpoint - 32;
+  used = folded.gate;
+  journal = (geometry_view folded.geometry).journal;
+  sealed = folded.sealed;
+}

@@ -1,0 +1,23 @@
+-- What making a store answers and prints.
+use Rattle.std.specs.Prelude.{◌≡◌, ℕ, List, [], Option, Result, Ok, Err}
+use Rattle.std.specs.Io.KnownBytes.{Appends}
+use Rattle.sector_dev.specs.Disk.{Disk}
+use Rattle.store_layout.specs.Layout.{Geometry, image_sectors}
+use Rattle.store_open.specs.NewStore.{Formats}
+use Rattle.cli_store.specs.Text.{formatted_line}
+use Rattle.whole_writes.specs.Written.{IsWrittenInPart}
+use Rattle.cli_store.specs.declared.error.Fault.{Fault}
+use Rattle.cli_store.specs.declared.error.Fault.TheVariants.{Format, Open, Checkpoint, File, Memory, Output}
+
+-- The store is there and its size is printed; or no store is made for a reason, or memory ran out before anything was done, and
+-- nothing is printed; or it is there, and a write of the text failed.
+abbrev pub FormatsAndPrints : Geometry → Result (Unit {0}) Fault → Disk → Disk → Option (List ℕ) → Option (List ℕ) → Type 0
+FormatsAndPrints geometry (Ok done) old new output output_left =
+    Formats geometry (Ok done) old new × Appends output output_left (formatted_line (image_sectors geometry))
+FormatsAndPrints geometry (Err (Format e)) old new output output_left = Formats geometry (Err e) old new × Appends output output_left []
+FormatsAndPrints geometry (Err (Open e)) old new output output_left = ⊥
+FormatsAndPrints geometry (Err (Checkpoint e)) old new output output_left = ⊥
+FormatsAndPrints geometry (Err File) old new output output_left = ⊥
+FormatsAndPrints geometry (Err Memory) old new output output_left = (new ≡ old) × Appends output output_left []
+FormatsAndPrints geometry (Err Output) old new output output_left =
+    Formats geometry (Ok tt) old new × IsWrittenInPart output output_left (formatted_line (image_sectors geometry))

@@ -1,0 +1,34 @@
+-- What showing a store answers and prints.
+use Rattle.std.specs.Prelude.{◌⊎◌, ℕ, List, Option}
+use Rattle.std.specs.Io.KnownBytes.{Appends}
+use Rattle.sector_dev.specs.Disk.{Disk, IsHonest, reads_of}
+use Rattle.path_rows.specs.Database.{RowView}
+use Rattle.store_open.specs.PathStores.{IsStoreOf}
+use Rattle.cli_store.specs.Text.{store_text}
+use Rattle.whole_writes.specs.Written.{IsWrittenInPart}
+use Rattle.cli_store.specs.Devices.{IsNotOpened, WantsMemory}
+use Rattle.cli_store.specs.declared.error.Fault.{Fault}
+use Rattle.cli_store.specs.declared.error.Fault.TheVariants.{Format, Open, Checkpoint, File, Memory, Output}
+
+-- What reads give opens to rows at a place, and their text was written.
+pub record IsShown (disk : Disk) (output output_left : Option (List ℕ)) : Type 0 where
+  pub rows : List RowView
+  pub place : ℕ
+  pub opens : IsHonest disk → IsStoreOf rows place (reads_of disk)
+  pub written : Appends output output_left (store_text rows place)
+
+-- The same, of which a front alone was written.
+pub record IsShownInPart (disk : Disk) (output output_left : Option (List ℕ)) : Type 0 where
+  pub rows : List RowView
+  pub place : ℕ
+  pub opens : IsHonest disk → IsStoreOf rows place (reads_of disk)
+  pub written : IsWrittenInPart output output_left (store_text rows place)
+
+-- Why a store isn't shown, or not whole.
+abbrev pub FailsToShow : Fault → Disk → Option (List ℕ) → Option (List ℕ) → Type 0
+FailsToShow (Format e) disk output output_left = ⊥
+FailsToShow (Open e) disk output output_left = IsNotOpened e disk output output_left
+FailsToShow (Checkpoint e) disk output output_left = ⊥
+FailsToShow File disk output output_left = ⊥
+FailsToShow Memory disk output output_left = WantsMemory disk output output_left ⊎ IsShownInPart disk output output_left
+FailsToShow Output disk output output_left = IsShownInPart disk output output_left

@@ -1,0 +1,97 @@
+-- What the status of a store is, and what printing it answers.
+use Rattle.std.specs.Prelude.{ℕ, ◌*◌, ◌-◌, Bool, true, false, List, [], ◌∷◌, ◌++◌, length, codes, Option, Result, Ok, Err}
+use Rattle.std.specs.Fmt.{decimal}
+use Rattle.std.specs.Io.KnownBytes.{Appends}
+use Rattle.sector_dev.specs.Disk.{Disk, IsHonest, reads_of}
+use Rattle.path_rows.specs.Database.{RowView}
+use Rattle.path_rows.specs.declared.command.Command.{Command}
+use Rattle.store_layout.specs.Opening.{Opening, IsOpening, value_of}
+use Rattle.store_layout.specs.StoreGrowth.{last_reading}
+use Rattle.ckpt_pair.specs.Versions.{latest}
+use Rattle.store_open.specs.PathStores.{store_format}
+use Rattle.store_open.specs.Store.{counted_len}
+use Rattle.whole_writes.specs.Written.{IsWrittenInPart}
+use Rattle.cli_store.specs.Devices.{IsNotOpened, WantsMemory}
+use Rattle.cli_store.specs.Text.{before}
+use Rattle.cli_store.specs.declared.error.Fault.{Fault}
+use Rattle.cli_store.specs.declared.error.Fault.TheVariants.{Format, Open, Checkpoint, File, Memory, Output}
+
+-- The numbers of a store: the version and the epoch of the half that is chosen, and whether its journal is sealed; the place
+-- reached; how many rows there are, their bytes, and how many bytes of rows a checkpoint area takes; the sectors that are used of
+-- the last journal, up to its last gate, and how many sectors a journal has.
+pub record Status : Type 0 where
+  pub version : ℕ
+  pub epoch : ℕ
+  pub place : ℕ
+  pub rows : ℕ
+  pub bytes : ℕ
+  pub most_bytes : ℕ
+  pub used : ℕ
+  pub journal : ℕ
+  pub sealed : Bool
+
+-- those of what an image opens with
+abbrev pub status_of : Opening (List RowView) Command → Status
+status_of opening =
+    let value = value_of store_format opening in
+    record {
+      version = opening.checkpoint.head.version;
+      epoch = opening.checkpoint.head.epoch;
+      place = value.place;
+      rows = length value.db;
+      bytes = counted_len value.db;
+      most_bytes = 512 * opening.geometry.checkpoint - 32;
+      used = (last_reading opening).tail;
+      journal = opening.geometry.journal;
+      sealed = opening.journal.sealed;
+    }
+
+-- a line: a name and a number
+abbrev pub number_line : List ℕ → ℕ → List ℕ
+number_line name number = before name (decimal number ++ 0x0a ∷ [])
+
+-- a name, a number, and of how many
+abbrev pub part_line : List ℕ → ℕ → ℕ → List ℕ
+part_line name part whole = before name (decimal part ++ (codes " of " ++ (decimal whole ++ 0x0a ∷ [])))
+
+-- whether a journal is sealed
+abbrev pub sealed_line : Bool → List ℕ
+sealed_line false = codes "sealed no" ++ 0x0a ∷ []
+sealed_line true = codes "sealed yes" ++ 0x0a ∷ []
+
+-- the version, the epoch, the place and the rows
+abbrev pub head_lines : Status → List ℕ
+head_lines status =
+    number_line (codes "version") status.version
+    ++ (number_line (codes "epoch") status.epoch ++ (number_line (codes "place") status.place ++ number_line (codes "rows") status.rows))
+
+-- how much of the store is used
+abbrev pub use_lines : Status → List ℕ
+use_lines status =
+    part_line (codes "bytes") status.bytes status.most_bytes
+    ++ (part_line (codes "journal") status.used status.journal ++ sealed_line status.sealed)
+
+abbrev pub status_text : Status → List ℕ
+status_text status = head_lines status ++ use_lines status
+
+-- What reads give opens with this, and the text of its numbers was written.
+pub record IsReported (disk : Disk) (output output_left : Option (List ℕ)) : Type 0 where
+  pub opening : Opening (List RowView) Command
+  pub opens : IsHonest disk → IsOpening store_format latest (reads_of disk) opening
+  pub written : Appends output output_left (status_text (status_of opening))
+
+-- The same, of which a front alone was written.
+pub record IsReportedInPart (disk : Disk) (output output_left : Option (List ℕ)) : Type 0 where
+  pub opening : Opening (List RowView) Command
+  pub opens : IsHonest disk → IsOpening store_format latest (reads_of disk) opening
+  pub written : IsWrittenInPart output output_left (status_text (status_of opening))
+
+-- What printing the status of a store on a device comes to.
+abbrev pub ReportsSo : Result (Unit {0}) Fault → Disk → Option (List ℕ) → Option (List ℕ) → Type 0
+ReportsSo (Ok done) disk output output_left = IsReported disk output output_left
+ReportsSo (Err (Format e)) disk output output_left = ⊥
+ReportsSo (Err (Open e)) disk output output_left = IsNotOpened e disk output output_left
+ReportsSo (Err (Checkpoint e)) disk output output_left = ⊥
+ReportsSo (Err File) disk output output_left = ⊥
+ReportsSo (Err Memory) disk output output_left = WantsMemory disk output output_left
+ReportsSo (Err Output) disk output output_left = IsReportedInPart disk output output_left

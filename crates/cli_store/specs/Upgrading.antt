@@ -1,0 +1,48 @@
+-- What having a store in the version that is written answers and prints.
+use Rattle.std.specs.Prelude.{◌≡◌, ◌≢◌, ◌⊎◌, ℕ, List, [], Option, Result, Ok, Err}
+use Rattle.std.specs.Io.KnownBytes.{Appends}
+use Rattle.sector_dev.specs.Disk.{Disk, IsHonest, reads_of}
+use Rattle.ckpt_pair.specs.Versions.{latest}
+use Rattle.store_open.specs.Open.{IsOpened}
+use Rattle.store_open.specs.PathStores.{IsStoreOf}
+use Rattle.store_open.specs.Store.{StoreView, IsAtRest, Checkpoints}
+use Rattle.store_open.specs.declared.store_error.StoreError.{StoreError}
+use Rattle.store_open.specs.declared.store_error.StoreError.TheVariants as checkpoint
+use Rattle.cli_store.specs.Text.{version_line}
+use Rattle.whole_writes.specs.Written.{IsWrittenInPart}
+use Rattle.cli_store.specs.Devices.{IsNotOpened, WantsMemory}
+use Rattle.cli_store.specs.declared.error.Fault.{Fault}
+use Rattle.cli_store.specs.declared.error.Fault.TheVariants.{Format, Open, Checkpoint, File, Memory, Output}
+
+-- A store of version 1 had a checkpoint made, or was refused one; of another version it stays.
+abbrev pub BecomesLatest : Result (Unit {0}) StoreError → StoreView → StoreView → Type 0
+BecomesLatest (Ok done) old new =
+    ((old.head.version ≢ 1) × (new ≡ old)) ⊎ ((old.head.version ≡ 1) × Checkpoints (Ok done) old new)
+BecomesLatest (Err e) old new = (old.head.version ≡ 1) × Checkpoints (Err e) old new
+
+-- The device holds a store at rest in the version that is written, with the rows and the place that reads gave before.
+pub record IsUpgraded (old new : Disk) : Type 0 where
+  pub store : StoreView
+  pub device : store.disk ≡ new
+  pub version : store.head.version ≡ latest
+  pub rest : IsAtRest store
+  pub same : IsStoreOf store.rows store.place (reads_of old)
+
+-- The store was opened, in version 1, and no checkpoint was made for this reason; nothing was written.
+pub record IsNotUpgraded (e : StoreError) (old new : Disk) (output output_left : Option (List ℕ)) : Type 0 where
+  pub store : StoreView
+  pub after : StoreView
+  pub opened : IsHonest old → IsOpened (reads_of old) store
+  pub version : store.head.version ≡ 1
+  pub refused : Checkpoints (Err e) store after
+  pub device : after.disk ≡ new
+  pub nothing : Appends output output_left []
+
+-- Why a store isn't in that version, or isn't said to be.
+abbrev pub FailsToUpgrade : Fault → Disk → Disk → Option (List ℕ) → Option (List ℕ) → Type 0
+FailsToUpgrade (Format e) old new output output_left = ⊥
+FailsToUpgrade (Open e) old new output output_left = IsNotOpened e old output output_left
+FailsToUpgrade (Checkpoint e) old new output output_left = IsNotUpgraded e old new output output_left
+FailsToUpgrade File old new output output_left = ⊥
+FailsToUpgrade Memory old new output output_left = WantsMemory old output output_left ⊎ IsNotUpgraded checkpoint.NoMemory old new output output_left
+FailsToUpgrade Output old new output output_left = (IsHonest old → IsUpgraded old new) × IsWrittenInPart output output_left version_line

@@ -1,0 +1,242 @@
+//! The words of the program's command line, as `clap` reads them.
+//!
+//! To the layer above, `command` is the program's command with those within it that have the names of `ONCE`, `FORMAT`, `SHOW`,
+//! `STATUS`, `UPGRADE` and `RUN`, and `read` reads words by it; what their options say is read by `clap`, but that numbers are decimal digits
+//! alone.
+#![tactic(auto)]
+
+mod reading;
+
+ghost use Rattle.std.specs.Prelude.{◌≡◌, [], ◌∷◌, ◌++◌, codes, IfOk};
+ghost use Rattle.clap.specs.Words.{subcommand_names};
+ghost use Rattle.clap.specs.declared.builder.command.Command.TheViews.{out-Command};
+
+use clap::{Arg, ArgAction, Command, value_parser};
+pub use reading::read;
+use std::alloc::{AllocError, Global};
+use store_layout::{LEAST_CHECKPOINT, LEAST_JOURNAL, MOST_SECTORS};
+
+/// The name of the command that answers one session.
+pub const ONCE: &str = "once";
+
+/// The name of its option with the core ASes.
+pub const CORES: &str = "cores";
+
+/// The name of its option with the moment, in half seconds since 1970.
+pub const NOW: &str = "now";
+
+/// The name of its option with the key by which signatures are checked, as hexadecimal text.
+pub const KEY: &str = "key";
+
+/// The name of its flag for hexadecimal input and output.
+pub const HEX: &str = "hex";
+
+/// The name of the command that makes a store.
+pub const FORMAT: &str = "format";
+
+/// The name of the command that prints what a store has.
+pub const SHOW: &str = "show";
+
+/// The name of the command that prints the status of a store.
+pub const STATUS: &str = "status";
+
+/// The name of the command that has a store in the version that is written.
+pub const UPGRADE: &str = "upgrade";
+
+/// The name of the command that serves sessions over TCP.
+pub const RUN: &str = "run";
+
+/// The name of its option with the socket address.
+pub const LISTEN: &str = "listen";
+
+/// The name of its option with the socket address at which its numbers are answered.
+pub const STATUS_LISTEN: &str = "status";
+
+/// The name of its option with the number of sessions.
+pub const SESSIONS: &str = "sessions";
+
+/// The name of its option with the seconds that a peer may be silent.
+pub const IDLE: &str = "idle";
+
+/// The name of its flag for no lines on standard error.
+pub const QUIET: &str = "quiet";
+
+/// The name of the argument with the path of a device's file.
+pub const DEVICE: &str = "device";
+
+/// The name of the option with the size of a checkpoint area, in sectors.
+pub const CHECKPOINT: &str = "checkpoint";
+
+/// The name of the option with the size of a journal, in sectors.
+pub const JOURNAL: &str = "journal";
+
+/// The name of the flag for what is where on a device.
+pub const LAYOUT: &str = "layout";
+
+/// What the help says of the core ASes.
+const CORES_HELP: &str = "The core ASes, as ISD-AS texts joined by commas";
+
+/// What the help says of the key.
+const KEY_HELP: &str = "Check signatures by this key of a test profile; without it all are trusted";
+
+/// The program's commands and their options.
+pub fn command<'a>(alloc: Global) -> Result<Command<'a>, AllocError>
+    ensures { IfOk result (λ command. subcommand_names command
+        ≡ codes "once" ∷ codes "format" ∷ codes "show" ∷ codes "status" ∷ codes "upgrade" ∷ codes "run" ∷ []) }
+{
+    let command = bare_command(alloc)?;
+    let command = with_subcommand(command, once_command(alloc)?)?;
+    let command = with_subcommand(command, format_command(alloc)?)?;
+    let command = with_subcommand(command, show_command(alloc)?)?;
+    let command = with_subcommand(command, status_command(alloc)?)?;
+    let command = with_subcommand(command, upgrade_command(alloc)?)?;
+    with_subcommand(command, run_command(alloc)?)
+}
+
+/// The program's command, with none within it.
+fn bare_command<'a>(alloc: Global) -> Result<Command<'a>, AllocError>
+    ensures { IfOk result (λ command. subcommand_names command ≡ []) }
+{
+    let command = Command::new(alloc, "pathd")
+        .about("A path segment server for the core ASes of a SCION network")
+        .bin_name("pathd")?
+        .subcommand_required(true);
+    Ok(command)
+}
+
+/// Puts a command behind those within another.
+fn with_subcommand<'a>(
+    command: Command<'a>,
+    subcommand: Command<'a>,
+) -> Result<Command<'a>, AllocError>
+    ensures { IfOk result (λ new. subcommand_names new ≡ subcommand_names command.entry ++ (out-Command subcommand.entry).name.now ∷ []) }
+{
+    command.subcommand(subcommand)
+}
+
+/// The command that answers one session.
+fn once_command<'a>(alloc: Global) -> Result<Command<'a>, AllocError>
+    ensures { IfOk result (λ command. (out-Command command).name.now ≡ codes "once") }
+{
+    let now = "The moment, in half seconds since 1970 [default: 0]";
+    let hex = "Read hexadecimal text, and print each reply as a line of it";
+    Command::new(alloc, ONCE)
+        .about("Answers one session from standard input to standard output")
+        .arg(option(alloc, CORES, "LIST", CORES_HELP))?
+        .arg(option(alloc, NOW, "T", now).value_parser(value_parser!(u64)))?
+        .arg(option(alloc, KEY, "HEX", KEY_HELP))?
+        .arg(flag(alloc, HEX, hex))
+}
+
+/// The command that makes a store.
+fn format_command<'a>(alloc: Global) -> Result<Command<'a>, AllocError>
+    ensures { IfOk result (λ command. (out-Command command).name.now ≡ codes "format") }
+{
+    let checkpoint = "The sectors of a checkpoint area, 2 to 1048576";
+    let journal = "The sectors of a journal, 516 to 1048576";
+    Command::new(alloc, FORMAT)
+        .about(
+            "Makes a file of 1 + 2 * (C + 1 + J) sectors with an empty store; one that is there is lost",
+        )
+        .arg(device_argument(alloc))?
+        .arg(sectors(option(alloc, CHECKPOINT, "C", checkpoint), LEAST_CHECKPOINT))?
+        .arg(sectors(option(alloc, JOURNAL, "J", journal), LEAST_JOURNAL))
+}
+
+/// The command that prints what a store has.
+fn show_command<'a>(alloc: Global) -> Result<Command<'a>, AllocError>
+    ensures { IfOk result (λ command. (out-Command command).name.now ≡ codes "show") }
+{
+    let layout = "Draw what stands where instead, and change nothing";
+    Command::new(alloc, SHOW)
+        .about("Opens a store, and prints its rows and its place")
+        .arg(device_argument(alloc))?
+        .arg(flag(alloc, LAYOUT, layout))
+}
+
+/// The command that prints the status of a store.
+fn status_command<'a>(alloc: Global) -> Result<Command<'a>, AllocError>
+    ensures { IfOk result (λ command. (out-Command command).name.now ≡ codes "status") }
+{
+    Command::new(alloc, STATUS)
+        .about("Prints the numbers of a store, a line each, and changes nothing")
+        .arg(device_argument(alloc))
+}
+
+/// The command that has a store in the version that is written.
+fn upgrade_command<'a>(alloc: Global) -> Result<Command<'a>, AllocError>
+    ensures { IfOk result (λ command. (out-Command command).name.now ≡ codes "upgrade") }
+{
+    Command::new(alloc, UPGRADE)
+        .about("Opens a store, and writes it in version 2 where it is of version 1")
+        .arg(device_argument(alloc))
+}
+
+/// The command that serves sessions over TCP.
+fn run_command<'a>(alloc: Global) -> Result<Command<'a>, AllocError>
+    ensures { IfOk result (λ command. (out-Command command).name.now ≡ codes "run") }
+{
+    let listen = "The socket address to listen at, as 127.0.0.1:30252; port 0 is any free one";
+    let status = "The socket address to answer GET /metrics at, with the server's numbers";
+    let command = Command::new(alloc, RUN)
+        .about("Opens a store, and serves sessions over TCP")
+        .arg(device_argument(alloc))?
+        .arg(option(alloc, LISTEN, "ADDR", listen).required(true))?
+        .arg(option(alloc, STATUS_LISTEN, "ADDR", status))?
+        .arg(option(alloc, CORES, "LIST", CORES_HELP))?
+        .arg(option(alloc, KEY, "HEX", KEY_HELP))?;
+    with_limits(alloc, command)
+}
+
+/// Gives the command that serves sessions the options for how many and how long.
+fn with_limits<'a>(alloc: Global, command: Command<'a>) -> Result<Command<'a>, AllocError>
+    requires { (out-Command command).name.now ≡ codes "run" }
+    ensures { IfOk result (λ new. (out-Command new).name.now ≡ codes "run") }
+{
+    let sessions = "End after this number of sessions; 0 is no end [default: 0]";
+    let idle =
+        "End a session whose peer is silent for this number of seconds; 0 is no end [default: 300]";
+    let quiet = "Print nothing on standard error but why the program ends";
+    command
+        .arg(option(alloc, SESSIONS, "N", sessions).value_parser(value_parser!(u64)))?
+        .arg(option(alloc, IDLE, "SECONDS", idle).value_parser(value_parser!(u32)))?
+        .arg(flag(alloc, QUIET, quiet))
+}
+
+/// The path of a device's file.
+fn device_argument<'a>(alloc: Global) -> Arg<'a> {
+    Arg::new(alloc, DEVICE)
+        .value_name("DEV")
+        .help("The file of the device")
+        .required(true)
+        .action(ArgAction::Set)
+}
+
+/// An option that takes one value.
+fn option<'a>(
+    alloc: Global,
+    name: &'static str,
+    value_name: &'static str,
+    help: &'static str,
+) -> Arg<'a> {
+    Arg::new(alloc, name)
+        .long(name)
+        .value_name(value_name)
+        .help(help)
+        .action(ArgAction::Set)
+}
+
+/// An option that takes no value.
+fn flag<'a>(alloc: Global, name: &'static str, help: &'static str) -> Arg<'a> {
+    Arg::new(alloc, name)
+        .long(name)
+        .help(help)
+        .action(ArgAction::SetTrue)
+}
+
+/// An option that has to be there, whose value is a number of sectors.
+fn sectors<'a>(option: Arg<'a>, least: u32) -> Arg<'a> {
+    option
+        .value_parser(value_parser!(u32).range(i64::from(least)..=i64::from(MOST_SECTORS)))
+        .required(true)
+}

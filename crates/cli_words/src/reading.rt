@@ -1,0 +1,65 @@
+//! Reading the words of a command line.
+
+ghost use Rattle.std.specs.Prelude.{◌↔◌, IsTrue, IfOk, IfSome, OnOk};
+ghost use Rattle.std.specs.List.{AllPass};
+ghost use Rattle.clap.specs.Lexer.{is_digit};
+ghost use Rattle.clap.specs.Words.{found_of, rows_of, subcommand_rows_of};
+ghost use Rattle.cli_words.specs.Numbers.{IsPlainNumber, HasPlainNumbers};
+
+use crate::{CHECKPOINT, IDLE, JOURNAL, NOW, SESSIONS, command};
+use clap::error::ErrorKind;
+use clap::{ArgMatches, Command, Error};
+use std::alloc::Global;
+
+/// What the words of a command line ask for. A number is decimal digits alone, with no sign: `clap` by itself takes one.
+pub fn read<'a>(alloc: Global, words: &'a [String]) -> Result<ArgMatches<'a>, Error>
+    ensures { IfOk result (λ matches. IfSome (subcommand_rows_of matches) (λ met. HasPlainNumbers met.1)) }
+{
+    let mut command = command(alloc)?;
+    let matches = command.try_get_matches_from_mut(words)?;
+    if let Some((_name, options)) = matches.subcommand() {
+        check_numbers(alloc, &mut command, options)?;
+    }
+    Ok(matches)
+}
+
+/// Refuses the values of options that are numbers, where one isn't decimal digits alone.
+fn check_numbers(
+    alloc: Global,
+    command: &mut Command<'_>,
+    options: &ArgMatches<'_>,
+) -> Result<(), Error>
+    ensures { OnOk result (HasPlainNumbers (rows_of (found_of options.now))) }
+{
+    check_number(alloc, command, options, NOW)?;
+    check_number(alloc, command, options, CHECKPOINT)?;
+    check_number(alloc, command, options, JOURNAL)?;
+    check_number(alloc, command, options, SESSIONS)?;
+    check_number(alloc, command, options, IDLE)
+}
+
+/// Refuses the value of an option that isn't decimal digits alone.
+fn check_number(
+    alloc: Global,
+    command: &mut Command<'_>,
+    options: &ArgMatches<'_>,
+    name: &str,
+) -> Result<(), Error>
+    ensures { OnOk result (IsPlainNumber (rows_of (found_of options.now)) name.now) }
+{
+    let Some(text) = options.get_str(name) else {
+        return Ok(());
+    };
+    if is_digits(text) {
+        return Ok(());
+    }
+    let message = format!(in alloc; "invalid value '{text}' for '--{name}': not decimal digits")?;
+    Err(command.error(ErrorKind::ValueValidation, message.as_str())?)
+}
+
+/// Whether a text is decimal digits.
+fn is_digits(text: &str) -> bool
+    ensures { IsTrue result ↔ AllPass is_digit text.now }
+{
+    text.bytes().all(|byte| byte.is_ascii_digit())
+}

@@ -1,0 +1,44 @@
+-- Facts of a half of the device: of its gate, its area, and the first gate of its journal. A fact says what reads give, or what
+-- is clean.
+use Rattle.std.specs.Prelude.{◌*◌, ◌≤◌}
+use Rattle.byte_lists.specs.Sectors.{sector_at, IsOpenGate}
+use Rattle.sector_dev.specs.Disk.{Moment}
+use Rattle.sector_dev.specs.Image.{IsCleanPart}
+use Rattle.store_layout.specs.declared.half.Half.{Half}
+use Rattle.store_layout.specs.Layout.{Geometry, area_at, gate_at, area_of, gate_of, journal_of}
+use Rattle.store_layout.specs.Checkpoint.{Head, Checkpoint, checkpoint_size, IsHead, IsCheckpoint}
+use Rattle.group_phases.specs.Setting.{Setting, AreCleanSectors}
+
+-- a half's gate reads open, or closed; and it is clean
+abbrev pub ReadsOpen : Geometry → Half → Moment → Type 0
+ReadsOpen geometry half moment = IsOpenGate (gate_of geometry half moment.reads)
+
+abbrev pub IsGateClean : Geometry → Half → Moment → Type 0
+IsGateClean geometry half moment = IsCleanPart moment.dirty (512 * gate_at geometry half) 512
+
+pub record IsOpenHalf (geometry : Geometry) (half : Half) (moment : Moment) : Type 0 where
+  pub opened : ReadsOpen geometry half moment
+  pub clean : IsGateClean geometry half moment
+
+pub record IsClosedHalf (geometry : Geometry) (half : Half) (moment : Moment) : Type 0 where
+  pub closed : ¬ ReadsOpen geometry half moment
+  pub clean : IsGateClean geometry half moment
+
+-- a half's area begins with this checkpoint, or with this head, of a version that is known; and that is clean
+pub record HasCheckpoint {Db C : Type 0} (setting : Setting Db C) (half : Half) (checkpoint : Checkpoint Db) (moment : Moment) : Type 0 where
+  pub begins : IsCheckpoint setting.format.rows (area_of setting.geometry half moment.reads) checkpoint
+  pub known : checkpoint.head.version ≤ setting.latest
+  pub clean : IsCleanPart moment.dirty (512 * area_at setting.geometry half) (checkpoint_size setting.format.rows checkpoint)
+
+pub record HasHead {Db C : Type 0} (setting : Setting Db C) (half : Half) (head : Head) (moment : Moment) : Type 0 where
+  pub begins : IsHead (area_of setting.geometry half moment.reads) head
+  pub known : head.version ≤ setting.latest
+  pub clean : IsCleanPart moment.dirty (512 * area_at setting.geometry half) 24
+
+-- the first gate of a half's journal reads closed; and it is clean
+abbrev pub FirstReadsClosed : Geometry → Half → Moment → Type 0
+FirstReadsClosed geometry half moment = ¬ IsOpenGate (sector_at 0 (journal_of geometry half moment.reads))
+
+pub record IsFirstClosed (geometry : Geometry) (half : Half) (moment : Moment) : Type 0 where
+  pub closed : FirstReadsClosed geometry half moment
+  pub clean : AreCleanSectors geometry half 0 1 moment

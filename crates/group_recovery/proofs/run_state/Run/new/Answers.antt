@@ -1,0 +1,9 @@
+-- Goals that the search finds itself.
+use Rattle.std.proofs.Common.{rules}
+use Rattle.group_recovery.proofs.run_state.Run.new.Goals as goal
+
+pub invariant_of-result : goal.invariant_of-result
+invariant_of-result g c = search rules
+
+pub returns : goal.returns
+returns g c = search rules

@@ -1,0 +1,53 @@
+-- What a stop within a run leaves: the rows that were committed when it began, with a front of the commands in the order of the lock.
+use Rattle.std.specs.Prelude.{◌≡◌, ℕ, ◌-◌, ◌≤◌, List, [], ◌∷◌, ◌++◌, length, take, drop}
+use Rattle.path_rows.specs.declared.command.Command.{Command}
+use Rattle.sector_dev.specs.Disk.{IsHonest}
+use Rattle.sector_dev.specs.Image.{EveryImage, IsFromImage}
+use Rattle.sector_dev.specs.Stretch.{Stretch}
+use Rattle.store_layout.specs.Opening.{OpensTo}
+use Rattle.store_layout.specs.StoreValues.{value_after}
+use Rattle.ckpt_pair.specs.Versions.{latest}
+use Rattle.store_open.specs.Behind.{SameBehind}
+use Rattle.store_open.specs.PathStores.{store_format}
+use Rattle.group_recovery.specs.declared.events.Event.{Event}
+use Rattle.group_recovery.specs.declared.events.Event.TheVariants as event
+use Rattle.group_recovery.specs.declared.events.Reply.{Reply}
+use Rattle.group_recovery.specs.declared.events.Reply.TheVariants as reply
+use Rattle.group_core.specs.StateView.{StateView}
+
+-- the command that an event submitted, where its reply is that it was accepted; and those of a list of events
+abbrev pub accepted_by : Event → Reply → List Command
+accepted_by (event.Submit command) (reply.Accepted place) = command ∷ []
+accepted_by _ _ = []
+
+abbrev pub accepted_in : List Event → List Reply → List Command
+accepted_in [] replies = []
+accepted_in (e ∷ events) [] = []
+accepted_in (e ∷ events) (r ∷ replies) = accepted_by e r ++ accepted_in events replies
+
+-- the order of the lock: the commands that are pending at the start, and then those that are accepted
+abbrev pub lock_order : StateView → List Event → List Reply → List Command
+lock_order start events replies = start.pending ++ accepted_in events replies
+
+-- At the end a front of that order is committed, which is all that was shown since, and the rest of the order is pending.
+pub record IsCommitted (start : StateView) (order : List Command) (end : StateView) : Type 0 where
+  pub done : ℕ
+  pub inside : done ≤ length order
+  pub value : end.value ≡ value_after store_format start.value (take done order)
+  pub pending : end.pending ≡ drop done order
+
+-- the image opens to the rows that were committed at the start with a front of this order, of at least this number of commands
+pub record OpensToPrefix (start : StateView) (order : List Command) (least : ℕ) (image : List ℕ) : Type 0 where
+  pub kept : ℕ
+  pub enough : least ≤ kept
+  pub inside : kept ≤ length order
+  pub opens : OpensTo store_format latest image (value_after store_format start.value (take kept order))
+
+-- What a run leaves: a front of the order is committed; at each moment since its entry every image opens to a front, and at its
+-- exit to one that has all that is committed then. The sizes stay, and at every moment the bytes after the store are unchanged.
+pub record RunLeaves (start : StateView) (order : List Command) (end : StateView) : Type 0 where
+  pub committed : IsCommitted start order end
+  pub moments : Stretch start.disk end.disk (OpensToPrefix start order 0)
+  pub exit : IsHonest end.disk → EveryImage end.disk.history.now (OpensToPrefix start order (end.value.place - start.value.place))
+  pub geometry : end.geometry ≡ start.geometry
+  pub behind : Stretch start.disk end.disk (IsFromImage start.disk.history.now (SameBehind start.geometry))

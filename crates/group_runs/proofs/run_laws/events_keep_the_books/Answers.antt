@@ -1,8 +1,0 @@
-use Rattle.group_runs.proofs.BooksKept.{books_kept, stops_stay}
-use Rattle.group_runs.proofs.run_laws.events_keep_the_books.Goals as goal
-
-pub returns-clause-books : goal.returns-clause-books
-returns-clause-books c = books_kept
-
-pub returns-clause-stopped : goal.returns-clause-stopped
-returns-clause-stopped c = stops_stay

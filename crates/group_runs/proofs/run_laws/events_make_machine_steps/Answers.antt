@@ -1,5 +1,0 @@
-use Rattle.group_runs.proofs.MachineSteps.{machine_steps}
-use Rattle.group_runs.proofs.run_laws.events_make_machine_steps.Goals as goal
-
-pub returns : goal.returns
-returns c = machine_steps

@@ -1,8 +1,0 @@
-use Rattle.group_runs.proofs.BooksKept.{prefixes_reopened, fronts_reopened}
-use Rattle.group_runs.proofs.run_laws.stops_reopen_machines.Goals as goal
-
-pub returns-clause-run : goal.returns-clause-run
-returns-clause-run c = prefixes_reopened
-
-pub returns-clause-state : goal.returns-clause-state
-returns-clause-state c = fronts_reopened

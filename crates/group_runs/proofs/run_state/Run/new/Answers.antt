@@ -1,9 +1,0 @@
--- Goals that the search finds itself.
-use Rattle.std.proofs.Common.{rules}
-use Rattle.group_runs.proofs.run_state.Run.new.Goals as goal
-
-pub invariant_of-result : goal.invariant_of-result
-invariant_of-result g c = search rules
-
-pub returns : goal.returns
-returns g c = search rules

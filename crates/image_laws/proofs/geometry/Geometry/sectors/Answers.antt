@@ -1,6 +1,0 @@
--- One goal, which the search finds itself.
-use Rattle.std.proofs.Common.{rules}
-use Rattle.image_laws.proofs.geometry.Geometry.sectors.Goals as goal
-
-pub returns : goal.returns
-returns c = search rules

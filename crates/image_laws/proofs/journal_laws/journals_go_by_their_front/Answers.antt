@@ -1,5 +1,0 @@
-use Rattle.image_laws.proofs.Growth.{goes_by_its_front}
-use Rattle.image_laws.proofs.journal_laws.journals_go_by_their_front.Goals as goal
-
-pub returns : goal.returns
-returns g c = goes_by_its_front _

@@ -1,5 +1,0 @@
-use Rattle.image_laws.proofs.Staged.{later_allow_more}
-use Rattle.image_laws.proofs.journal_laws.later_versions_allow_more.Goals as goal
-
-pub returns : goal.returns
-returns c = later_allow_more

@@ -1,5 +1,0 @@
-use Rattle.image_laws.proofs.TakeOver.{opens_empty}
-use Rattle.image_laws.proofs.opening_laws.new_stores_open_empty.Goals as goal
-
-pub returns : goal.returns
-returns g c = opens_empty _ _

@@ -1,8 +1,0 @@
-use Rattle.image_laws.proofs.Writes.{regions_apart, regions_inside}
-use Rattle.image_laws.proofs.regions.regions_are_apart.Goals as goal
-
-pub returns-clause-apart : goal.returns-clause-apart
-returns-clause-apart c = regions_apart
-
-pub returns-clause-inside : goal.returns-clause-inside
-returns-clause-inside c = regions_inside

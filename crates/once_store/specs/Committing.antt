@@ -1,0 +1,70 @@
+-- Committing the one pending command.
+use Rattle.std.specs.Prelude.{◌≡◌, ◌≤◌, [], Option, Some, None, Result, Ok, Err}
+use Rattle.path_rows.specs.declared.outcome.Outcome.{Outcome}
+use Rattle.group_phases.specs.declared.phases.Flush.TheVariants.{Resting, Durable}
+use Rattle.group_phases.specs.declared.phases.Check.TheVariants.{Ready}
+use Rattle.group_core.specs.declared.phases.AtDurable.{AtDurable}
+use Rattle.group_core.specs.declared.values.Commit.{Commit}
+use Rattle.group_core.specs.declared.ticket.Ticket.{Ticket}
+use Rattle.group_core.specs.declared.ticket.Redeemed.{Redeemed}
+use Rattle.group_core.specs.declared.ticket.Redeemed.TheVariants.{Committed, Waiting, Unknown, Stranger}
+use Rattle.group_core.specs.StateView.{StateView}
+use Rattle.group_core.specs.Steps.{IsFlushTurn}
+use Rattle.group_core.specs.Submitting.{accepted_rows, next_place}
+use Rattle.group_core.specs.Publishing.{with_group, with_seal}
+use Rattle.group_core.specs.Redeeming.{outcome_at, redeemed}
+use Rattle.once_store.specs.Resting.{IsSteady, HasOnePending}
+
+-- The one pending command is durable; or a seal is, which there is only where the journal has a group already.
+pub record IsNextDurable (value : Commit AtDurable) (old new : StateView) : Type 0 where
+  pub turn : IsFlushTurn Durable value new
+  pub taken : new.taken ≤ 1
+  pub seal : new.taken ≡ 0 → 1 ≤ old.gate
+  pub state : new ≡ record old { disk = new.disk; taken = new.taken; flush = Durable; group = new.group }
+
+-- What publishing and redeeming answer: a group's command is committed; a seal leaves its ticket waiting; and where memory runs out,
+-- for a group alone, nothing changes.
+abbrev pub PublishesAndRedeems : {N : Type 0} → Ticket → Commit AtDurable → Result (Redeemed N) (Ticket × Commit AtDurable)
+    → StateView → StateView → Type 0
+PublishesAndRedeems ticket durable (Ok (Committed receipt)) old new =
+    (old.taken ≡ 1) × (outcome_at ticket.place old.kept ≡ Some receipt.outcome) × (new ≡ redeemed ticket (with_group old))
+PublishesAndRedeems ticket durable (Ok (Waiting back)) old new = (old.taken ≡ 0) × (back ≡ ticket) × (new ≡ with_seal old)
+PublishesAndRedeems ticket durable (Ok (Unknown place)) old new = ⊥
+PublishesAndRedeems ticket durable (Ok (Stranger back)) old new = ⊥
+PublishesAndRedeems ticket durable (Err (back, value)) old new = (old.taken ≡ 1) × (back ≡ ticket) × (value ≡ durable) × (new ≡ old)
+
+-- what the layer above sees stays: the rows after all accepted commands, and the place of the next one
+pub record SameAbove (old new : StateView) : Type 0 where
+  pub rows : accepted_rows new ≡ accepted_rows old
+  pub place : next_place new ≡ next_place old
+  pub home : new.home ≡ old.home
+
+-- the pending command is committed, and this is its outcome
+pub record IsCommitted (outcome : Outcome) (old new : StateView) : Type 0 where
+  pub outcome_is : outcome_at old.value.place old.kept ≡ Some outcome
+  pub steady : IsSteady new
+  pub rests : new.flush ≡ Resting
+  pub pending : new.pending ≡ []
+  pub kept : new.kept ≡ []
+  pub same : SameAbove old new
+
+-- its group is durable, and this is the value; or nothing is in flight
+abbrev pub HoldsDurable : Option (Commit AtDurable) → StateView → Type 0
+HoldsDurable None view = view.flush ≡ Resting
+HoldsDurable (Some value) view = IsFlushTurn Durable value view × (view.taken ≡ 1) × (view.check ≡ Ready)
+
+-- the command is still pending, and its ticket comes back, with the value of its group where that is durable
+pub record IsHeldBack (back : Ticket) (durable : Option (Commit AtDurable)) (ticket : Ticket) (old new : StateView) : Type 0 where
+  pub same_ticket : back ≡ ticket
+  pub one : HasOnePending ticket new
+  pub steady : IsSteady new
+  pub holds : HoldsDurable durable new
+  pub kept : new.kept ≡ old.kept
+  pub same : SameAbove old new
+
+-- What a step that commits nothing keeps: what is committed, and the pending command with its outcome.
+pub record IsCarried (old new : StateView) : Type 0 where
+  pub value : new.value ≡ old.value
+  pub pending : new.pending ≡ old.pending
+  pub kept : new.kept ≡ old.kept
+  pub home : new.home ≡ old.home

@@ -1,0 +1,60 @@
+-- Folding a sealed half.
+use Rattle.std.specs.Prelude.{◌≡◌, ◌⊎◌, ℕ, ◌+◌, ◌-◌, ◌*◌, ◌^◌, ◌<◌, ◌≤◌, false, length}
+use Rattle.ckpt_pair.specs.Versions.{latest}
+use Rattle.group_phases.specs.declared.phases.Check.TheVariants.{Ready, Sealed}
+use Rattle.group_core.specs.StateView.{StateView}
+use Rattle.group_core.specs.Steps.{spent}
+use Rattle.once_store.specs.Resting.{IsSteady}
+
+-- the new checkpoint's bytes are whole sectors, of which no more are written than there are
+pub record HasWholeSectors (view : StateView) : Type 0 where
+  pub sectors : ℕ
+  pub whole : length view.checkpoint ≡ 512 * sectors
+  pub written : view.written ≤ sectors
+
+-- the new half counts, and the other one is ready
+pub record IsFoldedFrom (old new : StateView) : Type 0 where
+  pub state : new ≡ record old { disk = new.disk; check = Ready; plan = spent old.plan; epoch = old.epoch + 1; version = latest }
+
+-- a checkpoint was made
+pub record IsFolded (old new : StateView) : Type 0 where
+  pub plan : new.plan.out ≡ false
+  pub state : new ≡ record old {
+    disk = new.disk;
+    check = Ready;
+    plan = new.plan;
+    epoch = old.epoch + 1;
+    version = latest;
+    checkpoint = new.checkpoint;
+    written = new.written;
+  }
+
+-- A checkpoint may be made: no plan is out, and either no journal is sealed or one is, and an epoch is left.
+pub record MayFold (view : StateView) : Type 0 where
+  pub going : view.stopped ≡ false
+  pub free : view.plan.out ≡ false
+  pub check : (view.check ≡ Ready) ⊎ (view.check ≡ Sealed)
+  pub epoch : view.check ≡ Sealed → view.epoch < 2 ^ 64 - 1
+
+-- no journal was sealed, and nothing has changed; or one was, and its checkpoint was made
+abbrev pub IsReadyOrFolded : StateView → StateView → Type 0
+IsReadyOrFolded old new = ((old.check ≡ Ready) × (new ≡ old)) ⊎ ((old.check ≡ Sealed) × IsFolded old new)
+
+-- no journal is sealed any more: where one was, its checkpoint was made
+pub record IsRoomMade (old new : StateView) : Type 0 where
+  pub steady : IsSteady new
+  pub ready : new.check ≡ Ready
+  pub state : new ≡ record old {
+    disk = new.disk;
+    check = Ready;
+    plan = new.plan;
+    epoch = new.epoch;
+    version = new.version;
+    checkpoint = new.checkpoint;
+    written = new.written;
+  }
+
+-- the device was read, and nothing else has changed
+pub record IsLookedAt (old new : StateView) : Type 0 where
+  pub steady : IsSteady new
+  pub state : new ≡ record old { disk = new.disk }

@@ -1,0 +1,29 @@
+-- What contracts see of a store in memory that one caller drives.
+use Rattle.std.specs.Prelude.{◌≡◌, ℕ, List, [], Option, Some, None}
+use Rattle.path_rows.specs.Database.{RowView}
+use Rattle.group_phases.specs.declared.phases.Flush.TheVariants.{Resting}
+use Rattle.group_core.specs.StateView.{StateView}
+use Rattle.group_core.specs.Submitting.{accepted_rows, next_place}
+use Rattle.once_store.specs.declared.committing.Held.{Held}
+use Rattle.once_store.specs.Resting.{IsSteady, HasOnePending}
+use Rattle.once_store.specs.Committing.{HoldsDurable}
+
+-- the rows after all commands that are taken, and the place of the next one
+pub record OnceView : Type 0 where
+  pub rows : List RowView
+  pub place : ℕ
+
+abbrev pub once_view : StateView → OnceView
+once_view state = record { rows = accepted_rows state; place = next_place state }
+
+abbrev pub no_rows : OnceView
+no_rows = record { rows = []; place = 0 }
+
+-- nothing is held where nothing is pending; or a pending command's ticket is, and the value of its group where that is durable
+abbrev pub Holds : Option Held → StateView → Type 0
+Holds None view = (view.pending ≡ []) × (view.kept ≡ []) × (view.flush ≡ Resting)
+Holds (Some held) view = HasOnePending held.ticket view × HoldsDurable held.durable view
+
+pub record IsLone (view : StateView) (held : Option Held) : Type 0 where
+  pub steady : IsSteady view
+  pub holds : Holds held view

@@ -1,0 +1,46 @@
+-- The states of a store in memory between two calls.
+use Rattle.std.specs.Prelude.{◌≡◌, ◌+◌, ◌<◌, ◌≤◌, false, [], ◌∷◌, IsSome}
+use Rattle.path_rows.specs.declared.command.Command.{Command}
+use Rattle.store_layout.specs.Layout.{Geometry}
+use Rattle.store_layout.specs.Group.{last_place}
+use Rattle.ckpt_pair.specs.Versions.{latest}
+use Rattle.group_phases.specs.declared.phases.Check.{Check}
+use Rattle.group_phases.specs.declared.phases.Check.TheVariants.{Ready, Sealed, Planned, Laid, Switched, SwitchFailed, Live, Closing, CloseFailed}
+use Rattle.group_core.specs.declared.ticket.Ticket.{Ticket}
+use Rattle.group_core.specs.StateView.{StateView}
+use Rattle.group_core.specs.Redeeming.{outcome_at, kept_without}
+
+-- 4,096 sectors for each area and for each journal
+abbrev pub sizes : Geometry
+sizes = record { checkpoint = 4096; journal = 4096 }
+
+-- The checkpointer rests: no journal is sealed, or one is and the tail's journal is empty. A seal comes only after a group, so that
+-- there were no more seals than committed commands.
+abbrev pub CheckRests : Check → StateView → Type 0
+CheckRests Ready view = (view.epoch ≤ view.value.place + 1) × (1 ≤ view.gate → view.epoch ≤ view.value.place)
+CheckRests Sealed view = (view.epoch ≤ view.value.place) × (view.gate ≡ 0)
+CheckRests Planned view = ⊥
+CheckRests Laid view = ⊥
+CheckRests Switched view = ⊥
+CheckRests SwitchFailed view = ⊥
+CheckRests Live view = ⊥
+CheckRests Closing view = ⊥
+CheckRests CloseFailed view = ⊥
+
+-- The state goes on, in the latest version, no plan is out, and the checkpointer rests.
+pub record IsSteady (view : StateView) : Type 0 where
+  pub geometry : view.geometry ≡ sizes
+  pub version : view.version ≡ latest
+  pub going : view.stopped ≡ false
+  pub plan : view.plan.out ≡ false
+  pub check : CheckRests view.check view
+
+-- One command is pending, and this is its ticket: its outcome is kept, and no other is.
+pub record HasOnePending (ticket : Ticket) (view : StateView) : Type 0 where
+  pub command : Command
+  pub pending : view.pending ≡ command ∷ []
+  pub home : ticket.home ≡ view.home
+  pub place : ticket.place ≡ view.value.place
+  pub last : view.value.place < last_place
+  pub kept : IsSome (outcome_at ticket.place view.kept)
+  pub alone : kept_without ticket.place view.kept ≡ []

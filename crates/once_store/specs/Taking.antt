@@ -1,0 +1,32 @@
+-- What taking a command answers, and what it leaves.
+use Rattle.std.specs.Prelude.{◌≡◌, ◌≢◌, ◌⊎◌, ◌+◌, ◌*◌, ◌≤◌, List, Result, Ok, Err}
+use Rattle.path_rows.specs.Database.{RowView, rows_len}
+use Rattle.path_rows.specs.Command.{database_after, outcome_of}
+use Rattle.path_rows.specs.declared.command.Command.{Command}
+use Rattle.store_layout.specs.Group.{last_place}
+use Rattle.once_store.specs.declared.error.Taken.{Taken}
+use Rattle.once_store.specs.declared.error.TakeError.{TakeError}
+use Rattle.once_store.specs.declared.error.TakeError.TheVariants.{NoMemory, Full, Exhausted}
+use Rattle.once_store.specs.OnceView.{OnceView}
+
+-- rows have room in a checkpoint area of 4,096 sectors
+abbrev pub FitStore : List RowView → Type 0
+FitStore rows = 32 + rows_len rows ≤ 512 * 4096
+
+abbrev pub with_command : OnceView → Command → OnceView
+with_command old command = record { rows = database_after old.rows command; place = old.place + 1 }
+
+-- the command is taken at the next place: one is left, and the rows after it fit
+pub record TakesCommand (old : OnceView) (command : Command) (new : OnceView) : Type 0 where
+  pub left : old.place ≢ last_place
+  pub fits : FitStore (database_after old.rows command)
+  pub taken : new ≡ with_command old command
+
+-- The command is taken, with its place and its outcome; or the last place is reached, or else the rows after it don't fit, and nothing
+-- changes. Where memory runs out nothing changes, or it is taken, and its outcome isn't reported.
+abbrev pub MayTake : OnceView → Command → Result Taken TakeError → OnceView → Type 0
+MayTake old command (Ok taken) new =
+    (taken ≡ record { place = old.place; outcome = outcome_of old.rows command }) × TakesCommand old command new
+MayTake old command (Err NoMemory) new = (new ≡ old) ⊎ TakesCommand old command new
+MayTake old command (Err Full) new = (old.place ≢ last_place) × (¬ FitStore (database_after old.rows command)) × (new ≡ old)
+MayTake old command (Err Exhausted) new = (old.place ≡ last_place) × (new ≡ old)

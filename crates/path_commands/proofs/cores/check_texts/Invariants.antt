@@ -1,6 +1,0 @@
-use Rattle.std.proofs.Common.{map}
-use Rattle.path_commands.specs.Cores.{IsCoreList}
-use Rattle.path_commands.proofs.cores.check_texts.Given as goal
-
-abbrev pub invariant-loop-text : goal.invariant-loop-text
-invariant-loop-text l = IsCoreList (map (λ text. text.now) l.yielded)

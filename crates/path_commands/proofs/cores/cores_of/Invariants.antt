@@ -1,6 +1,0 @@
-use Rattle.std.proofs.Common.{map}
-use Rattle.path_commands.specs.Cores.{AreCores}
-use Rattle.path_commands.proofs.cores.cores_of.Given as goal
-
-abbrev pub invariant-loop-text : goal.invariant-loop-text
-invariant-loop-text l = AreCores (map (λ text. text.now) l.yielded) l.cores.items

@@ -1,9 +1,0 @@
--- Goals that the search finds itself.
-use Rattle.std.proofs.Common.{rules}
-use Rattle.path_commands.proofs.hex_session.once_in_hex.Goals as goal
-
-pub returns-in_err-count : goal.returns-in_err-count
-returns-in_err-count g c = search rules
-
-pub returns : goal.returns
-returns g c = search rules

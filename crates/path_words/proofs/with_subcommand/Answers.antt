@@ -1,5 +1,0 @@
-use Rattle.path_words.proofs.Names.{added_name_of}
-use Rattle.path_words.proofs.with_subcommand.Goals as goal
-
-pub returns : goal.returns
-returns c = added_name_of c.subcommand.result c.args.command c.args.subcommand c.subcommand.ensures

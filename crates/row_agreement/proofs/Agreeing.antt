@@ -1,0 +1,64 @@
+-- Registrations commute, and can be repeated.
+use Rattle.std.proofs.Common.{◌≡◌, ℕ, true, List, refl, sym, ◌∙◌}
+use Rattle.std.specs.List.{Contains, filter}
+use Rattle.std.specs.Ordering.{nat_cmp, is_eq}
+use Rattle.std.specs.Cmp.Lexicographic.{slice_cmp}
+use Rattle.std.specs.declared.cmp.Ordering.{Ordering}
+use Rattle.std.specs.declared.cmp.Ordering.TheVariants.{Less, Equal, Greater}
+use Rattle.std.proofs.lemmas.Map.Lookups.{exact_bytes}
+use Rattle.std.proofs.lemmas.Bool.{false≢true}
+use Rattle.std.proofs.lemmas.List.Elements.{Contains-append_right}
+use Rattle.std.specs.Option.{option_to_list}
+use Rattle.path_rows.specs.declared.command.Command.TheVariants.{Register}
+use Rattle.path_rows.specs.Database.{RowView, key_of, is_under, row_under}
+use Rattle.path_rows.specs.Command.{database_after, database_after_all}
+use Rattle.path_rows.specs.CommandLaws.{candidates, KeysAreSeparate, CommandsKeepDatabase, DatabaseIsCanonical, RegisterLeavesNewest}
+use Rattle.row_agreement.specs.Agreement.{commands_of, rows_of, AreApart, RegistrationsCommute, RegistrationsRepeat}
+use Rattle.row_agreement.proofs.Members.{passed, passes_in}
+use Rattle.row_agreement.proofs.Newest.{agree, stays}
+use Rattle.row_agreement.proofs.Folds.{database_left, newest_left}
+
+equal_from : (o : Ordering) → is_eq o ≡ true → o ≡ Equal
+equal_from Less e = absurd (false≢true e)
+equal_from Equal e = refl
+equal_from Greater e = absurd (false≢true e)
+
+-- a row under a key has that key
+its_key : (k : List ℕ) (row : RowView) → is_under k row ≡ true → k ≡ key_of row
+its_key k row under = exact_bytes k (key_of row) (equal_from (slice_cmp nat_cmp k (key_of row)) under)
+
+-- rows of one list that are in another list are in it under a key too
+under_too : (k : List ℕ) (xs ys : List RowView) → ((row : RowView) → Contains xs row → Contains ys row) → (row : RowView) → Contains (filter (is_under k) xs) row → Contains (filter (is_under k) ys) row
+under_too k xs ys into row found =
+    let both = passed (is_under k) xs row found in passes_in (is_under k) ys row (into row both.0) both.1
+
+apart_under : (k : List ℕ) (xs : List RowView) → AreApart xs → (row other : RowView) → Contains (filter (is_under k) xs) row → Contains (filter (is_under k) xs) other → row.1.timestamp ≡ other.1.timestamp → row ≡ other
+apart_under k xs apart row other found found_too same =
+    let one = passed (is_under k) xs row found in
+    let two = passed (is_under k) xs other found_too in
+    apart row other one.0 two.0 (sym (its_key k row one.1) ∙ its_key k other two.1) same
+
+-- what was registered under a key is a candidate
+in_candidates : (k : List ℕ) (rows new : List RowView) (row : RowView) → Contains (filter (is_under k) new) row → Contains (candidates k rows new) row
+in_candidates k rows new row found = Contains-append_right (option_to_list (row_under k rows)) (filter (is_under k) new) row found
+
+module _ (separate : KeysAreSeparate) (keep : CommandsKeepDatabase) (newest : RegisterLeavesNewest) (canonical : DatabaseIsCanonical) where
+  pub commute : RegistrationsCommute
+  commute rows one other is whole whole_too same apart =
+      canonical (database_after_all rows (commands_of one)) (database_after_all rows (commands_of other))
+      (database_left separate keep newest rows one is whole).rising (database_left separate keep newest rows other is whole_too).rising
+      (λ k. agree (filter (is_under k) (rows_of one)) (filter (is_under k) (rows_of other))
+      (under_too k (rows_of one) (rows_of other) (λ row. (same row).0)) (under_too k (rows_of other) (rows_of one) (λ row. (same row).1))
+      (apart_under k (rows_of one) apart) (row_under k rows) _ _
+      (newest_left separate keep newest k rows one is.rising) (newest_left separate keep newest k rows other is.rising))
+
+  pub repeat : RegistrationsRepeat
+  repeat rows registrations again is whole whole_again known =
+      let left = database_left separate keep newest rows registrations is whole in
+      canonical (database_after (database_after_all rows (commands_of registrations)) (Register again)) (database_after_all rows (commands_of registrations))
+      (keep (database_after_all rows (commands_of registrations)) (Register again) left whole_again).rising left.rising
+      (λ k. stays (candidates k rows (rows_of registrations)) (filter (is_under k) again)
+      (λ row found. in_candidates k rows (rows_of registrations) row (under_too k again (rows_of registrations) known row found))
+      (row_under k (database_after_all rows (commands_of registrations))) _
+      (newest_left separate keep newest k rows registrations is.rising)
+      (newest k (database_after_all rows (commands_of registrations)) again left.rising))

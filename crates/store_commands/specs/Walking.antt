@@ -1,9 +1,0 @@
--- Walking over a journal goes on.
-use Rattle.std.specs.Prelude.{ℕ, ◌<◌}
-use Rattle.store_commands.specs.declared.walking.Step.{Step}
-use Rattle.store_commands.specs.declared.walking.Step.TheVariants.{Group, End}
-
--- the next gate is after this one
-abbrev pub GoesOnBehind : ℕ → Step → Type 0
-GoesOnBehind gate (Group next place) = gate < next
-GoesOnBehind gate (End end) = Unit {0}

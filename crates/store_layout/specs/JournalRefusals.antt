@@ -1,0 +1,50 @@
+-- The definition of each refusal of a journal, in the order of the checks: the refusal comes at the first open gate after which
+-- neither a group nor a seal is at the place reached.
+use Rattle.std.specs.Prelude.{◌≡◌, ◌≢◌, ◌⊎◌, ℕ, ◌+◌, ◌*◌, ◌≤◌, List, length, drop}
+use Rattle.byte_lists.specs.Sectors.{whole_sectors, sector_at, IsOpenGate}
+use Rattle.store_layout.specs.Limits.{Limits}
+use Rattle.store_layout.specs.CommandFormat.{CommandFormat}
+use Rattle.store_layout.specs.Group.{payload_sectors, HasRoom}
+use Rattle.store_layout.specs.GroupReading.{JournalRefusal, BadHeader, BadRecord, Gap, PastEnd, IsGroupHeader, IsSealHeader, size_in, place_in}
+use Rattle.store_layout.specs.Journal.{HasGroup, HasSeal, IsChain, all_of}
+
+-- a payload begins after this gate, in the journal
+abbrev pub HasPayload : List ℕ → ℕ → Type 0
+HasPayload bytes gate = gate + 2 ≤ whole_sectors bytes
+
+abbrev pub payload_behind : List ℕ → ℕ → List ℕ
+payload_behind bytes gate = drop (512 * (gate + 1)) bytes
+
+-- the header after this gate is that of a group, or of a seal
+abbrev pub HasGroupHeader : Limits → List ℕ → ℕ → Type 0
+HasGroupHeader limits bytes gate = HasPayload bytes gate × IsGroupHeader limits (payload_behind bytes gate)
+
+abbrev pub HasSealHeader : List ℕ → ℕ → Type 0
+HasSealHeader bytes gate = HasPayload bytes gate × IsSealHeader (payload_behind bytes gate)
+
+-- the group that the header describes has room
+abbrev pub HasPromisedRoom : List ℕ → ℕ → Type 0
+HasPromisedRoom bytes gate = HasRoom gate (payload_sectors (size_in (payload_behind bytes gate))) (whole_sectors bytes)
+
+-- What is wrong after an open gate where this place is expected. `PastEnd` is a payload that would begin past the end, or
+-- has no room; a bad header is neither a group's nor a seal's; a gap is another place than the one
+-- expected; and bad records are those of a payload that is no group, or no seal, after a valid header.
+abbrev pub IsRefusedAt : {C : Type 0} → JournalRefusal → CommandFormat C → Limits → List ℕ → ℕ → ℕ → Type 0
+IsRefusedAt PastEnd format limits bytes gate place =
+    ¬ HasPayload bytes gate ⊎ (HasGroupHeader limits bytes gate × (place_in (payload_behind bytes gate) ≡ place) × ¬ HasPromisedRoom bytes gate)
+IsRefusedAt BadHeader format limits bytes gate place =
+    HasPayload bytes gate × ¬ HasGroupHeader limits bytes gate × ¬ HasSealHeader bytes gate
+IsRefusedAt (Gap expected) format limits bytes gate place =
+    (expected ≡ place) × (HasGroupHeader limits bytes gate ⊎ HasSealHeader bytes gate) × (place_in (payload_behind bytes gate) ≢ place)
+IsRefusedAt {C} BadRecord format limits bytes gate place =
+    (place_in (payload_behind bytes gate) ≡ place)
+    × ((HasGroupHeader limits bytes gate × HasPromisedRoom bytes gate × ((commands : List C) → ¬ HasGroup format limits bytes gate place commands))
+    ⊎ (HasSealHeader bytes gate × ¬ HasSeal bytes gate place))
+
+-- the journal is refused: it has groups up to an open gate, and this is wrong after that gate
+pub record IsRefused {C : Type 0} (format : CommandFormat C) (limits : Limits) (bytes : List ℕ) (start : ℕ) (refusal : JournalRefusal) : Type 0 where
+  pub groups : List (List C)
+  pub gate : ℕ
+  pub chain : IsChain format limits bytes 0 start groups gate
+  pub opened : IsOpenGate (sector_at gate bytes)
+  pub wrong : IsRefusedAt refusal format limits bytes gate (start + length (all_of groups))

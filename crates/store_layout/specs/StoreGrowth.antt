@@ -1,0 +1,108 @@
+-- How the value of an image grows: a group is written after the last gate of its last journal, and then that gate decides;
+-- and that a seal does not change the value. Each statement is the contract of a function.
+use Rattle.std.specs.Prelude.{◌≡◌, ℕ, ◌+◌, ◌*◌, ◌≤◌, false, List, ◌++◌, length, Option, Some, None}
+use Rattle.byte_lists.specs.Content.{overwrite}
+use Rattle.byte_lists.specs.Sectors.{sector_at, IsOpenGate}
+use Rattle.store_layout.specs.declared.half.Half.{Half}
+use Rattle.store_layout.specs.Group.{group_encoding, seal_encoding, group_sectors, HasRoom, CanBeGroup}
+use Rattle.store_layout.specs.Journal.{Reading, HasSeal, IsJournal, with_group, with_seal}
+use Rattle.store_layout.specs.JournalLaws.{IsReadyFor}
+use Rattle.store_layout.specs.Layout.{other, journal_at, gate_of, journal_of}
+use Rattle.store_layout.specs.StoreFormat.{StoreFormat, db_after}
+use Rattle.store_layout.specs.Opening.{Opening, limits_in, IsOpening, tail_half, last_journal, value_of}
+use Rattle.store_layout.specs.TakeOver.{empty_journal}
+use Rattle.store_layout.specs.StoreValues.{value_after}
+
+-- commands in two parts, one after the other
+abbrev pub FoldsInParts : Type 0 → Type 0 → Type 0
+FoldsInParts Db C =
+    (format : StoreFormat Db C) (db : Db) (front behind : List C) → db_after format db (front ++ behind) ≡ db_after format (db_after format db front) behind
+
+-- the half of an image's last journal, the reading of that journal, the place at which it starts, and the sector of the gate at
+-- which it ends
+abbrev pub last_half : {Db C : Type 0} → Opening Db C → Half
+last_half opening = tail_half opening.chosen opening.tail
+
+abbrev pub last_reading : {Db C : Type 0} → Opening Db C → Reading C
+last_reading opening = last_journal opening.journal opening.tail
+
+abbrev pub start_of : {C : Type 0} → ℕ → Reading C → Option (Reading C) → ℕ
+start_of place journal None = place
+start_of place journal (Some behind) = journal.place
+
+abbrev pub last_start : {Db C : Type 0} → Opening Db C → ℕ
+last_start opening = start_of opening.checkpoint.head.place opening.journal opening.tail
+
+abbrev pub last_gate : {Db C : Type 0} → Opening Db C → ℕ
+last_gate opening = journal_at opening.geometry (last_half opening) + (last_reading opening).tail
+
+-- an opening whose last journal has this reading
+abbrev pub with_last : {Db C : Type 0} → Option (Reading C) → Opening Db C → Reading C → Opening Db C
+with_last None opening last = record opening { journal = last }
+with_last (Some behind) opening last = record opening { tail = Some last }
+
+-- Bytes are written anywhere in the last journal: the image opens with the new reading of that journal, if it isn't sealed.
+abbrev pub StoreGoesByItsLastJournal : Type 0 → Type 0 → Type 0
+StoreGoesByItsLastJournal Db C =
+    (format : StoreFormat Db C) (latest : ℕ) (image : List ℕ) (opening : Opening Db C) (at : ℕ) (bytes : List ℕ) (last : Reading C)
+    → IsOpening format latest image opening → at + length bytes ≤ 512 * opening.geometry.journal
+    → IsJournal format.commands (limits_in opening.checkpoint) (overwrite at bytes (journal_of opening.geometry (last_half opening) image))
+    (last_start opening) last
+    → last.sealed ≡ false
+    → IsOpening format latest (overwrite (512 * journal_at opening.geometry (last_half opening) + at) bytes image) (with_last opening.tail opening last)
+
+-- A group that can be written and has room, and a gate that isn't open, are written after the last gate: the opening is unchanged,
+-- and the last journal is ready for the group.
+abbrev pub StoreIsMadeReady : Type 0 → Type 0 → Type 0
+StoreIsMadeReady Db C =
+    (format : StoreFormat Db C) (latest : ℕ) (image : List ℕ) (opening : Opening Db C) (group : List C) (gate : List ℕ)
+    → IsOpening format latest image opening
+    → CanBeGroup format.commands (limits_in opening.checkpoint) (last_reading opening).place group
+    → HasRoom (last_reading opening).tail (group_sectors format.commands group) opening.geometry.journal
+    → length gate ≡ 512 → ¬ IsOpenGate gate
+    → let written = overwrite (512 * (last_gate opening + 1)) (group_encoding format.commands (last_reading opening).place group ++ gate) image in
+    IsOpening format latest written opening
+    × IsReadyFor format.commands (limits_in opening.checkpoint) (journal_of opening.geometry (last_half opening) written) (last_reading opening) group
+
+-- The last journal is ready for a group, and its last gate is written with any bytes: where these open it, the value of the image
+-- is the old value after the commands of the group; else the opening is unchanged.
+abbrev pub StoreGrowsByItsGate : Type 0 → Type 0 → Type 0
+StoreGrowsByItsGate Db C =
+    (format : StoreFormat Db C) (latest : ℕ) (image : List ℕ) (opening : Opening Db C) (group : List C) (gate : List ℕ)
+    → IsOpening format latest image opening
+    → IsReadyFor format.commands (limits_in opening.checkpoint) (journal_of opening.geometry (last_half opening) image) (last_reading opening) group
+    → length gate ≡ 512
+    → let grown = with_last opening.tail opening (with_group format.commands (last_reading opening) group) in
+    let written = overwrite (512 * last_gate opening) gate image in
+    (IsOpenGate gate → IsOpening format latest written grown)
+    × (¬ IsOpenGate gate → IsOpening format latest written opening)
+    × (value_of format grown ≡ value_after format (value_of format opening) group)
+
+-- the other half is closed, and so is the first gate of its journal
+pub record IsOtherReady {Db C : Type 0} (opening : Opening Db C) (image : List ℕ) : Type 0 where
+  pub alone : opening.tail ≡ None
+  pub gate : ¬ IsOpenGate (gate_of opening.geometry (other opening.chosen) image)
+  pub journal : ¬ IsOpenGate (sector_at 0 (journal_of opening.geometry (other opening.chosen) image))
+
+-- Where the other half is ready, a seal is written after the last gate: the opening is unchanged, and the seal is there.
+abbrev pub StoreIsMadeReadyForSeal : Type 0 → Type 0 → Type 0
+StoreIsMadeReadyForSeal Db C =
+    (format : StoreFormat Db C) (latest : ℕ) (image : List ℕ) (opening : Opening Db C)
+    → IsOpening format latest image opening → IsOtherReady opening image
+    → let written = overwrite (512 * (journal_at opening.geometry opening.chosen + opening.journal.tail + 1)) (seal_encoding opening.journal.place) image in
+    IsOpening format latest written opening × IsOtherReady opening written
+    × HasSeal (journal_of opening.geometry opening.chosen written) opening.journal.tail opening.journal.place
+
+-- Then the last gate is written with any bytes: where these open it, the other half's journal continues, without a command
+-- yet, and the value of the image is unchanged; else the opening is unchanged.
+abbrev pub StoreIsSealedByItsGate : Type 0 → Type 0 → Type 0
+StoreIsSealedByItsGate Db C =
+    (format : StoreFormat Db C) (latest : ℕ) (image : List ℕ) (opening : Opening Db C) (gate : List ℕ)
+    → IsOpening format latest image opening → IsOtherReady opening image
+    → HasSeal (journal_of opening.geometry opening.chosen image) opening.journal.tail opening.journal.place
+    → length gate ≡ 512
+    → let sealed = record opening { journal = with_seal opening.journal; tail = Some (empty_journal opening.journal.place) } in
+    let written = overwrite (512 * (journal_at opening.geometry opening.chosen + opening.journal.tail)) gate image in
+    (IsOpenGate gate → IsOpening format latest written sealed)
+    × (¬ IsOpenGate gate → IsOpening format latest written opening)
+    × (value_of format sealed ≡ value_of format opening)

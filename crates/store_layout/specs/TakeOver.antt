@@ -1,0 +1,69 @@
+-- When two images have the same value, as one half takes over from the other, and the value of a new store. Each statement is the
+-- contract of a function.
+use Rattle.std.specs.Prelude.{◌≡◌, ℕ, ◌≤◌, false, List, [], Some, None}
+use Rattle.byte_lists.specs.Sectors.{sector_at, IsOpenGate}
+use Rattle.store_layout.specs.declared.half.Half.TheVariants.{First, Second}
+use Rattle.store_layout.specs.Journal.{Reading, IsJournal}
+use Rattle.store_layout.specs.Layout.{Geometry, other, area_of, gate_of, journal_of}
+use Rattle.store_layout.specs.FirstSector.{IsStore}
+use Rattle.store_layout.specs.StoreFormat.{StoreFormat}
+use Rattle.store_layout.specs.Checkpoint.{Checkpoint, IsCheckpoint, first_checkpoint}
+use Rattle.store_layout.specs.Opening.{Opening, limits_in, IsChosen, IsOpening, db_at_seal, value_of, OpensTo}
+
+-- A checkpoint for the other half with the value of the chosen half up to the end of its journal: this database, at the
+-- place reached there, in the same version or a later one.
+pub record FoldsJournal {Db C : Type 0} (format : StoreFormat Db C) (opening : Opening Db C) (next : Checkpoint Db) : Type 0 where
+  pub db : next.db ≡ db_at_seal format opening
+  pub place : next.head.place ≡ opening.journal.place
+  pub version : opening.checkpoint.head.version ≤ next.head.version
+
+-- the opening once the other half is chosen, with this journal
+abbrev pub taken_over : {Db C : Type 0} → Opening Db C → Checkpoint Db → Reading C → Opening Db C
+taken_over opening next behind = record {
+  geometry = opening.geometry;
+  chosen = other opening.chosen;
+  checkpoint = next;
+  journal = behind;
+  tail = None;
+}
+
+-- The old half with its sealed journal and the tail, and the new half with that tail, have the same value: where one image
+-- opens with the tail, and in another the new half is chosen and its journal is that tail under the old half's limits, the
+-- other image opens too, and has the same value.
+abbrev pub TakesOverTheSame : Type 0 → Type 0 → Type 0
+TakesOverTheSame Db C =
+    (format : StoreFormat Db C) (latest : ℕ) (old new : List ℕ) (opening : Opening Db C) (next : Checkpoint Db) (behind : Reading C)
+    → IsOpening format latest old opening → opening.tail ≡ Some behind → FoldsJournal format opening next
+    → IsChosen format latest new opening.geometry (other opening.chosen) next
+    → IsJournal format.commands (limits_in opening.checkpoint) (journal_of opening.geometry (other opening.chosen) new) opening.journal.place behind
+    → IsOpening format latest new (taken_over opening next behind)
+    × (value_of format (taken_over opening next behind) ≡ value_of format opening)
+
+-- a journal without a command
+abbrev pub empty_journal : {C : Type 0} → ℕ → Reading C
+empty_journal place = record { commands = []; tail = 0; sealed = false; place = place }
+
+-- Without a tail no journal is sealed: the new half's journal is empty, as its first gate is closed.
+abbrev pub TakesOverTheSameAtRest : Type 0 → Type 0 → Type 0
+TakesOverTheSameAtRest Db C =
+    (format : StoreFormat Db C) (latest : ℕ) (new : List ℕ) (opening : Opening Db C) (next : Checkpoint Db)
+    → opening.tail ≡ None → FoldsJournal format opening next
+    → IsChosen format latest new opening.geometry (other opening.chosen) next
+    → ¬ IsOpenGate (sector_at 0 (journal_of opening.geometry (other opening.chosen) new))
+    → IsOpening format latest new (taken_over opening next (empty_journal next.head.place))
+    × (value_of format (taken_over opening next (empty_journal next.head.place)) ≡ value_of format opening)
+
+-- A store as it is formatted: the first half is open without a row, and its journal's first gate is closed; the second
+-- half is closed.
+pub record IsFormatted {Db C : Type 0} (format : StoreFormat Db C) (version : ℕ) (geometry : Geometry) (image : List ℕ) : Type 0 where
+  pub store : IsStore geometry image
+  pub gate : IsOpenGate (gate_of geometry First image)
+  pub begins : IsCheckpoint format.rows (area_of geometry First image) (first_checkpoint format version)
+  pub journal : ¬ IsOpenGate (sector_at 0 (journal_of geometry First image))
+  pub second : ¬ IsOpenGate (gate_of geometry Second image)
+
+-- the store opens to the empty database, at place 0
+abbrev pub OpensEmpty : Type 0 → Type 0 → Type 0
+OpensEmpty Db C =
+    (format : StoreFormat Db C) (version latest : ℕ) (geometry : Geometry) (image : List ℕ) → version ≤ latest
+    → IsFormatted format version geometry image → OpensTo format latest image (record { db = format.empty; place = 0 })

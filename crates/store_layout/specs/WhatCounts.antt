@@ -1,0 +1,55 @@
+-- The bytes of an image that count for its opening, as spans: all other bytes may be anything.
+use Rattle.std.specs.Prelude.{◌≡◌, ◌⊎◌, ℕ, ◌+◌, ◌*◌, ◌≤◌, Bool, true, false, List, [], ◌∷◌, Option, Some, None}
+use Rattle.byte_lists.specs.Content.{part}
+use Rattle.byte_lists.specs.Sectors.{is_open_gate}
+use Rattle.store_layout.specs.declared.half.Half.{Half}
+use Rattle.store_layout.specs.Journal.{Reading, sectors_read}
+use Rattle.store_layout.specs.Layout.{Geometry, other, area_at, gate_at, journal_at, gate_of}
+use Rattle.store_layout.specs.StoreFormat.{StoreFormat}
+use Rattle.store_layout.specs.Checkpoint.{checkpoint_size}
+use Rattle.store_layout.specs.Opening.{Opening}
+
+-- this number of bytes at an offset
+pub record Span : Type 0 where
+  pub at : ℕ
+  pub size : ℕ
+
+abbrev pub span : ℕ → ℕ → Span
+span at size = record { at = at; size = size }
+
+-- of the half that isn't chosen: its head where it is open, and its journal where that continues after a seal
+abbrev pub head_spans : Geometry → Half → Bool → List Span → List Span
+head_spans geometry half false more = more
+head_spans geometry half true more = span (512 * area_at geometry half) 24 ∷ more
+
+abbrev pub tail_spans : {C : Type 0} → Geometry → Half → Option (Reading C) → List Span
+tail_spans geometry half None = []
+tail_spans geometry half (Some behind) = span (512 * journal_at geometry half) (512 * sectors_read behind) ∷ []
+
+-- the title in sector 0; and of the chosen half byte 0 of its gate, its checkpoint, and its journal as far as it is read
+abbrev pub chosen_spans : {Db C : Type 0} → StoreFormat Db C → Opening Db C → List Span → List Span
+chosen_spans format opening more =
+    span 0 20
+    ∷ span (512 * gate_at opening.geometry opening.chosen) 1
+    ∷ span (512 * area_at opening.geometry opening.chosen) (checkpoint_size format.rows opening.checkpoint)
+    ∷ span (512 * journal_at opening.geometry opening.chosen) (512 * sectors_read opening.journal)
+    ∷ more
+
+-- all of these, with byte 0 of the other half's gate, and then its head or its journal
+abbrev pub spans_of : {Db C : Type 0} → StoreFormat Db C → Opening Db C → Bool → List Span
+spans_of format opening other_is_open =
+    chosen_spans format opening
+    (span (512 * gate_at opening.geometry (other opening.chosen)) 1
+    ∷ head_spans opening.geometry (other opening.chosen) other_is_open (tail_spans opening.geometry (other opening.chosen) opening.tail))
+
+-- the spans of an image with this opening
+abbrev pub spans_in : {Db C : Type 0} → StoreFormat Db C → List ℕ → Opening Db C → List Span
+spans_in format image opening = spans_of format opening (is_open_gate (gate_of opening.geometry (other opening.chosen) image))
+
+-- two images have the same bytes in a span
+abbrev pub IsSameSpan : List ℕ → List ℕ → Span → Type 0
+IsSameSpan one two counted = part counted.at counted.size two ≡ part counted.at counted.size one
+
+-- this number of bytes at an offset is before the span or after it
+abbrev pub IsApart : ℕ → ℕ → Span → Type 0
+IsApart at size counted = (at + size ≤ counted.at) ⊎ (counted.at + counted.size ≤ at)

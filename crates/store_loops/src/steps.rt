@@ -1,0 +1,91 @@
+//! The guarded calls of a state, one at a time, from any thread.
+
+ghost use Rattle.std.specs.Prelude.{◌≡◌, true, false};
+ghost use Rattle.store_loops.specs.Receipts.{IsTaken, IsRedeemed, LeadsOn, LeadsOut, IsHandedIn};
+
+use group_core::{
+    AtClosing, AtLaid, AtLive, AtOpened, AtPlan, AtStable, AtStaged, AtSwitched, AtWritten,
+    BeginError, Closing, Durable, Laid, Live, Opened, Plan, PublishError, Redeemed, Stable,
+    StageError, Staged, StepError, SubmitError, Switched, Ticket, Written,
+};
+use path_db::Command;
+
+/// What a thread waits for.
+#[derive(Clone, Copy)]
+pub enum Awaited {
+    /// A command to commit, or room in the journal for it: the flusher waits for it.
+    Work,
+    /// A sealed journal: the checkpointer waits for it.
+    Seal,
+    /// That the command of this place is committed: whoever has submitted it waits for that.
+    Outcome(u64),
+}
+
+/// A state that several threads work on. Each call but `changes` and `rest` is one call of the state's method of that name, made
+/// while no other thread makes one. Nothing is known of the state from one call to the next; a value that comes back comes back as it
+/// was.
+pub trait Steps {
+    ghost use Rattle.std.specs.Prelude.{List};
+    ghost use Rattle.path_rows.specs.Database.{RowView};
+    ghost use Rattle.store_layout.specs.Opening.{StoreValue};
+
+    /// What a receipt says of the rows that were shown when it was given.
+    type Note: Drop;
+
+    /// A note may be given of a value.
+    ghost tells: { StoreValue (List RowView) → Self.Note → Type 0 };
+
+    fn submit(&self, command: Command) -> Result<Ticket, (Command, SubmitError)>
+        ensures { IsTaken command result };
+
+    fn redeem(&self, ticket: Ticket) -> Redeemed<Self::Note>
+        ensures { IsRedeemed tells ticket result };
+
+    fn halt(&self);
+
+    fn stage(&self) -> Result<Staged, StageError>;
+
+    fn write_group(&self, value: Staged) -> Result<Written, StepError<AtStaged>>
+        ensures { LeadsOn value result };
+
+    fn sync_group(&self, value: Written) -> Result<Stable, StepError<AtWritten>>
+        ensures { LeadsOn value result };
+
+    fn open_gate(&self, value: Stable) -> Result<Opened, StepError<AtStable>>
+        ensures { LeadsOn value result };
+
+    fn sync_gate(&self, value: Opened) -> Result<Durable, StepError<AtOpened>>
+        ensures { LeadsOn value result };
+
+    fn publish(&self, value: Durable) -> Result<(), PublishError>
+        ensures { IsHandedIn value result };
+
+    fn begin(&self) -> Result<Plan, BeginError>;
+
+    fn write_chunk(&self, value: Plan) -> Result<Plan, StepError<AtPlan>>
+        requires { value.phase.done ≡ false }
+        ensures { LeadsOn value result };
+
+    fn sync_chunks(&self, value: Plan) -> Result<Laid, StepError<AtPlan>>
+        requires { value.phase.done ≡ true }
+        ensures { LeadsOn value result };
+
+    fn open_half(&self, value: Laid) -> Result<Switched, StepError<AtLaid>>
+        ensures { LeadsOn value result };
+
+    fn sync_half(&self, value: Switched) -> Result<Live, StepError<AtSwitched>>
+        ensures { LeadsOn value result };
+
+    fn close_half(&self, value: Live) -> Result<Closing, StepError<AtLive>>
+        ensures { LeadsOn value result };
+
+    fn sync_close(&self, value: Closing) -> Result<(), StepError<AtClosing>>
+        ensures { LeadsOut value result };
+
+    /// How many changes there were of what is awaited; a stop of the state is a change of each kind. The count wraps.
+    fn changes(&self, awaited: Awaited) -> u64;
+
+    /// Waits until there are more changes than `seen`, at most 10 milliseconds. A change after the count was read ends the rest at once,
+    /// also where it came before the rest began.
+    fn rest(&self, awaited: Awaited, seen: u64);
+}

@@ -1,0 +1,157 @@
+//! Stores that aren't made or upgraded: sizes that are refused, devices that fail, and a journal that is sealed.
+
+use crate::commands::{LEAST, SECTORS, formatted_old};
+use crate::writers::{Room, with_room};
+use cli_store::{Fault, format, show, upgrade};
+use sector_dev::{Device, FaultDevice, MemDevice, SECTOR};
+use std::alloc::Global;
+use std::process::Abort;
+use std::test::Fail;
+use store_open::{FormatError, Geometry, OpenError, StoreError};
+
+// Sizes in sectors of a checkpoint area, a journal and a device, on which no store of them is made, and why.
+const NO_STORES: [(u32, u32, u64, FormatError); 6] = [
+    (1, 516, SECTORS, FormatError::BadGeometry),
+    (2, 515, SECTORS, FormatError::BadGeometry),
+    (1_048_577, 516, SECTORS, FormatError::BadGeometry),
+    (2, 1_048_577, SECTORS, FormatError::BadGeometry),
+    (2, 516, SECTORS - 1, FormatError::TooSmall),
+    (3, 516, SECTORS, FormatError::TooSmall),
+];
+
+// What making a store answers and prints.
+fn format_answer<D: Device>(
+    alloc: Global,
+    device: &mut D,
+    geometry: Geometry,
+) -> (Result<(), Fault>, Room) {
+    let mut output = with_room(alloc, 100);
+    let answer = format(alloc, device, geometry, &mut output);
+    (answer, output)
+}
+
+// Sees why no store is made, and that nothing is printed.
+fn assert_not_formatted(
+    rt: &impl Abort,
+    (answer, output): (Result<(), Fault>, Room),
+    wanted: FormatError,
+) -> Result<(), Fail> {
+    assert_eq!(rt; answer, Err(Fault::Format(wanted)));
+    assert_eq!(rt; output.text()?, "");
+    Ok(())
+}
+
+#[test]
+fn sizes_that_are_not_allowed(rt: HostRuntime) -> Result<(), Fail> {
+    for (checkpoint, journal, sectors, wanted) in NO_STORES {
+        let mut device = MemDevice::new(rt.alloc(), sectors)?;
+        let geometry = Geometry {
+            checkpoint,
+            journal,
+        };
+        let answer = format_answer(rt.alloc(), &mut device, geometry);
+        assert_not_formatted(&rt, answer, wanted)?;
+    }
+    Ok(())
+}
+
+// Above the number of calls that a command makes to a device here.
+const MANY: u64 = 100;
+
+// Makes a store on a device of which the call of this number fails: whether none does. The device is formatted again after a fault.
+fn is_formatted(rt: &impl Abort, alloc: Global, number: u64) -> Result<bool, Fail> {
+    let mut device = FaultDevice::new(MemDevice::new(alloc, SECTORS)?, number);
+    let answer = format_answer(alloc, &mut device, LEAST);
+    if answer.0.is_ok() {
+        assert_eq!(rt; answer.1.text()?, "formatted 1039 sectors\n");
+        return Ok(true);
+    }
+    assert_not_formatted(rt, answer, FormatError::Fault)?;
+    let (again, output) = format_answer(alloc, &mut device, LEAST);
+    assert_eq!(rt; again, Ok(()));
+    assert_eq!(rt; output.text()?, "formatted 1039 sectors\n");
+    Ok(false)
+}
+
+#[test]
+fn failing_devices_are_formatted_again(rt: HostRuntime) -> Result<(), Fail> {
+    let mut failed = 0u64;
+    for number in 0..MANY {
+        if is_formatted(&rt, rt.alloc(), number)? {
+            break;
+        }
+        failed = number + 1;
+    }
+    assert!(rt; 0 < failed && failed < MANY);
+    Ok(())
+}
+
+// What having a store in the version that is written answers, and what it prints; and the device.
+fn upgrade_answer<D: Device>(alloc: Global, device: D) -> (Result<(), Fault>, Room, D) {
+    let mut output = with_room(alloc, 100);
+    match upgrade(alloc, device, &mut output) {
+        Ok(device) => (Ok(()), output, device),
+        Err((device, fault)) => (Err(fault), output, device),
+    }
+}
+
+// Sees what an upgrade answered and printed.
+fn assert_upgrade(
+    rt: &impl Abort,
+    answer: (Result<(), Fault>, &Room),
+    wanted: (Result<(), Fault>, &str),
+) -> Result<(), Fail> {
+    assert_eq!(rt; answer.0, wanted.0);
+    assert_eq!(rt; answer.1.text()?, wanted.1);
+    Ok(())
+}
+
+// Has a store of version 1 upgraded whose device fails at the call of this number: what it answered. It is upgraded again after that.
+fn upgraded(rt: &impl Abort, alloc: Global, number: u64) -> Result<Result<(), Fault>, Fail> {
+    let failing = FaultDevice::new(formatted_old(alloc)?, number);
+    let (answer, output, device) = upgrade_answer(alloc, failing);
+    let printed = if answer.is_ok() { "version 2\n" } else { "" };
+    assert_eq!(rt; output.text()?, printed);
+    let (again, output, _device) = upgrade_answer(alloc, device.into_mem());
+    assert_upgrade(rt, (again, &output), (Ok(()), "version 2\n"))?;
+    Ok(answer)
+}
+
+// Faults of the opening come first, and then those of the checkpoint.
+#[test]
+fn failing_devices_are_upgraded_again(rt: HostRuntime) -> Result<(), Fail> {
+    let opening = Err(Fault::Open(OpenError::Device));
+    let checkpoint = Err(Fault::Checkpoint(StoreError::Fault));
+    let mut last = opening;
+    for number in 0..MANY {
+        let answer = upgraded(&rt, rt.alloc(), number)?;
+        let is_next = answer == last || (last, answer) == (opening, checkpoint);
+        if answer.is_ok() {
+            break;
+        }
+        assert!(rt; is_next, "{number}");
+        last = answer;
+    }
+    assert_eq!(rt; last, checkpoint);
+    Ok(())
+}
+
+// Its journal is folded by a checkpointer at work alone.
+#[test]
+fn sealed_old_stores_are_not_upgraded(rt: HostRuntime) -> Result<(), Fail> {
+    let alloc = rt.alloc();
+    let mut device = formatted_old(alloc)?;
+    let mut seal = [0; SECTOR];
+    seal[0] = 2;
+    if 5 < device.sectors() {
+        device.write(5, &seal)?;
+        device.write(4, &[0xa7; SECTOR])?;
+    }
+    let (answer, output, device) = upgrade_answer(alloc, device);
+    let sealed = Err(Fault::Checkpoint(StoreError::Sealed));
+    assert_upgrade(&rt, (answer, &output), (sealed, ""))?;
+    let mut output = with_room(alloc, 100);
+    assert!(rt; show(alloc, device, &mut output).is_ok());
+    assert_eq!(rt; output.text()?, "place 0\n");
+    Ok(())
+}

@@ -1,0 +1,256 @@
+//! Scripts run on a device that fails at each of its calls in turn, and openings of what is left that fail again.
+
+use crate::noted::{Calls, Noted};
+use crate::scripts::{Ending, Left, Script, calls_device, fronted, seen};
+use sector_dev::{Device, FuseDevice, MemDevice, SECTOR, Tear};
+use std::alloc::Global;
+use store_open::{OpenError, open};
+use test_group_scripts::acts::{Act, Line};
+use test_group_scripts::runs::{begun, done, ended};
+use test_group_scripts::stores::{bytes_of, opened};
+use test_support::{TestHost, assert_same, assert_true};
+
+/// More calls of the device than any of these runs makes.
+const MANY: u64 = 4000;
+
+/// How a device is made to fail.
+pub trait Failure {
+    /// Such a device.
+    type On: Device;
+
+    /// One over this memory that fails at the call of this number, the first one being number 0.
+    fn over(&self, memory: MemDevice, number: u64) -> Self::On;
+
+    /// How many calls were made of it after the first that failed.
+    fn late(&self, device: &Self::On) -> u64;
+
+    /// What is there now.
+    fn memory(&self, device: Self::On) -> MemDevice;
+}
+
+impl Failure for Tear {
+    type On = FuseDevice;
+
+    fn over(&self, memory: MemDevice, number: u64) -> FuseDevice {
+        FuseDevice::new(memory, number, *self)
+    }
+
+    fn late(&self, device: &FuseDevice) -> u64 {
+        device.faults().saturating_sub(1)
+    }
+
+    fn memory(&self, device: FuseDevice) -> MemDevice {
+        device.into_mem()
+    }
+}
+
+/// The device with this image.
+fn restored(rt: &impl TestHost, device: MemDevice, image: &[u8]) -> MemDevice {
+    let mut device = device;
+    assert_true(rt, image.len() % SECTOR == 0, "whole sectors are written");
+    let count = (image.len() / SECTOR) as u64;
+    assert_true(rt, count <= device.sectors(), "the device has them");
+    assert_true(rt, device.write(0, image).is_ok(), "they are written");
+    assert_true(rt, device.sync().is_ok(), "they are synced");
+    device
+}
+
+/// What is there after a failure, after which no call of the device was made.
+fn memory_of<F: Failure>(rt: &impl TestHost, failure: &F, device: F::On) -> MemDevice {
+    assert_same(rt, &failure.late(&device), &0, &"calls after a failure");
+    failure.memory(device)
+}
+
+/// Runs a script on a device that fails: what that may leave, and what it left.
+fn failing_run<F: Failure>(
+    rt: &impl TestHost,
+    alloc: Global,
+    script: &Script,
+    failure: &F,
+    device: F::On,
+) -> (Left, MemDevice) {
+    let store = match open(alloc, device) {
+        Ok(store) => store,
+        Err((device, e)) => {
+            assert_same(rt, &e, &OpenError::Device, &"an opening");
+            let left = Left {
+                ending: Ending::Unopened,
+                ..script.none_left()
+            };
+            return (left, memory_of(rt, failure, device));
+        }
+    };
+    let held = begun(rt, alloc, store);
+    let (held, replies) = done(rt, alloc, held, &script.events);
+    assert_same(rt, &replies.len(), &script.events.len(), &"replies");
+    let left = seen(rt, script, &replies);
+    (left, memory_of(rt, failure, ended(rt, held)))
+}
+
+/// Whether a device has this image.
+fn has_image(rt: &impl TestHost, alloc: Global, device: &mut MemDevice, image: &[u8]) -> bool {
+    bytes_of(rt, alloc, device, image.len() / SECTOR).as_slice() == image
+}
+
+/// Sees that a device opens to this place, unless it has the image that does.
+fn opened_alike(
+    rt: &impl TestHost,
+    alloc: Global,
+    script: &Script,
+    device: MemDevice,
+    (image, place): (&[u8], u64),
+) -> MemDevice {
+    let mut device = device;
+    if has_image(rt, alloc, &mut device, image) {
+        return device;
+    }
+    let store = opened(rt, alloc, device);
+    let (_place, device) = fronted(rt, alloc, script, store, (place, place));
+    device
+}
+
+/// The calls of an opening of a device with this image.
+fn calls_of_opening(
+    rt: &impl TestHost,
+    alloc: Global,
+    device: MemDevice,
+    image: &[u8],
+) -> (Calls, MemDevice) {
+    let noted = Noted::over(rt, alloc, restored(rt, device, image));
+    opened(rt, alloc, noted).into_device().into_parts()
+}
+
+/// The calls of a script's run, its opening among them.
+fn calls_of_run(
+    rt: &impl TestHost,
+    alloc: Global,
+    script: &Script,
+    device: MemDevice,
+) -> (Calls, MemDevice) {
+    let noted = Noted::over(rt, alloc, restored(rt, device, &script.image));
+    let held = begun(rt, alloc, opened(rt, alloc, noted));
+    let (held, _replies) = done(rt, alloc, held, &script.events);
+    ended(rt, held).into_parts()
+}
+
+/// Has the opening of a device with this image, which opens to this place, fail at its calls that the script has tried, one after the
+/// other: each time it opens to the same. How many times it failed.
+fn failing_openings<F: Failure>(
+    rt: &impl TestHost,
+    alloc: Global,
+    script: &Script,
+    failure: &F,
+    device: MemDevice,
+    (image, place): (&[u8], u64),
+) -> (u64, MemDevice) {
+    let (calls, mut device) = calls_of_opening(rt, alloc, device, image);
+    let mut failures = 0u64;
+    for number in 0..MANY {
+        if !calls.is_tried(number, script.apart) {
+            continue;
+        }
+        match open(alloc, failure.over(restored(rt, device, image), number)) {
+            Ok(store) => {
+                let (_place, failing) = fronted(rt, alloc, script, store, (place, place));
+                return (failures, failure.memory(failing));
+            }
+            Err((failing, e)) => {
+                assert_same(rt, &e, &OpenError::Device, &"an opening");
+                failures = failures.saturating_add(1);
+                let rest = memory_of(rt, failure, failing);
+                device = opened_alike(rt, alloc, script, rest, (image, place));
+            }
+        }
+    }
+    rt.fail("opening makes no end")
+}
+
+/// Sees that no event from one number up to another makes a call of the device.
+fn assert_none_calls(rt: &impl TestHost, lines: &[Line], from: usize, to: usize) {
+    for (number, line) in lines.iter().enumerate() {
+        if from <= number && number < to {
+            assert_same(rt, &calls_device(*line), &false, &number);
+        }
+    }
+}
+
+/// Sees that a failure is in the next event that calls the device, where the ones before it were before this event: the event
+/// after it. Beginning a checkpoint makes several calls, and each other step one.
+fn next_event(rt: &impl TestHost, lines: &[Line], next: usize, ending: Ending) -> usize {
+    match ending {
+        Ending::Unopened => {
+            assert_same(rt, &next, &0, &"an opening is first");
+            0
+        }
+        Ending::Whole => {
+            assert_none_calls(rt, lines, next, lines.len());
+            lines.len()
+        }
+        Ending::Failed(number) => {
+            assert_next(rt, lines, next, number);
+            assert_none_calls(rt, lines, next, number);
+            number.saturating_add(1)
+        }
+    }
+}
+
+/// Sees that the event of this number isn't before the next one; it may be that of beginning a checkpoint again.
+fn assert_next(rt: &impl TestHost, lines: &[Line], next: usize, number: usize) {
+    let behind = number.saturating_add(1);
+    let is_begin = matches!(lines.get(number), Some((Act::Begin, _)));
+    let is_next = next < behind || (next == behind && is_begin);
+    assert_same(rt, &is_next, &true, &(next, number));
+}
+
+/// What a run left on a device: the image, and the place to which it opens, which is in these bounds.
+fn opened_image(
+    rt: &impl TestHost,
+    alloc: Global,
+    script: &Script,
+    device: MemDevice,
+    bounds: (u64, u64),
+) -> (Vec<u8>, u64, MemDevice) {
+    let mut device = device;
+    let image = bytes_of(rt, alloc, &mut device, script.sectors());
+    let store = opened(rt, alloc, device);
+    let (place, device) = fronted(rt, alloc, script, store, bounds);
+    (image, place, device)
+}
+
+/// Has a script's run fail at its calls of the device that the script has tried, one after the other, and the openings of each image
+/// that it leaves: how many times each failed. An image that is left twice in a row is opened with failures once.
+pub fn failing_runs<F: Failure>(
+    rt: &impl TestHost,
+    alloc: Global,
+    script: &Script,
+    failure: &F,
+) -> (u64, u64) {
+    let (calls, mut device) = calls_of_run(rt, alloc, script, script.device(rt, alloc));
+    let mut runs = 0u64;
+    let mut last = Vec::new(alloc);
+    let mut again = 0u64;
+    let mut next = 0;
+    for number in 0..MANY {
+        if !calls.is_tried(number, script.apart) {
+            continue;
+        }
+        let failing = failure.over(restored(rt, device, &script.image), number);
+        let (left, rest) = failing_run(rt, alloc, script, failure, failing);
+        next = next_event(rt, &script.lines, next, left.ending);
+        let bounds = left.bounds();
+        let (image, place);
+        (image, place, device) = opened_image(rt, alloc, script, rest, bounds);
+        if left.ending == Ending::Whole {
+            return (runs, again);
+        }
+        runs = runs.saturating_add(1);
+        if image.as_slice() == last.as_slice() {
+            continue;
+        }
+        let failures;
+        (failures, device) = failing_openings(rt, alloc, script, failure, device, (&image, place));
+        again = again.saturating_add(failures);
+        last = image;
+    }
+    rt.fail("the run makes no end")
+}

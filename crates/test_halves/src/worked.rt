@@ -1,0 +1,144 @@
+//! A segment that was worked through by hand, and others like it.
+
+use gate_journal::{JournalError, scan};
+use path_db::{Command, Registration};
+use seg_core::{SegType, Segment, read_segment};
+use std::alloc::Global;
+use std::process::Abort;
+use std::test::Fail;
+pub(crate) use test_support::{EXPIRY, ID, SEGMENT};
+
+/// The worked segment.
+pub(crate) fn segment(alloc: Global) -> Result<Segment, Fail> {
+    Ok(read_segment(alloc, &SEGMENT)?)
+}
+
+/// The worked segment with another timestamp and another segment id, both below 128. It has the same hops, and so that id.
+pub(crate) fn dated(alloc: Global, timestamp: u8, segment_id: u8) -> Result<Segment, Fail> {
+    Ok(read_segment(alloc, &test_support::dated(timestamp, segment_id))?)
+}
+
+/// The worked segment, but its first AS is left by this interface, below 128: its id is another.
+pub(crate) fn leaving_by(alloc: Global, egress: u8) -> Result<Segment, Fail> {
+    Ok(read_segment(alloc, &test_support::leaving_by(egress))?)
+}
+
+/// The command that registers this segment.
+pub(crate) fn register(alloc: Global, kind: SegType, segment: Segment) -> Result<Command, Fail> {
+    let mut rows = Vec::new(alloc);
+    rows.push((kind, segment))?;
+    Ok(Command::Register(Registration::new(rows)))
+}
+
+/// The command that registers this number of segments of this number of ids.
+pub(crate) fn many(alloc: Global, count: u8) -> Result<Command, Fail> {
+    let mut rows = Vec::new(alloc);
+    for egress in 1..=count {
+        rows.push((SegType::Down, leaving_by(alloc, egress)?))?;
+    }
+    Ok(Command::Register(Registration::new(rows)))
+}
+
+/// This number of purges, at the moments from 0 on.
+pub(crate) fn purges(alloc: Global, count: u64) -> Result<Vec<Command>, Fail> {
+    let mut commands = Vec::new(alloc);
+    for moment in 0..count {
+        commands.push(Command::Purge(moment))?;
+    }
+    Ok(commands)
+}
+
+/// The payload of a group of this number of purges, as it is drawn, byte by byte.
+pub(crate) fn drawn(alloc: Global, count: u8, place: u64) -> Result<Vec<u8>, Fail> {
+    let size = u32::from(count) * 13;
+    let mut bytes = Vec::from_slice(alloc, &[1, count, 0, 0])?;
+    bytes.extend_from_slice(&size.to_be_bytes())?;
+    bytes.extend_from_slice(&place.to_be_bytes())?;
+    for moment in 0..u64::from(count) {
+        bytes.extend_from_slice(&[0, 0, 0, 9, 2])?;
+        bytes.extend_from_slice(&moment.to_be_bytes())?;
+    }
+    pad(&mut bytes)?;
+    Ok(bytes)
+}
+
+/// What is in a journal.
+#[derive(Clone, Copy)]
+pub(crate) enum Part {
+    /// An open gate.
+    Open,
+    /// A closed gate.
+    Closed,
+    /// The group of this number of purges at this place.
+    Purges(u8, u64),
+    /// The removal of a down segment, at place 0.
+    Removal,
+    /// The seal at this place.
+    Seal(u64),
+}
+
+/// The bytes of these parts.
+pub(crate) fn bytes_of(alloc: Global, parts: &[Part]) -> Result<Vec<u8>, Fail> {
+    let mut bytes = Vec::new(alloc);
+    for part in parts {
+        match *part {
+            Part::Open => {
+                bytes.push(0xa7)?;
+                pad(&mut bytes)?;
+            }
+            Part::Closed => bytes.extend_from_slice(&[0; 512])?,
+            Part::Purges(count, place) => bytes.extend_from_slice(&drawn(alloc, count, place)?)?,
+            Part::Removal => {
+                bytes.extend_from_slice(&[1, 1, 0, 0, 0, 0, 0, 38, 0, 0, 0, 0, 0, 0, 0, 0])?;
+                bytes.extend_from_slice(&[0, 0, 0, 34, 3, 2])?;
+                pad(&mut bytes)?;
+            }
+            Part::Seal(place) => {
+                bytes.extend_from_slice(&[2, 0, 0, 0, 0, 0, 0, 0])?;
+                bytes.extend_from_slice(&place.to_be_bytes())?;
+                pad(&mut bytes)?;
+            }
+        }
+    }
+    Ok(bytes)
+}
+
+/// Appends zeros up to a whole sector.
+fn pad(bytes: &mut Vec<u8>) -> Result<(), Fail> {
+    for _ in 0..512u16 {
+        if bytes.len() % 512 != 0 {
+            bytes.push(0)?;
+        }
+    }
+    Ok(())
+}
+
+/// What a journal reads as: how many commands, its tail, whether it is sealed, and the place reached.
+pub(crate) type Seen = Result<(usize, u64, bool, u64), JournalError>;
+
+/// What these bytes read as, or want of memory.
+pub(crate) fn read_as(
+    rt: &impl Abort,
+    alloc: Global,
+    bytes: &[u8],
+    place: u64,
+    version: u32,
+) -> Seen {
+    assert!(rt; bytes.len() >= 512 && bytes.len() % 512 == 0);
+    let read = scan(alloc, bytes, place, version)?;
+    Ok((read.commands.len(), read.tail, read.sealed, read.place))
+}
+
+/// What these bytes read as. Want of memory is no answer.
+pub(crate) fn seen(
+    rt: &impl Abort,
+    alloc: Global,
+    bytes: &[u8],
+    place: u64,
+    version: u32,
+) -> Result<Seen, Fail> {
+    match read_as(rt, alloc, bytes, place, version) {
+        Err(JournalError::NoMemory) => Err(JournalError::NoMemory.into()),
+        answer => Ok(answer),
+    }
+}

@@ -1,0 +1,53 @@
+//! Six hundred purges, one after the other.
+
+use crate::crews::{Errand, Guests, crewed};
+use crate::host::Host;
+use path_db::Command;
+use path_hub::{Hub, HubName};
+use sector_dev::Device;
+use std::process::Abort;
+use std::sync::Wait;
+use std::sync::atomic::{AtomicU64, Ordering};
+use std::test::Fail;
+use std::time::Clock;
+use test_hub_scripts::stores::{assert_pair, new_store, opened};
+
+/// How many commands are registered. A journal of 516 sectors has room for 257 groups of one purge, and the second seal waits for the
+/// checkpoint after the first one.
+const PURGES: u64 = 600;
+
+/// Registers purges, and counts those whose receipts have the next place, up to one that has not.
+#[derive(Drop)]
+struct Purges {
+    placed: AtomicU64,
+}
+
+impl Errand for Purges {
+    fn run<D: Device, N: HubName, R: Wait + Clock + Abort>(&self, hub: &Hub<D, N, R>, _guest: u64) {
+        for place in 0..PURGES {
+            match hub.register(Command::Purge(0)) {
+                Ok(receipt) if receipt.place() == place => {}
+                _ => return,
+            }
+            self.placed.fetch_add(1, Ordering::SeqCst);
+        }
+    }
+}
+
+#[test]
+fn six_hundred_purges(rt: HostRuntime) -> Result<(), Fail> {
+    let host = Host(&rt);
+    let store = new_store(&host, rt.alloc());
+    let purges = Purges {
+        placed: AtomicU64::new(0),
+    };
+    let guests = Guests::new(1, purges);
+    let device = crewed(&rt, rt.alloc(), store, &guests);
+    assert_eq!(rt; guests.errand.placed.load(Ordering::SeqCst), PURGES);
+    let store = opened(&host, rt.alloc(), device);
+    assert_pair(&host, &store, (0, 0, PURGES));
+    // The first half's checkpoint has epoch 1, and each further one has the next.
+    assert!(rt; 2 <= store.epoch());
+    let _device = store.into_device();
+    Ok(())
+}

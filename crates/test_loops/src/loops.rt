@@ -1,0 +1,206 @@
+//! The loops of both actors over a state that stops before one of their calls.
+
+use crate::host::Host;
+use group_core::{Redeemed, Ticket};
+use path_db::Command;
+use path_hub::{Steps, checkpointer_loop, flusher_loop};
+use sector_dev::MemDevice;
+use std::alloc::Global;
+use std::process::Abort;
+use std::sync::Wait;
+use std::test::Fail;
+use store_open::format;
+use test_hub_scripts::acts::{GROUPS, Unwatched, commit_all, flush, seal, spend, submit};
+use test_hub_scripts::fakes::Fake;
+use test_hub_scripts::stores::{LEAST, bytes_of, formatted, opened, pair_of, restored, sealed_row};
+use test_support::TestHost;
+
+/// How many commands are submitted: a group of 32, and one of 8.
+const COMMANDS: usize = 40;
+
+/// How many calls are stopped before, one after the other.
+const STOPS: u64 = 40;
+
+/// Submits the commands.
+fn submit_all<R: Wait + TestHost>(rt: &impl Abort, alloc: Global, fake: &Fake<R>) -> Vec<Ticket> {
+    let Ok(mut tickets) = Vec::with_capacity(alloc, COMMANDS) else {
+        panic!(rt; "out of memory");
+    };
+    for _ in 0..COMMANDS {
+        match fake.submit(Command::Purge(0)) {
+            Ok(ticket) => {
+                if let Err(_ticket) = tickets.push(ticket) {
+                    panic!(rt; "out of memory");
+                }
+            }
+            Err((_command, refusal)) => panic!(rt; "{refusal:?}"),
+        }
+    }
+    tickets
+}
+
+/// Redeems all tickets: how many of their commands are committed, and of how many that isn't known.
+fn redeem_all<R: Wait + TestHost>(
+    rt: &impl Abort,
+    fake: &Fake<R>,
+    tickets: Vec<Ticket>,
+) -> (u64, u64) {
+    let mut tickets = tickets;
+    let mut committed = 0u64;
+    let mut unknown = 0u64;
+    for _ in 0..COMMANDS {
+        let Some(ticket) = tickets.pop() else {
+            break;
+        };
+        match fake.redeem(ticket) {
+            Redeemed::Committed(_receipt) => committed = committed.wrapping_add(1),
+            Redeemed::Unknown(_place) => unknown = unknown.wrapping_add(1),
+            Redeemed::Waiting(_back) => panic!(rt; "a ticket waits"),
+            Redeemed::Stranger(_back) => panic!(rt; "a ticket is a stranger"),
+        }
+    }
+    assert!(rt; tickets.is_empty());
+    tickets.destroy_empty();
+    (committed, unknown)
+}
+
+/// What comes of a run.
+type Counts = (u64, u64, u64);
+
+/// Runs both loops over a state that stops before a call: how many commands are committed, and of how many that isn't known, once all
+/// tickets are redeemed; and how many calls there were from that one on.
+fn stopped_at<R: Wait + Abort + Copy + Drop>(
+    rt: R,
+    alloc: Global,
+    device: MemDevice,
+    number: u64,
+) -> (MemDevice, Counts) {
+    let mut device = device;
+    assert_eq!(&rt; format(&mut device, LEAST), Ok(()));
+    let fake = Fake::new(Host(rt), alloc, device);
+    let tickets = submit_all(&rt, alloc, &fake);
+    fake.stop_before(number);
+    flusher_loop(&rt, &fake);
+    let calls = fake.calls();
+    checkpointer_loop(&rt, &fake);
+    let (committed, unknown) = redeem_all(&rt, &fake, tickets);
+    let late = calls.wrapping_sub(number).wrapping_add(1);
+    (fake.into_device(), (committed, unknown, late))
+}
+
+/// Six calls commit the first group, and six more the second one. The sixth, which publishes, goes on where the state has stopped. The
+/// loop ends with the next staging: with the call of this number, where that is one.
+fn counts_at(number: u64) -> Counts {
+    let is_staging = number == 1 || number == 7 || 13 <= number;
+    let calls = if is_staging { 1 } else { 2 };
+    if number <= 5 {
+        (0, 40, calls)
+    } else if number <= 11 {
+        (32, 8, calls)
+    } else {
+        (40, 0, calls)
+    }
+}
+
+#[test]
+fn loops_end(rt: HostRuntime) -> Result<(), Fail> {
+    let host = Host(&rt);
+    let mut device = formatted(&host, rt.alloc(), LEAST);
+    for number in 1..=STOPS {
+        let counts;
+        (device, counts) = stopped_at(&rt, rt.alloc(), device, number);
+        assert_eq!(rt; counts, counts_at(number), "{number}");
+    }
+    Ok(())
+}
+
+/// The device of a store of no rows whose first journal is full, and sealed.
+fn full_device<R: Wait + Abort + Copy + Drop>(rt: R, alloc: Global) -> MemDevice {
+    let host = Host(rt);
+    let fake = Fake::new(host, alloc, formatted(&host, alloc, LEAST));
+    commit_all(&host, &fake, &mut Unwatched, GROUPS);
+    let ticket = seal(&host, &fake, &mut Unwatched);
+    fake.halt();
+    spend(&host, &fake, &mut Unwatched, ticket);
+    fake.into_device()
+}
+
+/// What a store is found to be: how many rows it has, its place, the epoch of its half, and whether that half's journal is sealed.
+type Found = (usize, u64, u64, bool);
+
+/// What a device opens to.
+fn found_on(rt: &Host<impl Abort>, alloc: Global, device: MemDevice) -> (MemDevice, Found) {
+    let store = opened(rt, alloc, device);
+    let (rows, _bytes, place) = pair_of(&store);
+    let found = (rows, place, store.epoch(), store.is_sealed());
+    (store.into_device(), found)
+}
+
+/// Runs the checkpointer's loop over a state with a sealed journal that stops before a call, before or after a purge is committed: what its
+/// device opens to.
+fn folded_at<R: Wait + Abort + Copy + Drop>(
+    rt: R,
+    alloc: Global,
+    device: MemDevice,
+    number: u64,
+    is_committed: bool,
+) -> (MemDevice, Found) {
+    let host = Host(rt);
+    let fake = Fake::new(host, alloc, device);
+    let ticket = submit(&host, &fake, &mut Unwatched);
+    if is_committed {
+        flush(&host, &fake, &mut Unwatched);
+    }
+    fake.stop_before(number);
+    checkpointer_loop(&rt, &fake);
+    spend(&host, &fake, &mut Unwatched, ticket);
+    found_on(&host, alloc, fake.into_device())
+}
+
+/// What is found of a store of these rows whose journal was sealed at a place. Seven calls make a checkpoint: after the fourth one, which
+/// writes the gate of the new half, the device opens with that half.
+fn found_at(rows: usize, place: u64, number: u64, is_committed: bool) -> Found {
+    let place = place.wrapping_add(u64::from(is_committed));
+    if number <= 4 {
+        (rows, place, 1, true)
+    } else {
+        (rows, place, 2, false)
+    }
+}
+
+/// Has the checkpointer's loop stopped before each of the first calls, over a device with a sealed journal: before and after a purge is
+/// committed, or by turns.
+fn fold_all<R: Wait + Abort + Copy + Drop>(
+    rt: R,
+    alloc: Global,
+    device: MemDevice,
+    (rows, place): (usize, u64),
+    stops: u64,
+    by_turns: bool,
+) {
+    let host = Host(rt);
+    let mut device = device;
+    let image = bytes_of(&host, alloc, &mut device);
+    for number in 1..=stops {
+        for is_committed in [false, true] {
+            if by_turns && is_committed == (number % 2 == 0) {
+                continue;
+            }
+            let found;
+            device = restored(&host, device, &image);
+            (device, found) = folded_at(rt, alloc, device, number, is_committed);
+            let wanted = found_at(rows, place, number, is_committed);
+            assert_eq!(&rt; found, wanted, "{number} {is_committed}");
+        }
+    }
+}
+
+#[test]
+fn checkpointer_ends(rt: HostRuntime) -> Result<(), Fail> {
+    let host = Host(&rt);
+    let alloc = rt.alloc();
+    fold_all(&rt, alloc, sealed_row(&host, alloc), (1, 1), STOPS, false);
+    // A full journal takes long to read.
+    fold_all(&rt, alloc, full_device(&rt, alloc), (0, GROUPS), 8, true);
+    Ok(())
+}

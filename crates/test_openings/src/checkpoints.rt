@@ -1,0 +1,224 @@
+//! Checkpoints at rest: the bytes, each refusal, and a stop or a fault at every call.
+
+use crate::stores::{
+    PLAIN, SECTORS, Worked, new_store, opened, pair_of, read_sector, state_of, worked_store,
+};
+use sector_dev::{FaultDevice, FuseDevice, SECTOR, Tear};
+use std::test::Fail;
+use store_layout::Half;
+use store_open::{StoreError, open};
+
+/// How many calls of the device a checkpoint makes: three writes, and a sync after each.
+const CALLS: u64 = 6;
+
+/// More calls than it takes to open a store and to make a checkpoint.
+const MANY: u64 = 200;
+
+/// What the worked store represents: three rows in 279 bytes, at place 259.
+const PAIR: (usize, u64, u64) = (3, 279, 259);
+
+/// How the sectors of a new store that aren't zero begin after its first checkpoint.
+const BEGINNINGS: [(u64, &[u8]); 4] = [
+    (
+        0,
+        b"SCPATHDB\x00\x00\x00\x01\x00\x00\x00\x02\x00\x00\x02\x04",
+    ),
+    (1, b"PCKP\x00\x00\x00\x02\x00\x00\x00\x00\x00\x00\x00\x01"),
+    (520, b"PCKP\x00\x00\x00\x02\x00\x00\x00\x00\x00\x00\x00\x02"),
+    (522, b"\xa7"),
+];
+
+/// The sector as it is then.
+fn sector_of(at: u64) -> [u8; 512] {
+    let mut sector = [0; SECTOR];
+    for (place, beginning) in BEGINNINGS {
+        if place == at {
+            for (byte, wanted) in sector.iter_mut().zip(beginning) {
+                *byte = *wanted;
+            }
+        }
+    }
+    sector
+}
+
+#[test]
+fn a_new_store_has_these_bytes_then(rt: HostRuntime) -> Result<(), Fail> {
+    let mut store = opened(rt.alloc(), new_store(rt.alloc())?)?;
+    assert_eq!(rt; store.checkpoint(), Ok(()));
+    let mut device = store.into_device();
+    for at in 0..SECTORS {
+        assert_eq!(rt; read_sector(&mut device, at), Some(sector_of(at)), "{at}");
+    }
+    Ok(())
+}
+
+#[test]
+fn rows_are_kept_by_one_after_another(rt: HostRuntime) -> Result<(), Fail> {
+    let mut device = worked_store(rt.alloc(), PLAIN)?;
+    let mut half = Half::First;
+    for epoch in 7..12 {
+        let mut store = opened(rt.alloc(), device)?;
+        assert_eq!(rt; pair_of(&store), PAIR);
+        assert_eq!(rt; state_of(&store), (epoch, 2, false, false));
+        assert_eq!(rt; store.tail_half(), half);
+        assert_eq!(rt; store.checkpoint(), Ok(()));
+        half = half.other();
+        assert_eq!(rt; pair_of(&store), PAIR);
+        assert_eq!(rt; state_of(&store), (epoch + 1, 2, false, false));
+        assert_eq!(rt; (store.tail_half(), store.tail_gate()), (half, 0));
+        assert_eq!(rt; store.sealed_len(), 279);
+        device = store.into_device();
+    }
+    let store = opened(rt.alloc(), device)?;
+    assert_eq!(rt; pair_of(&store), PAIR);
+    let _device = store.into_device();
+    Ok(())
+}
+
+#[test]
+fn an_old_version_is_made_new(rt: HostRuntime) -> Result<(), Fail> {
+    let old = Worked {
+        version: 1,
+        ..PLAIN
+    };
+    let mut store = opened(rt.alloc(), worked_store(rt.alloc(), old)?)?;
+    assert_eq!(rt; state_of(&store), (7, 1, false, false));
+    assert_eq!(rt; store.checkpoint(), Ok(()));
+    assert_eq!(rt; state_of(&store), (8, 2, false, false));
+    assert_eq!(rt; pair_of(&store), PAIR);
+    let store = opened(rt.alloc(), store.into_device())?;
+    assert_eq!(rt; state_of(&store), (8, 2, false, false));
+    assert_eq!(rt; pair_of(&store), PAIR);
+    let _device = store.into_device();
+    Ok(())
+}
+
+#[test]
+fn stores_are_refused_in_order(rt: HostRuntime) -> Result<(), Fail> {
+    let sealed = Worked {
+        epoch: [0xff; 8],
+        sealed: true,
+        ..PLAIN
+    };
+    let exhausted = Worked {
+        epoch: [0xff; 8],
+        twelve: true,
+        ..PLAIN
+    };
+    let unfit = Worked {
+        twelve: true,
+        ..PLAIN
+    };
+    for (worked, refusal, rows) in [
+        (sealed, StoreError::Sealed, 3),
+        (exhausted, StoreError::Exhausted, 15),
+        (unfit, StoreError::Unfit, 15),
+    ] {
+        let mut store = opened(rt.alloc(), worked_store(rt.alloc(), worked)?)?;
+        let (pair, state) = (pair_of(&store), state_of(&store));
+        assert_eq!(rt; pair.0, rows);
+        for _again in 0..2 {
+            assert_eq!(rt; store.checkpoint(), Err(refusal));
+            assert_eq!(rt; (pair_of(&store), state_of(&store)), (pair, state));
+        }
+        let _device = store.into_device();
+    }
+    Ok(())
+}
+
+#[test]
+fn a_fault_at_any_call_breaks_the_store(rt: HostRuntime) -> Result<(), Fail> {
+    let mut faults = 0u64;
+    for number in 0..MANY {
+        let device = FaultDevice::new(worked_store(rt.alloc(), PLAIN)?, number);
+        let Ok(mut store) = open(rt.alloc(), device) else {
+            continue;
+        };
+        let answer = store.checkpoint();
+        if answer == Ok(()) {
+            let _device = store.into_device();
+            break;
+        }
+        faults = faults.saturating_add(1);
+        assert_eq!(rt; answer, Err(StoreError::Fault), "{number}");
+        assert_eq!(rt; pair_of(&store), PAIR, "{number}");
+        assert_eq!(rt; state_of(&store), (7, 2, false, true), "{number}");
+        assert_eq!(rt; store.checkpoint(), Err(StoreError::Broken), "{number}");
+        let mut store = opened(rt.alloc(), store.into_device().into_mem())?;
+        assert_eq!(rt; pair_of(&store), PAIR, "{number}");
+        assert_eq!(rt; store.checkpoint(), Ok(()), "{number}");
+        let _device = store.into_device();
+    }
+    assert_eq!(rt; faults, CALLS);
+    Ok(())
+}
+
+#[test]
+fn a_stop_at_any_call_keeps_rows_and_place(rt: HostRuntime) -> Result<(), Fail> {
+    for (keep, fill) in [(0, 0), (0, 0xa7), (1, 0), (1, 0xa7), (512, 0), (512, 0xa7)] {
+        let mut stops = 0u64;
+        for calls in 0..MANY {
+            let device = FuseDevice::new(
+                worked_store(rt.alloc(), PLAIN)?,
+                calls,
+                Tear { keep, fill },
+            );
+            let Ok(mut store) = open(rt.alloc(), device) else {
+                continue;
+            };
+            let answer = store.checkpoint();
+            let mut again = opened(rt.alloc(), store.into_device().into_mem())?;
+            assert_eq!(rt; pair_of(&again), PAIR, "{calls} {keep} {fill}");
+            assert_eq!(rt; again.checkpoint(), Ok(()), "{calls} {keep} {fill}");
+            assert_eq!(rt; pair_of(&again), PAIR, "{calls} {keep} {fill}");
+            let _device = again.into_device();
+            if answer == Ok(()) {
+                break;
+            }
+            assert_eq!(rt; answer, Err(StoreError::Fault), "{calls} {keep} {fill}");
+            stops = stops.saturating_add(1);
+        }
+        assert_eq!(rt; stops, CALLS, "{keep} {fill}");
+    }
+    Ok(())
+}
+
+// It is run with each allocation refused in turn. Where that is one of the opening or of the checkpoint, nothing has changed, and
+// both succeed when they are tried again.
+#[test]
+fn refused_calls_may_be_tried_again(rt: HostRuntime) -> Result<(), Fail> {
+    let mut store = opened(rt.alloc(), worked_store(rt.alloc(), PLAIN)?)?;
+    let answer = match store.checkpoint() {
+        Err(StoreError::NoMemory) => {
+            assert_eq!(rt; pair_of(&store), PAIR);
+            assert_eq!(rt; state_of(&store), (7, 2, false, false));
+            store.checkpoint()
+        }
+        answer => answer,
+    };
+    assert_eq!(rt; answer, Ok(()));
+    assert_eq!(rt; pair_of(&store), PAIR);
+    assert_eq!(rt; state_of(&store), (8, 2, false, false));
+    let _device = store.into_device();
+    Ok(())
+}
+
+#[test]
+fn store_errors_have_numbers_and_texts(rt: HostRuntime) -> Result<(), Fail> {
+    let table = [
+        (StoreError::Fault, "1 the device failed"),
+        (StoreError::Sealed, "2 the journal is sealed"),
+        (StoreError::NoMemory, "3 out of memory"),
+        (StoreError::Exhausted, "4 no epoch is left"),
+        (
+            StoreError::Unfit,
+            "5 the rows do not fit the checkpoint area",
+        ),
+        (StoreError::Broken, "6 an earlier checkpoint failed"),
+    ];
+    for (error, wanted) in table {
+        let text = format!(in rt.alloc(); "{} {error}", error as u8)?;
+        assert_eq!(rt; text.as_str(), wanted);
+    }
+    Ok(())
+}

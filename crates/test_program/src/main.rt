@@ -1,0 +1,106 @@
+//! Whole command lines of `pathd`, each with what it prints, on standard output and on standard error, and its status: words that are
+//! refused, help, `once`, the commands over the file of a store, of damaged ones too, and a server with its peers in the same process.
+//! The files are made in the folder that the program runs in.
+#![tactic(auto)]
+
+mod given;
+mod images;
+mod output;
+mod parts;
+mod passed;
+mod peers;
+
+use crate::given::{ADDRESS, Bound, Given};
+use crate::images::Change;
+use crate::output::Output;
+use crate::parts::{Before, PARTS, Part};
+use crate::peers::meet;
+use byte_lists::SECTOR;
+use cli_program::carry_out;
+use std::fs::{File, OpenOptions};
+use std::net::{TcpListener, TcpStream};
+use std::os::unix::fs::FileExt;
+use std::rt::Files;
+use std::{fs, io, thread};
+
+/// The file of a store, and the one that is made of it.
+const STORED: &str = "store";
+
+const CHANGED: &str = "damaged";
+
+/// The handles of the system.
+type Handles = (Option<File>, Option<TcpListener>, Option<TcpStream>);
+
+fn main(rt: HostRuntime) -> io::Result<()> {
+    let bound = Bound::new(&rt, rt.alloc())?;
+    for part in PARTS {
+        println!(rt; "# {}", part.what)?;
+        let _lock = prepared(&rt, &part.before)?;
+        for (line, input) in part.lines {
+            println!(rt; "$ {line}")?;
+            let words = words_of(&rt, line, &bound)?;
+            let output = Output::new(&rt, rt.stdout(), &part.before)?;
+            let given = Given {
+                host: &rt,
+                words,
+                bound: &bound,
+            };
+            let (status, met) = thread::join(
+                &rt,
+                || {
+                    // The prover takes the handles of a runtime from the types that the closure names.
+                    let none: Handles = (None, None, None);
+                    drop(none);
+                    carry_out(&given, &mut input.as_bytes(), output)
+                },
+                || meet(&rt, rt.alloc(), &bound, part.sessions),
+            );
+            println!(rt; "status {status}")?;
+            print!(rt; "{}", met?)?;
+        }
+    }
+    Ok(())
+}
+
+/// The words of a line, with the address in the place of `ADDRESS`.
+fn words_of(rt: &impl AllocGlobal, line: &str, bound: &Bound) -> io::Result<Vec<String>> {
+    let mut words = Vec::new(rt.alloc());
+    for word in line.split(' ') {
+        let text = if word == ADDRESS {
+            bound.text.as_str()
+        } else {
+            word
+        };
+        words.push(text.to_string(rt.alloc())?)?;
+    }
+    Ok(words)
+}
+
+/// Has everything so as it is before a part: the lock, where there is one.
+fn prepared<R: AllocGlobal + Files<File = File>>(
+    rt: &R,
+    before: &Before,
+) -> io::Result<Option<File>> {
+    match before {
+        Before::Nothing | Before::NoRoom => Ok(None),
+        Before::Locked => {
+            let file = File::open(rt, STORED)?;
+            file.lock_shared()?;
+            Ok(Some(file))
+        }
+        Before::Changes(changes) => {
+            change(rt, changes)?;
+            Ok(None)
+        }
+    }
+}
+
+/// Makes the one file of the other, and changes it.
+fn change<R: AllocGlobal + Files<File = File>>(rt: &R, changes: &[Change]) -> io::Result<()> {
+    fs::copy(rt, STORED, CHANGED)?;
+    let file = OpenOptions::new().write(true).open(rt, CHANGED)?;
+    for (sector, bytes) in changes {
+        file.write_all_at(bytes, sector.wrapping_mul(SECTOR as u64))?;
+    }
+    Ok(())
+}

@@ -1,0 +1,77 @@
+//! Stores on devices in memory.
+
+use sector_dev::{Device, FaultDevice, MemDevice};
+use std::alloc::Global;
+use std::process::Abort;
+use store_layout::{LEAST_CHECKPOINT, LEAST_JOURNAL};
+use store_open::{Geometry, OpenError, Store, format, open};
+
+/// The least sizes that are allowed: there is room for ten rows of the segments here, which take 93 bytes each.
+pub(crate) const LEAST: Geometry = Geometry {
+    checkpoint: LEAST_CHECKPOINT,
+    journal: LEAST_JOURNAL,
+};
+
+/// More calls of a device than its opening makes.
+const MANY: u64 = 1000;
+
+/// A new store of these sizes. Where memory is refused, it is asked for once more.
+pub(crate) fn formatted(rt: &impl Abort, alloc: Global, geometry: Geometry) -> MemDevice {
+    let sectors = geometry.sectors();
+    assert!(rt; sectors <= 4096);
+    let made = match MemDevice::new(alloc, sectors) {
+        Err(_) => MemDevice::new(alloc, sectors),
+        made => made,
+    };
+    let Ok(mut device) = made else {
+        panic!(rt; "out of memory");
+    };
+    assert_eq!(rt; format(&mut device, geometry), Ok(()));
+    device
+}
+
+/// Opens a device. Where memory is refused, it is tried once more.
+pub(crate) fn opened<D: Device>(rt: &impl Abort, alloc: Global, device: D) -> Store<D> {
+    let again = match open(alloc, device) {
+        Err((device, OpenError::NoMemory)) => open(alloc, device),
+        answer => answer,
+    };
+    match again {
+        Ok(store) => store,
+        Err((_device, e)) => panic!(rt; "{e:?}"),
+    }
+}
+
+/// What a store has: how many rows, their bytes, and the place.
+pub(crate) type Pair = (usize, u64, u64);
+
+/// Sees what a device opens to.
+pub(crate) fn opens_to<D: Device>(rt: &impl Abort, alloc: Global, device: D, wanted: Pair) -> D {
+    let store = opened(rt, alloc, device);
+    let rows = store.db();
+    let pair = (rows.rows().count(), rows.encoded_len(), store.place());
+    assert_eq!(rt; pair, wanted);
+    store.into_device()
+}
+
+/// How many calls of the device it takes to open a new store.
+fn calls_to_open(rt: &impl Abort, alloc: Global) -> u64 {
+    let mut device = formatted(rt, alloc, LEAST);
+    for number in 0..MANY {
+        match open(alloc, FaultDevice::new(device, number)) {
+            Ok(store) => {
+                let _device = store.into_device();
+                return number;
+            }
+            Err((failing, _e)) => device = failing.into_mem(),
+        }
+    }
+    panic!(rt; "opening makes no end")
+}
+
+/// A new store on a device that fails, once the store was opened, in the sync of the second group's gate: each group takes a write and a
+/// sync, and these of its gate.
+pub(crate) fn failing(rt: &impl Abort, alloc: Global) -> FaultDevice {
+    let number = calls_to_open(rt, alloc).saturating_add(7);
+    FaultDevice::new(formatted(rt, alloc, LEAST), number)
+}

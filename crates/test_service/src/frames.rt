@@ -1,0 +1,59 @@
+//! Frames of messages and replies.
+
+use std::alloc::Global;
+use std::process::Abort;
+use test_support::EGRESS;
+pub(crate) use test_support::digits::{FOUND, LOOKUP, REGISTER, REMOVE};
+
+/// The acknowledgement of that registration, at place 0.
+pub(crate) const INSERTED: &str = "0000001981000000000000000000000001000000000000000000000000";
+
+/// A response with no segments.
+pub(crate) const NONE_FOUND: &str = "0000000182";
+
+/// Registers no segments.
+pub(crate) const REGISTER_NONE: &str = "0000000101";
+
+/// Drops what expires at moment 0: nothing.
+pub(crate) const PURGE: &str = "00000009030000000000000000";
+
+/// How many bytes of the registration come before the segment.
+const BEFORE: usize = 13;
+
+/// The bytes of these hexadecimal texts. Where memory is refused, it is asked for once more.
+pub(crate) fn joined(rt: &impl Abort, alloc: Global, texts: &[&str]) -> Vec<u8> {
+    let mut bytes = Vec::new(alloc);
+    for text in texts {
+        let more = match hex::decode(alloc, *text) {
+            Err(_) => hex::decode(alloc, *text).expect(rt, "no digits"),
+            Ok(more) => more,
+        };
+        if bytes.extend_from_slice(more.as_slice()).is_err() {
+            bytes
+                .extend_from_slice(more.as_slice())
+                .expect(rt, "no memory");
+        }
+    }
+    bytes
+}
+
+/// The frame that registers the segment which is left by this interface, below 128.
+pub(crate) fn register_by(egress: u8) -> [u8; 101] {
+    let mut frame = test_support::REGISTER;
+    frame[BEFORE + EGRESS] = egress;
+    frame
+}
+
+/// Sees that a talk went well, and that these replies, in hexadecimal digits, were written.
+pub(crate) fn assert_replied(
+    rt: &impl Abort,
+    alloc: Global,
+    written: Option<Vec<u8>>,
+    replies: &[&str],
+) {
+    let wanted = joined(rt, alloc, replies);
+    match written {
+        Some(written) => assert_eq!(rt; written.as_slice(), wanted.as_slice()),
+        None => panic!(rt; "a call failed"),
+    }
+}

@@ -1,0 +1,202 @@
+//! Commands that are refused, each by the first reason, and that a refusal leaves all as it was.
+
+use crate::host::Host;
+use group_core::SubmitError;
+use path_db::{Command, Outcome};
+use sector_dev::MemDevice;
+use seg_core::SegType;
+use std::alloc::Global;
+use std::process::Abort;
+use std::test::Fail;
+use test_group_scripts::stores::{change, new_store, old_store, opened, opens_to, register};
+use test_group_scripts::work::{Paid, Work, work_of};
+use test_support::assert_same;
+
+/// Where in a checkpoint's first sector the place is.
+const PLACE: usize = 16;
+
+/// A new store at work; of version 1 or 2, at this place.
+fn worked(rt: &Host<impl Abort>, alloc: Global, version: u8, place: u64) -> Work<MemDevice> {
+    let mut device = if version == 1 {
+        old_store(rt, alloc)
+    } else {
+        new_store(rt, alloc)
+    };
+    change(&mut device, 1, PLACE, &place.to_be_bytes());
+    let store = opened(rt, alloc, device);
+    assert_eq!(rt.0; store.place(), place);
+    work_of(rt, alloc, store)
+}
+
+/// Submits a segment left by this interface, which is answered so.
+fn registers(
+    rt: &Host<impl Abort>,
+    alloc: Global,
+    work: &mut Work<MemDevice>,
+    egress: u8,
+    wanted: Result<u64, SubmitError>,
+) {
+    work.submits(rt, register(rt, alloc, egress, 1), wanted);
+}
+
+/// Submits what there is room for, and more.
+fn fill(rt: &Host<impl Abort>, alloc: Global, work: &mut Work<MemDevice>) {
+    for egress in 1..11 {
+        registers(rt, alloc, work, egress, Ok(u64::from(egress) - 1));
+    }
+    for _again in 0..2 {
+        registers(rt, alloc, work, 11, Err(SubmitError::Full));
+    }
+    work.purge(rt, 246);
+    for _again in 0..2 {
+        work.submits(rt, Command::Purge(0), Err(SubmitError::Busy));
+        registers(rt, alloc, work, 11, Err(SubmitError::Busy));
+    }
+}
+
+/// What the command at a place does: one of ten new segments, a purge of nothing, and one of them again.
+fn outcome_at(place: u64) -> Outcome {
+    Outcome {
+        inserted: u32::from(place < 10),
+        updated: 0,
+        kept: u32::from(place == 256),
+        purged: 0,
+    }
+}
+
+#[test]
+fn busy_and_full(rt: HostRuntime) -> Result<(), Fail> {
+    let host = Host(&rt);
+    let mut work = worked(&host, rt.alloc(), 2, 0);
+    fill(&host, rt.alloc(), &mut work);
+    let mut work = work.flushes_group(&host);
+    registers(&host, rt.alloc(), &mut work, 11, Err(SubmitError::Full));
+    // What is there already takes no more room.
+    registers(&host, rt.alloc(), &mut work, 10, Ok(256));
+    for _group in 0..8 {
+        work = work.flushes_group(&host);
+    }
+    for place in 0..257 {
+        work.redeems(&host, 0, Paid::Committed(place, outcome_at(place)));
+    }
+    let device = work.ends(&host, (10, 930, 257));
+    let _device = opens_to(&host, rt.alloc(), device, (10, 930, 257));
+    Ok(())
+}
+
+/// What is submitted: a purge, a removal, and a segment once or seventeen times.
+#[derive(Clone, Copy, Debug)]
+enum Kind {
+    Purge,
+    Removal,
+    Segment,
+    TooLarge,
+}
+
+/// The command of a kind.
+fn command_of(rt: &Host<impl Abort>, alloc: Global, kind: Kind) -> Command {
+    match kind {
+        Kind::Purge => Command::Purge(0),
+        Kind::Removal => Command::Remove(SegType::Down, [0; 32]),
+        Kind::Segment => register(rt, alloc, 11, 1),
+        Kind::TooLarge => register(rt, alloc, 1, 17),
+    }
+}
+
+/// A store's version and place, how many purges are pending, whether the state has stopped, the command, and the answer.
+type Case = (u8, u64, usize, bool, Kind, Result<u64, SubmitError>);
+
+/// The last place.
+const LAST: u64 = u64::MAX;
+
+/// One with room for 256 commands after it, and one before that.
+const NEAR: u64 = LAST - 256;
+
+const NEARER: u64 = LAST - 257;
+
+const CASES: [Case; 20] = [
+    (1, LAST, 0, true, Kind::TooLarge, Err(SubmitError::Stopped)),
+    (1, LAST, 0, true, Kind::Removal, Err(SubmitError::Stopped)),
+    (2, NEAR, 256, true, Kind::Purge, Err(SubmitError::Stopped)),
+    (2, 0, 256, true, Kind::Segment, Err(SubmitError::Stopped)),
+    (2, 0, 0, true, Kind::Segment, Err(SubmitError::Stopped)),
+    (
+        1,
+        LAST,
+        0,
+        false,
+        Kind::TooLarge,
+        Err(SubmitError::TooLarge),
+    ),
+    (
+        2,
+        NEAR,
+        256,
+        false,
+        Kind::TooLarge,
+        Err(SubmitError::TooLarge),
+    ),
+    (2, 0, 0, false, Kind::TooLarge, Err(SubmitError::TooLarge)),
+    (1, LAST, 0, false, Kind::Removal, Err(SubmitError::OldStore)),
+    (
+        1,
+        NEAR,
+        256,
+        false,
+        Kind::Removal,
+        Err(SubmitError::OldStore),
+    ),
+    (1, 0, 256, false, Kind::Removal, Err(SubmitError::OldStore)),
+    (1, LAST, 0, false, Kind::Purge, Err(SubmitError::Exhausted)),
+    (
+        2,
+        LAST,
+        0,
+        false,
+        Kind::Removal,
+        Err(SubmitError::Exhausted),
+    ),
+    (
+        2,
+        LAST,
+        0,
+        false,
+        Kind::Segment,
+        Err(SubmitError::Exhausted),
+    ),
+    (
+        2,
+        NEAR,
+        256,
+        false,
+        Kind::Purge,
+        Err(SubmitError::Exhausted),
+    ),
+    (2, NEARER, 256, false, Kind::Purge, Err(SubmitError::Busy)),
+    (2, NEAR, 255, false, Kind::Purge, Ok(LAST - 1)),
+    (2, 0, 256, false, Kind::Removal, Err(SubmitError::Busy)),
+    (2, 7, 0, false, Kind::Removal, Ok(7)),
+    (1, 7, 3, false, Kind::Segment, Ok(10)),
+];
+
+/// Sees how a case is answered, and that nothing is shown of it.
+fn assert_answer(rt: &Host<impl Abort>, alloc: Global, case: &Case) {
+    let (version, place, pending, halted, kind, wanted) = *case;
+    let mut work = worked(rt, alloc, version, place);
+    work.purge(rt, pending);
+    if halted {
+        work.state.halt();
+    }
+    let answer = work.submit(rt, command_of(rt, alloc, kind));
+    assert_same(rt, &answer, &wanted, case);
+    let _device = work.ends(rt, (0, 0, place));
+}
+
+#[test]
+fn the_first_refusal_is_answered(rt: HostRuntime) -> Result<(), Fail> {
+    let host = Host(&rt);
+    for case in &CASES {
+        assert_answer(&host, rt.alloc(), case);
+    }
+    Ok(())
+}
