@@ -4,14 +4,14 @@ use Rattle.std.specs.Prelude.{Result, Option, IsOk, if◌then◌else◌}
 use Rattle.std.specs.Int.{w32, w64, from_be_bytes}
 use Rattle.byte_lists.specs.Content.{part}
 use Rattle.byte_lists.specs.Numbers.{four_at, eight_at}
-use Rattle.store_layout.specs.GroupReading.{check}
+use Rattle.store_layout.specs.GroupReading.{refuse_unless}
 use Rattle.store_layout.specs.Checkpoint as laws
 use Rattle.store_layout.specs.CheckpointReading.{PairRefusal, BadCheckpoint, NewerFormat, head_in, rows_size, rows_count, with_rows, checkpoint_in}
 use Rattle.path_rows.specs.Database.{RowView}
 use Rattle.path_db.specs.RowRecord.{rows_decoding, HasOutline}
 use Rattle.ckpt_pair.specs.declared.error.PairError.{PairError}
 use Rattle.ckpt_pair.specs.declared.reading.Front.{Front}
-use Rattle.ckpt_pair.specs.Refusals.{Reads}
+use Rattle.ckpt_pair.specs.Refusals.{ReadsPair}
 use Rattle.ckpt_pair.specs.Heads.{head_view}
 use Rattle.ckpt_pair.specs.Versions.{latest}
 use Rattle.ckpt_pair.specs.Rows.{as_counted, rows_format}
@@ -36,12 +36,12 @@ by_its_front area =
 
 -- ---- reading
 
-front_is : (front : Front) (reading : Result FrontView PairRefusal) → Reads front_view (Ok front) reading → reading ≡ Ok (front_view front)
+front_is : (front : Front) (reading : Result FrontView PairRefusal) → ReadsPair front_view (Ok front) reading → reading ≡ Ok (front_view front)
 front_is front (Ok view) reads = cc
 front_is front (Err refusal) reads = absurd reads
 
 front_size : (area : List ℕ) (front : Front) (head : Result laws.Head PairRefusal) (fits : Bool) (size count : ℕ)
-    → Reads front_view (Ok front) (with_room head fits size count) → front.size ≡ size
+    → ReadsPair front_view (Ok front) (with_room head fits size count) → front.size ≡ size
 front_size area front (Err refusal) fits size count reads = absurd reads
 front_size area front (Ok head) false size count reads = absurd reads
 front_size area front (Ok head) true size count reads = sym (ap (λ (view : FrontView). view.size) reads)
@@ -50,7 +50,7 @@ found_is : (found : Option (List RowView)) (rows : List RowView) → or_bad foun
 found_is None rows is = absurd cc
 found_is (Some found) rows is = cc
 
-module _ (area : List ℕ) (front : Front) (rows : List ℕ) (reads : Reads front_view (Ok front) (front_in latest (length area) area)) (are : rows ≡ part 32 front.size area) where
+module _ (area : List ℕ) (front : Front) (rows : List ℕ) (reads : ReadsPair front_view (Ok front) (front_in latest (length area) area)) (are : rows ≡ part 32 front.size area) where
   split : checkpoint_in rows_format latest area ≡ with_head (head_view front.head) (as_counted front.count (rows_decoding rows))
   split =
       by_its_front area
@@ -61,12 +61,12 @@ module _ (area : List ℕ) (front : Front) (rows : List ℕ) (reads : Reads fron
       → checkpoint_in rows_format latest area ≡ Ok (record { head = head_view front.head; db = db })
   half_read db is = split ∙ ap (with_head (head_view front.head)) (found_is (as_counted front.count (rows_decoding rows)) db is)
 
-  pub half_refused : {X : Type 0} (view : X → laws.Checkpoint (List RowView)) (e : PairError) → Reads (λ (db : List RowView). db) (Err e) (or_bad (as_counted front.count (rows_decoding rows)))
-      → Reads view (Err e) (checkpoint_in rows_format latest area)
+  pub half_refused : {X : Type 0} (view : X → laws.Checkpoint (List RowView)) (e : PairError) → ReadsPair (λ (db : List RowView). db) (Err e) (or_bad (as_counted front.count (rows_decoding rows)))
+      → ReadsPair view (Err e) (checkpoint_in rows_format latest area)
   half_refused {X} view e is =
-      subst (λ (r : Result (laws.Checkpoint (List RowView)) PairRefusal). Reads view (Err e) r) (sym split) (so (as_counted front.count (rows_decoding rows)) is)
+      subst (λ (r : Result (laws.Checkpoint (List RowView)) PairRefusal). ReadsPair view (Err e) r) (sym split) (so (as_counted front.count (rows_decoding rows)) is)
     where
-      so : (found : Option (List RowView)) → Reads (λ (db : List RowView). db) (Err e) (or_bad found) → Reads view (Err e) (with_head (head_view front.head) found)
+      so : (found : Option (List RowView)) → ReadsPair (λ (db : List RowView). db) (Err e) (or_bad found) → ReadsPair view (Err e) (with_head (head_view front.head) found)
       so None is = is
       so (Some db) is = absurd is
 
@@ -81,9 +81,9 @@ module _ (area : List ℕ) (front : Front) (rows : List ℕ) (reads : Reads fron
 -- a head from its numbers
 abbrev head_of : ℕ → ℕ → ℕ → ℕ → Result laws.Head PairRefusal
 head_of magic version epoch place =
-    check (eqb magic laws.checkpoint_magic) BadCheckpoint
-    (check (leb 1 version) BadCheckpoint
-    (check (leb version latest) (NewerFormat version) (Ok (record { version = version; epoch = epoch; place = place }))))
+    refuse_unless (eqb magic laws.checkpoint_magic) BadCheckpoint
+    (refuse_unless (leb 1 version) BadCheckpoint
+    (refuse_unless (leb version latest) (NewerFormat version) (Ok (record { version = version; epoch = epoch; place = place }))))
 
 take_again : (n k : ℕ) (list : List ℕ) → n ≤ k → take n (take k list) ≡ take n list
 take_again zero k list few = refl

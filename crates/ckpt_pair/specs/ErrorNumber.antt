@@ -4,10 +4,10 @@ use Rattle.ckpt_pair.specs.declared.error.PairError.{PairError}
 use Rattle.ckpt_pair.specs.declared.error.PairError.TheVariants.{NoMemory, NoHalf, SameEpoch, BadCheckpoint, SealedNewer, NewerFormat}
 
 -- each refusal's number
-abbrev pub number_of : PairError → ℕ
-number_of NoMemory = 0
-number_of NoHalf = 1
-number_of SameEpoch = 2
-number_of BadCheckpoint = 3
-number_of SealedNewer = 4
-number_of (NewerFormat version) = 5
+abbrev pub pair_error_number : PairError → ℕ
+pair_error_number NoMemory = 0
+pair_error_number NoHalf = 1
+pair_error_number SameEpoch = 2
+pair_error_number BadCheckpoint = 3
+pair_error_number SealedNewer = 4
+pair_error_number (NewerFormat version) = 5

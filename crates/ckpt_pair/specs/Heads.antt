@@ -27,18 +27,18 @@ head_at Second heads = heads.second
 
 -- The half that has the tail, by whether the chosen half's journal is sealed, and whether the other half is open: the
 -- chosen half, or after a seal the other half, which has to be closed.
-abbrev pub tail_of : Half → Bool → Bool → Result Half PairRefusal
-tail_of chosen false other_is_open = Ok chosen
-tail_of chosen true true = Err SealedNewer
-tail_of chosen true false = Ok (other chosen)
+abbrev pub half_with_tail : Half → Bool → Bool → Result Half PairRefusal
+half_with_tail chosen false other_is_open = Ok chosen
+half_with_tail chosen true true = Err SealedNewer
+half_with_tail chosen true false = Ok (other chosen)
 
 -- An opening once the chosen half's journal is read, by the half that has the tail: it is refused as the tail is; it is complete
 -- where the chosen half has the tail; and else it continues with the other half's journal.
 pub record IsByTail {Db C : Type 0} (opening : Opening Db C) (sealed other_is_open : Bool) (behind : Result (Reading C) JournalRefusal) : Type 0 where
-  pub refused : (refusal : PairRefusal) → tail_of opening.chosen sealed other_is_open ≡ Err refusal
+  pub refused : (refusal : PairRefusal) → half_with_tail opening.chosen sealed other_is_open ≡ Err refusal
       → behind_journal sealed other_is_open opening behind ≡ Err (BadPair refusal)
-  pub whole : tail_of opening.chosen sealed other_is_open ≡ Ok opening.chosen → behind_journal sealed other_is_open opening behind ≡ Ok opening
-  pub goes_on : tail_of opening.chosen sealed other_is_open ≡ Ok (other opening.chosen)
+  pub whole : half_with_tail opening.chosen sealed other_is_open ≡ Ok opening.chosen → behind_journal sealed other_is_open opening behind ≡ Ok opening
+  pub goes_on : half_with_tail opening.chosen sealed other_is_open ≡ Ok (other opening.chosen)
       → behind_journal sealed other_is_open opening behind ≡ read_tail opening behind
 
 abbrev pub GoesOnWhereTailStands : Type 0 → Type 0 → Type 0

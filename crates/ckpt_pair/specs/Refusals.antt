@@ -13,13 +13,13 @@ error_of SealedNewer = errors.SealedNewer
 error_of (NewerFormat version) = errors.NewerFormat version
 
 -- A call that takes no memory returns exactly what the reading gives, seen by `view`.
-abbrev pub Reads : {X Y : Type 0} → (X → Y) → Result X PairError → Result Y PairRefusal → Type 0
-Reads view (Ok x) (Ok y) = y ≡ view x
-Reads view (Ok x) (Err refusal) = ⊥
-Reads view (Err e) (Ok y) = ⊥
-Reads view (Err e) (Err refusal) = e ≡ error_of refusal
+abbrev pub ReadsPair : {X Y : Type 0} → (X → Y) → Result X PairError → Result Y PairRefusal → Type 0
+ReadsPair view (Ok x) (Ok y) = y ≡ view x
+ReadsPair view (Ok x) (Err refusal) = ⊥
+ReadsPair view (Err e) (Ok y) = ⊥
+ReadsPair view (Err e) (Err refusal) = e ≡ error_of refusal
 
 -- A call that takes memory returns exactly what the reading gives, unless memory was refused.
-abbrev pub Gives : {X Y : Type 0} → (X → Y) → Result X PairError → Result Y PairRefusal → Type 0
-Gives view (Ok x) reading = reading ≡ Ok (view x)
-Gives view (Err e) reading = e ≢ errors.NoMemory → Reads view (Err e) reading
+abbrev pub GivesPair : {X Y : Type 0} → (X → Y) → Result X PairError → Result Y PairRefusal → Type 0
+GivesPair view (Ok x) reading = reading ≡ Ok (view x)
+GivesPair view (Err e) reading = e ≢ errors.NoMemory → ReadsPair view (Err e) reading

@@ -4,8 +4,8 @@ ghost use Rattle.std.specs.Prelude.{◌==◌, nat_lt};
 ghost use Rattle.std.specs.Option.{is_some};
 ghost use Rattle.store_layout.specs.OpeningReading.{choice};
 ghost use Rattle.store_layout.specs.OpeningReading as laws;
-ghost use Rattle.ckpt_pair.specs.Refusals.{Reads};
-ghost use Rattle.ckpt_pair.specs.Heads.{head_seen, head_at, tail_of, GoesOnWhereTailStands};
+ghost use Rattle.ckpt_pair.specs.Refusals.{ReadsPair};
+ghost use Rattle.ckpt_pair.specs.Heads.{head_seen, head_at, half_with_tail, GoesOnWhereTailStands};
 ghost use Rattle.store_layout.specs.Layout.{other};
 
 use crate::error::PairError;
@@ -15,7 +15,7 @@ use store_layout::Half;
 /// The half that is chosen: the open one, and of two open halves the one with the greater epoch. The error is `NoHalf` where no half
 /// is open, and `SameEpoch` where both have the same epoch.
 pub fn choose(heads: Heads) -> Result<Half, PairError>
-    ensures { Reads (λ half. half) result (choice (head_seen heads.first) (head_seen heads.second)) }
+    ensures { ReadsPair (λ half. half) result (choice (head_seen heads.first) (head_seen heads.second)) }
 {
     match (heads.first, heads.second) {
         (None, None) => Err(PairError::NoHalf),
@@ -27,7 +27,7 @@ pub fn choose(heads: Heads) -> Result<Half, PairError>
 
 /// Of two open halves the one with the greater epoch.
 fn by_epochs(first: u64, second: u64) -> Result<Half, PairError>
-    ensures { Reads (λ half. half) result (laws.by_epochs (first == second) (nat_lt first second)) }
+    ensures { ReadsPair (λ half. half) result (laws.by_epochs (first == second) (nat_lt first second)) }
 {
     if first == second {
         return Err(PairError::SameEpoch);
@@ -42,7 +42,7 @@ fn by_epochs(first: u64, second: u64) -> Result<Half, PairError>
 /// The half that has the tail: the chosen one, or the other one where the chosen half's journal is sealed. The error is
 /// `SealedNewer` where the chosen half's journal is sealed and the other half is open.
 pub fn tail_half(heads: Heads, chosen: Half, sealed: bool) -> Result<Half, PairError>
-    ensures { Reads (λ half. half) result (tail_of chosen sealed (is_some (head_at (other chosen) heads))) }
+    ensures { ReadsPair (λ half. half) result (half_with_tail chosen sealed (is_some (head_at (other chosen) heads))) }
 {
     if !sealed {
         return Ok(chosen);

@@ -28,11 +28,11 @@ pub enum PairError {
 }
 
 impl PairError {
-    ghost use Rattle.ckpt_pair.specs.ErrorNumber.{number_of};
+    ghost use Rattle.ckpt_pair.specs.ErrorNumber.{pair_error_number};
 
     /// The number of the error.
     pub fn number(self) -> u8
-        ensures { result ≡ number_of self }
+        ensures { result ≡ pair_error_number self }
     {
         match self {
             PairError::NoMemory => 0,

@@ -4,7 +4,7 @@ ghost use Rattle.std.specs.Prelude.{◌≤◌, length};
 ghost use Rattle.byte_lists.specs.Sectors.{is_open_gate};
 ghost use Rattle.store_layout.specs.CheckpointReading.{head_in};
 ghost use Rattle.store_layout.specs.OpeningReading.{head_behind};
-ghost use Rattle.ckpt_pair.specs.Refusals.{Reads};
+ghost use Rattle.ckpt_pair.specs.Refusals.{ReadsPair};
 ghost use Rattle.ckpt_pair.specs.Heads.{head_view, head_seen};
 ghost use Rattle.ckpt_pair.specs.Versions.{latest};
 
@@ -32,7 +32,7 @@ pub struct Heads {
 /// with another magic or with version 0 is `BadCheckpoint`, and a version above `LATEST` is `NewerFormat`.
 pub fn read_head(gate: &[u8], area: &[u8]) -> Result<Option<Head>, PairError>
     requires { 24 ≤ length area.now }
-    ensures { Reads head_seen result (head_behind (is_open_gate gate.now) (head_in latest area.now)) }
+    ensures { ReadsPair head_seen result (head_behind (is_open_gate gate.now) (head_in latest area.now)) }
 {
     if !is_open(gate) {
         return Ok(None);
@@ -43,7 +43,7 @@ pub fn read_head(gate: &[u8], area: &[u8]) -> Result<Option<Head>, PairError>
 /// The head at the front of an open half's area.
 pub(crate) fn open_head(area: &[u8]) -> Result<Head, PairError>
     requires { 24 ≤ length area.now }
-    ensures { Reads head_view result (head_in latest area.now) }
+    ensures { ReadsPair head_view result (head_in latest area.now) }
 {
     let version = read_u32(area, VERSION_AT);
     if read_u32(area, 0) != CHECKPOINT_MAGIC || version == 0 {

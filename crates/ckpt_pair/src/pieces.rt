@@ -4,7 +4,7 @@ ghost use Rattle.std.specs.Prelude.{◌≡◌, ◌≢◌, ◌<◌, ◌++◌, len
 ghost use Rattle.path_rows.specs.Database.{IsDatabase};
 ghost use Rattle.path_db.specs.RowRecord.{rows_decoding};
 ghost use Rattle.ckpt_pair.specs.declared.error.PairError.TheVariants.{NoMemory, BadCheckpoint};
-ghost use Rattle.ckpt_pair.specs.Refusals.{Gives};
+ghost use Rattle.ckpt_pair.specs.Refusals.{GivesPair};
 ghost use Rattle.ckpt_pair.specs.Rows.{as_counted};
 ghost use Rattle.ckpt_pair.specs.Reading.{or_bad, AreNoRows};
 
@@ -29,7 +29,7 @@ pub fn feed_rows(reader: RowsReader, piece: &[u8]) -> Result<RowsReader, PairErr
 /// The database of all bytes that were fed, which have to be the records of exactly `count` rows. The call takes memory only where
 /// the bytes are the records of some rows.
 pub fn finish_rows(reader: RowsReader, count: u32) -> Result<PathDb, PairError>
-    ensures decoding { Gives (λ rows. rows) result (or_bad (as_counted count (rows_decoding reader))) }
+    ensures decoding { GivesPair (λ rows. rows) result (or_bad (as_counted count (rows_decoding reader))) }
     ensures whole { IfOk result IsDatabase }
     ensures memory { IfErr result (λ e. e ≡ NoMemory → IsOk (rows_decoding reader) × (0 < length reader)) }
 {

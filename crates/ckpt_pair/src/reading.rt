@@ -6,7 +6,7 @@ ghost use Rattle.path_rows.specs.Database.{IsDatabase};
 ghost use Rattle.path_db.specs.RowRecord.{rows_decoding, HasOutline};
 ghost use Rattle.store_layout.specs.CheckpointReading.{checkpoint_in};
 ghost use Rattle.ckpt_pair.specs.declared.error.PairError.TheVariants.{NoMemory};
-ghost use Rattle.ckpt_pair.specs.Refusals.{Reads, Gives};
+ghost use Rattle.ckpt_pair.specs.Refusals.{ReadsPair, GivesPair};
 ghost use Rattle.ckpt_pair.specs.Versions.{latest};
 ghost use Rattle.ckpt_pair.specs.Rows.{rows_format, as_counted};
 ghost use Rattle.ckpt_pair.specs.Reading.{front_view, front_in, checkpoint_view, or_bad, HasRowsToRead};
@@ -37,7 +37,7 @@ pub struct Checkpoint {
 /// `LATEST` is `NewerFormat`, and rows that don't end within the area are `BadCheckpoint`.
 pub fn read_front(bytes: &[u8], area: u64) -> Result<Front, PairError>
     requires { 32 ≤ length bytes.now }
-    ensures { Reads front_view result (front_in latest area bytes.now) }
+    ensures { ReadsPair front_view result (front_in latest area bytes.now) }
 {
     let head = open_head(bytes)?;
     let size = read_u32(bytes, SIZE_AT);
@@ -53,7 +53,7 @@ pub fn read_front(bytes: &[u8], area: u64) -> Result<Front, PairError>
 /// read. The call takes memory from the first row on whose segment has an outline.
 pub fn read_half(alloc: Global, area: &[u8]) -> Result<Checkpoint, PairError>
     requires { 32 ≤ length area.now }
-    ensures checkpoint { Gives checkpoint_view result (checkpoint_in rows_format latest area.now) }
+    ensures checkpoint { GivesPair checkpoint_view result (checkpoint_in rows_format latest area.now) }
     ensures whole { IfOk result (λ checkpoint. IsDatabase checkpoint.db) }
     ensures memory { IfErr result (λ e. e ≡ NoMemory → HasRowsToRead area.now) }
 {
@@ -75,7 +75,7 @@ fn rows_bytes(area: &[u8], size: u32) -> &[u8]
 
 /// Reads exactly this number of rows from all of these bytes.
 fn read_counted(alloc: Global, bytes: &[u8], count: u32) -> Result<PathDb, PairError>
-    ensures decoding { Gives (λ rows. rows) result (or_bad (as_counted count (rows_decoding bytes.now))) }
+    ensures decoding { GivesPair (λ rows. rows) result (or_bad (as_counted count (rows_decoding bytes.now))) }
     ensures whole { IfOk result IsDatabase }
     ensures memory { IfErr result (λ e. e ≡ NoMemory → HasOutline bytes.now) }
 {

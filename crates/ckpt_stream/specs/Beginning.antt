@@ -15,7 +15,7 @@ use Rattle.ckpt_pair.specs.Rows.{rows_format}
 use Rattle.store_open.specs.Sealed.{SealedHalf, sealed_half}
 use Rattle.store_open.specs.declared.sealed.SealedError.{SealedError}
 use Rattle.store_open.specs.declared.sealed.SealedError.TheVariants.{Fault, NoMemory, Damaged}
-use Rattle.row_edits.specs.Pouring.{PourView, untaken, untaken_len, end_of}
+use Rattle.row_edits.specs.Pouring.{PourView, untaken, untaken_len, edits_end}
 use Rattle.ckpt_stream.specs.Merge.{MergeView, bytes_made, IsReady}
 
 -- the checkpoint of a sealed half: its rows, at the place that it reaches, in the version that is written
@@ -26,7 +26,7 @@ checkpoint_from epoch sealed = written_checkpoint epoch sealed.place sealed.rows
 pub record PoursCheckpoint (epoch place : ℕ) (rows : List RowView) (commands : List Command) (pour : PourView) : Type 0 where
   pub makes : untaken pour (rows_encoding rows) ≡ checkpoint_bytes rows_format (written_checkpoint epoch place (database_after_all rows commands))
   pub len : untaken_len pour ≡ 32 + rows_len (database_after_all rows commands)
-  pub end : end_of pour ≡ rows_len rows
+  pub end : edits_end pour ≡ rows_len rows
 
 -- From the rows of the checkpoint in the half's area a merge makes its own.
 pub record MakesFrom (merge : MergeView) (old : Checkpoint (List RowView)) : Type 0 where

@@ -8,7 +8,7 @@ use Rattle.store_layout.specs.Checkpoint.{checkpoint_bytes, checkpoint_encoding}
 use Rattle.ckpt_pair.specs.Checkpoint.{written_checkpoint}
 use Rattle.ckpt_pair.specs.Rows.{rows_format}
 use Rattle.row_edits.specs.declared.edit.Edit.TheVariants.{Keep}
-use Rattle.row_edits.specs.Pouring.{PourView, untaken, untaken_len, end_of}
+use Rattle.row_edits.specs.Pouring.{PourView, untaken, untaken_len, edits_end}
 use Rattle.ckpt_stream.specs.declared.merge.Merge.TheInside.{Inside}
 
 -- What is made and not written, with what is still to be made; how many bytes the rows of the old area have; and the rows of the
@@ -39,7 +39,7 @@ encoding_if_any (Some merge) = encoding_made merge
 pub record IsMerge (s : Inside) : Type 0 where
   pub window : length s.window.items ≡ 131072
   pub sectors : 512 * s.sectors ≡ length (encoding_made (merge_view s))
-  pub end : end_of s.pour ≡ s.size
+  pub end : edits_end s.pour ≡ s.size
 
 -- the bytes that are written next: at most 256 sectors of what is made, with zeros up to a whole sector
 abbrev pub next_piece : PourView → List ℕ

@@ -4,7 +4,7 @@ ghost use Rattle.std.specs.Prelude.{◌≡◌, ◌+◌, ◌-◌, ◌*◌, ◌<�
 ghost use Rattle.byte_lists.specs.Content.{part};
 ghost use Rattle.byte_lists.specs.Sectors.{padded};
 ghost use Rattle.store_open.specs.Looking.{LooksAt};
-ghost use Rattle.row_edits.specs.Pouring.{untaken, untaken_len, end_of};
+ghost use Rattle.row_edits.specs.Pouring.{untaken, untaken_len, edits_end};
 ghost use Rattle.ckpt_stream.specs.Merge.{IsReady, MakesOn};
 ghost use Rattle.ckpt_stream.specs.Making.{WhyPoured};
 
@@ -26,10 +26,10 @@ pub(crate) fn make_piece<D: Device>(
 ) -> Result<(), DevError>
     requires window { length window.old ≡ 131072 }
     requires room { 512 * area + 32 + size ≤ 512 * (D.disk device.old).sectors }
-    requires end { end_of pour.old ≡ size }
+    requires end { edits_end pour.old ≡ size }
     ensures looks { LooksAt result (D.disk device.old) (D.disk device.new) }
     ensures window { length window.new ≡ 131072 }
-    ensures end { end_of pour.new ≡ size }
+    ensures end { edits_end pour.new ≡ size }
     ensures made { MakesOn (D.disk device.old) area size pour.old pour.new }
     ensures ready { OnOk result (IsReady pour.new) }
 {
@@ -71,7 +71,7 @@ fn pour_sectors(pour: &mut Pour, size: u32, first: u64, count: u64, window: &[u8
     ensures same { (area : ℕ) (reads : List ℕ) → take (512 * count) window.now ≡ part (512 * (area + first)) (512 * count) reads
         → untaken pour.new (part (512 * area + 32) size reads) ≡ untaken pour.old (part (512 * area + 32) size reads) }
     ensures len { untaken_len pour.new ≡ untaken_len pour.old }
-    ensures end { end_of pour.new ≡ end_of pour.old }
+    ensures end { edits_end pour.new ≡ edits_end pour.old }
     ensures forward { pour.old.position ≤ pour.new.position }
     ensures stops { WhyPoured (512 * first) (min (512 * (first + count)) (32 + size)) pour.new }
 {

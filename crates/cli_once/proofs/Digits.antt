@@ -11,7 +11,7 @@ use Rattle.seg_check.specs.declared.keyed.TheConstants.{MOST_KEY}
 use Rattle.cli_once.specs.declared.error.Fault.{Fault}
 use Rattle.cli_once.specs.declared.error.Fault.TheVariants as fault
 use Rattle.cli_once.specs.HexInput.{RefusesDigits}
-use Rattle.cli_once.specs.Key.{IsKeyText, IsTooLong, RefusesKey}
+use Rattle.cli_once.specs.Key.{IsKeyText, IsKeyTooLong, RefusesKey}
 
 -- std's test of a digit is hex's
 digit_same : (c : ℕ) → is_ascii_hexdigit c ≡ is_hex_digit c
@@ -39,10 +39,10 @@ digits_encode s test even is = (
     encoded_test s test is (Err e) d ok = cc ok
 
 -- this number of digits encodes no key, or too long a one
-pub too_long : (s : List ℕ) → 2 * MOST_KEY < length s → IsErr (decode_of s) ⊎ IsTooLong s
+pub too_long : (s : List ℕ) → 2 * MOST_KEY < length s → IsErr (decode_of s) ⊎ IsKeyTooLong s
 too_long s long = by_decoding (decode_of s) refl
   where
-    by_decoding : (r : Result (List ℕ) FromHexError) → decode_of s ≡ r → IsErr (decode_of s) ⊎ IsTooLong s
+    by_decoding : (r : Result (List ℕ) FromHexError) → decode_of s ≡ r → IsErr (decode_of s) ⊎ IsKeyTooLong s
     by_decoding (Ok bytes) d =
         let size = (decode_of-ok s bytes d).2 in
         inr (record { key = bytes; encoded = d; long = omega (arith, size, long) })

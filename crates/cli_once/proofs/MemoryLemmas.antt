@@ -25,7 +25,7 @@ use Rattle.reply_codes.specs.Codes.{submit_code}
 use Rattle.reply_codes.specs.Checking.{first_refusal}
 use Rattle.reply_codes.specs.Replies.{reply_to_command}
 use Rattle.cli_once.specs.Memory.{Served, Step, refused_step, fits_store, command_step, ack_of, after_command, checked_step, registration_step, removal_step, message_step, MayRunOut, Answers}
-use Rattle.cli_once.specs.Taking.{TakesCommand, MayTake}
+use Rattle.cli_once.specs.Taking.{ServesCommand, MayAcknowledge}
 
 -- ---- reading
 
@@ -46,7 +46,7 @@ module _ (reply : Ack → ReplyView) (old : Served) (message : MessageView) (c :
   judged_step exhausted fits =
       if exhausted then refused_step old (submit_code submit.Exhausted) else if fits then (reply (ack_of old c), after_command old c) else refused_step old (submit_code submit.Full)
 
-  taken_step : (left : Served) → TakesCommand old c left → message_step old message ≡ (reply (ack_of old c), after_command old c)
+  taken_step : (left : Served) → ServesCommand old c left → message_step old message ≡ (reply (ack_of old c), after_command old c)
   taken_step left takes =
       is ∙ ap (λ (b : Bool). judged_step b (fits_store (database_after old.rows c))) (ne_eqb old.place (2 ^ 64 - 1) takes.left)
       ∙ ap (judged_step false) (le-leb (32 + rows_len (database_after old.rows c)) (512 * 4096) takes.fits)
@@ -66,12 +66,12 @@ module _ (reply : Ack → ReplyView) (old : Served) (message : MessageView) (c :
   exhausted_step last =
       is ∙ ap (λ (b : Bool). judged_step b (fits_store (database_after old.rows c))) (eq-eqb old.place (2 ^ 64 - 1) last)
 
-  same_or_taken : (left : Served) → (left ≡ old) ⊎ TakesCommand old c left → (left ≡ old) ⊎ (left ≡ (message_step old message).1)
+  same_or_taken : (left : Served) → (left ≡ old) ⊎ ServesCommand old c left → (left ≡ old) ⊎ (left ≡ (message_step old message).1)
   same_or_taken left (inl same) = inl same
   same_or_taken left (inr takes) = inr (takes.taken ∙ sym (ap (λ (s : Step). s.1) (taken_step left takes)))
 
   -- what taking the command answers is what its message is answered
-  pub command_answered : (result : Result Ack Refusal) (left : Served) → MayRunOut old message → MayTake old c result left
+  pub command_answered : (result : Result Ack Refusal) (left : Served) → MayRunOut old message → MayAcknowledge old c result left
       → Answers old message (reply_to_command reply result) left
   command_answered (Ok ack) left may took =
       let step = taken_step left took.1 in
@@ -102,7 +102,7 @@ unfolding message_step
 registration_step_of old body rows decoded accepted = ap (registration_step old) decoded ∙ ap (checked_step old rows) accepted
 
 pub registration_taken : (old : Served) (body : List ℕ) (rows : List RowView) (result : Result Ack Refusal) (left : Served)
-    → registration_decoding body ≡ Ok rows → first_refusal old.verifies old.now rows ≡ None → MayTake old (command.Register rows) result left
+    → registration_decoding body ≡ Ok rows → first_refusal old.verifies old.now rows ≡ None → MayAcknowledge old (command.Register rows) result left
     → Answers old (Register body) (reply_to_command (λ ack. Registered ack) result) left
 registration_taken old body rows result left decoded accepted took =
     command_answered (λ ack. Registered ack) old (Register body) (command.Register rows) (registration_step_of old body rows decoded accepted)
@@ -112,7 +112,7 @@ purge_step_of : (old : Served) (moment : ℕ) → message_step old (Purge moment
 unfolding message_step
 purge_step_of old moment = refl
 
-pub purge_taken : (old : Served) (moment : ℕ) (result : Result Ack Refusal) (left : Served) → MayTake old (command.Purge moment) result left
+pub purge_taken : (old : Served) (moment : ℕ) (result : Result Ack Refusal) (left : Served) → MayAcknowledge old (command.Purge moment) result left
     → Answers old (Purge moment) (reply_to_command (λ ack. Purged ack) result) left
 purge_taken old moment result left took =
     command_answered (λ ack. Purged ack) old (Purge moment) (command.Purge moment) (purge_step_of old moment) result left tt took
@@ -123,7 +123,7 @@ unfolding message_step
 removal_step_of old number kind id is = ap (removal_step old id) is
 
 pub removal_taken : (old : Served) (number : ℕ) (kind : SegType) (id : List ℕ) (result : Result Ack Refusal) (left : Served) → type_of number ≡ Ok kind
-    → MayTake old (command.Remove kind id) result left → Answers old (Remove number id) (reply_to_command (λ ack. Removed ack) result) left
+    → MayAcknowledge old (command.Remove kind id) result left → Answers old (Remove number id) (reply_to_command (λ ack. Removed ack) result) left
 removal_taken old number kind id result left is took =
     command_answered (λ ack. Removed ack) old (Remove number id) (command.Remove kind id) (removal_step_of old number kind id is)
     result left (subst IsOk (sym is) refl) took

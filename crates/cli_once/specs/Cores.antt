@@ -17,13 +17,13 @@ abbrev pub AreCores : List (List ℕ) → List IsdAs → Type 0
 AreCores texts cores = AllZip IsIsdAsText texts cores
 
 -- why a text is no ISD-AS
-abbrev pub IsRefused : List ℕ → IaError → Type 0
-IsRefused text BadText = ¬ IsInGrammar text
-IsRefused text TooLarge = IsTooLargeText text
+abbrev pub IsNoIsdAs : List ℕ → IaError → Type 0
+IsNoIsdAs text BadText = ¬ IsInGrammar text
+IsNoIsdAs text TooLarge = IsTooLargeText text
 
 -- the program's fault for such a text
 abbrev pub RefusesText : List ℕ → Fault → Type 0
-RefusesText text (fault.Text e) = IsRefused text e
+RefusesText text (fault.Text e) = IsNoIsdAs text e
 RefusesText text fault.Memory = ⊥
 RefusesText text fault.Hex = ⊥
 RefusesText text (fault.Frame e) = ⊥
@@ -37,7 +37,7 @@ pub record FirstRefusal (texts : List (List ℕ)) (e : IaError) : Type 0 where
   pub rest : List (List ℕ)
   pub parts : texts ≡ front ++ text ∷ rest
   pub before : AreCores front cores
-  pub refused : IsRefused text e
+  pub refused : IsNoIsdAs text e
 
 -- Each of the texts is an ISD-AS.
 pub record IsCoreList (texts : List (List ℕ)) : Type 0 where

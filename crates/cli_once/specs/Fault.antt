@@ -9,13 +9,13 @@ use Rattle.cli_once.specs.declared.error.Fault.{Fault}
 use Rattle.cli_once.specs.declared.error.Fault.TheVariants as fault
 
 -- want of memory is no fault of a frame
-abbrev pub fault_of : FrameError → Fault
-fault_of error.NoMemory = fault.Memory
-fault_of error.Length = fault.Frame error.Length
-fault_of error.Kind = fault.Frame error.Kind
-fault_of error.Read = fault.Frame error.Read
-fault_of error.Write = fault.Frame error.Write
-fault_of error.Turns = fault.Frame error.Turns
+abbrev pub frame_fault : FrameError → Fault
+frame_fault error.NoMemory = fault.Memory
+frame_fault error.Length = fault.Frame error.Length
+frame_fault error.Kind = fault.Frame error.Kind
+frame_fault error.Read = fault.Frame error.Read
+frame_fault error.Write = fault.Frame error.Write
+frame_fault error.Turns = fault.Frame error.Turns
 
 -- the number of what is wrong with a text
 abbrev pub text_number : IaError → ℕ
@@ -32,9 +32,9 @@ frame_number error.Write = 4
 frame_number error.Turns = 5
 
 -- the words of a fault
-abbrev pub fault_text : Fault → List ℕ
-fault_text (fault.Text e) = codes "text " ++ decimal (text_number e)
-fault_text fault.Hex = codes "hex"
-fault_text (fault.Frame e) = codes "frame " ++ decimal (frame_number e)
-fault_text fault.Memory = codes "memory"
-fault_text fault.Output = codes "output"
+abbrev pub session_fault_text : Fault → List ℕ
+session_fault_text (fault.Text e) = codes "text " ++ decimal (text_number e)
+session_fault_text fault.Hex = codes "hex"
+session_fault_text (fault.Frame e) = codes "frame " ++ decimal (frame_number e)
+session_fault_text fault.Memory = codes "memory"
+session_fault_text fault.Output = codes "output"

@@ -8,25 +8,25 @@ use Rattle.session_core.specs.declared.error.FrameError.TheVariants as error
 use Rattle.session_core.specs.Source.{AreReads}
 use Rattle.session_core.specs.Lines.{IsServedInLines}
 use Rattle.cli_once.specs.declared.error.Fault.{Fault}
-use Rattle.cli_once.specs.Fault.{fault_of}
+use Rattle.cli_once.specs.Fault.{frame_fault}
 use Rattle.cli_once.specs.HexInput.{without_blanks, RefusesHex}
 use Rattle.cli_once.specs.Memory.{Served, Answers}
 
 -- why reading stops before the end of the input
-abbrev pub EndsEarly : ℕ → List (List ℕ) → FrameError → Type 0
-EndsEarly turns pieces error.NoMemory = Unit {0}
-EndsEarly turns pieces error.Length = ⊥
-EndsEarly turns pieces error.Kind = ⊥
-EndsEarly turns pieces error.Read = Unit {0}
-EndsEarly turns pieces error.Write = ⊥
-EndsEarly turns pieces error.Turns = length pieces ≡ turns
+abbrev pub InputEndsEarly : ℕ → List (List ℕ) → FrameError → Type 0
+InputEndsEarly turns pieces error.NoMemory = Unit {0}
+InputEndsEarly turns pieces error.Length = ⊥
+InputEndsEarly turns pieces error.Kind = ⊥
+InputEndsEarly turns pieces error.Read = Unit {0}
+InputEndsEarly turns pieces error.Write = ⊥
+InputEndsEarly turns pieces error.Turns = length pieces ≡ turns
 
 -- The input was not read whole, and nothing was written.
 pub record IsUnread (turns : ℕ) (pieces : List (List ℕ)) (output output_left : Option (List ℕ)) (result : Result ℕ Fault) : Type 0 where
   pub error : FrameError
-  pub ends : EndsEarly turns pieces error
+  pub ends : InputEndsEarly turns pieces error
   pub kept : Appends output output_left []
-  pub said : result ≡ Err (fault_of error)
+  pub said : result ≡ Err (frame_fault error)
 
 -- The input is refused as a text, and nothing was written.
 pub record IsNoText (text : List ℕ) (output output_left : Option (List ℕ)) (result : Result ℕ Fault) : Type 0 where
@@ -38,7 +38,7 @@ pub record IsNoText (text : List ℕ) (output output_left : Option (List ℕ)) (
 -- the program's answer for what a session ended with
 abbrev pub answer_for : Result ℕ FrameError → Result ℕ Fault
 answer_for (Ok count) = Ok count
-answer_for (Err e) = Err (fault_of e)
+answer_for (Err e) = Err (frame_fault e)
 
 -- The messages of these bytes were answered in lines, from this start on.
 pub record AreAnsweredInLines (start : Served) (bytes : List ℕ) (output output_left : Option (List ℕ)) (outcome : Result ℕ FrameError) : Type 0 where

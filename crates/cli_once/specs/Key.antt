@@ -12,14 +12,14 @@ pub record IsKeyText (text : List ℕ) : Type 0 where
   pub short : length key ≤ MOST_KEY
 
 -- The text encodes a key that is too long.
-pub record IsTooLong (text : List ℕ) : Type 0 where
+pub record IsKeyTooLong (text : List ℕ) : Type 0 where
   pub key : List ℕ
   pub encoded : decode_of text ≡ Ok key
   pub long : MOST_KEY < length key
 
 -- why a text is refused: it is no key, which is found without memory, or memory ran out for the key
 abbrev pub RefusesKey : List ℕ → Fault → Type 0
-RefusesKey text fault.Hex = IsErr (decode_of text) ⊎ IsTooLong text
+RefusesKey text fault.Hex = IsErr (decode_of text) ⊎ IsKeyTooLong text
 RefusesKey text fault.Memory = IsKeyText text
 RefusesKey text (fault.Text e) = ⊥
 RefusesKey text (fault.Frame e) = ⊥

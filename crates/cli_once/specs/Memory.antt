@@ -96,32 +96,32 @@ message_step served (Remove kind id) = removal_step served id (type_of kind)
 -- ---- want of memory
 
 -- a reply that shows segments, or that there are none
-abbrev pub IsFound : ReplyView → Type 0
-IsFound (Registered ack) = ⊥
-IsFound (Found kind segments) = Unit {0}
-IsFound (Purged ack) = ⊥
-IsFound (Removed ack) = ⊥
-IsFound (Refused code) = ⊥
+abbrev pub ShowsLookup : ReplyView → Type 0
+ShowsLookup (Registered ack) = ⊥
+ShowsLookup (Found kind segments) = Unit {0}
+ShowsLookup (Purged ack) = ⊥
+ShowsLookup (Removed ack) = ⊥
+ShowsLookup (Refused code) = ⊥
 
 -- Whether memory may run out for a message: a registration is refused without memory where its outline is, a removal where its
 -- type is none, and a lookup where it asks for no segments.
 abbrev pub MayRunOut : Served → MessageView → Type 0
 MayRunOut served (Register body) = IsOk (registration_outline body)
-MayRunOut served (Lookup body) = IsFound (message_step served (Lookup body)).0
+MayRunOut served (Lookup body) = ShowsLookup (message_step served (Lookup body)).0
 MayRunOut served (Purge moment) = Unit {0}
 MayRunOut served (Remove kind id) = IsOk (type_of kind)
 
 -- The message was refused memory: nothing changed, or its command was taken, and the outcome isn't reported.
-pub record IsOutOfMemory (old : Served) (message : MessageView) (reply : ReplyView) (new : Served) : Type 0 where
+pub record IsRefusedMemory (old : Served) (message : MessageView) (reply : ReplyView) (new : Served) : Type 0 where
   pub refused : reply ≡ Refused memory_code
   pub may : MayRunOut old message
   pub left : (new ≡ old) ⊎ (new ≡ (message_step old message).1)
 
 -- The message was answered by its step.
-pub record IsStep (old : Served) (message : MessageView) (reply : ReplyView) (new : Served) : Type 0 where
+pub record IsMessageStep (old : Served) (message : MessageView) (reply : ReplyView) (new : Served) : Type 0 where
   pub replied : reply ≡ (message_step old message).0
   pub left : new ≡ (message_step old message).1
 
 -- What the service may answer to a message, and what it holds then.
 abbrev pub Answers : Served → MessageView → ReplyView → Served → Type 0
-Answers old message reply new = IsOutOfMemory old message reply new ⊎ IsStep old message reply new
+Answers old message reply new = IsRefusedMemory old message reply new ⊎ IsMessageStep old message reply new

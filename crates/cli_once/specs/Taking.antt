@@ -12,32 +12,32 @@ use Rattle.reply_codes.specs.declared.refusal.Refusal.TheVariants.{NoMemory, Mes
 use Rattle.cli_once.specs.Memory.{Served, ack_of, after_command}
 
 -- the refusal that says why a store didn't take a command
-abbrev pub refusal_of : TakeError → Refusal
-refusal_of take.NoMemory = NoMemory
-refusal_of take.Full = Submit submit.Full
-refusal_of take.Exhausted = Submit submit.Exhausted
+abbrev pub take_refusal : TakeError → Refusal
+take_refusal take.NoMemory = NoMemory
+take_refusal take.Full = Submit submit.Full
+take_refusal take.Exhausted = Submit submit.Exhausted
 
 -- the command was taken: a place was left, and the rows after it fit
-pub record TakesCommand (old : Served) (c : Command) (new : Served) : Type 0 where
+pub record ServesCommand (old : Served) (c : Command) (new : Served) : Type 0 where
   pub left : old.place ≢ 2 ^ 64 - 1
   pub fits : FitStore (database_after old.rows c)
   pub taken : new ≡ after_command old c
 
 -- The command was taken and acknowledged; or no place was left, or else the rows after it don't fit, and nothing changed. Where memory
 -- ran out nothing changed, or the command was taken, and its outcome isn't reported.
-abbrev pub MayTake : Served → Command → Result Ack Refusal → Served → Type 0
-MayTake old c (Ok ack) new = (ack ≡ ack_of old c) × TakesCommand old c new
-MayTake old c (Err NoMemory) new = (new ≡ old) ⊎ TakesCommand old c new
-MayTake old c (Err (Submit submit.Full)) new =
+abbrev pub MayAcknowledge : Served → Command → Result Ack Refusal → Served → Type 0
+MayAcknowledge old c (Ok ack) new = (ack ≡ ack_of old c) × ServesCommand old c new
+MayAcknowledge old c (Err NoMemory) new = (new ≡ old) ⊎ ServesCommand old c new
+MayAcknowledge old c (Err (Submit submit.Full)) new =
     (old.place ≢ 2 ^ 64 - 1) × (¬ FitStore (database_after old.rows c)) × (new ≡ old)
-MayTake old c (Err (Submit submit.Exhausted)) new = (old.place ≡ 2 ^ 64 - 1) × (new ≡ old)
-MayTake old c (Err (Message e)) new = ⊥
-MayTake old c (Err (Check e)) new = ⊥
-MayTake old c (Err (Lookup e)) new = ⊥
-MayTake old c (Err (Submit submit.Busy)) new = ⊥
-MayTake old c (Err (Submit submit.TooLarge)) new = ⊥
-MayTake old c (Err (Submit submit.Stopped)) new = ⊥
-MayTake old c (Err (Submit submit.NoMemory)) new = ⊥
-MayTake old c (Err (Submit submit.OldStore)) new = ⊥
-MayTake old c (Err NoReader) new = ⊥
-MayTake old c (Err Stopped) new = ⊥
+MayAcknowledge old c (Err (Submit submit.Exhausted)) new = (old.place ≡ 2 ^ 64 - 1) × (new ≡ old)
+MayAcknowledge old c (Err (Message e)) new = ⊥
+MayAcknowledge old c (Err (Check e)) new = ⊥
+MayAcknowledge old c (Err (Lookup e)) new = ⊥
+MayAcknowledge old c (Err (Submit submit.Busy)) new = ⊥
+MayAcknowledge old c (Err (Submit submit.TooLarge)) new = ⊥
+MayAcknowledge old c (Err (Submit submit.Stopped)) new = ⊥
+MayAcknowledge old c (Err (Submit submit.NoMemory)) new = ⊥
+MayAcknowledge old c (Err (Submit submit.OldStore)) new = ⊥
+MayAcknowledge old c (Err NoReader) new = ⊥
+MayAcknowledge old c (Err Stopped) new = ⊥

@@ -24,9 +24,9 @@ pub enum Fault {
 }
 
 impl fmt::Display for Fault {
-    ghost use Rattle.cli_once.specs.Fault.{fault_text};
+    ghost use Rattle.cli_once.specs.Fault.{session_fault_text};
 
-    ghost output = { λ fault. Some (fault_text fault) };
+    ghost output = { λ fault. Some (session_fault_text fault) };
 
     fn fmt<W: fmt::Write>(&self, f: &mut fmt::Formatter<W>) -> fmt::Result {
         match self {
@@ -54,9 +54,9 @@ fn frame_number(error: FrameError) -> u8
 }
 
 impl From<FrameError> for Fault {
-    ghost use Rattle.cli_once.specs.Fault.{fault_of};
+    ghost use Rattle.cli_once.specs.Fault.{frame_fault};
 
-    ghost from_gives = { λ error fault. fault ≡ fault_of error };
+    ghost from_gives = { λ error fault. fault ≡ frame_fault error };
 
     fn from(error: FrameError) -> Self {
         match error {

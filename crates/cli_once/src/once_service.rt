@@ -10,7 +10,7 @@ ghost use Rattle.session_core.specs.Reply.{Registered, Purged, Removed};
 ghost use Rattle.reply_codes.specs.Replies.{reply_to_command, reply_to_query};
 ghost use Rattle.cli_once.specs.Kept.{served_by};
 ghost use Rattle.cli_once.specs.Memory.{Answers, opening};
-ghost use Rattle.cli_once.specs.Taking.{refusal_of, MayTake};
+ghost use Rattle.cli_once.specs.Taking.{take_refusal, MayAcknowledge};
 
 use group_core::SubmitError;
 use once_store::{OnceStore, TakeError, Taken};
@@ -65,7 +65,7 @@ impl<'a, V: Verifier> OnceService<'a, V> {
     /// outcome isn't reported.
     fn take(&mut self, command: Command) -> Result<Ack, Refusal>
         requires within { IsWithinLimits command }
-        ensures { MayTake (served_by V.verifies self.old) command result (served_by V.verifies self.new) }
+        ensures { MayAcknowledge (served_by V.verifies self.old) command result (served_by V.verifies self.new) }
     {
         match self.store.take(command) {
             Ok(Taken { place, outcome }) => Ok(Ack { place, outcome }),
@@ -117,7 +117,7 @@ impl<'a, V: Verifier> OnceService<'a, V> {
 
 /// The refusal that says why a store didn't take a command.
 fn refusal_of(error: TakeError) -> Refusal
-    ensures { result ≡ refusal_of error }
+    ensures { result ≡ take_refusal error }
 {
     match error {
         TakeError::NoMemory => Refusal::NoMemory,

@@ -12,8 +12,8 @@ use Rattle.cli_program.specs.declared.ending.Ended.TheVariants.{Session, Store, 
 
 -- the words of why the program ends
 abbrev pub ended_text : Ended → List ℕ
-ended_text (Session fault) = session.fault_text fault
-ended_text (Store fault) = store.fault_text fault
+ended_text (Session fault) = session.session_fault_text fault
+ended_text (Store fault) = store.store_fault_text fault
 ended_text Net = codes "net"
 
 -- its last line on standard error

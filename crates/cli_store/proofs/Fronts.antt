@@ -3,7 +3,7 @@ use Rattle.std.proofs.Common.{◌≡◌, ℕ, List, ◌++◌, take, drop, Option
 use Rattle.std.specs.Io.KnownBytes.{Appends}
 use Rattle.std.proofs.KnownBytes.{Appends-trans}
 use Rattle.cli_store.specs.declared.error.Fault.{Fault}
-use Rattle.cli_store.specs.Writing.{FailsWithin}
+use Rattle.cli_store.specs.Writing.{TextWriteFails}
 
 -- A front of the bytes was written, and the rest is left.
 pub record HasWritten (output output_left : Option (List ℕ)) (bytes rest : List ℕ) : Type 0 where
@@ -21,7 +21,7 @@ HasWritten-next a b c bytes next rest w more = record {
 
 -- ---- what fails behind a front
 
-pub fails_behind : (a b c : Option (List ℕ)) (bytes next rest : List ℕ) (fault : Fault) → HasWritten a b bytes (next ++ rest) → FailsWithin b c next fault → FailsWithin a c bytes fault
+pub fails_behind : (a b c : Option (List ℕ)) (bytes next rest : List ℕ) (fault : Fault) → HasWritten a b bytes (next ++ rest) → TextWriteFails b c next fault → TextWriteFails a c bytes fault
 fails_behind a b c bytes next rest fault w f = record {
   part = record {
     front = w.front ++ f.part.front;
@@ -37,7 +37,7 @@ fails_behind a b c bytes next rest fault w f = record {
 
 -- ---- two byte strings
 
-pub fails_first : (a b : Option (List ℕ)) (head body : List ℕ) (fault : Fault) → FailsWithin a b head fault → FailsWithin a b (head ++ body) fault
+pub fails_first : (a b : Option (List ℕ)) (head body : List ℕ) (fault : Fault) → TextWriteFails a b head fault → TextWriteFails a b (head ++ body) fault
 fails_first a b head body fault f = record {
   part = record {
     front = f.part.front;
@@ -48,7 +48,7 @@ fails_first a b head body fault f = record {
   of_writing = f.of_writing;
 }
 
-pub fails_second : (a b c : Option (List ℕ)) (head body : List ℕ) (fault : Fault) → Appends a b head → FailsWithin b c body fault → FailsWithin a c (head ++ body) fault
+pub fails_second : (a b c : Option (List ℕ)) (head body : List ℕ) (fault : Fault) → Appends a b head → TextWriteFails b c body fault → TextWriteFails a c (head ++ body) fault
 fails_second a b c head body fault w f = record {
   part = record {
     front = head ++ f.part.front;
@@ -59,6 +59,6 @@ fails_second a b c head body fault w f = record {
   of_writing = f.of_writing;
 }
 
-pub fails_second_of : {T : Type 0} (r : Result T Fault) (a b c : Option (List ℕ)) (head body : List ℕ) → Appends a b head → IfErr r (FailsWithin b c body) → IfErr r (FailsWithin a c (head ++ body))
+pub fails_second_of : {T : Type 0} (r : Result T Fault) (a b c : Option (List ℕ)) (head body : List ℕ) → Appends a b head → IfErr r (TextWriteFails b c body) → IfErr r (TextWriteFails a c (head ++ body))
 fails_second_of (Ok x) a b c head body w f = f
 fails_second_of (Err e) a b c head body w f = fails_second a b c head body e w f

@@ -9,7 +9,7 @@ use Rattle.cli_store.specs.declared.error.Fault.{Fault}
 use Rattle.cli_store.specs.declared.error.Fault.TheVariants.{Format, Open, Checkpoint, File, Memory, Output}
 use Rattle.cli_store.specs.Showing.{FailsToShow}
 use Rattle.cli_store.specs.Text.{store_text}
-use Rattle.cli_store.specs.Writing.{FailsWithin}
+use Rattle.cli_store.specs.Writing.{TextWriteFails}
 
 -- a store that was opened has the rows and the place to which what was read opens
 pub opened_stands_for : (reads : List ℕ) (view : StoreView) → IsOpened reads view → IsStoreOf view.rows view.place reads
@@ -17,7 +17,7 @@ opened_stands_for reads view opened = record { opening = opened.rest.opening; is
 
 -- a front of the text of these was written
 pub shown_in_part : (fault : Fault) (disk : Disk) (output left : Option (List ℕ)) (rows : List RowView) (place : ℕ) → (IsHonest disk → IsStoreOf rows place (reads_of disk))
-    → FailsWithin output left (store_text rows place) fault → FailsToShow fault disk output left
+    → TextWriteFails output left (store_text rows place) fault → FailsToShow fault disk output left
 shown_in_part (Format e) disk output left rows place opens fails = absurd fails.of_writing
 shown_in_part (Open e) disk output left rows place opens fails = absurd fails.of_writing
 shown_in_part (Checkpoint e) disk output left rows place opens fails = absurd fails.of_writing

@@ -4,7 +4,7 @@ use Rattle.std.specs.Io.KnownBytes.{Appends}
 use Rattle.sector_dev.specs.Disk.{Disk}
 use Rattle.path_rows.specs.Database.{RowView}
 use Rattle.path_rows.specs.declared.command.Command.{Command}
-use Rattle.store_layout.specs.Opening.{Opening, StoreValue, value_of}
+use Rattle.store_layout.specs.Opening.{Opening, StoreValue, opening_value}
 use Rattle.store_layout.specs.Layout.{Geometry}
 use Rattle.store_layout.specs.Geometry.{geometry_view}
 use Rattle.store_layout.specs.Checkpoint.{Head}
@@ -16,7 +16,7 @@ use Rattle.store_open.specs.declared.folded.Folded.{Folded}
 use Rattle.store_open.specs.Folded.{TellsOnAny, IsSeenOn}
 use Rattle.cli_store.specs.FoldedStatus.{folded_status}
 use Rattle.cli_store.specs.Status.{Status, status_of, status_text, IsReported, IsReportedInPart, ReportsSo}
-use Rattle.cli_store.specs.Writing.{FailsWithin}
+use Rattle.cli_store.specs.Writing.{TextWriteFails}
 use Rattle.cli_store.specs.declared.error.Fault.{Fault}
 use Rattle.cli_store.specs.declared.error.Fault.TheVariants.{Output}
 
@@ -37,7 +37,7 @@ status_from geometry head sealed gate value = record {
 pub same_status : (disk : Disk) (folded : Folded) (opening : Opening (List RowView) Command) → TellsOnAny folded opening → folded_status folded ≡ status_of opening
 same_status disk folded opening tells =
     let t = tells disk in
-    let value = value_of store_format opening in
+    let value = opening_value store_format opening in
     let gate = (last_reading opening).tail in
     let head = opening.checkpoint.head in
     sym
@@ -52,7 +52,7 @@ module _ (disk : Disk) (folded : Folded) (seen : IsSeenOn disk folded) (output o
   same = ap status_text (same_status disk folded seen.opening seen.tells)
 
   pub reported : (r : Result (Unit {0}) Fault) → OnOk r (Appends output output_left (status_text (folded_status folded)))
-      → IfErr r (FailsWithin output output_left (status_text (folded_status folded))) → IfErr r (λ e. e ≡ Output) → ReportsSo r disk output output_left
+      → IfErr r (TextWriteFails output output_left (status_text (folded_status folded))) → IfErr r (λ e. e ≡ Output) → ReportsSo r disk output output_left
   reported (Ok done) written fails is = record {
     opening = seen.opening;
     opens = seen.opens;
@@ -63,5 +63,5 @@ module _ (disk : Disk) (folded : Folded) (seen : IsSeenOn disk folded) (output o
       (record {
         opening = seen.opening;
         opens = seen.opens;
-        written = (subst (λ (text : List ℕ). FailsWithin output output_left text e) same fails).part;
+        written = (subst (λ (text : List ℕ). TextWriteFails output output_left text e) same fails).part;
       })

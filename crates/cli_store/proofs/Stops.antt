@@ -5,7 +5,7 @@ use Rattle.sector_dev.specs.Image.{IsImage, IsFromImage}
 use Rattle.sector_dev.specs.Stretch.{Stretch}
 use Rattle.sector_dev.proofs.Stretches.{honest_before, at_exit, stretch_here, stretch_then, stretch_weaker, stretch_both, from_here, stretch_honest}
 use Rattle.store_layout.specs.Layout.{Geometry}
-use Rattle.store_layout.specs.Opening.{value_of}
+use Rattle.store_layout.specs.Opening.{opening_value}
 use Rattle.store_open.specs.Behind.{SameBehind}
 use Rattle.store_open.specs.Open.{OpensAlike, IsOpened}
 use Rattle.store_open.specs.PathStores.{store_format}
@@ -23,8 +23,8 @@ same_store before behind (inl same) = inl same
 same_store before behind (inr both) =
     inr
     (record {
-      rows = (value_of store_format both.opening).db;
-      place = (value_of store_format both.opening).place;
+      rows = (opening_value store_format both.opening).db;
+      place = (opening_value store_format both.opening).place;
       before_is = record { opening = both.opening; is = both.opens_before; stands_for = refl };
       behind_is = record { opening = both.opening; is = both.opens_behind; stands_for = refl };
       beyond = both.beyond;

@@ -62,6 +62,6 @@ pub record IsNotOpened (e : OpenError) (disk : Disk) (output output_left : Optio
   pub nothing : Appends output output_left []
 
 -- Memory ran out in opening, where all was in order that is judged without; nothing was written.
-pub record WantsMemory (disk : Disk) (output output_left : Option (List ℕ)) : Type 0 where
+pub record OpeningLacksMemory (disk : Disk) (output output_left : Option (List ℕ)) : Type 0 where
   pub wanted : IsHonest disk → WantsMemoryToOpen (reads_of disk)
   pub nothing : Appends output output_left []

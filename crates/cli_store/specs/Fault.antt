@@ -16,8 +16,8 @@ use Rattle.cli_store.specs.declared.error.Fault.TheVariants.{Format, Open, Check
 abbrev pub open_numbers : OpenError → List ℕ
 open_numbers NotAStore = decimal 1
 open_numbers Device = decimal 2
-open_numbers (Pair e) = codes "3 " ++ decimal (pair.number_of e)
-open_numbers (Journal e) = codes "4 " ++ decimal (journal.number_of e)
+open_numbers (Pair e) = codes "3 " ++ decimal (pair.pair_error_number e)
+open_numbers (Journal e) = codes "4 " ++ decimal (journal.journal_error_number e)
 open_numbers NoMemory = decimal 5
 
 abbrev pub format_number : FormatError → ℕ
@@ -34,13 +34,13 @@ checkpoint_number checkpoint.Unfit = 5
 checkpoint_number checkpoint.Broken = 6
 
 -- the words of a fault
-abbrev pub fault_text : Fault → List ℕ
-fault_text (Format e) = codes "format " ++ decimal (format_number e)
-fault_text (Open e) = codes "open " ++ open_numbers e
-fault_text (Checkpoint e) = codes "device " ++ decimal (checkpoint_number e)
-fault_text File = codes "device 1"
-fault_text Memory = codes "memory"
-fault_text Output = codes "output"
+abbrev pub store_fault_text : Fault → List ℕ
+store_fault_text (Format e) = codes "format " ++ decimal (format_number e)
+store_fault_text (Open e) = codes "open " ++ open_numbers e
+store_fault_text (Checkpoint e) = codes "device " ++ decimal (checkpoint_number e)
+store_fault_text File = codes "device 1"
+store_fault_text Memory = codes "memory"
+store_fault_text Output = codes "output"
 
 -- want of memory is that, whoever wants it
 abbrev pub fault_of_opening : OpenError → Fault

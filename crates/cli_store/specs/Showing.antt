@@ -6,12 +6,12 @@ use Rattle.path_rows.specs.Database.{RowView}
 use Rattle.store_open.specs.PathStores.{IsStoreOf}
 use Rattle.cli_store.specs.Text.{store_text}
 use Rattle.whole_writes.specs.Written.{IsWrittenInPart}
-use Rattle.cli_store.specs.Devices.{IsNotOpened, WantsMemory}
+use Rattle.cli_store.specs.Devices.{IsNotOpened, OpeningLacksMemory}
 use Rattle.cli_store.specs.declared.error.Fault.{Fault}
 use Rattle.cli_store.specs.declared.error.Fault.TheVariants.{Format, Open, Checkpoint, File, Memory, Output}
 
 -- What reads give opens to rows at a place, and their text was written.
-pub record IsShown (disk : Disk) (output output_left : Option (List ℕ)) : Type 0 where
+pub record ShowsStore (disk : Disk) (output output_left : Option (List ℕ)) : Type 0 where
   pub rows : List RowView
   pub place : ℕ
   pub opens : IsHonest disk → IsStoreOf rows place (reads_of disk)
@@ -30,5 +30,5 @@ FailsToShow (Format e) disk output output_left = ⊥
 FailsToShow (Open e) disk output output_left = IsNotOpened e disk output output_left
 FailsToShow (Checkpoint e) disk output output_left = ⊥
 FailsToShow File disk output output_left = ⊥
-FailsToShow Memory disk output output_left = WantsMemory disk output output_left ⊎ IsShownInPart disk output output_left
+FailsToShow Memory disk output output_left = OpeningLacksMemory disk output output_left ⊎ IsShownInPart disk output output_left
 FailsToShow Output disk output output_left = IsShownInPart disk output output_left

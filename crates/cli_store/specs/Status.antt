@@ -5,13 +5,13 @@ use Rattle.std.specs.Io.KnownBytes.{Appends}
 use Rattle.sector_dev.specs.Disk.{Disk, IsHonest, reads_of}
 use Rattle.path_rows.specs.Database.{RowView}
 use Rattle.path_rows.specs.declared.command.Command.{Command}
-use Rattle.store_layout.specs.Opening.{Opening, IsOpening, value_of}
+use Rattle.store_layout.specs.Opening.{Opening, IsOpening, opening_value}
 use Rattle.store_layout.specs.StoreGrowth.{last_reading}
 use Rattle.ckpt_pair.specs.Versions.{latest}
 use Rattle.store_open.specs.PathStores.{store_format}
 use Rattle.store_open.specs.Store.{counted_len}
 use Rattle.whole_writes.specs.Written.{IsWrittenInPart}
-use Rattle.cli_store.specs.Devices.{IsNotOpened, WantsMemory}
+use Rattle.cli_store.specs.Devices.{IsNotOpened, OpeningLacksMemory}
 use Rattle.cli_store.specs.Text.{before}
 use Rattle.cli_store.specs.declared.error.Fault.{Fault}
 use Rattle.cli_store.specs.declared.error.Fault.TheVariants.{Format, Open, Checkpoint, File, Memory, Output}
@@ -33,7 +33,7 @@ pub record Status : Type 0 where
 -- those of what an image opens with
 abbrev pub status_of : Opening (List RowView) Command → Status
 status_of opening =
-    let value = value_of store_format opening in
+    let value = opening_value store_format opening in
     record {
       version = opening.checkpoint.head.version;
       epoch = opening.checkpoint.head.epoch;
@@ -93,5 +93,5 @@ ReportsSo (Err (Format e)) disk output output_left = ⊥
 ReportsSo (Err (Open e)) disk output output_left = IsNotOpened e disk output output_left
 ReportsSo (Err (Checkpoint e)) disk output output_left = ⊥
 ReportsSo (Err File) disk output output_left = ⊥
-ReportsSo (Err Memory) disk output output_left = WantsMemory disk output output_left
+ReportsSo (Err Memory) disk output output_left = OpeningLacksMemory disk output output_left
 ReportsSo (Err Output) disk output output_left = IsReportedInPart disk output output_left

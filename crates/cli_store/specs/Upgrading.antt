@@ -10,7 +10,7 @@ use Rattle.store_open.specs.declared.store_error.StoreError.{StoreError}
 use Rattle.store_open.specs.declared.store_error.StoreError.TheVariants as checkpoint
 use Rattle.cli_store.specs.Text.{version_line}
 use Rattle.whole_writes.specs.Written.{IsWrittenInPart}
-use Rattle.cli_store.specs.Devices.{IsNotOpened, WantsMemory}
+use Rattle.cli_store.specs.Devices.{IsNotOpened, OpeningLacksMemory}
 use Rattle.cli_store.specs.declared.error.Fault.{Fault}
 use Rattle.cli_store.specs.declared.error.Fault.TheVariants.{Format, Open, Checkpoint, File, Memory, Output}
 
@@ -44,5 +44,5 @@ FailsToUpgrade (Format e) old new output output_left = ⊥
 FailsToUpgrade (Open e) old new output output_left = IsNotOpened e old output output_left
 FailsToUpgrade (Checkpoint e) old new output output_left = IsNotUpgraded e old new output output_left
 FailsToUpgrade File old new output output_left = ⊥
-FailsToUpgrade Memory old new output output_left = WantsMemory old output output_left ⊎ IsNotUpgraded checkpoint.NoMemory old new output output_left
+FailsToUpgrade Memory old new output output_left = OpeningLacksMemory old output output_left ⊎ IsNotUpgraded checkpoint.NoMemory old new output output_left
 FailsToUpgrade Output old new output output_left = (IsHonest old → IsUpgraded old new) × IsWrittenInPart output output_left version_line

@@ -14,6 +14,6 @@ IsOfWriting Memory = Unit {0}
 IsOfWriting Output = Unit {0}
 
 -- A front of the bytes was written, and then a write failed, or memory for the next ran out.
-pub record FailsWithin (output output_left : Option (List ℕ)) (bytes : List ℕ) (fault : Fault) : Type 0 where
+pub record TextWriteFails (output output_left : Option (List ℕ)) (bytes : List ℕ) (fault : Fault) : Type 0 where
   pub part : IsWrittenInPart output output_left bytes
   pub of_writing : IsOfWriting fault

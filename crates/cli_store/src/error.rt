@@ -26,9 +26,9 @@ pub enum Fault {
 }
 
 impl fmt::Display for Fault {
-    ghost use Rattle.cli_store.specs.Fault.{fault_text};
+    ghost use Rattle.cli_store.specs.Fault.{store_fault_text};
 
-    ghost output = { λ fault. Some (fault_text fault) };
+    ghost output = { λ fault. Some (store_fault_text fault) };
 
     fn fmt<W: fmt::Write>(&self, f: &mut fmt::Formatter<W>) -> fmt::Result {
         match self {

@@ -5,7 +5,7 @@ ghost use Rattle.sector_dev.specs.Image.{IsFromImage};
 ghost use Rattle.sector_dev.specs.Stretch.{Stretch};
 ghost use Rattle.store_open.specs.Open.{OpensAlike};
 ghost use Rattle.cli_store.specs.Devices.{device_after, faults_left};
-ghost use Rattle.cli_store.specs.Showing.{IsShown, FailsToShow};
+ghost use Rattle.cli_store.specs.Showing.{ShowsStore, FailsToShow};
 
 use crate::error::Fault;
 use crate::writing::write_store;
@@ -16,7 +16,7 @@ use store_open::open;
 
 /// Opens a device, and prints its rows in the order of their keys, a line each, and its place. The device comes back.
 pub fn show<D: Device, W: Write>(alloc: Global, device: D, writer: &mut W) -> Result<D, (D, Fault)>
-    ensures ok { IfOk result (λ _. IsShown (D.disk device) (W.contents writer.old) (W.contents writer.new)) }
+    ensures ok { IfOk result (λ _. ShowsStore (D.disk device) (W.contents writer.old) (W.contents writer.new)) }
     ensures err { IfErr result (λ back. FailsToShow back.1 (D.disk device) (W.contents writer.old) (W.contents writer.new)) }
 
     // At every moment what a stop leaves is an image of the start, or opens with what one of the start opens with.

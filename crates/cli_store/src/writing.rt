@@ -3,7 +3,7 @@
 ghost use Rattle.std.specs.Prelude.{◌≡◌, OnOk, IfErr};
 ghost use Rattle.std.specs.Io.KnownBytes.{Appends};
 ghost use Rattle.cli_store.specs.Text.{rows_text, place_line, store_text};
-ghost use Rattle.cli_store.specs.Writing.{FailsWithin};
+ghost use Rattle.cli_store.specs.Writing.{TextWriteFails};
 
 use crate::error::Fault;
 use crate::text::{place_line, row_line};
@@ -21,7 +21,7 @@ pub(crate) fn write_store<W: Write>(
     writer: &mut W,
 ) -> Result<(), Fault>
     ensures ok { OnOk result (Appends (W.contents writer.old) (W.contents writer.new) (store_text db.now place)) }
-    ensures err { IfErr result (FailsWithin (W.contents writer.old) (W.contents writer.new) (store_text db.now place)) }
+    ensures err { IfErr result (TextWriteFails (W.contents writer.old) (W.contents writer.new) (store_text db.now place)) }
 {
     write_rows(alloc, db.rows(), writer)?;
     write_place(alloc, place, writer)
@@ -29,7 +29,7 @@ pub(crate) fn write_store<W: Write>(
 
 fn write_rows<W: Write>(alloc: Global, rows: Rows<'_>, writer: &mut W) -> Result<(), Fault>
     ensures ok { OnOk result (Appends (W.contents writer.old) (W.contents writer.new) (rows_text rows.entry)) }
-    ensures err { IfErr result (FailsWithin (W.contents writer.old) (W.contents writer.new) (rows_text rows.entry)) }
+    ensures err { IfErr result (TextWriteFails (W.contents writer.old) (W.contents writer.new) (rows_text rows.entry)) }
 {
     for row in rows {
         let Ok(line) = row_line(alloc, row) else {
@@ -42,7 +42,7 @@ fn write_rows<W: Write>(alloc: Global, rows: Rows<'_>, writer: &mut W) -> Result
 
 fn write_place<W: Write>(alloc: Global, place: u64, writer: &mut W) -> Result<(), Fault>
     ensures ok { OnOk result (Appends (W.contents writer.old) (W.contents writer.new) (place_line place)) }
-    ensures err { IfErr result (FailsWithin (W.contents writer.old) (W.contents writer.new) (place_line place)) }
+    ensures err { IfErr result (TextWriteFails (W.contents writer.old) (W.contents writer.new) (place_line place)) }
 {
     let Ok(line) = place_line(alloc, place) else {
         return Err(Fault::Memory);
@@ -53,7 +53,7 @@ fn write_place<W: Write>(alloc: Global, place: u64, writer: &mut W) -> Result<()
 /// Writes all of the bytes. A write that takes none is a fault, and none is tried again.
 pub(crate) fn write_all<W: Write>(writer: &mut W, bytes: &[u8]) -> Result<(), Fault>
     ensures ok { OnOk result (Appends (W.contents writer.old) (W.contents writer.new) bytes.now) }
-    ensures err { IfErr result (FailsWithin (W.contents writer.old) (W.contents writer.new) bytes.now) }
+    ensures err { IfErr result (TextWriteFails (W.contents writer.old) (W.contents writer.new) bytes.now) }
     ensures output { IfErr result (λ e. e ≡ Fault.Output) }
 {
     match whole_writes::write_all(writer, bytes) {

@@ -16,7 +16,7 @@ use Rattle.gate_journal.specs.declared.scanner.Stage.TheVariants.{AtGate, AtHead
 use Rattle.gate_journal.specs.Commands.{command_format}
 use Rattle.gate_journal.specs.Reading.{payload_reading}
 use Rattle.gate_journal.specs.ScannerView.{ScannerView, IsInside}
-use Rattle.gate_journal.specs.Scanning.{first_of, count_of, first_wanted, count_wanted, IsKnown, IsReadUpTo, CountsForReading}
+use Rattle.gate_journal.specs.Scanning.{first_sector_of, count_of, first_wanted, count_wanted, IsKnown, IsReadUpTo, CountsForReading}
 use Rattle.gate_journal.proofs.Payloads.{payload_is, as_group, behind_header}
 
 -- the reading after commands
@@ -85,7 +85,7 @@ module _ (limits : Limits) (bytes : List ℕ) (steps gate place : ℕ) where
 
   -- the next piece counts, by what is known
   piece_counts : (stage : Stage) (reading : Reading Command) → IsKnown stage limits bytes gate place → IsInside stage (whole_sectors bytes) gate place
-      → scan_from (suc steps) command_format limits bytes gate place ≡ Ok reading → first_of stage gate + count_of stage ≤ sectors_read reading
+      → scan_from (suc steps) command_format limits bytes gate place ≡ Ok reading → first_sector_of stage gate + count_of stage ≤ sectors_read reading
   unfolding behind
   piece_counts AtGate reading known inside is = omega (arith, scan_forward limits bytes (suc steps) gate place reading is, at_least reading.sealed reading.tail)
   piece_counts AtHeader reading known inside is =
@@ -127,9 +127,9 @@ room_of (AtPayload count size) sectors gate place inside = omega (arith, inside.
 
 -- the same of a scanner that is seen as another, at a stage
 pub stage_needed : (view self : ScannerView) (stage : Stage) (sectors : ℕ) → view ≡ self → IsInside view.stage view.sectors view.gate view.place → view.stage ≡ stage
-    → sectors ≡ first_of stage view.gate + count_of stage → CountsForReading self sectors
+    → sectors ≡ first_sector_of stage view.gate + count_of stage → CountsForReading self sectors
 stage_needed view self stage sectors same inside turn counted =
     subst (λ (v : ScannerView). CountsForReading v sectors) same (λ bytes start reading is journal.
     let needed = piece_needed view bytes start reading inside (room_of view.stage view.sectors view.gate view.place inside) is journal in
-    let here = subst (λ (s : Stage). first_of s view.gate + count_of s ≤ sectors_read reading) turn needed in
+    let here = subst (λ (s : Stage). first_sector_of s view.gate + count_of s ≤ sectors_read reading) turn needed in
     subst (λ (n : ℕ). n ≤ sectors_read reading) (sym counted) here)

@@ -6,8 +6,8 @@ use Rattle.byte_lists.specs.Content.{part}
 use Rattle.byte_lists.specs.Sectors.{whole_sectors, sector_at}
 use Rattle.path_rows.specs.declared.command.Command.{Command}
 use Rattle.store_layout.specs.Limits.{Limits}
-use Rattle.store_layout.specs.Group.{payload_sectors, most_record_bytes, last_place, HasRoom}
-use Rattle.store_layout.specs.GroupReading.{JournalRefusal, BadHeader, BadRecord, Gap, PastEnd, check, count_in, size_in, place_in, is_header, IsGroupHeader, is_group_header, is_seal_header, record_size, first_command, with_first, none_left, commands_in, are_zeros, Payload, OfGroup, OfSeal, OfNone, kind_of, group_of, group_in, by_kind, payload_at}
+use Rattle.store_layout.specs.Group.{payload_sectors, most_record_bytes, last_place, JournalHasRoom}
+use Rattle.store_layout.specs.GroupReading.{JournalRefusal, BadHeader, BadRecord, Gap, PastEnd, refuse_unless, count_in, size_in, place_in, is_header, IsGroupHeader, is_group_header, is_seal_header, record_size, first_command, with_first, none_left, commands_in, are_zeros, Payload, OfGroup, OfSeal, OfNone, header_kind, group_of, group_in, by_kind, payload_at}
 use Rattle.store_layout.specs.GroupReading.{Group as IsGroupOf, Seal as IsSealOf}
 use Rattle.store_layout.proofs.Exports.{check_passed, group_header_from}
 use Rattle.gate_journal.specs.declared.header.Header.{Header}
@@ -65,8 +65,8 @@ module _ (p : List ℕ) where
 -- the reading of a header, by its kind and by the numbers that are checked
 abbrev reading_by : Bool → Bool → ℕ → ℕ → ℕ → Bool → ℕ → ℕ → ℕ → Result Header JournalRefusal
 reading_by group seal count size there zeros gate place sectors =
-    cond group (check (eqb there place) (Gap place) (check (leb (gate + 1 + payload_sectors size + 2) sectors) PastEnd (Ok (Group count size))))
-    (cond seal (check (eqb there place) (Gap place) (check zeros BadRecord (Ok Seal))) (Err BadHeader))
+    cond group (refuse_unless (eqb there place) (Gap place) (refuse_unless (leb (gate + 1 + payload_sectors size + 2) sectors) PastEnd (Ok (Group count size))))
+    (cond seal (refuse_unless (eqb there place) (Gap place) (refuse_unless zeros BadRecord (Ok Seal))) (Err BadHeader))
 
 pub front_reading : (limits : Limits) (p : List ℕ) (gate place sectors : ℕ) → header_reading limits (take 512 p) gate place sectors ≡ header_reading limits p gate place sectors
 front_reading limits p gate place sectors =
@@ -84,9 +84,9 @@ front_reading limits p gate place sectors =
 pub front_payload : (limits : Limits) (count size : ℕ) (p : List ℕ) → payload_reading limits count size (take (512 * payload_sectors size) p) ≡ payload_reading limits count size p
 front_payload limits count size p =
     let k = 512 * payload_sectors size in
-    ap (λ (padding : List ℕ). check (are_zeros padding) BadRecord (found_in_records (commands_in command_format limits count (part 16 size (take k p)))))
+    ap (λ (padding : List ℕ). refuse_unless (are_zeros padding) BadRecord (found_in_records (commands_in command_format limits count (part 16 size (take k p)))))
     (part_front (16 + size) (k - (16 + size)) k p (omega arith))
-    ∙ ap (λ (records : List ℕ). check (are_zeros (padding_of size p)) BadRecord (found_in_records (commands_in command_format limits count records)))
+    ∙ ap (λ (records : List ℕ). refuse_unless (are_zeros (padding_of size p)) BadRecord (found_in_records (commands_in command_format limits count records)))
     (part_front 16 size k p (omega arith))
 
 -- what is after a gate, by what the header and then a group's payload read as
@@ -101,22 +101,22 @@ behind_header (Err refusal) limits p = Err refusal
 
 module _ (limits : Limits) (p : List ℕ) (gate place sectors : ℕ) where
   group_is : (zeros : Bool) (found : Option (List Command)) (size : ℕ)
-      → check zeros BadRecord (group_of found size) ≡ as_group (check zeros BadRecord (found_in_records found)) size
+      → refuse_unless zeros BadRecord (group_of found size) ≡ as_group (refuse_unless zeros BadRecord (found_in_records found)) size
   group_is false found size = refl
   group_is true None size = refl
   group_is true (Some commands) size = refl
 
   of_group : (there room : Bool)
-      → check there (Gap place) (check room PastEnd (group_in command_format limits p))
-      ≡ behind_header (check there (Gap place) (check room PastEnd (Ok (Group (count_in p) (size_in p))))) limits p
+      → refuse_unless there (Gap place) (refuse_unless room PastEnd (group_in command_format limits p))
+      ≡ behind_header (refuse_unless there (Gap place) (refuse_unless room PastEnd (Ok (Group (count_in p) (size_in p))))) limits p
   of_group false room = refl
   of_group true false = refl
   of_group true true =
       group_is (are_zeros (padding_of (size_in p) p)) (commands_in command_format limits (count_in p) (part 16 (size_in p) p)) (size_in p)
 
   of_seal : (there zeros : Bool)
-      → check there (Gap place) (check zeros BadRecord (let r : Result (Payload Command) JournalRefusal = Ok IsSealOf in r))
-      ≡ behind_header (check there (Gap place) (check zeros BadRecord (Ok Seal))) limits p
+      → refuse_unless there (Gap place) (refuse_unless zeros BadRecord (let r : Result (Payload Command) JournalRefusal = Ok IsSealOf in r))
+      ≡ behind_header (refuse_unless there (Gap place) (refuse_unless zeros BadRecord (Ok Seal))) limits p
   of_seal false zeros = refl
   of_seal true false = refl
   of_seal true true = refl
@@ -134,7 +134,7 @@ pub payload_is : (limits : Limits) (bytes : List ℕ) (gate place : ℕ) → gat
     ≡ behind_header (header_reading limits (sector_at (gate + 1) bytes) gate place (whole_sectors bytes)) limits (drop (512 * (gate + 1)) bytes)
 payload_is limits bytes gate place room =
     let p = drop (512 * (gate + 1)) bytes in
-    ap (λ (b : Bool). check b PastEnd (by_kind (kind_of limits p) command_format limits p gate place (whole_sectors bytes))) (le-leb (gate + 2) (whole_sectors bytes) room)
+    ap (λ (b : Bool). refuse_unless b PastEnd (by_kind (header_kind limits p) command_format limits p gate place (whole_sectors bytes))) (le-leb (gate + 2) (whole_sectors bytes) room)
     ∙ by_header limits p gate place (whole_sectors bytes) (is_group_header limits p) (is_seal_header p)
     ∙ ap (λ (r : Result Header JournalRefusal). behind_header r limits p) (sym (front_reading limits p gate place (whole_sectors bytes)))
 
@@ -175,27 +175,27 @@ payload_counted limits count size p commands is =
 
 in_order : (limits : Limits) (sector : List ℕ) (gate place sectors count size : ℕ) (group seal zeros : Bool) → (group ≡ true → IsGroupHeader limits sector)
     → reading_by group seal (count_in sector) (size_in sector) (place_in sector) zeros gate place sectors ≡ Ok (Group count size)
-    → HasRoom gate (payload_sectors size) sectors × (place + count ≤ last_place)
+    → JournalHasRoom gate (payload_sectors size) sectors × (place + count ≤ last_place)
 in_order limits sector gate place sectors count size true seal zeros header is =
     let room = leb (gate + 1 + payload_sectors (size_in sector) + 2) sectors in
-    let there = check_passed (eqb (place_in sector) place) (Gap place) (check room PastEnd (Ok (Group (count_in sector) (size_in sector)))) (Group count size) is in
+    let there = check_passed (eqb (place_in sector) place) (Gap place) (refuse_unless room PastEnd (Ok (Group (count_in sector) (size_in sector)))) (Group count size) is in
     let fit = check_passed room PastEnd (Ok (Group (count_in sector) (size_in sector))) (Group count size) there.1 in
     let last = (header refl).last in
     let counted : count_in sector ≡ count = cc (fit.1) in
     let sized : size_in sector ≡ size = cc (fit.1) in
     let here : place_in sector ≡ place = eqb-true _ _ there.0 in (
-      subst (λ (n : ℕ). HasRoom gate (payload_sectors n) sectors) sized (leb-true _ _ fit.0),
+      subst (λ (n : ℕ). JournalHasRoom gate (payload_sectors n) sectors) sized (leb-true _ _ fit.0),
       omega (arith, last, counted, here),
     )
 in_order limits sector gate place sectors count size false true zeros header is =
-    let there = check_passed {X = Header} (eqb (place_in sector) place) (Gap place) (check zeros BadRecord (Ok Seal)) (Group count size) is in
+    let there = check_passed {X = Header} (eqb (place_in sector) place) (Gap place) (refuse_unless zeros BadRecord (Ok Seal)) (Group count size) is in
     let padded = check_passed {X = Header} zeros BadRecord (Ok Seal) (Group count size) there.1 in
     let never = padded.1 in
     absurd cc
 in_order limits sector gate place sectors count size false false zeros header is = absurd cc
 
 pub group_in_order : (limits : Limits) (sector : List ℕ) (gate place sectors count size : ℕ) → header_reading limits sector gate place sectors ≡ Ok (Group count size)
-    → HasRoom gate (payload_sectors size) sectors × (place + count ≤ last_place)
+    → JournalHasRoom gate (payload_sectors size) sectors × (place + count ≤ last_place)
 group_in_order limits sector gate place sectors count size is =
     in_order limits sector gate place sectors count size (is_group_header limits sector) (is_seal_header sector) (are_zeros (part 16 496 sector))
     (group_header_from limits sector) is

@@ -7,8 +7,8 @@ use Rattle.store_layout.specs.Limits.{Limits, limits_of}
 use Rattle.store_layout.specs.Group.{payload_sectors, group_sectors}
 use Rattle.store_layout.specs.GroupReading.{JournalRefusal, Payload, payload_at}
 use Rattle.store_layout.specs.GroupReading.{Group as IsGroupOf, Seal as IsSealOf}
-use Rattle.store_layout.specs.Journal.{IsChain, IsJournal, HasGroup, all_of}
-use Rattle.store_layout.specs.JournalRefusals.{IsRefused, IsRefusedAt}
+use Rattle.store_layout.specs.Journal.{IsGroupChain, IsJournal, HasGroupAfterGate, all_of}
+use Rattle.store_layout.specs.JournalRefusals.{IsJournalRefused, IsRefusedAt}
 use Rattle.store_layout.proofs.Exports.{payload_from, payload_refused, chain_more, all_of_more}
 use Rattle.gate_journal.specs.declared.error.JournalError.{JournalError}
 use Rattle.gate_journal.specs.declared.error.JournalError.TheVariants.{NoMemory, BadHeader, BadRecord, Gap, PastEnd}
@@ -21,7 +21,7 @@ use Rattle.gate_journal.specs.declared.scanner.Progress.TheVariants.{More, Done}
 use Rattle.gate_journal.specs.Commands.{command_format}
 use Rattle.gate_journal.specs.Reading.{Refuses, header_reading, payload_reading, PayloadWantsMemory}
 use Rattle.gate_journal.specs.ScannerView.{ScannerView, IsInside}
-use Rattle.gate_journal.specs.Scanning.{reading_of, first_of, count_of, HasPiece, IsKnown, IsReadUpTo, MayWantMemory, MeansError, TakesPiece}
+use Rattle.gate_journal.specs.Scanning.{reading_of, first_sector_of, count_of, HasPiece, IsKnown, IsReadUpTo, MayWantMemory, MeansError, TakesPiece}
 use Rattle.gate_journal.proofs.Payloads.{payload_is, front_payload, as_group, behind_header, payload_counted}
 
 -- the scan reports the scanner's gate, with a seal there
@@ -39,7 +39,7 @@ module _ (scanner : ScannerView) (bytes : List ℕ) (start : ℕ) (each : AreByt
   behind = payload_at command_format limits bytes scanner.gate scanner.place
 
   -- what is after the gate is refused
-  refused_here : (refusal : JournalRefusal) → behind ≡ Err refusal → IsRefused command_format limits bytes start refusal
+  refused_here : (refusal : JournalRefusal) → behind ≡ Err refusal → IsJournalRefused command_format limits bytes start refusal
   refused_here refusal wrong = record {
     groups = is.groups;
     gate = scanner.gate;
@@ -55,7 +55,7 @@ module _ (scanner : ScannerView) (bytes : List ℕ) (start : ℕ) (each : AreByt
       let seal = payload_from command_format limits bytes scanner.gate scanner.place each IsSealOf found in
       record {
         groups = is.groups;
-        chain = subst (λ (n : ℕ). IsChain command_format limits bytes 0 start is.groups n) (sym end.tail) is.chain;
+        chain = subst (λ (n : ℕ). IsGroupChain command_format limits bytes 0 start is.groups n) (sym end.tail) is.chain;
         commands = end.commands ∙ is.commands;
         place = end.place ∙ is.place ∙ ap (λ (list : List Command). start + length list) (sym (end.commands ∙ is.commands));
         ends = rw (end.sealed, end.tail, end.place) (opened, seal);
@@ -67,7 +67,7 @@ module _ (scanner : ScannerView) (bytes : List ℕ) (start : ℕ) (each : AreByt
       → next.place ≡ scanner.place + count → next.stage ≡ AtGate → next.commands ≡ scanner.commands ++ found → IsReadUpTo next bytes start
   group_here found size count next read counted sectors version gate place stage commands =
       let group = payload_from command_format limits bytes scanner.gate scanner.place each (IsGroupOf found size) read in
-      let has = subst (λ (n : ℕ). HasGroup command_format limits bytes scanner.gate n found) is.place group.0 in
+      let has = subst (λ (n : ℕ). HasGroupAfterGate command_format limits bytes scanner.gate n found) is.place group.0 in
       let longer = chain_more command_format limits bytes 0 start is.groups scanner.gate found is.chain opened has in
       let all = all_of_more command_format limits is.groups found in
       let here : next.gate ≡ scanner.gate + 1 + group_sectors command_format found = gate ∙ ap (λ (n : ℕ). scanner.gate + 1 + payload_sectors n) group.1 in
@@ -109,7 +109,7 @@ module _ (scanner : ScannerView) (piece : List ℕ) (turn : scanner.stage ≡ At
       → header_reading (limits_of scanner.version) (sector_at (scanner.gate + 1) bytes) scanner.gate scanner.place (whole_sectors bytes)
       ≡ header_reading (limits_of scanner.version) piece scanner.gate scanner.place scanner.sectors
   header_here bytes start is has =
-      let same : sector_at (scanner.gate + 1) bytes ≡ piece = subst (λ (s : Stage). part (512 * first_of s scanner.gate) (512 * count_of s) bytes ≡ piece) turn has in
+      let same : sector_at (scanner.gate + 1) bytes ≡ piece = subst (λ (s : Stage). part (512 * first_sector_of s scanner.gate) (512 * count_of s) bytes ≡ piece) turn has in
       ap (λ (sector : List ℕ). header_reading (limits_of scanner.version) sector scanner.gate scanner.place (whole_sectors bytes)) same
       ∙ ap (λ (n : ℕ). header_reading (limits_of scanner.version) piece scanner.gate scanner.place n) is.size
 
@@ -165,7 +165,7 @@ module _ (scanner : ScannerView) (piece : List ℕ) (count size : ℕ) (turn : s
   payload_known bytes start is = subst (λ (s : Stage). IsKnown s (limits_of scanner.version) bytes scanner.gate scanner.place) turn is.known
 
   payload_here : (bytes : List ℕ) → HasPiece scanner bytes piece → part (512 * (scanner.gate + 1)) (512 * payload_sectors size) bytes ≡ piece
-  payload_here bytes has = subst (λ (s : Stage). part (512 * first_of s scanner.gate) (512 * count_of s) bytes ≡ piece) turn has
+  payload_here bytes has = subst (λ (s : Stage). part (512 * first_sector_of s scanner.gate) (512 * count_of s) bytes ≡ piece) turn has
 
   payload_leads : (bytes : List ℕ) (start : ℕ) → IsReadUpTo scanner bytes start → HasPiece scanner bytes piece
       → payload_at command_format (limits_of scanner.version) bytes scanner.gate scanner.place ≡ as_group (payload_reading (limits_of scanner.version) count size piece) size

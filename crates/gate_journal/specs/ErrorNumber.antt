@@ -4,9 +4,9 @@ use Rattle.gate_journal.specs.declared.error.JournalError.{JournalError}
 use Rattle.gate_journal.specs.declared.error.JournalError.TheVariants.{NoMemory, BadHeader, BadRecord, Gap, PastEnd}
 
 -- each refusal's number
-abbrev pub number_of : JournalError → ℕ
-number_of NoMemory = 0
-number_of BadHeader = 1
-number_of BadRecord = 2
-number_of (Gap place) = 3
-number_of PastEnd = 4
+abbrev pub journal_error_number : JournalError → ℕ
+journal_error_number NoMemory = 0
+journal_error_number BadHeader = 1
+journal_error_number BadRecord = 2
+journal_error_number (Gap place) = 3
+journal_error_number PastEnd = 4

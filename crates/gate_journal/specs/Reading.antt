@@ -2,10 +2,10 @@
 use Rattle.std.specs.Prelude.{◌≡◌, ◌⊎◌, ℕ, ◌+◌, ◌-◌, ◌*◌, ◌≤◌, true, List, ◌++◌, length, Option, Some, None, IsSome, Result, Ok, Err, nat_le, ◌==◌, if◌then◌else◌}
 use Rattle.byte_lists.specs.Content.{part}
 use Rattle.path_rows.specs.declared.command.Command.{Command}
-use Rattle.path_db.specs.CommandRecord.{WantsMemory}
+use Rattle.path_db.specs.CommandRecord.{CommandWantsMemory}
 use Rattle.store_layout.specs.Limits.{Limits}
 use Rattle.store_layout.specs.Group.{payload_sectors}
-use Rattle.store_layout.specs.GroupReading.{JournalRefusal, check, count_in, size_in, place_in, is_group_header, is_seal_header, are_zeros, record_size, first_command, commands_in}
+use Rattle.store_layout.specs.GroupReading.{JournalRefusal, refuse_unless, count_in, size_in, place_in, is_group_header, is_seal_header, are_zeros, record_size, first_command, commands_in}
 use Rattle.store_layout.specs.GroupReading.{BadHeader as IsBadHeader, BadRecord as IsBadRecord, Gap as IsGap, PastEnd as IsPastEnd}
 use Rattle.gate_journal.specs.declared.error.JournalError.{JournalError}
 use Rattle.gate_journal.specs.declared.error.JournalError.TheVariants.{NoMemory, BadHeader, BadRecord, Gap, PastEnd}
@@ -24,9 +24,9 @@ Refuses (Gap place) reading = reading ≡ Err (IsGap place)
 Refuses PastEnd reading = reading ≡ Err IsPastEnd
 
 -- A call answers just what the reading gives, seen by `view`, unless it was refused memory.
-abbrev pub Gives : {X Y : Type 0} → (X → Y) → Result X JournalError → Result Y JournalRefusal → Type 0
-Gives view (Ok x) reading = reading ≡ Ok (view x)
-Gives view (Err e) reading = Refuses e reading
+abbrev pub GivesJournal : {X Y : Type 0} → (X → Y) → Result X JournalError → Result Y JournalRefusal → Type 0
+GivesJournal view (Ok x) reading = reading ≡ Ok (view x)
+GivesJournal view (Err e) reading = Refuses e reading
 
 -- It appends just the commands that the reading gives, unless it was refused memory.
 abbrev pub Appends : List Command → List Command → Result (Unit {0}) JournalError → Result (List Command) JournalRefusal → Type 0
@@ -45,10 +45,10 @@ found_in_records (Some x) = Ok x
 abbrev pub header_reading : Limits → List ℕ → ℕ → ℕ → ℕ → Result Header JournalRefusal
 header_reading limits sector gate place sectors =
     if is_group_header limits sector then
-    check (place_in sector == place) (IsGap place)
-    (check (nat_le (gate + 1 + payload_sectors (size_in sector) + 2) sectors) IsPastEnd (Ok (Group (count_in sector) (size_in sector))))
+    refuse_unless (place_in sector == place) (IsGap place)
+    (refuse_unless (nat_le (gate + 1 + payload_sectors (size_in sector) + 2) sectors) IsPastEnd (Ok (Group (count_in sector) (size_in sector))))
     else if is_seal_header sector then
-    check (place_in sector == place) (IsGap place) (check (are_zeros (part 16 496 sector)) IsBadRecord (Ok Seal))
+    refuse_unless (place_in sector == place) (IsGap place) (refuse_unless (are_zeros (part 16 496 sector)) IsBadRecord (Ok Seal))
     else Err IsBadHeader
 
 -- what is after the records of a group's payload
@@ -58,14 +58,14 @@ padding_of size payload = part (16 + size) (512 * payload_sectors size - (16 + s
 -- the commands of a group's payload, by the count and the size that its header says
 abbrev pub payload_reading : Limits → ℕ → ℕ → List ℕ → Result (List Command) JournalRefusal
 payload_reading limits count size payload =
-    check (are_zeros (padding_of size payload)) IsBadRecord (found_in_records (commands_in command_format limits count (part 16 size payload)))
+    refuse_unless (are_zeros (padding_of size payload)) IsBadRecord (found_in_records (commands_in command_format limits count (part 16 size payload)))
 
 -- ---- want of memory
 
 -- The first record ends within the bytes, and is a command's, or to read that command takes memory.
 pub record FirstWantsMemory (limits : Limits) (bytes : List ℕ) : Type 0 where
   pub size : 4 + record_size bytes ≤ length bytes
-  pub command : IsSome (first_command command_format limits bytes) ⊎ WantsMemory (part 4 (record_size bytes) bytes)
+  pub command : IsSome (first_command command_format limits bytes) ⊎ CommandWantsMemory (part 4 (record_size bytes) bytes)
 
 -- To read the commands of a group's payload takes memory: zeros are after its records, and the first record takes it.
 pub record PayloadWantsMemory (limits : Limits) (size : ℕ) (payload : List ℕ) : Type 0 where

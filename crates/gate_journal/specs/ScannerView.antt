@@ -1,7 +1,7 @@
 -- What contracts see of a scanner.
 use Rattle.std.specs.Prelude.{ℕ, ◌+◌, ◌≤◌, List}
 use Rattle.path_rows.specs.declared.command.Command.{Command}
-use Rattle.store_layout.specs.Group.{last_place, payload_sectors, HasRoom}
+use Rattle.store_layout.specs.Group.{last_place, payload_sectors, JournalHasRoom}
 use Rattle.gate_journal.specs.declared.scanner.Stage.{Stage}
 use Rattle.gate_journal.specs.declared.scanner.Stage.TheVariants.{AtGate, AtHeader, AtPayload}
 
@@ -19,4 +19,4 @@ pub record ScannerView : Type 0 where
 abbrev pub IsInside : Stage → ℕ → ℕ → ℕ → Type 0
 IsInside AtGate sectors gate place = gate + 1 ≤ sectors
 IsInside AtHeader sectors gate place = gate + 2 ≤ sectors
-IsInside (AtPayload count size) sectors gate place = HasRoom gate (payload_sectors size) sectors × (place + count ≤ last_place)
+IsInside (AtPayload count size) sectors gate place = JournalHasRoom gate (payload_sectors size) sectors × (place + count ≤ last_place)

@@ -6,8 +6,8 @@ use Rattle.path_rows.specs.declared.command.Command.{Command}
 use Rattle.store_layout.specs.Limits.{Limits, limits_of}
 use Rattle.store_layout.specs.Group.{payload_sectors}
 use Rattle.store_layout.specs.GroupReading.{BadHeader as IsBadHeader, BadRecord as IsBadRecord, Gap as IsGap, PastEnd as IsPastEnd}
-use Rattle.store_layout.specs.Journal.{Reading, IsChain, IsJournal, all_of, sectors_read}
-use Rattle.store_layout.specs.JournalRefusals.{IsRefused}
+use Rattle.store_layout.specs.Journal.{Reading, IsGroupChain, IsJournal, all_of, sectors_read}
+use Rattle.store_layout.specs.JournalRefusals.{IsJournalRefused}
 use Rattle.gate_journal.specs.declared.error.JournalError.{JournalError}
 use Rattle.gate_journal.specs.declared.error.JournalError.TheVariants.{NoMemory, BadHeader, BadRecord, Gap, PastEnd}
 use Rattle.gate_journal.specs.declared.header.Header.TheVariants.{Group}
@@ -27,10 +27,10 @@ reading_of scan = record { commands = scan.commands.items; tail = scan.tail; sea
 -- ---- pieces
 
 -- which sector the next piece begins with, and how many it has: the gate, the sector after it, or the whole payload
-abbrev pub first_of : Stage → ℕ → ℕ
-first_of AtGate gate = gate
-first_of AtHeader gate = gate + 1
-first_of (AtPayload count size) gate = gate + 1
+abbrev pub first_sector_of : Stage → ℕ → ℕ
+first_sector_of AtGate gate = gate
+first_sector_of AtHeader gate = gate + 1
+first_sector_of (AtPayload count size) gate = gate + 1
 
 abbrev pub count_of : Stage → ℕ
 count_of AtGate = 1
@@ -38,7 +38,7 @@ count_of AtHeader = 1
 count_of (AtPayload count size) = payload_sectors size
 
 abbrev pub first_wanted : ScannerView → ℕ
-first_wanted scanner = first_of scanner.stage scanner.gate
+first_wanted scanner = first_sector_of scanner.stage scanner.gate
 
 abbrev pub count_wanted : ScannerView → ℕ
 count_wanted scanner = count_of scanner.stage
@@ -70,7 +70,7 @@ IsKnown (AtPayload count size) limits bytes gate place =
 pub record IsReadUpTo (scanner : ScannerView) (bytes : List ℕ) (start : ℕ) : Type 0 where
   pub size : whole_sectors bytes ≡ scanner.sectors
   pub groups : List (List Command)
-  pub chain : IsChain command_format (limits_of scanner.version) bytes 0 start groups scanner.gate
+  pub chain : IsGroupChain command_format (limits_of scanner.version) bytes 0 start groups scanner.gate
   pub commands : scanner.commands ≡ all_of groups
   pub place : scanner.place ≡ start + length (all_of groups)
   pub known : IsKnown scanner.stage (limits_of scanner.version) bytes scanner.gate scanner.place
@@ -86,7 +86,7 @@ CountsForReading scanner sectors =
 pub record MayWantMemory (limits : Limits) (bytes : List ℕ) (start : ℕ) : Type 0 where
   pub groups : List (List Command)
   pub gate : ℕ
-  pub chain : IsChain command_format limits bytes 0 start groups gate
+  pub chain : IsGroupChain command_format limits bytes 0 start groups gate
   pub opened : IsOpenGate (sector_at gate bytes)
   pub count : ℕ
   pub size : ℕ
@@ -96,25 +96,25 @@ pub record MayWantMemory (limits : Limits) (bytes : List ℕ) (start : ℕ) : Ty
 -- what an error means of a whole journal
 abbrev pub MeansError : JournalError → Limits → List ℕ → ℕ → Type 0
 MeansError NoMemory limits bytes start = MayWantMemory limits bytes start
-MeansError BadHeader limits bytes start = IsRefused command_format limits bytes start IsBadHeader
-MeansError BadRecord limits bytes start = IsRefused command_format limits bytes start IsBadRecord
-MeansError (Gap place) limits bytes start = IsRefused command_format limits bytes start (IsGap place)
-MeansError PastEnd limits bytes start = IsRefused command_format limits bytes start IsPastEnd
+MeansError BadHeader limits bytes start = IsJournalRefused command_format limits bytes start IsBadHeader
+MeansError BadRecord limits bytes start = IsJournalRefused command_format limits bytes start IsBadRecord
+MeansError (Gap place) limits bytes start = IsJournalRefused command_format limits bytes start (IsGap place)
+MeansError PastEnd limits bytes start = IsJournalRefused command_format limits bytes start IsPastEnd
 
 -- what a piece leads to: the journal is read further, or has this reading, or is refused
-abbrev pub LeadsTo : Result Progress JournalError → Limits → List ℕ → ℕ → Type 0
-LeadsTo (Ok (More next)) limits bytes start = IsReadUpTo next bytes start
-LeadsTo (Ok (Done scan)) limits bytes start = IsJournal command_format limits bytes start (reading_of scan)
-LeadsTo (Err e) limits bytes start = MeansError e limits bytes start
+abbrev pub PieceLeadsTo : Result Progress JournalError → Limits → List ℕ → ℕ → Type 0
+PieceLeadsTo (Ok (More next)) limits bytes start = IsReadUpTo next bytes start
+PieceLeadsTo (Ok (Done scan)) limits bytes start = IsJournal command_format limits bytes start (reading_of scan)
+PieceLeadsTo (Err e) limits bytes start = MeansError e limits bytes start
 
 -- the scanner goes on in the same journal, with fewer pieces left
-abbrev pub GoesOn : Result Progress JournalError → ScannerView → Type 0
-GoesOn (Ok (More next)) scanner = (next.sectors ≡ scanner.sectors) × (next.version ≡ scanner.version) × (pieces_left next < pieces_left scanner)
-GoesOn (Ok (Done scan)) scanner = Unit {0}
-GoesOn (Err e) scanner = Unit {0}
+abbrev pub HasFewerPiecesLeft : Result Progress JournalError → ScannerView → Type 0
+HasFewerPiecesLeft (Ok (More next)) scanner = (next.sectors ≡ scanner.sectors) × (next.version ≡ scanner.version) × (pieces_left next < pieces_left scanner)
+HasFewerPiecesLeft (Ok (Done scan)) scanner = Unit {0}
+HasFewerPiecesLeft (Err e) scanner = Unit {0}
 
 -- A scanner took a piece: of each journal that it has read up to its gate, and that has this piece.
 pub record TakesPiece (scanner : ScannerView) (piece : List ℕ) (result : Result Progress JournalError) : Type 0 where
   pub leads : (bytes : List ℕ) (start : ℕ) → AreBytes bytes → IsReadUpTo scanner bytes start → HasPiece scanner bytes piece
-      → LeadsTo result (limits_of scanner.version) bytes start
-  pub on : GoesOn result scanner
+      → PieceLeadsTo result (limits_of scanner.version) bytes start
+  pub on : HasFewerPiecesLeft result scanner

@@ -28,11 +28,11 @@ pub enum JournalError {
 }
 
 impl JournalError {
-    ghost use Rattle.gate_journal.specs.ErrorNumber.{number_of};
+    ghost use Rattle.gate_journal.specs.ErrorNumber.{journal_error_number};
 
     /// Its number.
     pub fn number(self) -> u8
-        ensures { result ≡ number_of self }
+        ensures { result ≡ journal_error_number self }
     {
         match self {
             JournalError::NoMemory => 0,

@@ -4,7 +4,7 @@ ghost use Rattle.std.specs.Prelude.{◌≡◌, ◌≢◌, length, IfErr};
 ghost use Rattle.store_layout.specs.Limits.{limits_of};
 ghost use Rattle.store_layout.specs.GroupReading.{is_group_header as group_header, is_seal_header as seal_header, is_header as header_of, are_zeros as all_zeros};
 ghost use Rattle.gate_journal.specs.declared.error.JournalError.TheVariants.{NoMemory};
-ghost use Rattle.gate_journal.specs.Reading.{header_reading, Gives};
+ghost use Rattle.gate_journal.specs.Reading.{header_reading, GivesJournal};
 
 use crate::error::JournalError;
 use crate::format::{
@@ -29,7 +29,7 @@ pub(crate) fn read_header(
     sectors: u64,
 ) -> Result<Header, JournalError>
     requires { length sector.now ≡ 512 }
-    ensures reading { Gives (λ header. header) result (header_reading (limits_of version) sector.now gate place sectors) }
+    ensures reading { GivesJournal (λ header. header) result (header_reading (limits_of version) sector.now gate place sectors) }
     ensures memory { IfErr result (λ e. e ≢ NoMemory) }
 {
     let size = read_u32(sector, SIZE_AT);

@@ -6,7 +6,7 @@ ghost use Rattle.store_layout.specs.Group.{payload_sectors};
 ghost use Rattle.store_layout.specs.GroupReading.{first_command, commands_in, record_size};
 ghost use Rattle.gate_journal.specs.Commands.{command_format};
 ghost use Rattle.gate_journal.specs.declared.error.JournalError.TheVariants.{NoMemory};
-ghost use Rattle.gate_journal.specs.Reading.{Gives, Appends, found_in_records, payload_reading, FirstWantsMemory, PayloadWantsMemory};
+ghost use Rattle.gate_journal.specs.Reading.{GivesJournal, Appends, found_in_records, payload_reading, FirstWantsMemory, PayloadWantsMemory};
 
 use crate::error::JournalError;
 use crate::format::{HEADER, PREFIX};
@@ -60,7 +60,7 @@ fn read_records(
 
 /// The command of the record at the front of bytes, and the bytes after it.
 fn read_record(alloc: Global, bytes: &[u8], version: u32) -> Result<(Command, &[u8]), JournalError>
-    ensures first { Gives (λ read. read.0) result (found_in_records (first_command command_format (limits_of version) bytes.now)) }
+    ensures first { GivesJournal (λ read. read.0) result (found_in_records (first_command command_format (limits_of version) bytes.now)) }
     ensures behind { IfOk result (λ read. read.1.now ≡ drop (4 + record_size bytes.now) bytes.now) }
     ensures some { OnOk result (FirstWantsMemory (limits_of version) bytes.now) }
     ensures memory { IfErr result (λ e. e ≡ NoMemory → FirstWantsMemory (limits_of version) bytes.now) }

@@ -4,8 +4,8 @@ ghost use Rattle.std.specs.Prelude.{◌≡◌, ◌↔◌, ◌+◌, ◌*◌, ◌�
 ghost use Rattle.path_rows.specs.declared.command.Command.TheVariants.{Register};
 ghost use Rattle.path_rows.specs.Database.{AreWhole};
 ghost use Rattle.path_db.specs.CommandRecord.{IsWithinLimits, segments_len};
-ghost use Rattle.path_db.specs.RecordLaws.{CanBeWritten};
-ghost use Rattle.store_layout.specs.Group.{HasRoom, record_encoding, payload_sectors as sectors_of_payload};
+ghost use Rattle.path_db.specs.RecordLaws.{HasCommandRecord};
+ghost use Rattle.store_layout.specs.Group.{JournalHasRoom, record_encoding, payload_sectors as sectors_of_payload};
 ghost use Rattle.gate_journal.specs.Commands.{command_format};
 
 use crate::format::{COMMAND_HEAD, HEADER, PREFIX, PURGE_RECORD};
@@ -24,7 +24,7 @@ pub fn payload_sectors(record_bytes: u64) -> u64
 /// Whether a journal of this number of sectors has room for a payload of that many after a gate, and for two sectors after it: the
 /// next gate, and a seal's payload.
 pub fn fits(gate: u64, payload: u64, journal: u64) -> bool
-    ensures { IsTrue result ↔ HasRoom gate payload journal }
+    ensures { IsTrue result ↔ JournalHasRoom gate payload journal }
 {
     journal >= 3 && payload <= journal - 3 && gate <= journal - 3 - payload
 }
@@ -70,7 +70,7 @@ fn rows_len(rows: &[(SegType, Segment)]) -> usize
 /// record, which is read as it.
 pub fn is_within_limits(command: &Command) -> bool
     ensures exact { IsTrue result ↔ IsWithinLimits command.now }
-    ensures written { IsTrue result → CanBeWritten true command.now }
+    ensures written { IsTrue result → HasCommandRecord true command.now }
 {
     match command {
         Command::Register(registration) => are_within_limits(registration.as_slice()),

@@ -6,7 +6,7 @@ ghost use Rattle.store_layout.specs.Limits.{limits_of};
 ghost use Rattle.store_layout.specs.JournalReading.{journal_scan};
 ghost use Rattle.gate_journal.specs.declared.error.JournalError.TheVariants.{NoMemory};
 ghost use Rattle.gate_journal.specs.Commands.{command_format};
-ghost use Rattle.gate_journal.specs.Reading.{Gives};
+ghost use Rattle.gate_journal.specs.Reading.{GivesJournal};
 ghost use Rattle.gate_journal.specs.Scanning.{reading_of, MayWantMemory};
 
 use crate::error::JournalError;
@@ -19,7 +19,7 @@ use std::alloc::Global;
 pub fn scan(alloc: Global, journal: &[u8], place: u64, version: u32) -> Result<Scan, JournalError>
     requires some { 1 ≤ whole_sectors journal.now }
     requires whole { length journal.now ≡ 512 * whole_sectors journal.now }
-    ensures reading { Gives reading_of result (journal_scan command_format (limits_of version) journal.now place) }
+    ensures reading { GivesJournal reading_of result (journal_scan command_format (limits_of version) journal.now place) }
     ensures memory { IfErr result (λ e. e ≡ NoMemory → MayWantMemory (limits_of version) journal.now place) }
 {
     let mut scanner = Scanner::new(alloc, (journal.len() / SECTOR) as u64, place, version);

@@ -32,22 +32,22 @@ use Rattle.store_open.specs.declared.sealed.SealedError.TheVariants as half
 use Rattle.group_phases.specs.declared.phases.Flush.TheVariants.{Durable}
 use Rattle.group_phases.specs.declared.phases.Check.{Check}
 use Rattle.group_phases.specs.declared.phases.Check.TheVariants.{Ready, Sealed, Planned}
-use Rattle.group_phases.specs.Tail.{Seal, place_of, with_load}
-use Rattle.group_phases.specs.BasePart.{Base, sealed_of, OldStands, FoldsTo, CanBeWritten, BasePart}
+use Rattle.group_phases.specs.Tail.{Seal, tail_place, with_load}
+use Rattle.group_phases.specs.BasePart.{CheckpointPair, sealed_of, OldStands, FoldsTo, CanBeNewCheckpoint, BasePart}
 use Rattle.group_phases.specs.CheckpointerSteps.{with_new}
-use Rattle.group_phases.specs.Standing.{base_of, IsHeldBy}
+use Rattle.group_phases.specs.CommitState.{checkpoint_pair_of, IsHeldBy}
 use Rattle.group_phases.specs.HeldSteps.{OpensAroundCall}
 use Rattle.group_phases.specs.HeldChecks.{checked}
 use Rattle.group_phases.specs.HeldTurns.{behind_plan}
 use Rattle.group_phases.proofs.Exports.{reads_by_its_part, held_when_plan_begins}
 use Rattle.group_core.specs.StateView.{StateView}
-use Rattle.group_core.specs.Stops.{setting_of, standing_of, StepLeaves}
-use Rattle.group_core.specs.Invariant.{Hidden, CountsAt, Sound, SoundWith, IsState}
+use Rattle.group_core.specs.Stops.{config_of, commit_state_of, StepLeaves}
+use Rattle.group_core.specs.Invariant.{PrivateState, CountsAt, DeviceInvariant, DeviceInvariantWith, IsState}
 use Rattle.group_core.specs.declared.bookkeeping.Turn.{Turn}
 use Rattle.group_core.specs.declared.beginning.BeginError.TheVariants.{Damaged}
 use Rattle.group_core.specs.declared.phases.AtPlan.{AtPlan}
 use Rattle.group_core.specs.declared.values.Commit.{Commit}
-use Rattle.group_core.specs.Beginning.{checkpoint_of, FitsArea, IsEncoded, MayBegin, IsLookedAt, plan_begun, begun, Begins}
+use Rattle.group_core.specs.Beginning.{checkpoint_of, FitsArea, IsEncoded, MayBegin, IsDeviceRead, plan_begun, begun, BeginsCheckpoint}
 use Rattle.group_core.proofs.Soundness.{AtWork, checking, sound_at_work}
 use Rattle.group_core.proofs.States.{may_open}
 
@@ -63,20 +63,20 @@ abbrev error_of : (T : Type 0) → SealedError → Result T SealedError
 error_of T e = Err e
 
 -- what an honest device shows of the sealed half
-module _ (view : StateView) (sound : Sound view) (turn : view.check ≡ Sealed) (whole : IsWhole view.disk) where
-  abbrev base : Base (List RowView) Command
-  base = base_of (standing_of view) sound.behind
+module _ (view : StateView) (sound : DeviceInvariant view) (turn : view.check ≡ Sealed) (whole : IsWhole view.disk) where
+  abbrev base : CheckpointPair (List RowView) Command
+  base = checkpoint_pair_of (commit_state_of view) sound.behind
 
-  old_stands : OldStands (setting_of view) base view.disk.history.now
+  old_stands : OldStands (config_of view) base view.disk.history.now
   old_stands = sealed.0
     where
-      sealed : BasePart Sealed (setting_of view) base view.written view.disk.history.now
-      sealed = subst (λ (p : Check). BasePart p (setting_of view) base view.written view.disk.history.now) turn sound.held.base
+      sealed : BasePart Sealed (config_of view) base view.written view.disk.history.now
+      sealed = subst (λ (p : Check). BasePart p (config_of view) base view.written view.disk.history.now) turn sound.held.base
 
   abbrev folded : SealedHalf
   folded = record {
     head = sound.behind.old.head;
-    place = place_of (sealed_of base);
+    place = tail_place (sealed_of base);
     rows = db_after store_format sound.behind.old.db (all_of sound.behind.old_groups);
   }
 
@@ -136,7 +136,7 @@ sectors_fit epoch area sealed bytes spelled fits =
     (long, omega (arith, size, fits), omega (arith, long, size))
 
 -- the device was looked at
-module _ (old : StateView) (hidden : Hidden) (has : IsState old hidden) (disk : Disk) (looked : IsLookedAt old.disk disk) where
+module _ (old : StateView) (hidden : PrivateState) (has : IsState old hidden) (disk : Disk) (looked : IsDeviceRead old.disk disk) where
   -- and the state may have stopped then
   pub looked_state : AtWork old.flush old.check → (stopped : Bool) → (stopped ≡ false → old.stopped ≡ false) → IsState (record old { disk = disk; stopped = stopped }) hidden
   looked_state work stopped going = record {
@@ -169,7 +169,7 @@ module _ (old : StateView) (hidden : Hidden) (has : IsState old hidden) (disk : 
         inl (record {
           sound = record {
             behind = sound.behind;
-            held = subst (λ (h : History). IsHeldBy (setting_of old) (standing_of old) sound.behind h.now) (sym (looked.history before)) sound.held;
+            held = subst (λ (h : History). IsHeldBy (config_of old) (commit_state_of old) sound.behind h.now) (sym (looked.history before)) sound.held;
             counts = sound.counts;
             fits = λ is. sound.fits (going is);
           };
@@ -178,7 +178,7 @@ module _ (old : StateView) (hidden : Hidden) (has : IsState old hidden) (disk : 
   }
 
   module _ (may : MayBegin old) (whole : IsHonest old.disk → IsWhole old.disk) where
-    sound_now : IsHonest old.disk → Sound old
+    sound_now : IsHonest old.disk → DeviceInvariant old
     sound_now honest = (sound_at_work old hidden has (checking Sealed may.sealed (λ (is : Sealed ≡ Ready). cc)) honest).sound
 
     -- the sealed half's checkpoint is planned, and a plan begins
@@ -223,7 +223,7 @@ module _ (old : StateView) (hidden : Hidden) (has : IsState old hidden) (disk : 
         spelled : encoding_made merge ≡ checkpoint_encoding rows_format next
         spelled = spelled_so old.geometry (other old.half) (old.epoch + 1) old.disk merge made
 
-        can : CanBeWritten (setting_of old) next
+        can : CanBeNewCheckpoint (config_of old) next
         can = record {
           can = made.can;
           known = omega arith;
@@ -232,7 +232,7 @@ module _ (old : StateView) (hidden : Hidden) (has : IsState old hidden) (disk : 
               omega (arith, sized.0, sized.1);
         }
 
-        planned : IsHonest old.disk → SoundWith (record old { disk = disk; check = Planned; plan = plan; checkpoint = encoding_made merge; written = 0 }) (Some merge)
+        planned : IsHonest old.disk → DeviceInvariantWith (record old { disk = disk; check = Planned; plan = plan; checkpoint = encoding_made merge; written = 0 }) (Some merge)
         planned before =
             let sound = sound_now before in
             let turn = may.sealed in
@@ -240,8 +240,8 @@ module _ (old : StateView) (hidden : Hidden) (has : IsState old hidden) (disk : 
             record {
               sound = record {
                 behind = behind_plan sound.behind next;
-                held = subst (λ (h : History). IsHeldBy (setting_of old) (checked (standing_of old) Planned 0) (behind_plan sound.behind next) h.now) (sym (looked.history before))
-                    (held_when_plan_begins (List RowView) Command (setting_of old) (standing_of old) sound.behind old.disk.history.now next turn sound.held
+                held = subst (λ (h : History). IsHeldBy (config_of old) (checked (commit_state_of old) Planned 0) (behind_plan sound.behind next) h.now) (sym (looked.history before))
+                    (held_when_plan_begins (List RowView) Command (config_of old) (commit_state_of old) sound.behind old.disk.history.now next turn sound.held
                     (folds old sound turn (whole before) made.sealed (made.reads before)) can);
                 counts = (record { old = counts old sound turn (whole before) made.sealed (made.reads before); new = refl; version = refl }, spelled);
                 fits = λ is. made.fits;
@@ -258,14 +258,14 @@ module _ (old : StateView) (hidden : Hidden) (has : IsState old hidden) (disk : 
         refused (folded old sound may.sealed (whole honest)) reads (fits_so old sound may.sealed (whole honest) (folded old sound may.sealed (whole honest)) reads may.going)
 
 -- what looking at the device leaves, where the state before it is seen as `view`
-module _ {old view : StateView} {old_hidden : Hidden} (is : old ≡ view) (has : IsState old old_hidden) {new : StateView} {new_hidden : Hidden} (now : IsState new new_hidden) where
-  pub leaves_look : IsLookedAt old.disk new.disk → StepLeaves view new
+module _ {old view : StateView} {old_hidden : PrivateState} (is : old ≡ view) (has : IsState old old_hidden) {new : StateView} {new_hidden : PrivateState} (now : IsState new new_hidden) where
+  pub leaves_look : IsDeviceRead old.disk new.disk → StepLeaves view new
   leaves_look looked = subst (λ (v : StateView). StepLeaves v new) is (record {
     moments = record {
       keeps = looked.keeps;
       leaves = λ honest.
-          subst (λ (h : History). Leaves old.disk.history h (OpensAroundCall (setting_of old) (standing_of old) (standing_of new))) (sym (looked.history honest))
-          (leaves_here (OpensAroundCall (setting_of old) (standing_of old) (standing_of new)) old.disk.history (λ image left. inl (may_open old old_hidden has honest image left)));
+          subst (λ (h : History). Leaves old.disk.history h (OpensAroundCall (config_of old) (commit_state_of old) (commit_state_of new))) (sym (looked.history honest))
+          (leaves_here (OpensAroundCall (config_of old) (commit_state_of old) (commit_state_of new)) old.disk.history (λ image left. inl (may_open old old_hidden has honest image left)));
     };
     exit = may_open new new_hidden now;
     behind = record {
@@ -277,17 +277,17 @@ module _ {old view : StateView} {old_hidden : Hidden} (is : old ≡ view) (has :
   })
 
 -- a look by its result
-pub looked_so : {T : Type 0} {result : Result T SealedError} {old new : Disk} → LooksAtHalf result old new → IsLookedAt old new
+pub looked_so : {T : Type 0} {result : Result T SealedError} {old new : Disk} → LooksAtHalf result old new → IsDeviceRead old new
 looked_so looks = record { keeps = looks.keeps; history = looks.history }
 
 -- and a state that may begin, seen as `view`, which may have stopped then
-pub looked_on : (old : StateView) (hidden : Hidden) → IsState old hidden → (view : StateView) → old ≡ view → MayBegin view → (disk : Disk) {T : Type 0} {result : Result T SealedError}
+pub looked_on : (old : StateView) (hidden : PrivateState) → IsState old hidden → (view : StateView) → old ≡ view → MayBegin view → (disk : Disk) {T : Type 0} {result : Result T SealedError}
     → LooksAtHalf result old.disk disk → (stopped : Bool) → (stopped ≡ false → old.stopped ≡ false) → IsState (record old { disk = disk; stopped = stopped }) hidden
 looked_on old hidden has view view_is may_view disk looks stopped going =
     looked_state old hidden has disk (looked_so looks) (checking Sealed (subst MayBegin (sym view_is) may_view).sealed (λ (is : Sealed ≡ Ready). cc)) stopped going
 
 -- A state that may begin, seen as `view`, and what was read of its sealed half.
-module _ (old : StateView) (hidden : Hidden) (has : IsState old hidden) (whole : IsHonest old.disk → IsWhole old.disk) (view : StateView) (view_is : old ≡ view) (may_view : MayBegin view)
+module _ (old : StateView) (hidden : PrivateState) (has : IsState old hidden) (whole : IsHonest old.disk → IsWhole old.disk) (view : StateView) (view_is : old ≡ view) (may_view : MayBegin view)
     (side : Half) (side_is : side ≡ other old.half) (disk : Disk) where
   may_old : MayBegin old
   may_old = subst MayBegin (sym view_is) may_view
@@ -309,8 +309,8 @@ module _ (old : StateView) (hidden : Hidden) (has : IsState old hidden) (whole :
     begun_so looks = begun_state old hidden has disk (looked_so looks) may_old whole merge (plan_begun old.plan) made_so
 
     pub begins_so : {T : Type 0} (value : T) → LooksAtHalf (ok_of value) old.disk disk → (plan : Commit AtPlan) → plan.home ≡ old.home → plan.number ≡ (old.plan.number + 1) % 2 ^ 64
-        → plan.phase ≡ record { done = false } → Begins (Ok plan) view (begun old disk (encoding_made merge))
-    begins_so value looks plan home number phase = subst (λ (v : StateView). Begins (Ok plan) v (begun old disk (encoding_made merge))) view_is (
+        → plan.phase ≡ record { done = false } → BeginsCheckpoint (Ok plan) view (begun old disk (encoding_made merge))
+    begins_so value looks plan home number phase = subst (λ (v : StateView). BeginsCheckpoint (Ok plan) v (begun old disk (encoding_made merge))) view_is (
       may_old,
       record { is_of = record { home = home; number = number }; done = ap (λ (p : AtPlan). p.done) phase },
       looked_so looks,
@@ -322,8 +322,8 @@ module _ (old : StateView) (hidden : Hidden) (has : IsState old hidden) (whole :
 
   pub damaged_so : {T : Type 0} (e : SealedError) → e ≡ half.Damaged → LooksAtHalf (error_of T e) old.disk disk
       → MergesSealed old.geometry side (old.epoch + 1) (Err e) old.disk
-      → Begins (Err Damaged) view (record old { disk = disk; stopped = true })
-  damaged_so {T} e is looks_so merges = subst (λ (v : StateView). Begins (Err Damaged) v (record old { disk = disk; stopped = true })) view_is (
+      → BeginsCheckpoint (Err Damaged) view (record old { disk = disk; stopped = true })
+  damaged_so {T} e is looks_so merges = subst (λ (v : StateView). BeginsCheckpoint (Err Damaged) v (record old { disk = disk; stopped = true })) view_is (
     may_old,
     λ honest. never_damaged old hidden has disk (looked_so looks) may_old whole honest
         (subst (λ (h : Half). (sealed : SealedHalf) → sealed_half old.geometry h (reads_of old.disk) ≡ Some sealed → ¬ FitsArea old.geometry (checkpoint_of (old.epoch + 1) sealed)) side_is (refused honest)),

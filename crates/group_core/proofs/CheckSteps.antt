@@ -20,9 +20,9 @@ use Rattle.ckpt_stream.specs.Merge.{MergeView, encoding_if_any}
 use Rattle.group_phases.specs.declared.phases.Check.{Check}
 use Rattle.group_phases.specs.declared.phases.Check.TheVariants.{Ready, Planned, Laid, Switched, SwitchFailed, Live, Closing, CloseFailed}
 use Rattle.byte_lists.specs.Sectors.{open_gate, closed_gate}
-use Rattle.group_phases.specs.Tail.{Load, Commands, Seal}
+use Rattle.group_phases.specs.Tail.{GroupOrSeal, Commands, Seal}
 use Rattle.group_phases.specs.Halves.{HasCheckpoint}
-use Rattle.group_phases.specs.Standing.{load_of, IsHeldBy}
+use Rattle.group_phases.specs.CommitState.{load_of, IsHeldBy}
 use Rattle.group_phases.specs.HeldChecks as held
 use Rattle.group_phases.proofs.Exports.{held_while_chunk_is_written, held_while_chunks_are_synced, held_while_half_is_opened, held_while_half_is_synced, held_while_half_is_closed, held_while_close_is_synced, held_under_the_new_version}
 use Rattle.group_core.specs.declared.bookkeeping.Turn.{Turn}
@@ -30,9 +30,9 @@ use Rattle.group_core.specs.declared.error.StepError.{StepError}
 use Rattle.group_core.specs.declared.phases.AtPlan.{AtPlan}
 use Rattle.group_core.specs.declared.values.Commit.{Commit}
 use Rattle.group_core.specs.StateView.{StateView}
-use Rattle.group_core.specs.Stops.{setting_of, standing_of}
+use Rattle.group_core.specs.Stops.{config_of, commit_state_of}
 use Rattle.group_core.specs.Steps.{is_whole, TakesPlanTurn, TakesChunkTurn}
-use Rattle.group_core.specs.Invariant.{Hidden, FitsLoad, MayBePending, HasPlan, HasNextEpoch, CountsAt, Shape, Sound, SoundWith, IsState}
+use Rattle.group_core.specs.Invariant.{PrivateState, FitsLoad, MayBePending, HasPlan, HasNextEpoch, CountsAt, StateInvariant, DeviceInvariant, DeviceInvariantWith, IsState}
 use Rattle.group_core.specs.Merging.{HasMerge, IsUnderWay, Streams}
 use Rattle.group_core.proofs.Soundness.{sound_at_work, either_stays}
 use Rattle.group_core.proofs.FlushSteps.{success, failure}
@@ -58,7 +58,7 @@ module _ (small large : ℕ) (grows : small ≤ large) where
   allowed_larger (command ∷ more) all =
       (command_format.grows (limits_of small) (limits_of large) (command_format.encoding command) command larger all.0, allowed_larger more all.1)
 
-  pub load_larger : (geometry : Geometry) (place gate : ℕ) (load : Load Command) → FitsLoad (limits_of small) geometry place gate load → FitsLoad (limits_of large) geometry place gate load
+  pub load_larger : (geometry : Geometry) (place gate : ℕ) (load : GroupOrSeal Command) → FitsLoad (limits_of small) geometry place gate load → FitsLoad (limits_of large) geometry place gate load
   load_larger geometry place gate (Commands commands) fits = (
     record {
       some = fits.0.some;
@@ -88,7 +88,7 @@ module _ {view new old : StateView} (is : view ≡ new) where
   pub undone_at : {value same : Commit AtPlan} → value.phase.done ≡ false → TakesChunkTurn value (success (StepError AtPlan) same) old new → 512 * view.written ≡ length view.checkpoint → ⊥
   undone_at undone taken = eqb-false _ _ (ap is_whole (is ∙ taken.3) ∙ sym taken.0.done ∙ undone)
 
-module _ (old : StateView) (hidden : Hidden) (has : IsState old hidden) where
+module _ (old : StateView) (hidden : PrivateState) (has : IsState old hidden) where
   -- the checkpointer is at work
   away : (phase : Check) → old.check ≡ phase → phase ≢ Ready → old.check ≢ Ready
   away phase turn other = subst (λ (p : Check). p ≢ Ready) (sym turn) other
@@ -99,7 +99,7 @@ module _ (old : StateView) (hidden : Hidden) (has : IsState old hidden) where
 
     checked_shape : (merge : Option MergeView) → old.checkpoint ≡ encoding_if_any merge → MergeSo merge → disk.sectors ≡ old.disk.sectors
         → HasPlan old.geometry (record { bytes = old.checkpoint; written = written }) → HasNextEpoch check old.epoch
-        → Shape (checked old disk check written plan stopped) (record hidden { merge = merge })
+        → StateInvariant (checked old disk check written plan stopped) (record hidden { merge = merge })
     checked_shape merge bytes merge_so same has_plan epoch = record {
       limits = has.shape.limits;
       sectors = omega (arith, has.shape.sectors, same);
@@ -125,9 +125,9 @@ module _ (old : StateView) (hidden : Hidden) (has : IsState old hidden) where
 
     merged_state : (merge : Option MergeView) → old.checkpoint ≡ encoding_if_any merge → MergeSo merge
         → (phase : Check) → old.check ≡ phase → phase ≢ Ready → Keeps old.disk disk → HasPlan old.geometry (record { bytes = old.checkpoint; written = written }) → HasNextEpoch check old.epoch
-        → ((sound : Sound old) → CountsAt check old.epoch old.checkpoint sound.behind.old sound.behind.new)
-        → ((sound : Sound old) → IsHonest old.disk → IsHeldBy (setting_of old) (held.checked (standing_of old) check written) sound.behind disk.history.now)
-        → ((with : SoundWith old hidden.merge) → IsHonest old.disk → stopped ≡ false → check ≡ Planned → HasMerge (Streams with.sound.behind.old.db written) merge)
+        → ((sound : DeviceInvariant old) → CountsAt check old.epoch old.checkpoint sound.behind.old sound.behind.new)
+        → ((sound : DeviceInvariant old) → IsHonest old.disk → IsHeldBy (config_of old) (held.checked (commit_state_of old) check written) sound.behind disk.history.now)
+        → ((with : DeviceInvariantWith old hidden.merge) → IsHonest old.disk → stopped ≡ false → check ≡ Planned → HasMerge (Streams with.sound.behind.old.db written) merge)
         → IsState (checked old disk check written plan stopped) (record hidden { merge = merge })
     merged_state merge bytes merge_so phase turn other keeps has_plan epoch counts holds streams = record {
       shape = checked_shape merge bytes merge_so keeps.sectors has_plan epoch;
@@ -144,8 +144,8 @@ module _ (old : StateView) (hidden : Hidden) (has : IsState old hidden) where
     -- the checkpoint isn't written on
     checked_state : (stopped ≡ false → check ≡ Planned → ⊥)
         → (phase : Check) → old.check ≡ phase → phase ≢ Ready → Keeps old.disk disk → HasPlan old.geometry (record { bytes = old.checkpoint; written = written }) → HasNextEpoch check old.epoch
-        → ((sound : Sound old) → CountsAt check old.epoch old.checkpoint sound.behind.old sound.behind.new)
-        → ((sound : Sound old) → IsHonest old.disk → IsHeldBy (setting_of old) (held.checked (standing_of old) check written) sound.behind disk.history.now)
+        → ((sound : DeviceInvariant old) → CountsAt check old.epoch old.checkpoint sound.behind.old sound.behind.new)
+        → ((sound : DeviceInvariant old) → IsHonest old.disk → IsHeldBy (config_of old) (held.checked (commit_state_of old) check written) sound.behind disk.history.now)
         → IsState (checked old disk check written plan stopped) hidden
     checked_state none phase turn other keeps has_plan epoch counts holds =
         merged_state hidden.merge has.shape.bytes (λ is planned. absurd (none is planned)) phase turn other keeps has_plan epoch counts holds (λ with before is planned. absurd (none is planned))
@@ -163,33 +163,33 @@ module _ (old : StateView) (hidden : Hidden) (has : IsState old hidden) where
   epoch_at : (check : Check) → old.check ≡ check → HasNextEpoch check old.epoch
   epoch_at check turn = subst (λ (p : Check). HasNextEpoch p old.epoch) turn has.shape.epoch
 
-  counts_at : (check : Check) → old.check ≡ check → (sound : Sound old) → CountsAt check old.epoch old.checkpoint sound.behind.old sound.behind.new
+  counts_at : (check : Check) → old.check ≡ check → (sound : DeviceInvariant old) → CountsAt check old.epoch old.checkpoint sound.behind.old sound.behind.new
   counts_at check turn sound = subst (λ (p : Check). CountsAt p old.epoch old.checkpoint sound.behind.old sound.behind.new) turn sound.counts
 
   -- a call that fails leaves its phase
   module _ (disk : Disk) (plan : Turn) (stopped : Bool) (stops : stopped ≡ true) (check : Check) (turn : old.check ≡ check) (other : check ≢ Ready) where
     stays : Keeps old.disk disk
-        → ((sound : Sound old) → IsHonest old.disk → IsHeldBy (setting_of old) (held.checked (standing_of old) check old.written) sound.behind disk.history.now)
+        → ((sound : DeviceInvariant old) → IsHonest old.disk → IsHeldBy (config_of old) (held.checked (commit_state_of old) check old.written) sound.behind disk.history.now)
         → IsState (checked old disk old.check old.written plan stopped) hidden
     stays keeps holds =
         checked_state disk old.check old.written plan stopped (λ (is : stopped ≡ false). cc) (λ (is : stopped ≡ false) planned. cc) check turn other keeps has.shape.plan has.shape.epoch (λ sound. sound.counts)
-        (λ sound honest. subst (λ (p : Check). IsHeldBy (setting_of old) (held.checked (standing_of old) p old.written) sound.behind disk.history.now) (sym turn) (holds sound honest))
+        (λ sound honest. subst (λ (p : Check). IsHeldBy (config_of old) (held.checked (commit_state_of old) p old.written) sound.behind disk.history.now) (sym turn) (holds sound honest))
 
   module _ (disk : Disk) where
     -- the chunks are synced
     module _ (turn : old.check ≡ Planned) (done : 512 * old.written ≡ length old.checkpoint) where
-      all_written : (sound : Sound old) → 512 * old.written ≡ length (checkpoint_encoding rows_format sound.behind.new)
+      all_written : (sound : DeviceInvariant old) → 512 * old.written ≡ length (checkpoint_encoding rows_format sound.behind.new)
       all_written sound = done ∙ ap length (counts_at Planned turn sound).1
 
       pub chunks_synced : {T : Type 0} (E : Type 0) (v : T) → SyncCall (success E v) old.disk disk → IsState (checked old disk Laid old.written old.plan old.stopped) hidden
       chunks_synced {T} E v call =
           checked_state disk Laid old.written old.plan old.stopped (λ is. is) (λ is (planned : Laid ≡ Planned). cc) Planned turn (λ (is : Planned ≡ Ready). cc) call.keeps has.shape.plan (epoch_at Planned turn) (λ sound. (counts_at Planned turn sound).0)
-          (λ sound honest. held_while_chunks_are_synced T E (List RowView) Command (setting_of old) (standing_of old) sound.behind (success E v) old.disk disk turn sound.held (all_written sound) call honest)
+          (λ sound honest. held_while_chunks_are_synced T E (List RowView) Command (config_of old) (commit_state_of old) sound.behind (success E v) old.disk disk turn sound.held (all_written sound) call honest)
 
       pub chunks_not_synced : {E : Type 0} (T : Type 0) (e : E) (plan : Turn) (stopped : Bool) → stopped ≡ true → SyncCall (failure T e) old.disk disk → IsState (checked old disk old.check old.written plan stopped) hidden
       chunks_not_synced {E} T e plan stopped stops call =
           stays disk plan stopped stops Planned turn (λ (is : Planned ≡ Ready). cc) call.keeps
-          (λ sound honest. held_while_chunks_are_synced T E (List RowView) Command (setting_of old) (standing_of old) sound.behind (failure T e) old.disk disk turn sound.held (all_written sound) call honest)
+          (λ sound honest. held_while_chunks_are_synced T E (List RowView) Command (config_of old) (commit_state_of old) sound.behind (failure T e) old.disk disk turn sound.held (all_written sound) call honest)
 
     -- the new half's gate
     module _ (sector : ℕ) (given : List ℕ) (turn : old.check ≡ Laid) (at : sector ≡ gate_at old.geometry old.half) (bytes : given ≡ open_gate) where
@@ -200,18 +200,18 @@ module _ (old : StateView) (hidden : Hidden) (has : IsState old hidden) where
       pub half_opened : {T : Type 0} (E : Type 0) (v : T) → WriteCall sector given (success E v) old.disk disk → IsState (checked old disk Switched old.written old.plan old.stopped) hidden
       half_opened {T} E v call =
           checked_state disk Switched old.written old.plan old.stopped (λ is. is) (λ is (planned : Switched ≡ Planned). cc) Laid turn (λ (is : Laid ≡ Ready). cc) call.keeps has.shape.plan (epoch_at Laid turn) (counts_at Laid turn)
-          (λ sound honest. held_while_half_is_opened T E (List RowView) Command (setting_of old) (standing_of old) sound.behind (success E v) old.disk disk turn (gate_so (success E v) call) honest sound.held)
+          (λ sound honest. held_while_half_is_opened T E (List RowView) Command (config_of old) (commit_state_of old) sound.behind (success E v) old.disk disk turn (gate_so (success E v) call) honest sound.held)
 
       pub half_doubtful : {E : Type 0} (T : Type 0) (e : E) (plan : Turn) (stopped : Bool) → stopped ≡ true → WriteCall sector given (failure T e) old.disk disk → IsState (checked old disk SwitchFailed old.written plan stopped) hidden
       half_doubtful {E} T e plan stopped stops call =
           checked_state disk SwitchFailed old.written plan stopped (λ (is : stopped ≡ false). cc) (λ is (planned : SwitchFailed ≡ Planned). cc) Laid turn (λ (is : Laid ≡ Ready). cc) call.keeps has.shape.plan tt (counts_at Laid turn)
-          (λ sound honest. held_while_half_is_opened T E (List RowView) Command (setting_of old) (standing_of old) sound.behind (failure T e) old.disk disk turn (gate_so (failure T e) call) honest sound.held)
+          (λ sound honest. held_while_half_is_opened T E (List RowView) Command (config_of old) (commit_state_of old) sound.behind (failure T e) old.disk disk turn (gate_so (failure T e) call) honest sound.held)
 
     -- it is synced
     pub half_not_synced : {E : Type 0} (T : Type 0) (e : E) (plan : Turn) (stopped : Bool) → stopped ≡ true → old.check ≡ Switched → SyncCall (failure T e) old.disk disk → IsState (checked old disk old.check old.written plan stopped) hidden
     half_not_synced {E} T e plan stopped stops turn call =
         stays disk plan stopped stops Switched turn (λ (is : Switched ≡ Ready). cc) call.keeps
-        (λ sound honest. held_while_half_is_synced T E (List RowView) Command (setting_of old) (standing_of old) sound.behind (failure T e) old.disk disk turn call honest sound.held)
+        (λ sound honest. held_while_half_is_synced T E (List RowView) Command (config_of old) (commit_state_of old) sound.behind (failure T e) old.disk disk turn call honest sound.held)
 
     pub half_synced : {T : Type 0} (E : Type 0) (v : T) (version : ℕ) → version ≡ latest → old.check ≡ Switched → SyncCall (success E v) old.disk disk
         → IsState (record old { disk = disk; check = Live; epoch = old.epoch + 1; version = version }) hidden
@@ -233,7 +233,7 @@ module _ (old : StateView) (hidden : Hidden) (has : IsState old hidden) where
             taken = has.shape.taken;
             owed = has.shape.owed;
             rests = has.shape.rests;
-            load = load_larger old.version latest has.shape.known old.geometry old.value.place old.gate (load_of (standing_of old)) has.shape.load;
+            load = load_larger old.version latest has.shape.known old.geometry old.value.place old.gate (load_of (commit_state_of old)) has.shape.load;
             staged = has.shape.staged;
             plan = has.shape.plan;
             epoch = tt;
@@ -244,12 +244,12 @@ module _ (old : StateView) (hidden : Hidden) (has : IsState old hidden) where
               let before = honest_before old.disk disk call.keeps honest in
               let sound = (sound_at_work old hidden has (inr (away Switched turn (λ (is : Switched ≡ Ready). cc))) before).sound in
               let next = counts_at Switched turn sound in
-              let live = held_while_half_is_synced T E (List RowView) Command (setting_of old) (standing_of old) sound.behind (success E v) old.disk disk turn call before sound.held in
+              let live = held_while_half_is_synced T E (List RowView) Command (config_of old) (commit_state_of old) sound.behind (success E v) old.disk disk turn call before sound.held in
               inl (record {
                 sound = record {
                   behind = sound.behind;
-                  held = subst (λ (n : ℕ). IsHeldBy (setting_of old) (record (held.checked (standing_of old) Live old.written) { version = n }) sound.behind disk.history.now) next.version
-                      (held_under_the_new_version (List RowView) Command (setting_of old) (held.checked (standing_of old) Live old.written) sound.behind disk.history.now refl live);
+                  held = subst (λ (n : ℕ). IsHeldBy (config_of old) (record (held.checked (commit_state_of old) Live old.written) { version = n }) sound.behind disk.history.now) next.version
+                      (held_under_the_new_version (List RowView) Command (config_of old) (held.checked (commit_state_of old) Live old.written) sound.behind disk.history.now refl live);
                   counts = next.new;
                   fits = sound.fits;
                 };
@@ -266,35 +266,35 @@ module _ (old : StateView) (hidden : Hidden) (has : IsState old hidden) where
       pub half_closed : {T : Type 0} (E : Type 0) (v : T) → WriteCall sector given (success E v) old.disk disk → IsState (checked old disk Closing old.written old.plan old.stopped) hidden
       half_closed {T} E v call =
           checked_state disk Closing old.written old.plan old.stopped (λ is. is) (λ is (planned : Closing ≡ Planned). cc) Live turn (λ (is : Live ≡ Ready). cc) call.keeps has.shape.plan tt (counts_at Live turn)
-          (λ sound honest. held_while_half_is_closed T E (List RowView) Command (setting_of old) (standing_of old) sound.behind (success E v) old.disk disk turn (gates_so (success E v) call) honest sound.held)
+          (λ sound honest. held_while_half_is_closed T E (List RowView) Command (config_of old) (commit_state_of old) sound.behind (success E v) old.disk disk turn (gates_so (success E v) call) honest sound.held)
 
       pub half_not_closed : {E : Type 0} (T : Type 0) (e : E) (plan : Turn) (stopped : Bool) → stopped ≡ true → WriteCall sector given (failure T e) old.disk disk → IsState (checked old disk CloseFailed old.written plan stopped) hidden
       half_not_closed {E} T e plan stopped stops call =
           checked_state disk CloseFailed old.written plan stopped (λ (is : stopped ≡ false). cc) (λ is (planned : CloseFailed ≡ Planned). cc) Live turn (λ (is : Live ≡ Ready). cc) call.keeps has.shape.plan tt (counts_at Live turn)
-          (λ sound honest. held_while_half_is_closed T E (List RowView) Command (setting_of old) (standing_of old) sound.behind (failure T e) old.disk disk turn (gates_so (failure T e) call) honest sound.held)
+          (λ sound honest. held_while_half_is_closed T E (List RowView) Command (config_of old) (commit_state_of old) sound.behind (failure T e) old.disk disk turn (gates_so (failure T e) call) honest sound.held)
 
     -- and their sync
     pub close_synced : {T : Type 0} (E : Type 0) (v : T) (plan : Turn) → old.check ≡ Closing → SyncCall (success E v) old.disk disk → IsState (checked old disk Ready old.written plan old.stopped) hidden
     close_synced {T} E v plan turn call =
         checked_state disk Ready old.written plan old.stopped (λ is. is) (λ is (planned : Ready ≡ Planned). cc) Closing turn (λ (is : Closing ≡ Ready). cc) call.keeps has.shape.plan tt (counts_at Closing turn)
-        (λ sound honest. held_while_close_is_synced T E (List RowView) Command (setting_of old) (standing_of old) sound.behind (success E v) old.disk disk turn call honest sound.held)
+        (λ sound honest. held_while_close_is_synced T E (List RowView) Command (config_of old) (commit_state_of old) sound.behind (success E v) old.disk disk turn call honest sound.held)
 
     pub close_not_synced : {E : Type 0} (T : Type 0) (e : E) (plan : Turn) (stopped : Bool) → stopped ≡ true → old.check ≡ Closing → SyncCall (failure T e) old.disk disk → IsState (checked old disk old.check old.written plan stopped) hidden
     close_not_synced {E} T e plan stopped stops turn call =
         stays disk plan stopped stops Closing turn (λ (is : Closing ≡ Ready). cc) call.keeps
-        (λ sound honest. held_while_close_is_synced T E (List RowView) Command (setting_of old) (standing_of old) sound.behind (failure T e) old.disk disk turn call honest sound.held)
+        (λ sound honest. held_while_close_is_synced T E (List RowView) Command (config_of old) (commit_state_of old) sound.behind (failure T e) old.disk disk turn call honest sound.held)
 
     -- the next sectors
     module _ (sector : ℕ) (given : List ℕ) (turn : old.check ≡ Planned) (at : sector ≡ area_at old.geometry old.half + old.written)
         (more : ℕ) (bytes : given ≡ part (512 * old.written) (512 * more) old.checkpoint) (inside : 512 * (old.written + more) ≤ length old.checkpoint) where
-      chunk_so : {T E : Type 0} (result : Result T E) (sound : Sound old) → WriteCall sector given result old.disk disk
+      chunk_so : {T E : Type 0} (result : Result T E) (sound : DeviceInvariant old) → WriteCall sector given result old.disk disk
           → WriteCall (area_at old.geometry old.half + old.written) (part (512 * old.written) (512 * more) (checkpoint_encoding rows_format sound.behind.new)) result old.disk disk
       chunk_so result sound call =
           subst (λ (content : List ℕ). WriteCall (area_at old.geometry old.half + old.written) content result old.disk disk)
           (bytes ∙ ap (part (512 * old.written) (512 * more)) (counts_at Planned turn sound).1)
           (subst (λ (n : ℕ). WriteCall n given result old.disk disk) at call)
 
-      inside_so : (sound : Sound old) → 512 * (old.written + more) ≤ length (checkpoint_encoding rows_format sound.behind.new)
+      inside_so : (sound : DeviceInvariant old) → 512 * (old.written + more) ≤ length (checkpoint_encoding rows_format sound.behind.new)
       inside_so sound = omega (arith, inside, ap length (counts_at Planned turn sound).1)
 
       plan_after : HasPlan old.geometry (record { bytes = old.checkpoint; written = old.written + more })
@@ -308,19 +308,19 @@ module _ (old : StateView) (hidden : Hidden) (has : IsState old hidden) where
       -- and then the sectors after them are made
       pub chunk_written : {T : Type 0} (E : Type 0) (v : T) (merge : Option MergeView) → old.checkpoint ≡ encoding_if_any merge → HasMerge (IsUnderWay old.geometry (old.written + more)) merge
           → old.stopped ≡ false
-          → ((checkpoint : Checkpoint (List RowView)) → IsHonest disk → HasCheckpoint (setting_of old) (other old.half) checkpoint disk.history.now
+          → ((checkpoint : Checkpoint (List RowView)) → IsHonest disk → HasCheckpoint (config_of old) (other old.half) checkpoint disk.history.now
           → HasMerge (Streams checkpoint.db old.written) hidden.merge → HasMerge (Streams checkpoint.db (old.written + more)) merge)
           → WriteCall sector given (success E v) old.disk disk
           → IsState (record (checked old disk old.check (old.written + more) old.plan old.stopped) { checkpoint = encoding_if_any merge }) (record hidden { merge = merge })
       chunk_written {T} E v merge so under going on call =
           subst (λ (bytes : List ℕ). IsState (record (checked old disk old.check (old.written + more) old.plan old.stopped) { checkpoint = bytes }) (record hidden { merge = merge })) so
           (merged_state disk old.check (old.written + more) old.plan old.stopped (λ is. is) merge so (λ is planned. under) Planned turn (λ (is : Planned ≡ Ready). cc) call.keeps plan_after has.shape.epoch
-          (λ sound. sound.counts) (λ sound honest. subst (λ (p : Check). IsHeldBy (setting_of old) (held.checked (standing_of old) p (old.written + more)) sound.behind disk.history.now) (sym turn) (holds sound honest))
+          (λ sound. sound.counts) (λ sound honest. subst (λ (p : Check). IsHeldBy (config_of old) (held.checked (commit_state_of old) p (old.written + more)) sound.behind disk.history.now) (sym turn) (holds sound honest))
           (λ with honest is planned. on with.sound.behind.old (honest_after old.disk disk call.keeps honest) (holds with.sound honest).base.0.area (with.streams going turn)))
         where
-          holds : (sound : Sound old) → IsHonest old.disk → IsHeldBy (setting_of old) (held.checked (standing_of old) Planned (old.written + more)) sound.behind disk.history.now
+          holds : (sound : DeviceInvariant old) → IsHonest old.disk → IsHeldBy (config_of old) (held.checked (commit_state_of old) Planned (old.written + more)) sound.behind disk.history.now
           holds sound honest =
-              held_while_chunk_is_written T E (List RowView) Command (setting_of old) (standing_of old) sound.behind more (success E v) old.disk disk turn sound.held (inside_so sound) (chunk_so (success E v) sound call) honest
+              held_while_chunk_is_written T E (List RowView) Command (config_of old) (commit_state_of old) sound.behind more (success E v) old.disk disk turn sound.held (inside_so sound) (chunk_so (success E v) sound call) honest
 
       pub chunk_not_written : {E : Type 0} (T : Type 0) (e : E) (plan : Turn) (stopped : Bool) → stopped ≡ true → (merge : Option MergeView) → old.checkpoint ≡ encoding_if_any merge
           → WriteCall sector given (failure T e) old.disk disk
@@ -329,6 +329,6 @@ module _ (old : StateView) (hidden : Hidden) (has : IsState old hidden) where
           subst (λ (bytes : List ℕ). IsState (record (checked old disk old.check old.written plan stopped) { checkpoint = bytes }) (record hidden { merge = merge })) so
           (merged_state disk old.check old.written plan stopped (λ (is : stopped ≡ false). cc) merge so (λ (is : stopped ≡ false) planned. absurd (cc)) Planned turn (λ (is : Planned ≡ Ready). cc) call.keeps has.shape.plan has.shape.epoch
           (λ sound. sound.counts)
-          (λ sound honest. subst (λ (p : Check). IsHeldBy (setting_of old) (held.checked (standing_of old) p old.written) sound.behind disk.history.now) (sym turn)
-          (held_while_chunk_is_written T E (List RowView) Command (setting_of old) (standing_of old) sound.behind more (failure T e) old.disk disk turn sound.held (inside_so sound) (chunk_so (failure T e) sound call) honest))
+          (λ sound honest. subst (λ (p : Check). IsHeldBy (config_of old) (held.checked (commit_state_of old) p old.written) sound.behind disk.history.now) (sym turn)
+          (held_while_chunk_is_written T E (List RowView) Command (config_of old) (commit_state_of old) sound.behind more (failure T e) old.disk disk turn sound.held (inside_so sound) (chunk_so (failure T e) sound call) honest))
           (λ with honest (is : stopped ≡ false) planned. absurd (cc)))

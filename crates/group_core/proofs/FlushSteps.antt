@@ -12,7 +12,7 @@ use Rattle.group_phases.specs.declared.phases.Flush.{Flush}
 use Rattle.group_phases.specs.declared.phases.Flush.TheVariants.{Resting, Staged, Written, Stable, Opened, Doubtful, Durable}
 use Rattle.byte_lists.specs.Sectors.{open_gate}
 use Rattle.group_phases.specs.Tail.{load_bytes}
-use Rattle.group_phases.specs.Standing.{load_of, IsHeldBy}
+use Rattle.group_phases.specs.CommitState.{load_of, IsHeldBy}
 use Rattle.group_phases.specs.HeldSteps as held
 use Rattle.group_phases.proofs.Exports.{held_while_load_is_written, held_while_gate_is_opened, held_while_load_is_synced, held_while_gate_is_synced}
 use Rattle.group_core.specs.declared.bookkeeping.Turn.{Turn}
@@ -21,9 +21,9 @@ use Rattle.group_core.specs.declared.values.Commit.{Commit}
 use Rattle.group_core.specs.declared.error.StepError.TheVariants.{Fault}
 use Rattle.group_core.specs.StepCalls.{DeviceCall, Write, StepCall}
 use Rattle.group_core.specs.StateView.{StateView}
-use Rattle.group_core.specs.Stops.{setting_of, standing_of}
+use Rattle.group_core.specs.Stops.{config_of, commit_state_of}
 use Rattle.group_core.specs.Steps.{TakesGroupTurn}
-use Rattle.group_core.specs.Invariant.{Hidden, Shape, Sound, IsState}
+use Rattle.group_core.specs.Invariant.{PrivateState, StateInvariant, DeviceInvariant, IsState}
 use Rattle.group_core.proofs.Regions.{load_inside}
 use Rattle.group_core.proofs.Soundness.{sound_at_work, either_stays}
 
@@ -42,7 +42,7 @@ flushed old disk flush group stopped = record old { disk = disk; flush = flush; 
 pub flush_at : {P : Type 0} {phase : Flush} {value same : Commit P} {view new old : StateView} → view ≡ new → TakesGroupTurn phase value (success (StepError P) same) old new → view.flush ≡ phase
 flush_at is taken = ap (λ (v : StateView). v.flush) (is ∙ taken.3) ∙ taken.0.at
 
-module _ (old : StateView) (hidden : Hidden) (has : IsState old hidden) where
+module _ (old : StateView) (hidden : PrivateState) (has : IsState old hidden) where
   -- a phase behind which no bytes are to be written, and something is in flight; and whether the state may go on
   pub record IsLater (flush : Flush) (stopped : Bool) : Type 0 where
     pub staged : flush ≢ Resting → old.flush ≢ Resting
@@ -61,11 +61,11 @@ module _ (old : StateView) (hidden : Hidden) (has : IsState old hidden) where
         arith,
         at,
         ap length (bytes ∙ has.shape.staged (in_flight Staged turn (λ (is : Staged ≡ Resting). cc))),
-        load_inside (limits_of old.version) old.geometry old.half old.value.place old.gate (load_of (standing_of old)) has.shape.load has.shape.room,
+        load_inside (limits_of old.version) old.geometry old.half old.value.place old.gate (load_of (commit_state_of old)) has.shape.load has.shape.room,
       )
 
   module _ (disk : Disk) (flush : Flush) (group : Turn) (stopped : Bool) (later : IsLater flush stopped) where
-    pub flushed_shape : disk.sectors ≡ old.disk.sectors → Shape (flushed old disk flush group stopped) hidden
+    pub flushed_shape : disk.sectors ≡ old.disk.sectors → StateInvariant (flushed old disk flush group stopped) hidden
     flushed_shape same = record {
       limits = has.shape.limits;
       sectors = omega (arith, has.shape.sectors, same);
@@ -91,7 +91,7 @@ module _ (old : StateView) (hidden : Hidden) (has : IsState old hidden) where
 
     -- a call that leaves what the state then represents
     flushed_state : old.flush ≢ Resting → Keeps old.disk disk
-        → ((sound : Sound old) → IsHonest old.disk → IsHeldBy (setting_of old) (held.flushed (standing_of old) flush) sound.behind disk.history.now)
+        → ((sound : DeviceInvariant old) → IsHonest old.disk → IsHeldBy (config_of old) (held.flushed (commit_state_of old) flush) sound.behind disk.history.now)
         → IsState (flushed old disk flush group stopped) hidden
     flushed_state work keeps holds = record {
       shape = flushed_shape keeps.sectors;
@@ -118,20 +118,20 @@ module _ (old : StateView) (hidden : Hidden) (has : IsState old hidden) where
     -- the bytes that are written, and where
     module _ (turn : old.flush ≡ Staged) (at : sector ≡ journal_at old.geometry old.half + (old.gate + 1)) (bytes : given ≡ hidden.staged) where
       call_so : {T E : Type 0} (result : Result T E) → WriteCall sector given result old.disk disk
-          → WriteCall (journal_at old.geometry old.half + (old.gate + 1)) (load_bytes command_format old.value.place (load_of (standing_of old))) result old.disk disk
+          → WriteCall (journal_at old.geometry old.half + (old.gate + 1)) (load_bytes command_format old.value.place (load_of (commit_state_of old))) result old.disk disk
       call_so result call = subst (λ (content : List ℕ). WriteCall (journal_at old.geometry old.half + (old.gate + 1)) content result old.disk disk) (bytes ∙ has.shape.staged (in_flight Staged turn (λ (is : Staged ≡ Resting). cc)))
           (subst (λ (n : ℕ). WriteCall n given result old.disk disk) at call)
 
       pub load_written : {T : Type 0} (E : Type 0) (v : T) → WriteCall sector given (success E v) old.disk disk → IsState (flushed old disk Written old.group old.stopped) hidden
       load_written {T} E v call =
           flushed_state disk Written old.group old.stopped (record { staged = λ _. in_flight Staged turn (λ (is : Staged ≡ Resting). cc); rests = λ (is : Written ≡ Resting). cc; going = λ is. is }) (in_flight Staged turn (λ (is : Staged ≡ Resting). cc)) call.keeps
-          (λ sound honest. held_while_load_is_written T E (List RowView) Command (setting_of old) (standing_of old) sound.behind (success E v) old.disk disk turn (call_so (success E v) call) honest sound.held)
+          (λ sound honest. held_while_load_is_written T E (List RowView) Command (config_of old) (commit_state_of old) sound.behind (success E v) old.disk disk turn (call_so (success E v) call) honest sound.held)
 
       pub load_not_written : {E : Type 0} (T : Type 0) (e : E) (group : Turn) (stopped : Bool) → stopped ≡ true → WriteCall sector given (failure T e) old.disk disk → IsState (flushed old disk old.flush group stopped) hidden
       load_not_written {E} T e group stopped stops call =
           flushed_state disk old.flush group stopped (record { staged = λ is. is; rests = λ is. is; going = λ (is : stopped ≡ false). cc }) (in_flight Staged turn (λ (is : Staged ≡ Resting). cc)) call.keeps
-          (λ sound honest. subst (λ (p : Flush). IsHeldBy (setting_of old) (held.flushed (standing_of old) p) sound.behind disk.history.now) (sym turn)
-          (held_while_load_is_written T E (List RowView) Command (setting_of old) (standing_of old) sound.behind (failure T e) old.disk disk turn (call_so (failure T e) call) honest sound.held))
+          (λ sound honest. subst (λ (p : Flush). IsHeldBy (config_of old) (held.flushed (commit_state_of old) p) sound.behind disk.history.now) (sym turn)
+          (held_while_load_is_written T E (List RowView) Command (config_of old) (commit_state_of old) sound.behind (failure T e) old.disk disk turn (call_so (failure T e) call) honest sound.held))
 
     module _ (turn : old.flush ≡ Stable) (at : sector ≡ journal_at old.geometry old.half + old.gate) (bytes : given ≡ open_gate) where
       gate_so : {T E : Type 0} (result : Result T E) → WriteCall sector given result old.disk disk → WriteCall (journal_at old.geometry old.half + old.gate) open_gate result old.disk disk
@@ -141,35 +141,35 @@ module _ (old : StateView) (hidden : Hidden) (has : IsState old hidden) where
       pub gate_opened : {T : Type 0} (E : Type 0) (v : T) → WriteCall sector given (success E v) old.disk disk → IsState (flushed old disk Opened old.group old.stopped) hidden
       gate_opened {T} E v call =
           flushed_state disk Opened old.group old.stopped (record { staged = λ _. in_flight Stable turn (λ (is : Stable ≡ Resting). cc); rests = λ (is : Opened ≡ Resting). cc; going = λ is. is }) (in_flight Stable turn (λ (is : Stable ≡ Resting). cc)) call.keeps
-          (λ sound honest. held_while_gate_is_opened T E (List RowView) Command (setting_of old) (standing_of old) sound.behind (success E v) old.disk disk turn (gate_so (success E v) call) honest sound.held)
+          (λ sound honest. held_while_gate_is_opened T E (List RowView) Command (config_of old) (commit_state_of old) sound.behind (success E v) old.disk disk turn (gate_so (success E v) call) honest sound.held)
 
       pub gate_doubtful : {E : Type 0} (T : Type 0) (e : E) (group : Turn) (stopped : Bool) → stopped ≡ true → WriteCall sector given (failure T e) old.disk disk → IsState (flushed old disk Doubtful group stopped) hidden
       gate_doubtful {E} T e group stopped stops call =
           flushed_state disk Doubtful group stopped (record { staged = λ _. in_flight Stable turn (λ (is : Stable ≡ Resting). cc); rests = λ (is : Doubtful ≡ Resting). cc; going = λ (is : stopped ≡ false). cc }) (in_flight Stable turn (λ (is : Stable ≡ Resting). cc)) call.keeps
-          (λ sound honest. held_while_gate_is_opened T E (List RowView) Command (setting_of old) (standing_of old) sound.behind (failure T e) old.disk disk turn (gate_so (failure T e) call) honest sound.held)
+          (λ sound honest. held_while_gate_is_opened T E (List RowView) Command (config_of old) (commit_state_of old) sound.behind (failure T e) old.disk disk turn (gate_so (failure T e) call) honest sound.held)
 
   module _ (disk : Disk) where
     pub load_synced : {T : Type 0} (E : Type 0) (v : T) → old.flush ≡ Written → SyncCall (success E v) old.disk disk → IsState (flushed old disk Stable old.group old.stopped) hidden
     load_synced {T} E v turn call =
         flushed_state disk Stable old.group old.stopped (record { staged = λ _. in_flight Written turn (λ (is : Written ≡ Resting). cc); rests = λ (is : Stable ≡ Resting). cc; going = λ is. is }) (in_flight Written turn (λ (is : Written ≡ Resting). cc)) call.keeps
-        (λ sound honest. held_while_load_is_synced T E (List RowView) Command (setting_of old) (standing_of old) sound.behind (success E v) old.disk disk turn call honest sound.held)
+        (λ sound honest. held_while_load_is_synced T E (List RowView) Command (config_of old) (commit_state_of old) sound.behind (success E v) old.disk disk turn call honest sound.held)
 
     pub gate_synced : {T : Type 0} (E : Type 0) (v : T) → old.flush ≡ Opened → SyncCall (success E v) old.disk disk → IsState (flushed old disk Durable old.group old.stopped) hidden
     gate_synced {T} E v turn call =
         flushed_state disk Durable old.group old.stopped (record { staged = λ _. in_flight Opened turn (λ (is : Opened ≡ Resting). cc); rests = λ (is : Durable ≡ Resting). cc; going = λ is. is }) (in_flight Opened turn (λ (is : Opened ≡ Resting). cc)) call.keeps
-        (λ sound honest. held_while_gate_is_synced T E (List RowView) Command (setting_of old) (standing_of old) sound.behind (success E v) old.disk disk turn call honest sound.held)
+        (λ sound honest. held_while_gate_is_synced T E (List RowView) Command (config_of old) (commit_state_of old) sound.behind (success E v) old.disk disk turn call honest sound.held)
 
     pub load_not_synced : {E : Type 0} (T : Type 0) (e : E) (group : Turn) (stopped : Bool) → stopped ≡ true → old.flush ≡ Written → SyncCall (failure T e) old.disk disk → IsState (flushed old disk old.flush group stopped) hidden
     load_not_synced {E} T e group stopped stops turn call =
         flushed_state disk old.flush group stopped (record { staged = λ is. is; rests = λ is. is; going = λ (is : stopped ≡ false). cc }) (in_flight Written turn (λ (is : Written ≡ Resting). cc)) call.keeps
-        (λ sound honest. subst (λ (p : Flush). IsHeldBy (setting_of old) (held.flushed (standing_of old) p) sound.behind disk.history.now) (sym turn)
-        (held_while_load_is_synced T E (List RowView) Command (setting_of old) (standing_of old) sound.behind (failure T e) old.disk disk turn call honest sound.held))
+        (λ sound honest. subst (λ (p : Flush). IsHeldBy (config_of old) (held.flushed (commit_state_of old) p) sound.behind disk.history.now) (sym turn)
+        (held_while_load_is_synced T E (List RowView) Command (config_of old) (commit_state_of old) sound.behind (failure T e) old.disk disk turn call honest sound.held))
 
     pub gate_not_synced : {E : Type 0} (T : Type 0) (e : E) (group : Turn) (stopped : Bool) → stopped ≡ true → old.flush ≡ Opened → SyncCall (failure T e) old.disk disk → IsState (flushed old disk old.flush group stopped) hidden
     gate_not_synced {E} T e group stopped stops turn call =
         flushed_state disk old.flush group stopped (record { staged = λ is. is; rests = λ is. is; going = λ (is : stopped ≡ false). cc }) (in_flight Opened turn (λ (is : Opened ≡ Resting). cc)) call.keeps
-        (λ sound honest. subst (λ (p : Flush). IsHeldBy (setting_of old) (held.flushed (standing_of old) p) sound.behind disk.history.now) (sym turn)
-        (held_while_gate_is_synced T E (List RowView) Command (setting_of old) (standing_of old) sound.behind (failure T e) old.disk disk turn call honest sound.held))
+        (λ sound honest. subst (λ (p : Flush). IsHeldBy (config_of old) (held.flushed (commit_state_of old) p) sound.behind disk.history.now) (sym turn)
+        (held_while_gate_is_synced T E (List RowView) Command (config_of old) (commit_state_of old) sound.behind (failure T e) old.disk disk turn call honest sound.held))
 
 -- a write that failed is the call of its step, where the state before it is seen as `old`
 pub call_fails : {T E P : Type 0} (N : Type 0) {e : E} {error : StepError P} {sector : ℕ} {given : List ℕ} {disk : Disk} (view old : StateView) (which : StateView → DeviceCall) → view ≡ old → error ≡ Fault → which view ≡ Write sector given

@@ -20,18 +20,18 @@ use Rattle.group_phases.specs.declared.phases.Flush.{Flush}
 use Rattle.group_phases.specs.declared.phases.Flush.TheVariants.{Resting, Durable}
 use Rattle.group_phases.specs.declared.phases.Check.{Check}
 use Rattle.group_phases.specs.declared.phases.Check.TheVariants.{Ready, Sealed, Planned, Laid, Switched, SwitchFailed, Live, Closing, CloseFailed}
-use Rattle.group_phases.specs.Tail.{Load, Commands, Seal, load_bytes}
+use Rattle.group_phases.specs.Tail.{GroupOrSeal, Commands, Seal, load_bytes}
 use Rattle.group_phases.specs.BasePart.{BasePart, FoldsTo, MayBeSealed}
 use Rattle.group_phases.specs.CheckpointerSteps.{base_switched}
-use Rattle.group_phases.specs.Standing.{load_by, load_of, seals, tail_of, base_of}
+use Rattle.group_phases.specs.CommitState.{load_by, load_of, seals, tail_of, checkpoint_pair_of}
 use Rattle.group_phases.specs.HeldTurns.{behind_group, behind_seal}
 use Rattle.group_phases.proofs.Exports.{held_when_group_is_published, held_when_seal_is_published, length-load}
 use Rattle.group_core.specs.declared.bookkeeping.Turn.{Turn}
 use Rattle.group_core.specs.StateView.{StateView}
-use Rattle.group_core.specs.Stops.{setting_of, standing_of}
+use Rattle.group_core.specs.Stops.{config_of, commit_state_of}
 use Rattle.group_core.specs.Steps.{spent}
-use Rattle.group_core.specs.Publishing.{with_group}
-use Rattle.group_core.specs.Invariant.{Hidden, FitsLoad, MayBePending, FitArea, CountsAt, Shape, Sound, IsState}
+use Rattle.group_core.specs.Publishing.{group_committed}
+use Rattle.group_core.specs.Invariant.{PrivateState, FitsLoad, MayBePending, FitArea, CountsAt, StateInvariant, DeviceInvariant, IsState}
 use Rattle.group_core.proofs.Soundness.{sound_at_work}
 use Rattle.group_core.proofs.KeptOutcomes.{take_more, committed_kept}
 
@@ -57,7 +57,7 @@ record Shown : Type 0 where
   gate : ℕ
   place : ℕ
 
-module _ (old : StateView) (hidden : Hidden) (has : IsState old hidden) (turn : old.flush ≡ Durable) (group : Turn) where
+module _ (old : StateView) (hidden : PrivateState) (has : IsState old hidden) (turn : old.flush ≡ Durable) (group : Turn) where
   in_flight : old.flush ≢ Resting
   in_flight = subst (λ (p : Flush). p ≢ Resting) (sym turn) (λ (is : Durable ≡ Resting). cc)
 
@@ -68,7 +68,7 @@ module _ (old : StateView) (hidden : Hidden) (has : IsState old hidden) (turn : 
     abbrev rest : List Command
     rest = drop old.taken old.pending
 
-    load_is : load_of (standing_of old) ≡ Commands front
+    load_is : load_of (commit_state_of old) ≡ Commands front
     load_is = load_some old.taken old.pending some
 
     fits_load : FitsLoad (limits_of old.version) old.geometry old.value.place old.gate (Commands front)
@@ -77,7 +77,7 @@ module _ (old : StateView) (hidden : Hidden) (has : IsState old hidden) (turn : 
     -- how many sectors were written
     pub sectors_staged : length hidden.staged ≡ 512 * (group_sectors command_format front + 1)
     sectors_staged = ap length (has.shape.staged in_flight)
-        ∙ ap (λ (load : Load Command). length (load_bytes command_format old.value.place load)) load_is ∙ length-load command_format old.value.place (Commands front)
+        ∙ ap (λ (load : GroupOrSeal Command). length (load_bytes command_format old.value.place load)) load_is ∙ length-load command_format old.value.place (Commands front)
 
     pub gate_inside : old.gate + length hidden.staged / 512 + 2 ≤ old.geometry.journal
     gate_inside = omega (arith, sectors_staged, fits_load.1)
@@ -96,10 +96,10 @@ module _ (old : StateView) (hidden : Hidden) (has : IsState old hidden) (turn : 
     long : length front ≡ old.taken
     long = omega (arith, length-take old.taken old.pending, has.shape.taken)
 
-    abbrev after : Hidden
+    abbrev after : PrivateState
     after = record hidden { place = hidden.place + old.taken; owed = [] }
 
-    group_shape : Shape (published shown_exactly) after
+    group_shape : StateInvariant (published shown_exactly) after
     group_shape = record {
       limits = has.shape.limits;
       sectors = has.shape.sectors;
@@ -133,8 +133,8 @@ module _ (old : StateView) (hidden : Hidden) (has : IsState old hidden) (turn : 
           let sound = with.sound in
           inl (record {
             sound = record {
-              behind = behind_group (standing_of old) sound.behind;
-              held = held_when_group_is_published (List RowView) Command (setting_of old) (standing_of old) sound.behind old.disk.history.now turn some sound.held;
+              behind = behind_group (commit_state_of old) sound.behind;
+              held = held_when_group_is_published (List RowView) Command (config_of old) (commit_state_of old) sound.behind old.disk.history.now turn some sound.held;
               counts = sound.counts;
               fits = sound.fits;
             };
@@ -157,7 +157,7 @@ module _ (old : StateView) (hidden : Hidden) (has : IsState old hidden) (turn : 
     -- which is what the definition says
     pub published_is : (value : StoreValue (List RowView)) (pending : List Command) (gate : ℕ) → value ≡ value_after store_format old.value front → pending ≡ rest
         → gate ≡ old.gate + length hidden.staged / 512
-        → record old { value = value; pending = pending; taken = 0; flush = Resting; group = spent old.group; gate = gate } ≡ with_group old
+        → record old { value = value; pending = pending; taken = 0; flush = Resting; group = spent old.group; gate = gate } ≡ group_committed old
     published_is value pending gate value_is pending_is gate_is = λ i. record old {
       value = value_is i;
       pending = pending_is i;
@@ -171,13 +171,13 @@ module _ (old : StateView) (hidden : Hidden) (has : IsState old hidden) (turn : 
         gate_so = omega (arith, gate_is, sectors_staged)
 
   module _ (none : old.taken ≡ 0) where
-    load_none : load_of (standing_of old) ≡ Seal
+    load_none : load_of (commit_state_of old) ≡ Seal
     load_none = ap (λ (n : ℕ). load_by n old.pending) none
 
     -- a seal is durable only where the other half is ready
-    ready : Sound old → old.check ≡ Ready
-    ready sound = by_check old.check refl (subst (λ (load : Load Command). MayBeSealed old.check (seals Durable load)) load_none
-        (subst (λ (p : Flush). MayBeSealed old.check (seals p (load_of (standing_of old)))) turn sound.held.seal))
+    ready : DeviceInvariant old → old.check ≡ Ready
+    ready sound = by_check old.check refl (subst (λ (load : GroupOrSeal Command). MayBeSealed old.check (seals Durable load)) load_none
+        (subst (λ (p : Flush). MayBeSealed old.check (seals p (load_of (commit_state_of old)))) turn sound.held.seal))
       where
         by_check : (check : Check) → old.check ≡ check → MayBeSealed old.check true → old.check ≡ Ready
         by_check Ready is may = is
@@ -191,16 +191,16 @@ module _ (old : StateView) (hidden : Hidden) (has : IsState old hidden) (turn : 
         by_check CloseFailed is may = absurd (cc (subst (λ (p : Check). MayBeSealed p true) is may))
 
     -- the checkpoint to be there: what is committed
-    abbrev next_of : Sound old → Checkpoint (List RowView)
+    abbrev next_of : DeviceInvariant old → Checkpoint (List RowView)
     next_of sound = record {
       head = record { version = latest; epoch = sound.behind.new.head.epoch + 1; place = old.value.place };
       db = old.value.db;
     }
 
-    ready_part : (sound : Sound old) → BasePart Ready (setting_of old) (base_of (standing_of old) sound.behind) old.written old.disk.history.now
-    ready_part sound = subst (λ (p : Check). BasePart p (setting_of old) (base_of (standing_of old) sound.behind) old.written old.disk.history.now) (ready sound) sound.held.base
+    ready_part : (sound : DeviceInvariant old) → BasePart Ready (config_of old) (checkpoint_pair_of (commit_state_of old) sound.behind) old.written old.disk.history.now
+    ready_part sound = subst (λ (p : Check). BasePart p (config_of old) (checkpoint_pair_of (commit_state_of old) sound.behind) old.written old.disk.history.now) (ready sound) sound.held.base
 
-    folds : (sound : Sound old) → FoldsTo store_format (base_switched (base_of (standing_of old) sound.behind) (tail_of (standing_of old) sound.behind) (next_of sound))
+    folds : (sound : DeviceInvariant old) → FoldsTo store_format (base_switched (checkpoint_pair_of (commit_state_of old) sound.behind) (tail_of (commit_state_of old) sound.behind) (next_of sound))
     folds sound = record {
       place = sound.held.place;
       db = sound.held.db;
@@ -238,8 +238,8 @@ module _ (old : StateView) (hidden : Hidden) (has : IsState old hidden) (turn : 
           let sound = with.sound in
           inl (record {
             sound = record {
-              behind = behind_seal (standing_of old) sound.behind (next_of sound);
-              held = held_when_seal_is_published (List RowView) Command (setting_of old) (standing_of old) sound.behind old.disk.history.now (next_of sound) turn none (ready sound) sound.held (folds sound);
+              behind = behind_seal (commit_state_of old) sound.behind (next_of sound);
+              held = held_when_seal_is_published (List RowView) Command (config_of old) (commit_state_of old) sound.behind old.disk.history.now (next_of sound) turn none (ready sound) sound.held (folds sound);
               counts = subst (λ (p : Check). CountsAt p old.epoch old.checkpoint sound.behind.old sound.behind.new) (ready sound) sound.counts;
               fits = λ going. has.shape.fits going 0 (omega arith);
             };

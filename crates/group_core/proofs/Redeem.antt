@@ -6,17 +6,17 @@ use Rattle.path_rows.specs.Database.{RowView}
 use Rattle.path_rows.specs.declared.command.Command.{Command}
 use Rattle.store_layout.specs.Opening.{StoreValue}
 use Rattle.group_core.specs.StateView.{StateView}
-use Rattle.group_core.specs.Invariant.{Hidden, Shape, IsState}
+use Rattle.group_core.specs.Invariant.{PrivateState, StateInvariant, IsState}
 use Rattle.group_core.specs.Keeping.{Outcomes, KeepsOutcomes}
 use Rattle.group_core.specs.Redeeming.{outcome_at}
-use Rattle.group_core.specs.Showing.{IsFront}
+use Rattle.group_core.specs.Showing.{IsFrontOf}
 use Rattle.group_core.proofs.KeptOutcomes.{one_less_kept}
 use Rattle.group_core.proofs.Soundness.{either_stays}
 use Rattle.group_core.proofs.FlushSteps.{flushed_shape}
 
-module _ (old : StateView) (hidden : Hidden) (has : IsState old hidden) where
-  kept_shape : (kept : Outcomes) → KeepsOutcomes old.value old.pending kept → (owed : List Command) → IsFront owed (take old.taken old.pending)
-      → Shape (record old { kept = kept }) (record hidden { owed = owed })
+module _ (old : StateView) (hidden : PrivateState) (has : IsState old hidden) where
+  kept_shape : (kept : Outcomes) → KeepsOutcomes old.value old.pending kept → (owed : List Command) → IsFrontOf owed (take old.taken old.pending)
+      → StateInvariant (record old { kept = kept }) (record hidden { owed = owed })
   kept_shape kept outcomes owed front = record {
     limits = has.shape.limits;
     sectors = has.shape.sectors;
@@ -40,7 +40,7 @@ module _ (old : StateView) (hidden : Hidden) (has : IsState old hidden) where
     merge = has.shape.merge;
   }
 
-  kept_owed : (kept : Outcomes) → KeepsOutcomes old.value old.pending kept → (owed : List Command) → IsFront owed (take old.taken old.pending)
+  kept_owed : (kept : Outcomes) → KeepsOutcomes old.value old.pending kept → (owed : List Command) → IsFrontOf owed (take old.taken old.pending)
       → IsState (record old { kept = kept }) (record hidden { owed = owed })
   kept_owed kept outcomes owed front = record {
     shape = kept_shape kept outcomes owed front;
@@ -61,7 +61,7 @@ module _ (old : StateView) (hidden : Hidden) (has : IsState old hidden) where
   kept_state place kept left = kept_owed kept (less_kept place kept left) hidden.owed has.shape.owed
 
   -- the showcase shows the same, and has the first commands of the next group
-  pub shown_state : (value : StoreValue (List RowView)) (owed : List Command) → value ≡ old.value → IsFront owed (take old.taken old.pending)
+  pub shown_state : (value : StoreValue (List RowView)) (owed : List Command) → value ≡ old.value → IsFrontOf owed (take old.taken old.pending)
       → IsState (record old { value = value }) (record hidden { owed = owed })
   shown_state value owed same front =
       subst (λ (v : StoreValue (List RowView)). IsState (record old { value = v }) (record hidden { owed = owed })) (sym same) (kept_owed old.kept has.shape.outcomes owed front)
@@ -71,7 +71,7 @@ module _ (old : StateView) (hidden : Hidden) (has : IsState old hidden) where
       → IsState (record old { value = value; kept = kept }) (record hidden { owed = owed })
   told_state value place kept owed same left owed_is =
       subst (λ (v : StoreValue (List RowView)). IsState (record old { value = v; kept = kept }) (record hidden { owed = owed })) (sym same)
-      (kept_owed kept (less_kept place kept left) owed (subst (λ (l : List Command). IsFront l (take old.taken old.pending)) (sym owed_is) has.shape.owed))
+      (kept_owed kept (less_kept place kept left) owed (subst (λ (l : List Command). IsFrontOf l (take old.taken old.pending)) (sym owed_is) has.shape.owed))
 
   -- the state stops
   pub halted_state : IsState (record old { stopped = true }) hidden

@@ -12,15 +12,15 @@ use Rattle.store_layout.specs.Group.{record_encoding, records_of, CanBeGroup}
 use Rattle.gate_journal.specs.Commands.{command_format}
 use Rattle.group_phases.specs.declared.phases.Flush.TheVariants.{Resting, Staged}
 use Rattle.group_phases.specs.Tail.{Commands, Seal, load_bytes}
-use Rattle.group_phases.specs.Standing.{load_by, IsHeldBy}
+use Rattle.group_phases.specs.CommitState.{load_by, IsHeldBy}
 use Rattle.group_phases.specs.HeldCommands.{staged}
 use Rattle.group_phases.proofs.Exports.{held_when_group_is_staged, held_when_seal_is_staged}
 use Rattle.group_core.specs.declared.bookkeeping.Turn.{Turn}
 use Rattle.group_core.specs.StateView.{StateView}
-use Rattle.group_core.specs.Stops.{setting_of, standing_of}
+use Rattle.group_core.specs.Stops.{config_of, commit_state_of}
 use Rattle.group_core.specs.Staging.{FitOneGroup, IsLongestFront, MayStage, TakesFront, TakesSeal, Takes}
-use Rattle.group_core.specs.Invariant.{Hidden, FitsLoad, MayBePending, Shape, Sound, IsState}
-use Rattle.group_core.specs.Showing.{IsFront}
+use Rattle.group_core.specs.Invariant.{PrivateState, FitsLoad, MayBePending, StateInvariant, DeviceInvariant, IsState}
+use Rattle.group_core.specs.Showing.{IsFrontOf}
 use Rattle.group_core.proofs.Soundness.{sound_going}
 use Rattle.group_core.proofs.Publish.{load_some}
 
@@ -91,25 +91,25 @@ takes_seal view taken (inl takes) none = absurd (omega (arith, takes.some, none)
 takes_seal view taken (inr takes) none = takes
 
 -- behind no command nothing is owed
-owed_none : (owed commands : List Command) → IsFront owed (take 0 commands) → owed ≡ []
+owed_none : (owed commands : List Command) → IsFrontOf owed (take 0 commands) → owed ≡ []
 owed_none [] commands is = refl
 owed_none (command ∷ owed) commands is = absurd cc
 
-module _ (old : StateView) (hidden : Hidden) (has : IsState old hidden) (may : MayStage old) where
+module _ (old : StateView) (hidden : PrivateState) (has : IsState old hidden) (may : MayStage old) where
   owed : hidden.owed ≡ []
-  owed = owed_none hidden.owed old.pending (subst (λ (n : ℕ). IsFront hidden.owed (take n old.pending)) (has.shape.rests may.rests) has.shape.owed)
+  owed = owed_none hidden.owed old.pending (subst (λ (n : ℕ). IsFrontOf hidden.owed (take n old.pending)) (has.shape.rests may.rests) has.shape.owed)
 
   module _ (taken : ℕ) (group : Turn) (bytes : List ℕ) where
     abbrev with_load : StateView
     with_load = record old { taken = taken; flush = Staged; group = group }
 
-    abbrev with_bytes : Hidden
+    abbrev with_bytes : PrivateState
     with_bytes = record hidden { staged = bytes }
 
     -- what is in flight then, and its bytes
     staged_shape : taken ≤ length old.pending → FitsLoad (limits_of old.version) old.geometry old.value.place old.gate (load_by taken old.pending)
         → bytes ≡ load_bytes command_format old.value.place (load_by taken old.pending)
-        → Shape with_load with_bytes
+        → StateInvariant with_load with_bytes
     staged_shape inside load same = record {
       limits = has.shape.limits;
       sectors = has.shape.sectors;
@@ -123,7 +123,7 @@ module _ (old : StateView) (hidden : Hidden) (has : IsState old hidden) (may : M
       fits = has.shape.fits;
       known = has.shape.known;
       taken = inside;
-      owed = subst (λ (list : List Command). IsFront list (take taken old.pending)) (sym owed) refl;
+      owed = subst (λ (list : List Command). IsFrontOf list (take taken old.pending)) (sym owed) refl;
       rests = λ (is : Staged ≡ Resting). cc;
       load = load;
       staged = λ _. same;
@@ -133,7 +133,7 @@ module _ (old : StateView) (hidden : Hidden) (has : IsState old hidden) (may : M
       merge = has.shape.merge;
     }
 
-    staged_state : Shape with_load with_bytes → ((sound : Sound old) → IsHeldBy (setting_of old) (staged (standing_of old) taken) sound.behind old.disk.history.now)
+    staged_state : StateInvariant with_load with_bytes → ((sound : DeviceInvariant old) → IsHeldBy (config_of old) (staged (commit_state_of old) taken) sound.behind old.disk.history.now)
         → IsState with_load with_bytes
     staged_state shape holds = record {
       shape = shape;
@@ -143,7 +143,7 @@ module _ (old : StateView) (hidden : Hidden) (has : IsState old hidden) (may : M
           inl (record { sound = record { behind = sound.behind; held = holds sound; counts = sound.counts; fits = sound.fits }; streams = with.streams });
     }
 
-module _ (old : StateView) (hidden : Hidden) (has : IsState old hidden) where
+module _ (old : StateView) (hidden : PrivateState) (has : IsState old hidden) where
   -- a group is staged
   module _ (taken : ℕ) (takes : TakesFront old taken) where
     long : length (take taken old.pending) ≡ taken
@@ -169,7 +169,7 @@ module _ (old : StateView) (hidden : Hidden) (has : IsState old hidden) where
         (subst (FitsLoad (limits_of old.version) old.geometry old.value.place old.gate) (sym group_is) (can, takes.room))
         (same ∙ ap (λ (place : ℕ). load_bytes command_format place (Commands (take taken old.pending))) has.shape.place
         ∙ ap (load_bytes command_format old.value.place) (sym group_is)))
-        (λ sound. held_when_group_is_staged (List RowView) Command (setting_of old) (standing_of old) sound.behind old.disk.history.now taken takes.may.rests takes.some
+        (λ sound. held_when_group_is_staged (List RowView) Command (config_of old) (commit_state_of old) sound.behind old.disk.history.now taken takes.may.rests takes.some
         (record { inside = takes.front.inside; can = can; room = takes.room }) sound.held)
 
   -- and a seal
@@ -179,5 +179,5 @@ module _ (old : StateView) (hidden : Hidden) (has : IsState old hidden) where
       subst (λ (n : ℕ). IsState (record old { taken = n; flush = Staged; group = group }) (record hidden { staged = bytes })) (sym takes.none)
       (staged_state old hidden has takes.full.may 0 group bytes
       (staged_shape old hidden has takes.full.may 0 group bytes (omega arith) tt (same ∙ ap (λ (place : ℕ). load_bytes command_format place Seal) has.shape.place))
-      (λ sound. held_when_seal_is_staged (List RowView) Command (setting_of old) (standing_of old) sound.behind old.disk.history.now takes.full.may.rests takes.ready
+      (λ sound. held_when_seal_is_staged (List RowView) Command (config_of old) (commit_state_of old) sound.behind old.disk.history.now takes.full.may.rests takes.ready
       (omega (arith, has.shape.last)) sound.held))

@@ -22,14 +22,14 @@ use Rattle.store_open.specs.Store.{StoreView, half_of_tail, IsAtRest}
 use Rattle.store_open.specs.StoreShape.{IsStoreWhole}
 use Rattle.group_phases.specs.declared.phases.Flush.TheVariants.{Resting}
 use Rattle.group_phases.specs.declared.phases.Check.TheVariants.{Planned}
-use Rattle.group_phases.specs.Setting.{Setting}
-use Rattle.group_phases.specs.Standing.{Standing, Behind, IsHeldBy}
+use Rattle.group_phases.specs.StoreConfig.{StoreConfig}
+use Rattle.group_phases.specs.CommitState.{CommitState, DeviceContents, IsHeldBy}
 use Rattle.group_phases.specs.HeldOpened as opened
 use Rattle.group_phases.proofs.Exports.{checkpoint_inside, held_at_rest, held_behind_seal}
 use Rattle.group_core.specs.StateView.{StateView}
-use Rattle.group_core.specs.Stops.{setting_of, standing_of, MayOpen}
-use Rattle.group_core.specs.Invariant.{Hidden, FitArea, HasNextEpoch, CountsAt, Shape, Sound, SoundWith, IsBroken, IsState}
-use Rattle.group_core.specs.Starting.{value_in, GoesOn, check_in, started}
+use Rattle.group_core.specs.Stops.{config_of, commit_state_of, MayOpen}
+use Rattle.group_core.specs.Invariant.{PrivateState, FitArea, HasNextEpoch, CountsAt, StateInvariant, DeviceInvariant, DeviceInvariantWith, IsBroken, IsState}
+use Rattle.group_core.specs.Starting.{value_of_store, CanContinue, check_in, started}
 use Rattle.group_core.proofs.States.{may_open}
 use Rattle.group_core.proofs.KeptOutcomes.{none_kept}
 
@@ -39,7 +39,7 @@ not_false true holds = ((λ _. holds.0 refl), λ _. refl)
 not_false false holds = ((λ (is : true ≡ false). absurd (cc)), λ p. let both : false ≡ true = holds.1 p in absurd (cc))
 
 -- what every image of its device opens to
-pub opens_so : {seen : StateView} {hidden : Hidden} (disk : Disk) → seen.disk ≡ disk → IsState seen hidden → IsHonest disk → EveryImage disk.history.now (MayOpen seen)
+pub opens_so : {seen : StateView} {hidden : PrivateState} (disk : Disk) → seen.disk ≡ disk → IsState seen hidden → IsHonest disk → EveryImage disk.history.now (MayOpen seen)
 opens_so {seen} {hidden} disk is has = subst (λ (d : Disk). IsHonest d → EveryImage d.history.now (MayOpen seen)) is (may_open seen hidden has)
 
 take_none : {A : Type 0} (n : ℕ) → take {A = A} n [] ≡ []
@@ -47,7 +47,7 @@ take_none zero = refl
 take_none (suc n) = refl
 
 module _ (store : StoreView) (whole : IsStoreWhole store) (device : IsHonest store.disk → IsWhole store.disk) (counted : WrittenRowsAreCounted)
-    (last : store.place ≤ last_place) (home : ℕ) (stopped : Bool) (going : stopped ≡ false ↔ GoesOn store) where
+    (last : store.place ≤ last_place) (home : ℕ) (stopped : Bool) (going : stopped ≡ false ↔ CanContinue store) where
   abbrev view : StateView
   view = started store home stopped
 
@@ -62,7 +62,7 @@ module _ (store : StoreView) (whole : IsStoreWhole store) (device : IsHonest sto
   rows_fit : stopped ≡ false → FitArea view store.rows
   rows_fit goes = omega (arith, (going.0 goes).rows, counted store.rows)
 
-  start_shape : (staged : List ℕ) → Shape view (record { staged = staged; tip = store.rows; place = store.place; owed = []; merge = None })
+  start_shape : (staged : List ℕ) → StateInvariant view (record { staged = staged; tip = store.rows; place = store.place; owed = []; merge = None })
   start_shape staged = record {
     limits = whole.room.allowed;
     sectors = whole.room.room;
@@ -72,7 +72,7 @@ module _ (store : StoreView) (whole : IsStoreWhole store) (device : IsHonest sto
     few = omega arith;
     commands = tt;
     tip = refl;
-    outcomes = none_kept (value_in store);
+    outcomes = none_kept (value_of_store store);
     fits = λ goes n inside. subst (λ (l : List Command). FitArea view (db_after store_format store.rows l)) (sym (take_none n)) (rows_fit goes);
     known = whole.within.known;
     taken = omega arith;
@@ -95,11 +95,11 @@ module _ (store : StoreView) (whole : IsStoreWhole store) (device : IsHonest sto
     opens = rest.every (reads_of store.disk) (image_of_reads store.disk.history.now (device honest).bytes)
 
     -- what it represents, as it was opened
-    is_setting : opened.setting_of store_format latest opening ≡ setting_of view
+    is_setting : opened.config_at_opening store_format latest opening ≡ config_of view
     is_setting = λ i. record { format = store_format; latest = latest; geometry = rest.tells.geometry i }
 
     is_standing : opened.check_of opening.tail ≡ check_in store.sealed → tail_half opening.chosen opening.tail ≡ half_of_tail store.chosen store.sealed
-        → opened.standing_of store_format opening ≡ standing_of view
+        → opened.commit_state_at_opening store_format opening ≡ commit_state_of view
     is_standing check half = λ i. record {
       value = rest.tells.value i;
       pending = [];
@@ -112,12 +112,12 @@ module _ (store : StoreView) (whole : IsStoreWhole store) (device : IsHonest sto
       written = 0;
     }
 
-    held_so : (behind : Behind (List RowView) Command) → opened.standing_of store_format opening ≡ standing_of view
-        → IsHeldBy (opened.setting_of store_format latest opening) (opened.standing_of store_format opening) behind store.disk.history.now
-        → IsHeldBy (setting_of view) (standing_of view) behind store.disk.history.now
+    held_so : (behind : DeviceContents (List RowView) Command) → opened.commit_state_at_opening store_format opening ≡ commit_state_of view
+        → IsHeldBy (opened.config_at_opening store_format latest opening) (opened.commit_state_at_opening store_format opening) behind store.disk.history.now
+        → IsHeldBy (config_of view) (commit_state_of view) behind store.disk.history.now
     held_so behind same held =
-        subst (λ (s : Setting (List RowView) Command). IsHeldBy s (standing_of view) behind store.disk.history.now) is_setting
-        (subst (λ (s : Standing (List RowView) Command). IsHeldBy (opened.setting_of store_format latest opening) s behind store.disk.history.now) same held)
+        subst (λ (s : StoreConfig (List RowView) Command). IsHeldBy s (commit_state_of view) behind store.disk.history.now) is_setting
+        (subst (λ (s : CommitState (List RowView) Command). IsHeldBy (opened.config_at_opening store_format latest opening) s behind store.disk.history.now) same held)
 
     chosen_half : (sealed : Bool) → store.sealed ≡ sealed → half_of_tail opening.chosen sealed ≡ half_of_tail store.chosen store.sealed
     chosen_half sealed is = ap (λ (h : Half). half_of_tail h sealed) rest.tells.chosen ∙ ap (half_of_tail store.chosen) (sym is)
@@ -127,7 +127,7 @@ module _ (store : StoreView) (whole : IsStoreWhole store) (device : IsHonest sto
     tail_is tail is = subst (IsTail command_format (limits_in opening.checkpoint) opening.geometry (other opening.chosen) (reads_of store.disk) opening.journal) is opens.tail
 
     -- its journal isn't sealed
-    sound_unsealed : opening.tail ≡ None → Sound view
+    sound_unsealed : opening.tail ≡ None → DeviceInvariant view
     sound_unsealed alone = record {
       behind = held.behind;
       held = held_so held.behind (is_standing (ap opened.check_of alone ∙ ap check_in (sym unsealed)) (ap (tail_half opening.chosen) alone ∙ chosen_half false unsealed)) held.by;
@@ -159,7 +159,7 @@ module _ (store : StoreView) (whole : IsStoreWhole store) (device : IsHonest sto
       db = db_at_seal store_format opening;
     }
 
-    sound_sealed : (behind : Reading Command) → opening.tail ≡ Some behind → Sound view
+    sound_sealed : (behind : Reading Command) → opening.tail ≡ Some behind → DeviceInvariant view
     sound_sealed behind tail = record {
       behind = held.behind;
       held = held_so held.behind (is_standing (ap opened.check_of tail ∙ ap check_in (sym sealed)) (ap (tail_half opening.chosen) tail ∙ chosen_half true sealed)) held.by;
@@ -179,20 +179,20 @@ module _ (store : StoreView) (whole : IsStoreWhole store) (device : IsHonest sto
         held : opened.IsHeldFrom store_format latest opening next store.disk.history.now
         held = held_sealed.held
 
-    by_tail : (tail : Option (Reading Command)) → opening.tail ≡ tail → Sound view
+    by_tail : (tail : Option (Reading Command)) → opening.tail ≡ tail → DeviceInvariant view
     by_tail None alone = sound_unsealed alone
     by_tail (Some behind) tail = sound_sealed behind tail
 
-    sound : Sound view
+    sound : DeviceInvariant view
     sound = by_tail opening.tail refl
 
   -- one has
   module _ (honest : IsHonest store.disk) (broken : store.broken ≡ true) where
-    stops : (b : Bool) → (b ≡ false → GoesOn store) → b ≡ true
+    stops : (b : Bool) → (b ≡ false → CanContinue store) → b ≡ true
     stops true goes = refl
     stops false goes = let both : true ≡ false = sym broken ∙ (goes refl).whole in absurd (cc)
 
-    is_value : value_in store ≡ record { db = store.rows; place = store.place + 0 }
+    is_value : value_of_store store ≡ record { db = store.rows; place = store.place + 0 }
     is_value = let same : store.place ≡ store.place + 0 = omega arith in λ i. record { db = store.rows; place = same i }
 
     images : EveryImage store.disk.history.now (MayOpen view)
@@ -211,14 +211,14 @@ module _ (store : StoreView) (whole : IsStoreWhole store) (device : IsHonest sto
     is_broken : IsBroken view
     is_broken = record { stopped = stops stopped going.0; rests = refl; ready = ap check_in (whole.unsealed broken); images = images }
 
-  either : (honest : IsHonest store.disk) (b : Bool) → store.broken ≡ b → SoundWith view None ⊎ IsBroken view
+  either : (honest : IsHonest store.disk) (b : Bool) → store.broken ≡ b → DeviceInvariantWith view None ⊎ IsBroken view
   either honest true broken = inr (is_broken honest broken)
   either honest false fine = inl (record { sound = sound honest ((whole.sound honest).rest fine); streams = λ goes is. absurd (never_planned store.sealed is) })
 
   pub started_state : (staged : List ℕ) → IsState view (record { staged = staged; tip = store.rows; place = store.place; owed = []; merge = None })
   started_state staged = record { shape = start_shape staged; sound = λ honest. either honest store.broken refl }
 
-  pub started_so : (seen : StateView) (hidden : Hidden) → seen ≡ view → hidden.tip ≡ store.rows → hidden.place ≡ store.place → hidden.owed ≡ [] → hidden.merge ≡ None → IsState seen hidden
+  pub started_so : (seen : StateView) (hidden : PrivateState) → seen ≡ view → hidden.tip ≡ store.rows → hidden.place ≡ store.place → hidden.owed ≡ [] → hidden.merge ≡ None → IsState seen hidden
   started_so seen hidden seen_is tip place owed merge =
       subst (λ (v : StateView). IsState v hidden) (sym seen_is)
-      (subst (λ (h : Hidden). IsState view h) (λ i. record { staged = hidden.staged; tip = sym tip i; place = sym place i; owed = sym owed i; merge = sym merge i }) (started_state hidden.staged))
+      (subst (λ (h : PrivateState). IsState view h) (λ i. record { staged = hidden.staged; tip = sym tip i; place = sym place i; owed = sym owed i; merge = sym merge i }) (started_state hidden.staged))

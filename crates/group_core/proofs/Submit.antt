@@ -15,14 +15,14 @@ use Rattle.store_layout.proofs.Exports.{folds_in_parts}
 use Rattle.gate_journal.specs.Commands.{command_format}
 use Rattle.store_open.specs.PathStores.{store_format}
 use Rattle.group_phases.specs.Tail.{Commands, load_bytes}
-use Rattle.group_phases.specs.Standing.{load_by, load_of}
+use Rattle.group_phases.specs.CommitState.{load_by, load_of}
 use Rattle.group_phases.proofs.Exports.{held_when_accepted}
 use Rattle.group_core.specs.StateView.{StateView}
-use Rattle.group_core.specs.Stops.{setting_of, standing_of}
-use Rattle.group_core.specs.Invariant.{Hidden, FitsLoad, MayBePending, FitArea, Shape, IsState}
+use Rattle.group_core.specs.Stops.{config_of, commit_state_of}
+use Rattle.group_core.specs.Invariant.{PrivateState, FitsLoad, MayBePending, FitArea, StateInvariant, IsState}
 use Rattle.group_core.specs.Keeping.{Outcomes}
-use Rattle.group_core.specs.Showing.{IsFront}
-use Rattle.group_core.specs.Submitting.{next_place, accepted_rows, MayBeSubmitted, HasRoom, IsTicketOf, Submits}
+use Rattle.group_core.specs.Showing.{IsFrontOf}
+use Rattle.group_core.specs.Submitting.{next_place, accepted_rows, MayBeSubmitted, CheckpointHasRoom, IsTicketOf, Submits}
 use Rattle.group_core.specs.declared.ticket.Ticket.{Ticket}
 use Rattle.group_core.proofs.KeptOutcomes.{one_more_kept}
 use Rattle.group_core.proofs.Soundness.{either_stays}
@@ -41,7 +41,7 @@ load_front : {A : Type 0} (n : ℕ) (front behind : List A) → n ≤ length fro
 load_front zero front behind inside = refl
 load_front (suc n) front behind inside = ap Commands (take-append-le (suc n) front behind inside)
 
-module _ (old : StateView) (hidden : Hidden) (has : IsState old hidden) where
+module _ (old : StateView) (hidden : PrivateState) (has : IsState old hidden) where
   abbrev touched : Touched → StateView
   touched left = record old { pending = left.pending; kept = left.kept }
 
@@ -69,7 +69,7 @@ module _ (old : StateView) (hidden : Hidden) (has : IsState old hidden) where
       kept_is ∙ ap (λ (n : ℕ). insert_entry nat_cmp old.kept n (outcome_of hidden.tip command)) place_is
       ∙ ap (λ (rows : List RowView). insert_entry nat_cmp old.kept (next_place old) (outcome_of rows command)) has.shape.tip
 
-  module _ (command : Command) (counted : WrittenRowsAreCounted) (may : MayBeSubmitted command old) (may_be : MayBePending old.version command) (room : HasRoom command old) where
+  module _ (command : Command) (counted : WrittenRowsAreCounted) (may : MayBeSubmitted command old) (may_be : MayBePending old.version command) (room : CheckpointHasRoom command old) where
     abbrev more : List Command
     more = old.pending ++ command ∷ []
 
@@ -88,10 +88,10 @@ module _ (old : StateView) (hidden : Hidden) (has : IsState old hidden) where
         let inside : n ≤ length old.pending = omega (arith, less, one_more) in
         subst (λ (l : List Command). FitArea old (db_after store_format old.value.db l)) (sym (take-append-le n old.pending (command ∷ []) inside)) (has.shape.fits may.going n inside)
 
-    load_is : load_by old.taken more ≡ load_of (standing_of old)
+    load_is : load_by old.taken more ≡ load_of (commit_state_of old)
     load_is = load_front old.taken old.pending (command ∷ []) has.shape.taken
 
-    accepted_shape : Shape (record old { pending = more; kept = with_outcome command }) (record hidden { tip = database_after hidden.tip command })
+    accepted_shape : StateInvariant (record old { pending = more; kept = with_outcome command }) (record hidden { tip = database_after hidden.tip command })
     accepted_shape = record {
       limits = has.shape.limits;
       sectors = has.shape.sectors;
@@ -105,7 +105,7 @@ module _ (old : StateView) (hidden : Hidden) (has : IsState old hidden) where
       fits = λ going n inside. front_fits n (eq-or-lt_of_le inside);
       known = has.shape.known;
       taken = omega (arith, has.shape.taken, one_more);
-      owed = subst (IsFront hidden.owed) (sym (take-append-le old.taken old.pending (command ∷ []) has.shape.taken)) has.shape.owed;
+      owed = subst (IsFrontOf hidden.owed) (sym (take-append-le old.taken old.pending (command ∷ []) has.shape.taken)) has.shape.owed;
       rests = has.shape.rests;
       load = subst (FitsLoad (limits_of old.version) old.geometry old.value.place old.gate) (sym load_is) has.shape.load;
       staged = λ flying. has.shape.staged flying ∙ ap (load_bytes command_format old.value.place) (sym load_is);
@@ -122,7 +122,7 @@ module _ (old : StateView) (hidden : Hidden) (has : IsState old hidden) where
           (λ with. record {
             sound = record {
               behind = with.sound.behind;
-              held = held_when_accepted (List RowView) Command (setting_of old) (standing_of old) with.sound.behind old.disk.history.now command with.sound.held;
+              held = held_when_accepted (List RowView) Command (config_of old) (commit_state_of old) with.sound.behind old.disk.history.now command with.sound.held;
               counts = with.sound.counts;
               fits = with.sound.fits;
             };
@@ -146,13 +146,13 @@ module _ (old : StateView) (hidden : Hidden) (has : IsState old hidden) where
   -- which is what the definition says
   module _ (command : Command) (may_now : MayBeSubmitted command old) where
     pub has_room : WrittenRowsAreCounted → (most : ℕ) (tip : List RowView) → tip ≡ database_after hidden.tip command → rows_len tip ≤ max most (rows_len hidden.tip)
-        → most ≡ 512 * old.geometry.checkpoint - 32 → HasRoom command old
+        → most ≡ 512 * old.geometry.checkpoint - 32 → CheckpointHasRoom command old
     has_room counted most tip tip_is within most_is =
         let after : rows_len tip ≡ rows_len (database_after (accepted_rows old) command) = ap rows_len tip_is ∙ ap (λ (rows : List RowView). rows_len (database_after rows command)) has.shape.tip in
         omega (arith, within, after, tip_fits counted may_now.going, most_is, has.shape.limits.least_checkpoint)
 
   pub accepted_so : (view : StateView) → old ≡ view → (command : Command) → MayBeSubmitted command old → (ticket : Ticket) (pending : List Command) (kept : Outcomes)
-      → IsTicketOf command old ticket → HasRoom command old → pending ≡ old.pending ++ command ∷ []
+      → IsTicketOf command old ticket → CheckpointHasRoom command old → pending ≡ old.pending ++ command ∷ []
       → kept ≡ insert_entry nat_cmp old.kept ticket.place (outcome_of hidden.tip command)
       → Submits command (Ok ticket) view (record old { pending = pending; kept = kept })
   accepted_so view is command may_now ticket pending kept ticket_is room pending_is kept_is =

@@ -8,7 +8,7 @@ use Rattle.sector_dev.specs.Disk.{IsHonest}
 use Rattle.sector_dev.specs.Image.{EveryImage}
 use Rattle.store_layout.specs.Limits.{Limits, limits_of}
 use Rattle.store_layout.specs.CommandFormat.{IsAllowed}
-use Rattle.store_layout.specs.Group.{last_place, group_sectors, HasRoom, CanBeGroup}
+use Rattle.store_layout.specs.Group.{last_place, group_sectors, JournalHasRoom, CanBeGroup}
 use Rattle.store_layout.specs.Layout.{Geometry, IsGeometry, image_sectors}
 use Rattle.store_layout.specs.StoreFormat.{db_after}
 use Rattle.store_layout.specs.Checkpoint.{Checkpoint, checkpoint_encoding, checkpoint_size}
@@ -19,19 +19,19 @@ use Rattle.store_open.specs.PathStores.{store_format}
 use Rattle.group_phases.specs.declared.phases.Flush.TheVariants.{Resting}
 use Rattle.group_phases.specs.declared.phases.Check.{Check}
 use Rattle.group_phases.specs.declared.phases.Check.TheVariants.{Ready, Sealed, Planned, Laid, Switched, SwitchFailed, Live, Closing, CloseFailed}
-use Rattle.group_phases.specs.Tail.{Load, Commands, Seal, load_bytes}
-use Rattle.group_phases.specs.Standing.{load_of, Behind, IsHeldBy}
+use Rattle.group_phases.specs.Tail.{GroupOrSeal, Commands, Seal, load_bytes}
+use Rattle.group_phases.specs.CommitState.{load_of, DeviceContents, IsHeldBy}
 use Rattle.group_core.specs.StateView.{StateView}
-use Rattle.group_core.specs.Stops.{setting_of, standing_of, MayOpen}
+use Rattle.group_core.specs.Stops.{config_of, commit_state_of, MayOpen}
 use Rattle.ckpt_stream.specs.Merge.{MergeView, encoding_if_any}
 use Rattle.group_core.specs.Keeping.{KeepsOutcomes}
 use Rattle.group_core.specs.Merging.{HasMerge, IsUnderWay, Streams}
-use Rattle.group_core.specs.Showing.{IsFront}
+use Rattle.group_core.specs.Showing.{IsFrontOf}
 
 -- what no clause sees: the bytes that are to be written of what is in flight, the rows after all commands that are accepted, the
 -- place of the first of these, what the showcase has already of the group that it shows next, and the last checkpoint
 -- that was begun
-pub record Hidden : Type 0 where
+pub record PrivateState : Type 0 where
   pub staged : List ℕ
   pub tip : List RowView
   pub place : ℕ
@@ -39,9 +39,9 @@ pub record Hidden : Type 0 where
   pub merge : Option MergeView
 
 -- what is in flight may be after the tail's gate
-abbrev pub FitsLoad : Limits → Geometry → ℕ → ℕ → Load Command → Type 0
+abbrev pub FitsLoad : Limits → Geometry → ℕ → ℕ → GroupOrSeal Command → Type 0
 FitsLoad limits geometry place gate (Commands commands) =
-    CanBeGroup command_format limits place commands × HasRoom gate (group_sectors command_format commands) geometry.journal
+    CanBeGroup command_format limits place commands × JournalHasRoom gate (group_sectors command_format commands) geometry.journal
 FitsLoad limits geometry place gate Seal = Unit {0}
 
 -- a command that was accepted is within its limits, and allowed by the state's version
@@ -86,7 +86,7 @@ HasNextEpoch CloseFailed epoch = Unit {0}
 
 -- What holds whatever the device does: all is inside it, the outcomes that are kept are those of their commands, what is in flight
 -- may be and its bytes are made, and while the state goes on every front fits the area.
-pub record Shape (view : StateView) (hidden : Hidden) : Type 0 where
+pub record StateInvariant (view : StateView) (hidden : PrivateState) : Type 0 where
   pub limits : IsGeometry view.geometry
   pub sectors : image_sectors view.geometry ≤ view.disk.sectors
   pub room : view.gate + 2 ≤ view.geometry.journal
@@ -99,17 +99,17 @@ pub record Shape (view : StateView) (hidden : Hidden) : Type 0 where
   pub fits : view.stopped ≡ false → EveryFrontFits view
   pub known : view.version ≤ latest
   pub taken : view.taken ≤ length view.pending
-  pub owed : IsFront hidden.owed (take view.taken view.pending)
+  pub owed : IsFrontOf hidden.owed (take view.taken view.pending)
   pub rests : view.flush ≡ Resting → view.taken ≡ 0
-  pub load : FitsLoad (limits_of view.version) view.geometry view.value.place view.gate (load_of (standing_of view))
-  pub staged : view.flush ≢ Resting → hidden.staged ≡ load_bytes command_format view.value.place (load_of (standing_of view))
+  pub load : FitsLoad (limits_of view.version) view.geometry view.value.place view.gate (load_of (commit_state_of view))
+  pub staged : view.flush ≢ Resting → hidden.staged ≡ load_bytes command_format view.value.place (load_of (commit_state_of view))
   pub plan : HasPlan view.geometry (checkpointing_of view)
   pub epoch : HasNextEpoch view.check view.epoch
   pub bytes : view.checkpoint ≡ encoding_if_any hidden.merge
   pub merge : view.stopped ≡ false → view.check ≡ Planned → HasMerge (IsUnderWay view.geometry view.written) hidden.merge
 
 -- the checkpoint to be there is of the next epoch, in the version that is written
-pub record IsNext (epoch : ℕ) (before next : Checkpoint (List RowView)) : Type 0 where
+pub record IsNextCheckpoint (epoch : ℕ) (before next : Checkpoint (List RowView)) : Type 0 where
   pub old : before.head.epoch ≡ epoch
   pub new : next.head.epoch ≡ epoch + 1
   pub version : next.head.version ≡ latest
@@ -119,26 +119,26 @@ pub record IsNext (epoch : ℕ) (before next : Checkpoint (List RowView)) : Type
 abbrev pub CountsAt : Check → ℕ → List ℕ → Checkpoint (List RowView) → Checkpoint (List RowView) → Type 0
 CountsAt Ready epoch bytes before next = next.head.epoch ≡ epoch
 CountsAt Sealed epoch bytes before next = before.head.epoch ≡ epoch
-CountsAt Planned epoch bytes before next = IsNext epoch before next × (bytes ≡ checkpoint_encoding rows_format next)
-CountsAt Laid epoch bytes before next = IsNext epoch before next
-CountsAt Switched epoch bytes before next = IsNext epoch before next
-CountsAt SwitchFailed epoch bytes before next = IsNext epoch before next
+CountsAt Planned epoch bytes before next = IsNextCheckpoint epoch before next × (bytes ≡ checkpoint_encoding rows_format next)
+CountsAt Laid epoch bytes before next = IsNextCheckpoint epoch before next
+CountsAt Switched epoch bytes before next = IsNextCheckpoint epoch before next
+CountsAt SwitchFailed epoch bytes before next = IsNextCheckpoint epoch before next
 CountsAt Live epoch bytes before next = next.head.epoch ≡ epoch
 CountsAt Closing epoch bytes before next = next.head.epoch ≡ epoch
 CountsAt CloseFailed epoch bytes before next = next.head.epoch ≡ epoch
 
 -- What holds over an honest device: it holds what the state represents, and while the state goes on the fold up to a seal fits the
 -- area.
-pub record Sound (view : StateView) : Type 0 where
-  pub behind : Behind (List RowView) Command
-  pub held : IsHeldBy (setting_of view) (standing_of view) behind view.disk.history.now
+pub record DeviceInvariant (view : StateView) : Type 0 where
+  pub behind : DeviceContents (List RowView) Command
+  pub held : IsHeldBy (config_of view) (commit_state_of view) behind view.disk.history.now
   pub counts : CountsAt view.check view.epoch view.checkpoint behind.old behind.new
   pub fits : view.stopped ≡ false → checkpoint_size rows_format behind.new ≤ 512 * view.geometry.checkpoint
 
 -- The same with the checkpoint that is made while it is written: while the state goes on, what is left to be made of it is what isn't
 -- written.
-pub record SoundWith (view : StateView) (merge : Option MergeView) : Type 0 where
-  pub sound : Sound view
+pub record DeviceInvariantWith (view : StateView) (merge : Option MergeView) : Type 0 where
+  pub sound : DeviceInvariant view
   pub streams : view.stopped ≡ false → view.check ≡ Planned → HasMerge (Streams sound.behind.old.db view.written) merge
 
 -- What is held instead by the device of a store whose checkpoint had failed: the state has stopped before anything began, and
@@ -149,6 +149,6 @@ pub record IsBroken (view : StateView) : Type 0 where
   pub ready : view.check ≡ Ready
   pub images : EveryImage view.disk.history.now (MayOpen view)
 
-pub record IsState (view : StateView) (hidden : Hidden) : Type 0 where
-  pub shape : Shape view hidden
-  pub sound : IsHonest view.disk → SoundWith view hidden.merge ⊎ IsBroken view
+pub record IsState (view : StateView) (hidden : PrivateState) : Type 0 where
+  pub shape : StateInvariant view hidden
+  pub sound : IsHonest view.disk → DeviceInvariantWith view hidden.merge ⊎ IsBroken view

@@ -10,11 +10,11 @@ use Rattle.group_core.specs.declared.bookkeeping.Turn.{Turn}
 use Rattle.group_core.specs.StateView.{StateView}
 
 -- what a store represents
-abbrev pub value_in : StoreView → StoreValue (List RowView)
-value_in store = record { db = store.rows; place = store.place }
+abbrev pub value_of_store : StoreView → StoreValue (List RowView)
+value_of_store store = record { db = store.rows; place = store.place }
 
 -- A state of it goes on where no checkpoint of it has failed, and its rows, and those up to its seal, have room in an area.
-pub record GoesOn (store : StoreView) : Type 0 where
+pub record CanContinue (store : StoreView) : Type 0 where
   pub whole : store.broken ≡ false
   pub rows : 32 + rows_len store.rows ≤ 512 * store.geometry.checkpoint
   pub sealed : store.sealed ≡ true → 32 + store.sealed_len ≤ 512 * store.geometry.checkpoint
@@ -34,7 +34,7 @@ started store home stopped = record {
   disk = store.disk;
   geometry = store.geometry;
   home = home;
-  value = value_in store;
+  value = value_of_store store;
   pending = [];
   kept = [];
   taken = 0;
@@ -54,4 +54,4 @@ started store home stopped = record {
 -- It has stopped from its start just where it doesn't go on.
 pub record IsStarted (store : StoreView) (home : ℕ) (state : StateView) : Type 0 where
   pub is : state ≡ started store home state.stopped
-  pub going : state.stopped ≡ false ↔ GoesOn store
+  pub going : state.stopped ≡ false ↔ CanContinue store

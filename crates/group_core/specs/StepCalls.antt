@@ -7,11 +7,11 @@ use Rattle.store_layout.specs.Layout.{other, area_at, gate_at, journal_at}
 use Rattle.gate_journal.specs.Commands.{command_format}
 use Rattle.byte_lists.specs.Sectors.{open_gate, closed_gate}
 use Rattle.group_phases.specs.Tail.{load_bytes}
-use Rattle.group_phases.specs.Standing.{load_of}
+use Rattle.group_phases.specs.CommitState.{load_of}
 use Rattle.group_core.specs.declared.error.StepError.{StepError}
 use Rattle.group_core.specs.declared.error.StepError.TheVariants.{Fault, Stopped, Stranger, NoMemory, Damaged}
 use Rattle.group_core.specs.StateView.{StateView}
-use Rattle.group_core.specs.Stops.{standing_of}
+use Rattle.group_core.specs.Stops.{commit_state_of}
 use Rattle.group_core.specs.Steps.{next_sectors}
 
 -- a call that writes these bytes from a sector on, or one that syncs
@@ -38,7 +38,7 @@ StepCall call (Err Damaged) old new = ⊥
 -- checkpoint, in the area of its half; that half's gate, open; and the other half's gate, with the first gate of its journal,
 -- which follows it, both closed.
 abbrev pub load_write : StateView → DeviceCall
-load_write view = Write (journal_at view.geometry view.half + (view.gate + 1)) (load_bytes command_format view.value.place (load_of (standing_of view)))
+load_write view = Write (journal_at view.geometry view.half + (view.gate + 1)) (load_bytes command_format view.value.place (load_of (commit_state_of view)))
 
 abbrev pub gate_write : StateView → DeviceCall
 gate_write view = Write (journal_at view.geometry view.half + view.gate) open_gate

@@ -8,17 +8,17 @@ use Rattle.sector_dev.specs.Stretch.{Stretch}
 use Rattle.ckpt_pair.specs.Versions.{latest}
 use Rattle.store_open.specs.PathStores.{store_format}
 use Rattle.store_open.specs.Behind.{SameBehind}
-use Rattle.group_phases.specs.Setting.{Setting}
-use Rattle.group_phases.specs.Standing.{Standing, OpensToFront}
+use Rattle.group_phases.specs.StoreConfig.{StoreConfig}
+use Rattle.group_phases.specs.CommitState.{CommitState, OpensToFront}
 use Rattle.group_phases.specs.HeldSteps.{OpensAroundCall}
 use Rattle.group_core.specs.StateView.{StateView}
 
 -- what doesn't change, and what counts for the device
-abbrev pub setting_of : StateView → Setting (List RowView) Command
-setting_of view = record { format = store_format; latest = latest; geometry = view.geometry }
+abbrev pub config_of : StateView → StoreConfig (List RowView) Command
+config_of view = record { format = store_format; latest = latest; geometry = view.geometry }
 
-abbrev pub standing_of : StateView → Standing (List RowView) Command
-standing_of view = record {
+abbrev pub commit_state_of : StateView → CommitState (List RowView) Command
+commit_state_of view = record {
   value = view.value;
   pending = view.pending;
   taken = view.taken;
@@ -33,11 +33,11 @@ standing_of view = record {
 -- what a stop may leave of a state: it opens to what is committed, with a front of the pending commands as long as the flusher's
 -- phase allows, and by a half of the state's version or a later one
 abbrev pub MayOpen : StateView → List ℕ → Type 0
-MayOpen view image = OpensToFront (setting_of view) (standing_of view) image
+MayOpen view image = OpensToFront (config_of view) (commit_state_of view) image
 
 -- What a call leaves: at each moment since its entry what a stop may leave of the state before it or after it, and at its exit
 -- what one may leave of the state after it; and at every moment what is behind the store is as it was.
 pub record StepLeaves (old new : StateView) : Type 0 where
-  pub moments : Stretch old.disk new.disk (OpensAroundCall (setting_of old) (standing_of old) (standing_of new))
+  pub moments : Stretch old.disk new.disk (OpensAroundCall (config_of old) (commit_state_of old) (commit_state_of new))
   pub exit : IsHonest new.disk → EveryImage new.disk.history.now (MayOpen new)
   pub behind : Stretch old.disk new.disk (IsFromImage old.disk.history.now (SameBehind old.geometry))

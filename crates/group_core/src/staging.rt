@@ -10,7 +10,7 @@ ghost use Rattle.gate_journal.specs.Payload.{IsWithinGroupLimits};
 ghost use Rattle.group_phases.specs.Tail.{Commands, Seal, load_bytes};
 ghost use Rattle.group_core.specs.declared.staging.StageError.TheVariants.{NoMemory};
 ghost use Rattle.group_core.specs.Stops.{StepLeaves};
-ghost use Rattle.group_core.specs.Staging.{IsLongestFront, Takes, IsRefused, Stages};
+ghost use Rattle.group_core.specs.Staging.{IsLongestFront, Takes, IsStagingRefused, Stages};
 
 use crate::bookkeeping::Turn;
 use crate::phases::AtStaged;
@@ -87,7 +87,7 @@ impl<D: Device, S: Showcase> State<D, S> {
 
     /// How many commands are to be staged next; none for a seal.
     fn next_to_take(&self) -> Result<usize, StageError>
-        ensures { MatchResult result (Takes self.now) (λ e. (e ≢ NoMemory) × IsRefused e self.now) }
+        ensures { MatchResult result (Takes self.now) (λ e. (e ≢ NoMemory) × IsStagingRefused e self.now) }
     {
         if self.stopped {
             return Err(StageError::Stopped);

@@ -4,7 +4,7 @@ ghost use Rattle.std.specs.Prelude.{◌≡◌, ◌↔◌, [], IsTrue};
 ghost use Rattle.sector_dev.specs.Disk.{IsHonest};
 ghost use Rattle.sector_dev.specs.Image.{EveryImage};
 ghost use Rattle.group_core.specs.Stops.{MayOpen};
-ghost use Rattle.group_core.specs.Starting.{value_in, GoesOn, IsStarted, check_in};
+ghost use Rattle.group_core.specs.Starting.{value_of_store, CanContinue, IsStarted, check_in};
 
 use crate::bookkeeping::Turn;
 use crate::showcase::Showcase;
@@ -28,7 +28,7 @@ impl<D: Device, S: Showcase> State<D, S> {
     /// own. It has stopped from its start where a checkpoint of the store has failed, and where its rows, or those up to its seal,
     /// have no room in a checkpoint area. It takes no memory.
     pub fn new(alloc: Global, store: Store<D>, show: S, home: u64) -> State<D, S>
-        requires shown { S.value show ≡ value_in store }
+        requires shown { S.value show ≡ value_of_store store }
         requires paid { S.owed show ≡ [] }
         ensures started { IsStarted store home result }
         ensures left { IsHonest store.disk → EveryImage store.disk.history.now (MayOpen result) }
@@ -72,7 +72,7 @@ impl<D: Device, S: Showcase> State<D, S> {
 
 /// Whether a state of the store goes on.
 fn goes_on<D: Device>(store: &Store<D>) -> bool
-    ensures { IsTrue result ↔ GoesOn store.now }
+    ensures { IsTrue result ↔ CanContinue store.now }
 {
     if store.is_broken() {
         return false;

@@ -9,12 +9,12 @@ use Rattle.sector_dev.specs.Stretch.{Stretch}
 use Rattle.sector_dev.proofs.Images.{clean_none, clean_beside, clean_part_none}
 use Rattle.sector_dev.proofs.Parts.{history_written, history_synced}
 use Rattle.sector_dev.proofs.Stretches.{honest_after, leaves_written, stretch_sync, stretch_here}
-use Rattle.group_phases.specs.Range.{Untouched, AreApart, IsLeftAround}
+use Rattle.group_phases.specs.Range.{Untouched, AreRangesApart, IsLeftAround}
 use Rattle.group_phases.specs.RangeLaws.{WritesLeaveWhatIsBeside, WritesAreRead, SyncsLeaveAll, SyncsSettle, WritesAreOneMoment, SyncsAreNoMoment}
 
 -- whatever landed
 pub landed_beside : (history : History) (from : ℕ) (landed : List ℕ) (at n : ℕ) → from + length landed ≤ length history.now.reads
-    → AreApart from (length landed) at n → Untouched at n history.now (after_write from landed history).now
+    → AreRangesApart from (length landed) at n → Untouched at n history.now (after_write from landed history).now
 landed_beside history from landed at n inside (inl before) = record {
   size = length-overwrite from landed history.now.reads inside;
   bytes = λ i low high. overwrite_behind from landed history.now.reads i inside (omega arith);
@@ -31,7 +31,7 @@ writes_leave_what_is_beside T E sector bytes result old new at n call honest ins
     let lands = call.lands honest in
     subst (λ (h : History). Untouched at n old.history.now h.now) (sym lands.history)
     (landed_beside old.history (512 * sector) lands.landed at n (omega (arith, lands.size))
-    (subst (λ (k : ℕ). AreApart (512 * sector) k at n) (sym lands.size) apart))
+    (subst (λ (k : ℕ). AreRangesApart (512 * sector) k at n) (sym lands.size) apart))
 
 pub writes_are_read : (T E : Type 0) → WritesAreRead T E
 writes_are_read T E value sector bytes old new call honest inside =

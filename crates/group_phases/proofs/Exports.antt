@@ -10,7 +10,7 @@ pub use Rattle.group_phases.proofs.TailReads.{same_long, journal_byte, sectors_s
 pub use Rattle.group_phases.proofs.HalfReads.{head_of_checkpoint, title_kept, open_reads_kept, closed_reads_kept, open_half_kept, closed_half_kept, first_reads_kept, first_kept, checkpoint_kept, head_kept}
 -- what images open to
 pub use Rattle.group_phases.proofs.Openings.{opens_plain, opens_sealed, base_images}
-pub use Rattle.group_phases.proofs.Standings.{unsealed_may, opens_by_both_parts}
+pub use Rattle.group_phases.proofs.CommitStates.{unsealed_may, opens_by_both_parts}
 -- what one actor leaves to the other
 pub use Rattle.group_phases.proofs.Kept.{whole_journal, keeps_flusher_part, checkpoint_inside, front_gate, front_area, front_checkpoint, half_front, half_journal, half_first, old_kept, new_kept, written_kept, base_kept, keeps_base_part, journal_apart_beside, beside_apart, beside_inside, tail_writes_leave_base, base_writes_leave_tail, syncs_leave_both}
 -- the flusher's steps

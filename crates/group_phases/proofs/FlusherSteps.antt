@@ -19,9 +19,9 @@ use Rattle.store_layout.specs.Journal.{all_of, gate_behind}
 use Rattle.store_layout.specs.Layout.{Geometry, journal_at, image_sectors, journal_of}
 use Rattle.store_layout.proofs.Exports.{length-group_encoding, half_inside, all_of_more, chain_more, journal_long}
 use Rattle.group_phases.specs.declared.phases.Flush.TheVariants.{Staged, Written, Stable, Opened, Doubtful, Durable}
-use Rattle.group_phases.specs.Range.{Untouched, AreApart}
-use Rattle.group_phases.specs.Setting.{HasTitle, AreCleanSectors}
-use Rattle.group_phases.specs.Tail.{Load, Commands, Seal, load_bytes, written_sectors, Tail, place_of, CanBeLoad}
+use Rattle.group_phases.specs.Range.{Untouched, AreRangesApart}
+use Rattle.group_phases.specs.StoreConfig.{HasTitle, AreCleanSectors}
+use Rattle.group_phases.specs.Tail.{GroupOrSeal, Commands, Seal, load_bytes, written_sectors, Tail, tail_place, CanBeLoad}
 use Rattle.group_phases.specs.FlusherPart.{tail_bytes, HasGroups, HasClosedGate, HasLoad, FlusherPart}
 use Rattle.group_phases.specs.FlusherSteps.{by_result, load_at, tail_gate_at, WritesInJournal, WritesLoad, OpensTailGate, SyncsLoad, SyncsTailGate, PublishesGroup}
 use Rattle.group_phases.proofs.Ranges.{part_of_part}
@@ -32,7 +32,7 @@ use Rattle.group_phases.proofs.TailReads.{load_room, sectors_kept, groups_kept, 
 pub length-seal : (place : ℕ) → length (seal_encoding place) ≡ 512
 length-seal place = length-padded (with_header 2 0 0 place []) ∙ omega arith
 
-pub length-load : {C : Type 0} (format : CommandFormat C) (place : ℕ) (load : Load C) → length (load_bytes format place load) ≡ 512 * written_sectors format load
+pub length-load : {C : Type 0} (format : CommandFormat C) (place : ℕ) (load : GroupOrSeal C) → length (load_bytes format place load) ≡ 512 * written_sectors format load
 length-load {C} format place (Commands commands) =
     length-append (group_encoding format place commands) closed_gate
     ∙ omega (arith, length-group_encoding C format place commands, length-replicate {A = ℕ} 512 0)
@@ -47,7 +47,7 @@ closed_gate_closed opened = omega (arith, get_or-replicate {A = ℕ} 512 0 0 0 (
 
 pub writes_in_journal : (C : Type 0) → WritesInJournal C
 writes_in_journal C format limits geometry tail load moment has can = (
-  record { from = omega arith; to = omega (arith, length-load format (place_of tail) load, load_room format limits geometry tail load has.room can) },
+  record { from = omega arith; to = omega (arith, length-load format (tail_place tail) load, load_room format limits geometry tail load has.room can) },
   record { from = omega arith; to = omega (arith, length-open_gate, has.room) },
 )
 
@@ -67,7 +67,7 @@ pub synced_clean : {T : Type 0} (E : Type 0) (value : T) (old new : Disk) → Sy
 synced_clean E value old new call honest at n = subst (λ (h : History). IsCleanPart h.now.dirty at n) (sym (history_synced E value old new call honest)) (clean_part_none at n)
 
 -- a write in the tail's journal leaves what is before it
-module _ {T E C : Type 0} (format : CommandFormat C) (limits : Limits) (geometry : Geometry) (tail : Tail C) (load : Load C) (result : Result T E) (old new : Disk)
+module _ {T E C : Type 0} (format : CommandFormat C) (limits : Limits) (geometry : Geometry) (tail : Tail C) (load : GroupOrSeal C) (result : Result T E) (old new : Disk)
     (title : HasTitle geometry old.history.now) (groups : HasGroups format limits geometry tail old.history.now) (can : CanBeLoad format limits geometry tail load) (honest : IsHonest old) where
   room : image_sectors geometry ≤ whole_sectors (reads_of old)
   room = title.store.room
@@ -78,11 +78,11 @@ module _ {T E C : Type 0} (format : CommandFormat C) (limits : Limits) (geometry
   load_inside : tail.gate + 1 + written_sectors format load ≤ geometry.journal
   load_inside = load_room format limits geometry tail load groups.room can
 
-  module _ (call : WriteCall (load_at geometry tail) (load_bytes format (place_of tail) load) result old new) where
-    load_leaves : (at n : ℕ) → AreApart (512 * load_at geometry tail) (length (load_bytes format (place_of tail) load)) at n → Untouched at n old.history.now new.history.now
+  module _ (call : WriteCall (load_at geometry tail) (load_bytes format (tail_place tail) load) result old new) where
+    load_leaves : (at n : ℕ) → AreRangesApart (512 * load_at geometry tail) (length (load_bytes format (tail_place tail) load)) at n → Untouched at n old.history.now new.history.now
     load_leaves at n apart =
-        writes_leave_what_is_beside T E (load_at geometry tail) (load_bytes format (place_of tail) load) result old new at n call honest
-        (omega (arith, inside, load_inside, length-load format (place_of tail) load)) apart
+        writes_leave_what_is_beside T E (load_at geometry tail) (load_bytes format (tail_place tail) load) result old new at n call honest
+        (omega (arith, inside, load_inside, length-load format (tail_place tail) load)) apart
 
     -- whatever lands after the gate
     pub load_write : HasClosedGate geometry tail old.history.now → FlusherPart Staged format limits geometry tail load new.history.now
@@ -95,7 +95,7 @@ module _ {T E C : Type 0} (format : CommandFormat C) (limits : Limits) (geometry
     }
 
   module _ (call : WriteCall (tail_gate_at geometry tail) open_gate result old new) where
-    gate_leaves : (at n : ℕ) → AreApart (512 * tail_gate_at geometry tail) (length open_gate) at n → Untouched at n old.history.now new.history.now
+    gate_leaves : (at n : ℕ) → AreRangesApart (512 * tail_gate_at geometry tail) (length open_gate) at n → Untouched at n old.history.now new.history.now
     gate_leaves at n apart =
         writes_leave_what_is_beside T E (tail_gate_at geometry tail) open_gate result old new at n call honest (omega (arith, inside, load_inside, length-open_gate)) apart
 
@@ -115,8 +115,8 @@ module _ {T E C : Type 0} (format : CommandFormat C) (limits : Limits) (geometry
         }
 
 -- what was written is there
-load_there : {T C : Type 0} (E : Type 0) (value : T) (format : CommandFormat C) (limits : Limits) (geometry : Geometry) (tail : Tail C) (load : Load C) (old new : Disk)
-    → WriteCall (load_at geometry tail) (load_bytes format (place_of tail) load) (success E value) old new → IsHonest old → HasTitle geometry old.history.now
+load_there : {T C : Type 0} (E : Type 0) (value : T) (format : CommandFormat C) (limits : Limits) (geometry : Geometry) (tail : Tail C) (load : GroupOrSeal C) (old new : Disk)
+    → WriteCall (load_at geometry tail) (load_bytes format (tail_place tail) load) (success E value) old new → IsHonest old → HasTitle geometry old.history.now
     → HasGroups format limits geometry tail old.history.now → CanBeLoad format limits geometry tail load → HasLoad format geometry tail load new.history.now
 load_there {T} {C} E value format limits geometry tail (Commands commands) old new call honest title groups can = record {
   spelled = journal_part geometry tail.half (512 * (tail.gate + 1)) (512 * sectors) (reads_of new) (omega (arith, can.1))
@@ -127,19 +127,19 @@ load_there {T} {C} E value format limits geometry tail (Commands commands) old n
 }
   where
     encoding : List ℕ
-    encoding = group_encoding format (place_of tail) commands
+    encoding = group_encoding format (tail_place tail) commands
 
     bytes : List ℕ
-    bytes = load_bytes format (place_of tail) (Commands commands)
+    bytes = load_bytes format (tail_place tail) (Commands commands)
 
     sectors : ℕ
     sectors = group_sectors format commands
 
     size : length encoding ≡ 512 * sectors
-    size = length-group_encoding C format (place_of tail) commands
+    size = length-group_encoding C format (tail_place tail) commands
 
     long : length bytes ≡ 512 * sectors + 512
-    long = length-load format (place_of tail) (Commands commands) ∙ omega arith
+    long = length-load format (tail_place tail) (Commands commands) ∙ omega arith
 
     fits : 512 * load_at geometry tail + length bytes ≤ length (reads_of old)
     fits = omega (arith, half_inside geometry tail.half, title.store.room, can.1, long)
@@ -159,15 +159,15 @@ load_there {T} {C} E value format limits geometry tail (Commands commands) old n
 load_there {T} {C} E value format limits geometry tail Seal old new call honest title groups can = record {
   spelled = journal_part geometry tail.half (512 * (tail.gate + 1)) (512 * 1) (reads_of new) (omega (arith, groups.room))
       ∙ ap (λ (at : ℕ). part at (512 * 1) (reads_of new)) first
-      ∙ written_part E value (load_at geometry tail) (seal_encoding (place_of tail)) old new call honest fits 0 (512 * 1) (omega (arith, size))
-      ∙ take_all (512 * 1) (seal_encoding (place_of tail)) (omega (arith, size));
+      ∙ written_part E value (load_at geometry tail) (seal_encoding (tail_place tail)) old new call honest fits 0 (512 * 1) (omega (arith, size))
+      ∙ take_all (512 * 1) (seal_encoding (tail_place tail)) (omega (arith, size));
   next = tt;
 }
   where
-    size : length (seal_encoding (place_of tail)) ≡ 512
-    size = length-seal (place_of tail)
+    size : length (seal_encoding (tail_place tail)) ≡ 512
+    size = length-seal (tail_place tail)
 
-    fits : 512 * load_at geometry tail + length (seal_encoding (place_of tail)) ≤ length (reads_of old)
+    fits : 512 * load_at geometry tail + length (seal_encoding (tail_place tail)) ≤ length (reads_of old)
     fits = omega (arith, half_inside geometry tail.half, title.store.room, groups.room, size)
 
     first : 512 * journal_at geometry tail.half + 512 * (tail.gate + 1) ≡ 512 * load_at geometry tail + 0

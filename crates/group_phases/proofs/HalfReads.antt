@@ -9,22 +9,22 @@ use Rattle.store_layout.specs.FirstSector.{IsStore}
 use Rattle.store_layout.specs.Checkpoint.{Head, Checkpoint, checkpoint_size}
 use Rattle.store_layout.proofs.Exports.{store_same, head_same, checkpoint_same, begins_with_its_head}
 use Rattle.group_phases.specs.Range.{Untouched}
-use Rattle.group_phases.specs.Setting.{Setting, HasTitle}
+use Rattle.group_phases.specs.StoreConfig.{StoreConfig, HasTitle}
 use Rattle.group_phases.specs.Halves.{ReadsOpen, IsOpenHalf, IsClosedHalf, HasCheckpoint, HasHead, FirstReadsClosed, IsFirstClosed}
 use Rattle.group_phases.proofs.Ranges.{reads_as_before, clean_kept}
 use Rattle.group_phases.proofs.TailReads.{sectors_same}
 
 -- a checkpoint that is there has its head there
-pub head_of_checkpoint : {Db C : Type 0} (setting : Setting Db C) (half : Half) (checkpoint : Checkpoint Db) (moment : Moment) → HasCheckpoint setting half checkpoint moment
-    → HasHead setting half checkpoint.head moment
-head_of_checkpoint setting half checkpoint moment has = record {
-  begins = begins_with_its_head setting.format.rows (area_of setting.geometry half moment.reads) checkpoint has.begins;
+pub head_of_checkpoint : {Db C : Type 0} (config : StoreConfig Db C) (half : Half) (checkpoint : Checkpoint Db) (moment : Moment) → HasCheckpoint config half checkpoint moment
+    → HasHead config half checkpoint.head moment
+head_of_checkpoint config half checkpoint moment has = record {
+  begins = begins_with_its_head config.format.rows (area_of config.geometry half moment.reads) checkpoint has.begins;
   known = has.known;
-  clean = clean_part_in moment.dirty at (checkpoint_size setting.format.rows checkpoint) at 24 (omega arith) (omega arith) has.clean;
+  clean = clean_part_in moment.dirty at (checkpoint_size config.format.rows checkpoint) at 24 (omega arith) (omega arith) has.clean;
 }
   where
     at : ℕ
-    at = 512 * area_at setting.geometry half
+    at = 512 * area_at config.geometry half
 
 module _ (geometry : Geometry) (old new : Moment) (store : IsStore geometry old.reads) where
   pub title_kept : Untouched 0 20 old new → HasTitle geometry old → HasTitle geometry new
@@ -67,21 +67,21 @@ module _ (geometry : Geometry) (old new : Moment) (store : IsStore geometry old.
       clean = clean_kept (512 * (journal_at geometry half + 0)) (512 * 1) old new same has.clean;
     }
 
-module _ {Db C : Type 0} (setting : Setting Db C) (old new : Moment) (store : IsStore setting.geometry old.reads) (half : Half) where
-  pub checkpoint_kept : (checkpoint : Checkpoint Db) → Untouched (512 * area_at setting.geometry half) (checkpoint_size setting.format.rows checkpoint) old new
-      → HasCheckpoint setting half checkpoint old → HasCheckpoint setting half checkpoint new
+module _ {Db C : Type 0} (config : StoreConfig Db C) (old new : Moment) (store : IsStore config.geometry old.reads) (half : Half) where
+  pub checkpoint_kept : (checkpoint : Checkpoint Db) → Untouched (512 * area_at config.geometry half) (checkpoint_size config.format.rows checkpoint) old new
+      → HasCheckpoint config half checkpoint old → HasCheckpoint config half checkpoint new
   checkpoint_kept checkpoint same has =
-      let at : ℕ = 512 * area_at setting.geometry half in
-      let size : ℕ = checkpoint_size setting.format.rows checkpoint in
+      let at : ℕ = 512 * area_at config.geometry half in
+      let size : ℕ = checkpoint_size config.format.rows checkpoint in
       record {
-        begins = checkpoint_same setting.geometry old.reads new.reads same.size store half setting.format.rows checkpoint (reads_as_before at size old new same) has.begins;
+        begins = checkpoint_same config.geometry old.reads new.reads same.size store half config.format.rows checkpoint (reads_as_before at size old new same) has.begins;
         known = has.known;
         clean = clean_kept at size old new same has.clean;
       }
 
-  pub head_kept : (head : Head) → Untouched (512 * area_at setting.geometry half) 24 old new → HasHead setting half head old → HasHead setting half head new
+  pub head_kept : (head : Head) → Untouched (512 * area_at config.geometry half) 24 old new → HasHead config half head old → HasHead config half head new
   head_kept head same has = record {
-    begins = head_same setting.geometry old.reads new.reads same.size store half head (reads_as_before (512 * area_at setting.geometry half) 24 old new same) has.begins;
+    begins = head_same config.geometry old.reads new.reads same.size store half head (reads_as_before (512 * area_at config.geometry half) 24 old new same) has.begins;
     known = has.known;
-    clean = clean_kept (512 * area_at setting.geometry half) 24 old new same has.clean;
+    clean = clean_kept (512 * area_at config.geometry half) 24 old new same has.clean;
   }

@@ -1,34 +1,34 @@
 -- What a device holds of a store that was just opened.
 use Rattle.std.proofs.Common.{◌≡◌, ℕ, ◌+◌, ◌<◌, ◌≤◌, Bool, true, false, List, [], length, Option, Some, None, refl, sym, ◌∙◌, ap, subst, arith}
 use Rattle.byte_lists.specs.Sectors.{IsOpenGate, sector_at}
-use Rattle.sector_dev.specs.Disk.{Moment, Span}
+use Rattle.sector_dev.specs.Disk.{Moment, ByteRange}
 use Rattle.sector_dev.specs.Image.{IsCleanPart}
 use Rattle.sector_dev.proofs.Images.{clean_part_none}
 use Rattle.store_layout.specs.declared.half.Half.{Half}
 use Rattle.store_layout.specs.Limits.{limits_of}
 use Rattle.store_layout.specs.Group.{last_place, seal_encoding}
-use Rattle.store_layout.specs.Journal.{Reading, IsJournal, EndsAs, all_of}
+use Rattle.store_layout.specs.Journal.{Reading, IsJournal, JournalEndsAs, all_of}
 use Rattle.store_layout.specs.Layout.{Geometry, other, journal_of, gate_of}
 use Rattle.store_layout.specs.StoreFormat.{StoreFormat, db_after}
 use Rattle.store_layout.specs.Checkpoint.{Checkpoint}
-use Rattle.store_layout.specs.Opening.{Opening, IsOpening, GoesOn}
+use Rattle.store_layout.specs.Opening.{Opening, IsOpening, ContinuesAfterSeal}
 use Rattle.store_layout.specs.TakeOver.{FoldsJournal}
 use Rattle.store_layout.proofs.Exports.{chain_seal_room, chain_places, other_twice, journal_long}
 use Rattle.group_phases.specs.declared.phases.Flush.TheVariants.{Resting, Durable}
-use Rattle.group_phases.specs.Setting.{Setting, HasTitle}
+use Rattle.group_phases.specs.StoreConfig.{StoreConfig, HasTitle}
 use Rattle.group_phases.specs.Tail.{Seal, Tail}
 use Rattle.group_phases.specs.Halves.{IsOpenHalf, HasCheckpoint}
 use Rattle.group_phases.specs.FlusherPart.{HasGroups, FlusherPart}
-use Rattle.group_phases.specs.BasePart.{Base, OldStands}
-use Rattle.group_phases.specs.Standing.{Behind}
-use Rattle.group_phases.specs.HeldOpened.{setting_of, IsHeldFrom, IsHeldBehindSeal, HeldAtRest, HeldBehindSeal}
+use Rattle.group_phases.specs.BasePart.{CheckpointPair, OldStands}
+use Rattle.group_phases.specs.CommitState.{DeviceContents}
+use Rattle.group_phases.specs.HeldOpened.{config_at_opening, IsHeldFrom, IsHeldBehindSeal, HeldAtRest, HeldBehindSeal}
 
 module _ {Db C : Type 0} (format : StoreFormat Db C) (latest : ℕ) (opening : Opening Db C) (moment : Moment) (none : moment.dirty ≡ []) (is : IsOpening format latest moment.reads opening) where
-  abbrev setting : Setting Db C
-  setting = setting_of format latest opening
+  abbrev config : StoreConfig Db C
+  config = config_at_opening format latest opening
 
   clean : (at n : ℕ) → IsCleanPart moment.dirty at n
-  clean at n = subst (λ (dirty : List Span). IsCleanPart dirty at n) (sym none) (clean_part_none at n)
+  clean at n = subst (λ (dirty : List ByteRange). IsCleanPart dirty at n) (sym none) (clean_part_none at n)
 
   title : HasTitle opening.geometry moment
   title = record { store = is.half.store; clean = clean 0 20 }
@@ -36,7 +36,7 @@ module _ {Db C : Type 0} (format : StoreFormat Db C) (latest : ℕ) (opening : O
   open_half : IsOpenHalf opening.geometry opening.chosen moment
   open_half = record { opened = is.half.gate; clean = clean _ _ }
 
-  checkpoint_there : HasCheckpoint setting opening.chosen opening.checkpoint moment
+  checkpoint_there : HasCheckpoint config opening.chosen opening.checkpoint moment
   checkpoint_there = record { begins = is.half.begins; known = is.half.known; clean = clean _ _ }
 
   -- the groups of a journal that was read
@@ -72,7 +72,7 @@ module _ {Db C : Type 0} (format : StoreFormat Db C) (latest : ℕ) (opening : O
       groups = groups_there;
       can = small low;
       facts = record {
-        closed = subst (λ (b : Bool). EndsAs b (journal_of opening.geometry half moment.reads) reading.tail reading.place) unsealed journal.ends;
+        closed = subst (λ (b : Bool). JournalEndsAs b (journal_of opening.geometry half moment.reads) reading.tail reading.place) unsealed journal.ends;
         clean = clean _ _;
       };
     }
@@ -91,8 +91,8 @@ module _ {Db C : Type 0} (format : StoreFormat Db C) (latest : ℕ) (opening : O
       );
     }
       where
-        ends : EndsAs true (journal_of opening.geometry half moment.reads) reading.tail reading.place
-        ends = subst (λ (b : Bool). EndsAs b (journal_of opening.geometry half moment.reads) reading.tail reading.place) sealed journal.ends
+        ends : JournalEndsAs true (journal_of opening.geometry half moment.reads) reading.tail reading.place
+        ends = subst (λ (b : Bool). JournalEndsAs b (journal_of opening.geometry half moment.reads) reading.tail reading.place) sealed journal.ends
 
 -- at rest
 module _ {Db C : Type 0} (format : StoreFormat Db C) (latest : ℕ) (geometry : Geometry) (chosen : Half) (checkpoint : Checkpoint Db) (journal : Reading C) (moment : Moment) (none : moment.dirty ≡ []) where
@@ -147,10 +147,10 @@ module _ {Db C : Type 0} (format : StoreFormat Db C) (latest : ℕ) (geometry : 
       old_is = refl;
     }
       where
-        goes_on : GoesOn format.commands (limits_of checkpoint.head.version) (journal_of geometry (other chosen) moment.reads) journal last
+        goes_on : ContinuesAfterSeal format.commands (limits_of checkpoint.head.version) (journal_of geometry (other chosen) moment.reads) journal last
         goes_on = is.tail.1
 
-        behind : Behind Db C
+        behind : DeviceContents Db C
         behind = record { groups = goes_on.journal.groups; new = next; old = checkpoint; old_groups = is.journal.groups; old_gate = journal.tail }
 
         tail_from : ℕ → Tail C
@@ -162,10 +162,10 @@ module _ {Db C : Type 0} (format : StoreFormat Db C) (latest : ℕ) (geometry : 
         reached : journal.place ≤ last_place
         reached = omega (arith, sealed_place, small format latest sealed moment none is chosen checkpoint.head.place journal is.journal is.half.begins.can.head.place)
 
-        base : Base Db C
+        base : CheckpointPair Db C
         base = record { half = other chosen; version = checkpoint.head.version; new = next; old = checkpoint; groups = is.journal.groups; gate = journal.tail }
 
-        old_stands : OldStands (setting_of format latest sealed) base moment
+        old_stands : OldStands (config_at_opening format latest sealed) base moment
         old_stands = record {
           folds = record {
             place = sealed_place ∙ sym folds.place;
@@ -175,7 +175,7 @@ module _ {Db C : Type 0} (format : StoreFormat Db C) (latest : ℕ) (geometry : 
             version = folds.version;
           };
           gate = subst (λ (half : Half). IsOpenHalf geometry half moment) (sym (other_twice chosen)) (open_half format latest sealed moment none is);
-          area = subst (λ (half : Half). HasCheckpoint (setting_of format latest sealed) half checkpoint moment) (sym (other_twice chosen)) (checkpoint_there format latest sealed moment none is);
+          area = subst (λ (half : Half). HasCheckpoint (config_at_opening format latest sealed) half checkpoint moment) (sym (other_twice chosen)) (checkpoint_there format latest sealed moment none is);
           journal =
               subst (λ (half : Half). FlusherPart Durable format.commands (limits_of checkpoint.head.version) geometry (record { half = half; start = checkpoint.head.place; groups = is.journal.groups; gate = journal.tail }) Seal moment)
               (sym (other_twice chosen)) (sealed_there format latest sealed moment none is chosen checkpoint.head.place journal is.journal is.half.begins.can.head.place goes_on.sealed);

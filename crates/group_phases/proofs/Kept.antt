@@ -12,11 +12,11 @@ use Rattle.store_layout.proofs.Exports.{area_long}
 use Rattle.group_phases.specs.declared.phases.Flush.TheVariants.{Durable}
 use Rattle.group_phases.specs.declared.phases.Check.{Check}
 use Rattle.group_phases.specs.declared.phases.Check.TheVariants.{Ready, Sealed, Planned, Laid, Switched, SwitchFailed, Live, Closing, CloseFailed}
-use Rattle.group_phases.specs.Range.{Untouched, AreApart}
-use Rattle.group_phases.specs.Setting.{Setting, HasTitle}
+use Rattle.group_phases.specs.Range.{Untouched, AreRangesApart}
+use Rattle.group_phases.specs.StoreConfig.{StoreConfig, HasTitle}
 use Rattle.group_phases.specs.Tail.{Seal}
 use Rattle.group_phases.specs.Halves.{HasCheckpoint}
-use Rattle.group_phases.specs.BasePart.{Base, sealed_of, OldStands, NewStands, HasWritten, BasePart}
+use Rattle.group_phases.specs.BasePart.{CheckpointPair, sealed_of, OldStands, NewStands, HasWritten, BasePart}
 use Rattle.group_phases.specs.Kept.{IsBaseUntouched, KeepsFlusherPart, KeepsBasePart, IsInJournal, IsBesideJournal, TailWritesLeaveBase, BaseWritesLeaveTail, SyncsLeaveBoth}
 use Rattle.group_phases.proofs.Ranges.{reads_as_before, has_untouched_parts}
 use Rattle.group_phases.proofs.Calls.{writes_leave_what_is_beside, syncs_leave_all}
@@ -39,120 +39,120 @@ pub checkpoint_inside : {Db : Type 0} (rows : RowsFormat Db) (geometry : Geometr
 checkpoint_inside rows geometry image half checkpoint store is =
     omega (arith, ap length is.spelled, length-take (checkpoint_size rows checkpoint) (area_of geometry half image), area_long geometry image store.room half)
 
-module _ {Db C : Type 0} (setting : Setting Db C) (old new : Moment) (title : HasTitle setting.geometry old) (half : Half) where
+module _ {Db C : Type 0} (config : StoreConfig Db C) (old new : Moment) (title : HasTitle config.geometry old) (half : Half) where
   -- the area and the gate in front of a journal
   abbrev SameFront : Type 0
-  SameFront = Untouched (512 * area_at setting.geometry half) (512 * (setting.geometry.checkpoint + 1)) old new
+  SameFront = Untouched (512 * area_at config.geometry half) (512 * (config.geometry.checkpoint + 1)) old new
 
-  pub front_gate : SameFront → Untouched (512 * gate_at setting.geometry half) 512 old new
+  pub front_gate : SameFront → Untouched (512 * gate_at config.geometry half) 512 old new
   front_gate same =
-      has_untouched_parts (512 * area_at setting.geometry half) (512 * (setting.geometry.checkpoint + 1)) (512 * gate_at setting.geometry half) 512 old new (omega arith) (omega arith) same
+      has_untouched_parts (512 * area_at config.geometry half) (512 * (config.geometry.checkpoint + 1)) (512 * gate_at config.geometry half) 512 old new (omega arith) (omega arith) same
 
-  pub front_area : (n : ℕ) → n ≤ 512 * setting.geometry.checkpoint → SameFront → Untouched (512 * area_at setting.geometry half) n old new
+  pub front_area : (n : ℕ) → n ≤ 512 * config.geometry.checkpoint → SameFront → Untouched (512 * area_at config.geometry half) n old new
   front_area n inside same =
-      has_untouched_parts (512 * area_at setting.geometry half) (512 * (setting.geometry.checkpoint + 1)) (512 * area_at setting.geometry half) n old new (omega arith) (omega arith) same
+      has_untouched_parts (512 * area_at config.geometry half) (512 * (config.geometry.checkpoint + 1)) (512 * area_at config.geometry half) n old new (omega arith) (omega arith) same
 
-  pub front_checkpoint : (checkpoint : Checkpoint Db) → SameFront → HasCheckpoint setting half checkpoint old → HasCheckpoint setting half checkpoint new
+  pub front_checkpoint : (checkpoint : Checkpoint Db) → SameFront → HasCheckpoint config half checkpoint old → HasCheckpoint config half checkpoint new
   front_checkpoint checkpoint same has =
-      checkpoint_kept setting old new title.store half checkpoint
-      (front_area (checkpoint_size setting.format.rows checkpoint) (checkpoint_inside setting.format.rows setting.geometry old.reads half checkpoint title.store has.begins) same) has
+      checkpoint_kept config old new title.store half checkpoint
+      (front_area (checkpoint_size config.format.rows checkpoint) (checkpoint_inside config.format.rows config.geometry old.reads half checkpoint title.store has.begins) same) has
 
   -- a whole half has these, and its journal
   abbrev SameHalf : Type 0
-  SameHalf = Untouched (512 * area_at setting.geometry half) (512 * half_sectors setting.geometry) old new
+  SameHalf = Untouched (512 * area_at config.geometry half) (512 * half_sectors config.geometry) old new
 
   pub half_front : SameHalf → SameFront
   half_front same =
-      has_untouched_parts (512 * area_at setting.geometry half) (512 * half_sectors setting.geometry) (512 * area_at setting.geometry half) (512 * (setting.geometry.checkpoint + 1)) old new (omega arith) (omega arith) same
+      has_untouched_parts (512 * area_at config.geometry half) (512 * half_sectors config.geometry) (512 * area_at config.geometry half) (512 * (config.geometry.checkpoint + 1)) old new (omega arith) (omega arith) same
 
-  pub half_journal : SameHalf → Untouched (512 * (journal_at setting.geometry half + 0)) (512 * setting.geometry.journal) old new
+  pub half_journal : SameHalf → Untouched (512 * (journal_at config.geometry half + 0)) (512 * config.geometry.journal) old new
   half_journal same =
-      has_untouched_parts (512 * area_at setting.geometry half) (512 * half_sectors setting.geometry) (512 * (journal_at setting.geometry half + 0)) (512 * setting.geometry.journal) old new (omega arith) (omega arith) same
+      has_untouched_parts (512 * area_at config.geometry half) (512 * half_sectors config.geometry) (512 * (journal_at config.geometry half + 0)) (512 * config.geometry.journal) old new (omega arith) (omega arith) same
 
-  pub half_first : SameHalf → Untouched (512 * (journal_at setting.geometry half + 0)) (512 * 1) old new
+  pub half_first : SameHalf → Untouched (512 * (journal_at config.geometry half + 0)) (512 * 1) old new
   half_first same =
-      has_untouched_parts (512 * area_at setting.geometry half) (512 * half_sectors setting.geometry) (512 * (journal_at setting.geometry half + 0)) (512 * 1) old new (omega arith) (omega (arith, title.store.limits)) same
+      has_untouched_parts (512 * area_at config.geometry half) (512 * half_sectors config.geometry) (512 * (journal_at config.geometry half + 0)) (512 * 1) old new (omega arith) (omega (arith, title.store.limits)) same
 
-module _ {Db C : Type 0} (setting : Setting Db C) (base : Base Db C) (old new : Moment) (title : HasTitle setting.geometry old) where
+module _ {Db C : Type 0} (config : StoreConfig Db C) (base : CheckpointPair Db C) (old new : Moment) (title : HasTitle config.geometry old) where
   abbrev beside : Half
   beside = other base.half
 
   abbrev SameBeside : Type 0
-  SameBeside = Untouched (512 * area_at setting.geometry (other base.half)) (512 * half_sectors setting.geometry) old new
+  SameBeside = Untouched (512 * area_at config.geometry (other base.half)) (512 * half_sectors config.geometry) old new
 
-  some : 1 ≤ setting.geometry.journal
+  some : 1 ≤ config.geometry.journal
   some = omega (arith, title.store.limits)
 
-  pub old_kept : SameBeside → OldStands setting base old → OldStands setting base new
+  pub old_kept : SameBeside → OldStands config base old → OldStands config base new
   old_kept same has = record {
     folds = has.folds;
-    gate = open_half_kept setting.geometry old new title.store beside (front_gate setting old new title beside (half_front setting old new title beside same)) has.gate;
-    area = front_checkpoint setting old new title beside base.old (half_front setting old new title beside same) has.area;
-    journal = part_kept setting.format.commands (limits_of base.old.head.version) setting.geometry (sealed_of base) old new title.store.room Durable Seal
-        (half_journal setting old new title beside same) has.journal;
+    gate = open_half_kept config.geometry old new title.store beside (front_gate config old new title beside (half_front config old new title beside same)) has.gate;
+    area = front_checkpoint config old new title beside base.old (half_front config old new title beside same) has.area;
+    journal = part_kept config.format.commands (limits_of base.old.head.version) config.geometry (sealed_of base) old new title.store.room Durable Seal
+        (half_journal config old new title beside same) has.journal;
   }
 
   abbrev SameNew : Type 0
-  SameNew = Untouched (512 * area_at setting.geometry base.half) (512 * (setting.geometry.checkpoint + 1)) old new
+  SameNew = Untouched (512 * area_at config.geometry base.half) (512 * (config.geometry.checkpoint + 1)) old new
 
-  pub new_kept : SameNew → Untouched (512 * area_at setting.geometry (other base.half)) 24 old new → NewStands setting base old → NewStands setting base new
+  pub new_kept : SameNew → Untouched (512 * area_at config.geometry (other base.half)) 24 old new → NewStands config base old → NewStands config base new
   new_kept same same_head has = record {
     epoch = has.epoch;
     tail = has.tail;
-    gate = open_half_kept setting.geometry old new title.store base.half (front_gate setting old new title base.half same) has.gate;
-    area = front_checkpoint setting old new title base.half base.new same has.area;
-    old = head_kept setting old new title.store beside base.old.head same_head has.old;
+    gate = open_half_kept config.geometry old new title.store base.half (front_gate config old new title base.half same) has.gate;
+    area = front_checkpoint config old new title base.half base.new same has.area;
+    old = head_kept config old new title.store beside base.old.head same_head has.old;
   }
 
-  pub written_kept : (written : ℕ) → Untouched (512 * area_at setting.geometry base.half) (512 * written) old new → HasWritten setting base written old → HasWritten setting base written new
-  written_kept written same has = record { inside = has.inside; front = reads_as_before (512 * area_at setting.geometry base.half) (512 * written) old new same ∙ has.front }
+  pub written_kept : (written : ℕ) → Untouched (512 * area_at config.geometry base.half) (512 * written) old new → HasWritten config base written old → HasWritten config base written new
+  written_kept written same has = record { inside = has.inside; front = reads_as_before (512 * area_at config.geometry base.half) (512 * written) old new same ∙ has.front }
 
-  module _ (same : IsBaseUntouched setting.geometry base.half old new) where
-    gate : Untouched (512 * gate_at setting.geometry base.half) 512 old new
-    gate = front_gate setting old new title base.half same.front
+  module _ (same : IsBaseUntouched config.geometry base.half old new) where
+    gate : Untouched (512 * gate_at config.geometry base.half) 512 old new
+    gate = front_gate config old new title base.half same.front
 
-    other_gate : Untouched (512 * gate_at setting.geometry (other base.half)) 512 old new
-    other_gate = front_gate setting old new title beside (half_front setting old new title beside same.beside)
+    other_gate : Untouched (512 * gate_at config.geometry (other base.half)) 512 old new
+    other_gate = front_gate config old new title beside (half_front config old new title beside same.beside)
 
-    head : Untouched (512 * area_at setting.geometry (other base.half)) 24 old new
-    head = front_area setting old new title beside 24 (omega (arith, title.store.limits)) (half_front setting old new title beside same.beside)
+    head : Untouched (512 * area_at config.geometry (other base.half)) 24 old new
+    head = front_area config old new title beside 24 (omega (arith, title.store.limits)) (half_front config old new title beside same.beside)
 
-    pub base_kept : (phase : Check) (written : ℕ) → BasePart phase setting base written old → BasePart phase setting base written new
+    pub base_kept : (phase : Check) (written : ℕ) → BasePart phase config base written old → BasePart phase config base written new
     base_kept Ready written has = record {
       tail = has.tail;
-      gate = open_half_kept setting.geometry old new title.store base.half gate has.gate;
-      area = front_checkpoint setting old new title base.half base.new same.front has.area;
-      closed = closed_half_kept setting.geometry old new title.store beside other_gate has.closed;
-      first = first_kept setting.geometry old new title.store beside some (half_first setting old new title beside same.beside) has.first;
+      gate = open_half_kept config.geometry old new title.store base.half gate has.gate;
+      area = front_checkpoint config old new title base.half base.new same.front has.area;
+      closed = closed_half_kept config.geometry old new title.store beside other_gate has.closed;
+      first = first_kept config.geometry old new title.store beside some (half_first config old new title beside same.beside) has.first;
     }
-    base_kept Sealed written has = (old_kept same.beside has.0, closed_half_kept setting.geometry old new title.store base.half gate has.1)
+    base_kept Sealed written has = (old_kept same.beside has.0, closed_half_kept config.geometry old new title.store base.half gate has.1)
     base_kept Planned written has = (
       old_kept same.beside has.0,
-      closed_half_kept setting.geometry old new title.store base.half gate has.1,
+      closed_half_kept config.geometry old new title.store base.half gate has.1,
       has.2,
-      written_kept written (front_area setting old new title base.half (512 * written) (omega (arith, has.2.fits, has.3.inside)) same.front) has.3,
+      written_kept written (front_area config old new title base.half (512 * written) (omega (arith, has.2.fits, has.3.inside)) same.front) has.3,
     )
     base_kept Laid written has = (
       old_kept same.beside has.0,
-      closed_half_kept setting.geometry old new title.store base.half gate has.1,
-      front_checkpoint setting old new title base.half base.new same.front has.2,
+      closed_half_kept config.geometry old new title.store base.half gate has.1,
+      front_checkpoint config old new title base.half base.new same.front has.2,
     )
     base_kept Switched written has = (
       old_kept same.beside has.0,
-      front_checkpoint setting old new title base.half base.new same.front has.1,
-      open_reads_kept setting.geometry old new title.store base.half gate has.2,
+      front_checkpoint config old new title base.half base.new same.front has.1,
+      open_reads_kept config.geometry old new title.store base.half gate has.2,
     )
-    base_kept SwitchFailed written has = (old_kept same.beside has.0, front_checkpoint setting old new title base.half base.new same.front has.1)
+    base_kept SwitchFailed written has = (old_kept same.beside has.0, front_checkpoint config old new title base.half base.new same.front has.1)
     base_kept Live written has = new_kept same.front head has
     base_kept Closing written has = (
       new_kept same.front head has.0,
-      closed_reads_kept setting.geometry old new title.store beside other_gate has.1,
-      first_reads_kept setting.geometry old new title.store beside some (half_first setting old new title beside same.beside) has.2,
+      closed_reads_kept config.geometry old new title.store beside other_gate has.1,
+      first_reads_kept config.geometry old new title.store beside some (half_first config old new title beside same.beside) has.2,
     )
     base_kept CloseFailed written has = new_kept same.front head has
 
 pub keeps_base_part : (Db C : Type 0) → KeepsBasePart Db C
-keeps_base_part Db C phase setting base written old new title same has = base_kept setting base old new title same phase written has
+keeps_base_part Db C phase config base written old new title same has = base_kept config base old new title same phase written has
 
 -- where the ranges are
 module _ (geometry : Geometry) where
@@ -165,11 +165,11 @@ module _ (geometry : Geometry) where
   area_behind Second = omega arith
 
   pub journal_apart_beside : (half : Half) (sector n : ℕ) → IsInJournal geometry half sector n
-      → AreApart (512 * sector) n (512 * area_at geometry (other half)) (512 * half_sectors geometry)
+      → AreRangesApart (512 * sector) n (512 * area_at geometry (other half)) (512 * half_sectors geometry)
   journal_apart_beside First sector n in_journal = inl (omega (arith, in_journal))
   journal_apart_beside Second sector n in_journal = inr (omega (arith, in_journal))
 
-  pub beside_apart : (half : Half) (sector n : ℕ) → IsBesideJournal geometry half sector n → AreApart (512 * sector) n (512 * journal_at geometry half) (512 * geometry.journal)
+  pub beside_apart : (half : Half) (sector n : ℕ) → IsBesideJournal geometry half sector n → AreRangesApart (512 * sector) n (512 * journal_at geometry half) (512 * geometry.journal)
   beside_apart half sector n (inl before) = inl (omega (arith, before))
   beside_apart First sector n (inr in_half) = inr (omega (arith, in_half))
   beside_apart Second sector n (inr in_half) = inl (omega (arith, in_half))
@@ -186,7 +186,7 @@ tail_writes_leave_base T E geometry half sector bytes result old new call honest
   beside = leave (512 * area_at geometry (other half)) (512 * half_sectors geometry) (journal_apart_beside geometry half sector (length bytes) in_journal);
 }
   where
-    leave : (at n : ℕ) → AreApart (512 * sector) (length bytes) at n → Untouched at n old.history.now new.history.now
+    leave : (at n : ℕ) → AreRangesApart (512 * sector) (length bytes) at n → Untouched at n old.history.now new.history.now
     leave at n apart = writes_leave_what_is_beside T E sector bytes result old new at n call honest (omega (arith, in_journal, halves_inside geometry half)) apart
 
 pub base_writes_leave_tail : (T E : Type 0) → BaseWritesLeaveTail T E

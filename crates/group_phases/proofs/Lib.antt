@@ -4,7 +4,7 @@ pub mod Calls
 pub mod TailReads
 pub mod HalfReads
 pub mod Openings
-pub mod Standings
+pub mod CommitStates
 pub mod Kept
 pub mod FlusherSteps
 pub mod CheckpointerSteps

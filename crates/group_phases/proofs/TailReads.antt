@@ -15,9 +15,9 @@ use Rattle.store_layout.proofs.Exports.{chain_agrees, chain_more, all_of_more, j
 use Rattle.group_phases.specs.declared.phases.Flush.{Flush}
 use Rattle.group_phases.specs.declared.phases.Flush.TheVariants.{Resting, Staged, Written, Stable, Opened, Doubtful, Durable}
 use Rattle.group_phases.specs.Range.{Untouched, as_moment}
-use Rattle.group_phases.specs.Setting.{AreCleanSectors}
-use Rattle.group_phases.specs.Tail.{Load, Commands, Seal, written_sectors, Tail, CanBeLoad, without_load, with_load}
-use Rattle.group_phases.specs.FlusherPart.{tail_bytes, HasGroups, HasClosedGate, HasOpenGate, HasLoad, IsLoadClean, AtPhase, FlusherPart, ReadsAs, MayRead}
+use Rattle.group_phases.specs.StoreConfig.{AreCleanSectors}
+use Rattle.group_phases.specs.Tail.{GroupOrSeal, Commands, Seal, written_sectors, Tail, CanBeLoad, without_load, with_load}
+use Rattle.group_phases.specs.FlusherPart.{tail_bytes, HasGroups, HasClosedGate, HasOpenGate, HasLoad, IsLoadClean, AtPhase, FlusherPart, JournalReadsAs, MayRead}
 use Rattle.group_phases.specs.StandingLaws.{ReadsByItsPart}
 use Rattle.group_phases.proofs.Ranges.{clean_kept, has_untouched_parts, clean_stays_in_images}
 
@@ -47,7 +47,7 @@ module _ (geometry : Geometry) (half : Half) (old new : Moment) (room : image_se
       has_untouched_parts (512 * (journal_at geometry half + from)) (512 * n) (512 * (journal_at geometry half + at)) (512 * m) old new (omega arith) (omega arith) same
 
 -- what is in flight has room
-pub load_room : {C : Type 0} (format : CommandFormat C) (limits : Limits) (geometry : Geometry) (tail : Tail C) (load : Load C) → tail.gate + 2 ≤ geometry.journal
+pub load_room : {C : Type 0} (format : CommandFormat C) (limits : Limits) (geometry : Geometry) (tail : Tail C) (load : GroupOrSeal C) → tail.gate + 2 ≤ geometry.journal
     → CanBeLoad format limits geometry tail load → tail.gate + 1 + written_sectors format load ≤ geometry.journal
 load_room format limits geometry tail (Commands commands) room can = omega (arith, can.1)
 load_room format limits geometry tail Seal room can = omega arith
@@ -81,7 +81,7 @@ module _ {C : Type 0} (format : CommandFormat C) (limits : Limits) (geometry : G
   pub open_kept : tail.gate + 1 ≤ geometry.journal → Same tail.gate 1 → HasOpenGate geometry tail old → HasOpenGate geometry tail new
   open_kept inside same opened = subst IsOpenGate (gate_same tail.gate inside same) opened
 
-  pub load_kept : (load : Load C) → tail.gate + 1 + written_sectors format load ≤ geometry.journal → Same (tail.gate + 1) (written_sectors format load)
+  pub load_kept : (load : GroupOrSeal C) → tail.gate + 1 + written_sectors format load ≤ geometry.journal → Same (tail.gate + 1) (written_sectors format load)
       → HasLoad format geometry tail load old → HasLoad format geometry tail load new
   load_kept (Commands commands) inside same has = record {
     spelled =
@@ -95,7 +95,7 @@ module _ {C : Type 0} (format : CommandFormat C) (limits : Limits) (geometry : G
   load_kept Seal inside same has = record { spelled = sym (sectors_same geometry tail.half old new room (tail.gate + 1) 1 inside same) ∙ has.spelled; next = tt }
 
   -- where all of the tail's journal is untouched the whole part stays
-  pub part_kept : (phase : Flush) (load : Load C) → Same 0 geometry.journal → FlusherPart phase format limits geometry tail load old
+  pub part_kept : (phase : Flush) (load : GroupOrSeal C) → Same 0 geometry.journal → FlusherPart phase format limits geometry tail load old
       → FlusherPart phase format limits geometry tail load new
   part_kept phase load all has = record {
     groups = groups_kept (fewer geometry tail.half old new room 0 geometry.journal 0 tail.gate (omega arith) (omega (arith, has.groups.room)) all) has.groups;
@@ -131,15 +131,15 @@ module _ {C : Type 0} (format : CommandFormat C) (limits : Limits) (geometry : G
 module _ {C : Type 0} (format : CommandFormat C) (limits : Limits) (geometry : Geometry) (tail : Tail C) (moment : Moment) (room : image_sectors geometry ≤ whole_sectors moment.reads)
     (has : HasGroups format limits geometry tail moment) where
   -- after a closed gate
-  pub reads_without : (IsOpenGate (sector_at tail.gate (tail_bytes geometry tail moment)) → ⊥) → ReadsAs format limits geometry tail moment.reads (without_load tail)
+  pub reads_without : (IsOpenGate (sector_at tail.gate (tail_bytes geometry tail moment)) → ⊥) → JournalReadsAs format limits geometry tail moment.reads (without_load tail)
   reads_without closed = record { groups = tail.groups; chain = has.chain; commands = refl; place = refl; ends = closed }
 
   sectors : whole_sectors (tail_bytes geometry tail moment) ≡ geometry.journal
   sectors = omega (arith, journal_long geometry moment.reads room tail.half)
 
   -- and after an open one
-  pub reads_with : (load : Load C) → CanBeLoad format limits geometry tail load → HasLoad format geometry tail load moment → HasOpenGate geometry tail moment
-      → ReadsAs format limits geometry tail moment.reads (with_load format tail load)
+  pub reads_with : (load : GroupOrSeal C) → CanBeLoad format limits geometry tail load → HasLoad format geometry tail load moment → HasOpenGate geometry tail moment
+      → JournalReadsAs format limits geometry tail moment.reads (with_load format tail load)
   reads_with (Commands commands) can behind opened = record {
     groups = tail.groups ++ commands ∷ [];
     chain = chain_more format limits (tail_bytes geometry tail moment) 0 tail.start tail.groups tail.gate commands has.chain opened
@@ -157,12 +157,12 @@ module _ {C : Type 0} (format : CommandFormat C) (limits : Limits) (geometry : G
   }
 
   -- whatever the gate is
-  pub reads_either : (load : Load C) → CanBeLoad format limits geometry tail load → HasLoad format geometry tail load moment
-      → ReadsAs format limits geometry tail moment.reads (without_load tail) ⊎ ReadsAs format limits geometry tail moment.reads (with_load format tail load)
+  pub reads_either : (load : GroupOrSeal C) → CanBeLoad format limits geometry tail load → HasLoad format geometry tail load moment
+      → JournalReadsAs format limits geometry tail moment.reads (without_load tail) ⊎ JournalReadsAs format limits geometry tail moment.reads (with_load format tail load)
   reads_either load can behind = by_gate (is_open_gate (sector_at tail.gate (tail_bytes geometry tail moment))) refl
     where
       by_gate : (b : Bool) → is_open_gate (sector_at tail.gate (tail_bytes geometry tail moment)) ≡ b
-          → ReadsAs format limits geometry tail moment.reads (without_load tail) ⊎ ReadsAs format limits geometry tail moment.reads (with_load format tail load)
+          → JournalReadsAs format limits geometry tail moment.reads (without_load tail) ⊎ JournalReadsAs format limits geometry tail moment.reads (with_load format tail load)
       by_gate false closed = inl (reads_without (false_open (sector_at tail.gate (tail_bytes geometry tail moment)) closed))
       by_gate true opened = inr (reads_with load can behind (true_open (sector_at tail.gate (tail_bytes geometry tail moment)) opened))
 
@@ -187,7 +187,7 @@ reads_by_its_part C phase format limits geometry tail load moment title has imag
     inside : tail.gate + 1 ≤ geometry.journal
     inside = omega (arith, has.groups.room)
 
-    before : HasClosedGate geometry tail moment → ReadsAs format limits geometry tail image (without_load tail)
+    before : HasClosedGate geometry tail moment → JournalReadsAs format limits geometry tail image (without_load tail)
     before gate =
         let still : HasClosedGate geometry tail im = closed_kept format limits geometry tail moment im room inside (same tail.gate 1 gate.clean) gate in
         reads_without format limits geometry tail im room_im groups still.closed
@@ -198,7 +198,7 @@ reads_by_its_part C phase format limits geometry tail load moment title has imag
         (same (tail.gate + 1) (written_sectors format load) clean) loaded
 
     either : HasLoad format geometry tail load moment → IsLoadClean format geometry tail load moment
-        → ReadsAs format limits geometry tail image (without_load tail) ⊎ ReadsAs format limits geometry tail image (with_load format tail load)
+        → JournalReadsAs format limits geometry tail image (without_load tail) ⊎ JournalReadsAs format limits geometry tail image (with_load format tail load)
     either loaded clean = reads_either format limits geometry tail im room_im groups load has.can (behind loaded clean)
 
     by_phase : (p : Flush) → AtPhase p format geometry tail load moment → MayRead p format limits geometry tail load image

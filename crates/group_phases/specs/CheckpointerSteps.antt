@@ -11,110 +11,110 @@ use Rattle.group_phases.specs.declared.phases.Flush.{Flush}
 use Rattle.group_phases.specs.declared.phases.Flush.TheVariants.{Resting, Durable}
 use Rattle.group_phases.specs.declared.phases.Check.{Check}
 use Rattle.group_phases.specs.declared.phases.Check.TheVariants.{Ready, Sealed, Planned, Laid, Switched, SwitchFailed, Live, Closing, CloseFailed}
-use Rattle.group_phases.specs.Setting.{Setting, HasTitle}
+use Rattle.group_phases.specs.StoreConfig.{StoreConfig, HasTitle}
 use Rattle.byte_lists.specs.Sectors.{closed_gate, open_gate}
-use Rattle.group_phases.specs.Tail.{Load, Seal, Tail, place_of}
+use Rattle.group_phases.specs.Tail.{GroupOrSeal, Seal, Tail, tail_place}
 use Rattle.group_phases.specs.FlusherPart.{FlusherPart}
-use Rattle.group_phases.specs.BasePart.{Base, FoldsTo, CanBeWritten, BasePart}
+use Rattle.group_phases.specs.BasePart.{CheckpointPair, FoldsTo, CanBeNewCheckpoint, BasePart}
 use Rattle.group_phases.specs.Kept.{IsBesideJournal}
 use Rattle.group_phases.specs.FlusherSteps.{by_result}
 
 -- the tail's part under larger limits, and the checkpointer's for a later version of the tail's limits
 abbrev pub StaysUnderLargerLimits : Type 0 → Type 0
 StaysUnderLargerLimits C =
-    (phase : Flush) (format : CommandFormat C) (small large : Limits) (geometry : Geometry) (tail : Tail C) (load : Load C) (moment : Moment)
+    (phase : Flush) (format : CommandFormat C) (small large : Limits) (geometry : Geometry) (tail : Tail C) (load : GroupOrSeal C) (moment : Moment)
     → AreAsLarge small large → FlusherPart phase format small geometry tail load moment → FlusherPart phase format large geometry tail load moment
 
 abbrev pub TakesTheNewVersion : Type 0 → Type 0 → Type 0
 TakesTheNewVersion Db C =
-    (setting : Setting Db C) (base : Base Db C) (written : ℕ) (moment : Moment)
-    → BasePart Live setting base written moment → BasePart Live setting (record base { version = base.new.head.version }) written moment
+    (config : StoreConfig Db C) (base : CheckpointPair Db C) (written : ℕ) (moment : Moment)
+    → BasePart Live config base written moment → BasePart Live config (record base { version = base.new.head.version }) written moment
 
 -- After a seal that is durable the tail continues in the other journal, with no group yet.
 abbrev pub tail_switched : {C : Type 0} → Tail C → Tail C
-tail_switched tail = record { half = other tail.half; start = place_of tail; groups = []; gate = 0 }
+tail_switched tail = record { half = other tail.half; start = tail_place tail; groups = []; gate = 0 }
 
 -- and its half now counts as the old one, until a checkpoint of it is in the other half
-abbrev pub base_switched : {Db C : Type 0} → Base Db C → Tail C → Checkpoint Db → Base Db C
+abbrev pub base_switched : {Db C : Type 0} → CheckpointPair Db C → Tail C → Checkpoint Db → CheckpointPair Db C
 base_switched base tail next =
     record { half = other base.half; version = base.version; new = next; old = base.new; groups = tail.groups; gate = tail.gate }
 
 abbrev pub PublishesSeal : Type 0 → Type 0 → Type 0
 PublishesSeal Db C =
-    (setting : Setting Db C) (base : Base Db C) (tail : Tail C) (next : Checkpoint Db) (written : ℕ) (moment : Moment)
-    → tail.half ≡ base.half → tail.start ≡ base.new.head.place → FoldsTo setting.format (base_switched base tail next)
-    → HasTitle setting.geometry moment → BasePart Ready setting base written moment
-    → FlusherPart Durable setting.format.commands (limits_of base.version) setting.geometry tail Seal moment
-    → BasePart Sealed setting (base_switched base tail next) written moment
-    × FlusherPart Resting setting.format.commands (limits_of base.version) setting.geometry (tail_switched tail) Seal moment
+    (config : StoreConfig Db C) (base : CheckpointPair Db C) (tail : Tail C) (next : Checkpoint Db) (written : ℕ) (moment : Moment)
+    → tail.half ≡ base.half → tail.start ≡ base.new.head.place → FoldsTo config.format (base_switched base tail next)
+    → HasTitle config.geometry moment → BasePart Ready config base written moment
+    → FlusherPart Durable config.format.commands (limits_of base.version) config.geometry tail Seal moment
+    → BasePart Sealed config (base_switched base tail next) written moment
+    × FlusherPart Resting config.format.commands (limits_of base.version) config.geometry (tail_switched tail) Seal moment
 
 -- a plan: a checkpoint that has what the sealed half represents, and may be written
-abbrev pub with_new : {Db C : Type 0} → Base Db C → Checkpoint Db → Base Db C
+abbrev pub with_new : {Db C : Type 0} → CheckpointPair Db C → Checkpoint Db → CheckpointPair Db C
 with_new base next = record base { new = next }
 
 abbrev pub BeginsPlan : Type 0 → Type 0 → Type 0
 BeginsPlan Db C =
-    (setting : Setting Db C) (base : Base Db C) (next : Checkpoint Db) (written : ℕ) (moment : Moment)
-    → FoldsTo setting.format (with_new base next) → CanBeWritten setting next
-    → BasePart Sealed setting base written moment → BasePart Planned setting (with_new base next) 0 moment
+    (config : StoreConfig Db C) (base : CheckpointPair Db C) (next : Checkpoint Db) (written : ℕ) (moment : Moment)
+    → FoldsTo config.format (with_new base next) → CanBeNewCheckpoint config next
+    → BasePart Sealed config base written moment → BasePart Planned config (with_new base next) 0 moment
 
 -- what the checkpointer writes lies beside the tail's journal: a chunk, the new half's gate, and the old half's two gates
-pub record WritesBeside {Db C : Type 0} (setting : Setting Db C) (base : Base Db C) (written more : ℕ) : Type 0 where
-  pub chunk : IsBesideJournal setting.geometry base.half (area_at setting.geometry base.half + written)
-      (length (part (512 * written) (512 * more) (checkpoint_encoding setting.format.rows base.new)))
-  pub gate : IsBesideJournal setting.geometry base.half (gate_at setting.geometry base.half) (length open_gate)
-  pub gates : IsBesideJournal setting.geometry base.half (gate_at setting.geometry (other base.half)) (length (closed_gate ++ closed_gate))
+pub record WritesBeside {Db C : Type 0} (config : StoreConfig Db C) (base : CheckpointPair Db C) (written more : ℕ) : Type 0 where
+  pub chunk : IsBesideJournal config.geometry base.half (area_at config.geometry base.half + written)
+      (length (part (512 * written) (512 * more) (checkpoint_encoding config.format.rows base.new)))
+  pub gate : IsBesideJournal config.geometry base.half (gate_at config.geometry base.half) (length open_gate)
+  pub gates : IsBesideJournal config.geometry base.half (gate_at config.geometry (other base.half)) (length (closed_gate ++ closed_gate))
 
 abbrev pub WritesBesideJournal : Type 0 → Type 0 → Type 0
 WritesBesideJournal Db C =
-    (setting : Setting Db C) (base : Base Db C) (written more : ℕ) → IsGeometry setting.geometry → CanBeWritten setting base.new
-    → 512 * (written + more) ≤ length (checkpoint_encoding setting.format.rows base.new) → WritesBeside setting base written more
+    (config : StoreConfig Db C) (base : CheckpointPair Db C) (written more : ℕ) → IsGeometry config.geometry → CanBeNewCheckpoint config base.new
+    → 512 * (written + more) ≤ length (checkpoint_encoding config.format.rows base.new) → WritesBeside config base written more
 
 -- the next sectors of it are written
-abbrev pub WritesChunk : Type 0 → Type 0 → Type 0 → Type 0 → Type 0
-WritesChunk T E Db C =
-    (setting : Setting Db C) (base : Base Db C) (written more : ℕ) (result : Result T E) (old new : Disk)
-    → 512 * (written + more) ≤ length (checkpoint_encoding setting.format.rows base.new)
-    → WriteCall (area_at setting.geometry base.half + written)
-    (part (512 * written) (512 * more) (checkpoint_encoding setting.format.rows base.new)) result old new → IsHonest old
-    → HasTitle setting.geometry old.history.now → BasePart Planned setting base written old.history.now
-    → BasePart Planned setting base (by_result (written + more) written result) new.history.now
+abbrev pub ChunkIsWritten : Type 0 → Type 0 → Type 0 → Type 0 → Type 0
+ChunkIsWritten T E Db C =
+    (config : StoreConfig Db C) (base : CheckpointPair Db C) (written more : ℕ) (result : Result T E) (old new : Disk)
+    → 512 * (written + more) ≤ length (checkpoint_encoding config.format.rows base.new)
+    → WriteCall (area_at config.geometry base.half + written)
+    (part (512 * written) (512 * more) (checkpoint_encoding config.format.rows base.new)) result old new → IsHonest old
+    → HasTitle config.geometry old.history.now → BasePart Planned config base written old.history.now
+    → BasePart Planned config base (by_result (written + more) written result) new.history.now
 
 -- a sync from one phase on, which stays where the sync fails
 abbrev pub IsBaseSync : Type 0 → Type 0 → Type 0 → Type 0 → Check → Check → Type 0
 IsBaseSync T E Db C from done =
-    (setting : Setting Db C) (base : Base Db C) (written : ℕ) (result : Result T E) (old new : Disk)
+    (config : StoreConfig Db C) (base : CheckpointPair Db C) (written : ℕ) (result : Result T E) (old new : Disk)
     → SyncCall result old new → IsHonest old
-    → HasTitle setting.geometry old.history.now → BasePart from setting base written old.history.now
-    → BasePart (by_result done from result) setting base written new.history.now
+    → HasTitle config.geometry old.history.now → BasePart from config base written old.history.now
+    → BasePart (by_result done from result) config base written new.history.now
 
 -- once all of it is written it is synced
-abbrev pub SyncsChunks : Type 0 → Type 0 → Type 0 → Type 0 → Type 0
-SyncsChunks T E Db C =
-    (setting : Setting Db C) (base : Base Db C) (written : ℕ) (result : Result T E) (old new : Disk)
-    → 512 * written ≡ length (checkpoint_encoding setting.format.rows base.new)
+abbrev pub ChunksAreSynced : Type 0 → Type 0 → Type 0 → Type 0 → Type 0
+ChunksAreSynced T E Db C =
+    (config : StoreConfig Db C) (base : CheckpointPair Db C) (written : ℕ) (result : Result T E) (old new : Disk)
+    → 512 * written ≡ length (checkpoint_encoding config.format.rows base.new)
     → SyncCall result old new → IsHonest old
-    → HasTitle setting.geometry old.history.now → BasePart Planned setting base written old.history.now
-    → BasePart (by_result Laid Planned result) setting base written new.history.now
+    → HasTitle config.geometry old.history.now → BasePart Planned config base written old.history.now
+    → BasePart (by_result Laid Planned result) config base written new.history.now
 
 -- the new half's gate is written open, and synced
 abbrev pub OpensHalf : Type 0 → Type 0 → Type 0 → Type 0 → Type 0
 OpensHalf T E Db C =
-    (setting : Setting Db C) (base : Base Db C) (written : ℕ) (result : Result T E) (old new : Disk)
-    → WriteCall (gate_at setting.geometry base.half) open_gate result old new → IsHonest old
-    → HasTitle setting.geometry old.history.now → BasePart Laid setting base written old.history.now
-    → BasePart (by_result Switched SwitchFailed result) setting base written new.history.now
+    (config : StoreConfig Db C) (base : CheckpointPair Db C) (written : ℕ) (result : Result T E) (old new : Disk)
+    → WriteCall (gate_at config.geometry base.half) open_gate result old new → IsHonest old
+    → HasTitle config.geometry old.history.now → BasePart Laid config base written old.history.now
+    → BasePart (by_result Switched SwitchFailed result) config base written new.history.now
 
-abbrev pub SyncsHalf : Type 0 → Type 0 → Type 0 → Type 0 → Type 0
-SyncsHalf T E Db C = IsBaseSync T E Db C Switched Live
+abbrev pub HalfIsSynced : Type 0 → Type 0 → Type 0 → Type 0 → Type 0
+HalfIsSynced T E Db C = IsBaseSync T E Db C Switched Live
 
 -- the old half's gate and the first gate of its journal are written closed, in one write, and synced
 abbrev pub ClosesHalf : Type 0 → Type 0 → Type 0 → Type 0 → Type 0
 ClosesHalf T E Db C =
-    (setting : Setting Db C) (base : Base Db C) (written : ℕ) (result : Result T E) (old new : Disk)
-    → WriteCall (gate_at setting.geometry (other base.half)) (closed_gate ++ closed_gate) result old new → IsHonest old
-    → HasTitle setting.geometry old.history.now → BasePart Live setting base written old.history.now
-    → BasePart (by_result Closing CloseFailed result) setting base written new.history.now
+    (config : StoreConfig Db C) (base : CheckpointPair Db C) (written : ℕ) (result : Result T E) (old new : Disk)
+    → WriteCall (gate_at config.geometry (other base.half)) (closed_gate ++ closed_gate) result old new → IsHonest old
+    → HasTitle config.geometry old.history.now → BasePart Live config base written old.history.now
+    → BasePart (by_result Closing CloseFailed result) config base written new.history.now
 
-abbrev pub SyncsClose : Type 0 → Type 0 → Type 0 → Type 0 → Type 0
-SyncsClose T E Db C = IsBaseSync T E Db C Closing Ready
+abbrev pub CloseIsSynced : Type 0 → Type 0 → Type 0 → Type 0 → Type 0
+CloseIsSynced T E Db C = IsBaseSync T E Db C Closing Ready

@@ -5,12 +5,12 @@ use Rattle.byte_lists.specs.Sectors.{sector_at, IsOpenGate}
 use Rattle.sector_dev.specs.Disk.{Moment}
 use Rattle.store_layout.specs.Limits.{Limits}
 use Rattle.store_layout.specs.CommandFormat.{CommandFormat}
-use Rattle.store_layout.specs.Journal.{gate_behind, IsChain, Reading, IsJournal}
+use Rattle.store_layout.specs.Journal.{gate_behind, IsGroupChain, Reading, IsJournal}
 use Rattle.store_layout.specs.Layout.{Geometry, journal_of}
 use Rattle.group_phases.specs.declared.phases.Flush.{Flush}
 use Rattle.group_phases.specs.declared.phases.Flush.TheVariants.{Resting, Staged, Written, Stable, Opened, Doubtful, Durable}
-use Rattle.group_phases.specs.Setting.{AreCleanSectors}
-use Rattle.group_phases.specs.Tail.{Load, Commands, Seal, payload_of, load_sectors, written_sectors, Tail, place_of, CanBeLoad, without_load, with_load}
+use Rattle.group_phases.specs.StoreConfig.{AreCleanSectors}
+use Rattle.group_phases.specs.Tail.{GroupOrSeal, Commands, Seal, payload_of, load_sectors, written_sectors, Tail, tail_place, CanBeLoad, without_load, with_load}
 
 -- the bytes of the tail's journal
 abbrev pub tail_bytes : {C : Type 0} → Geometry → Tail C → Moment → List ℕ
@@ -18,7 +18,7 @@ tail_bytes geometry tail moment = journal_of geometry tail.half moment.reads
 
 -- the groups that are committed are there and clean, and after them there is room for a gate and a seal
 pub record HasGroups {C : Type 0} (format : CommandFormat C) (limits : Limits) (geometry : Geometry) (tail : Tail C) (moment : Moment) : Type 0 where
-  pub chain : IsChain format limits (tail_bytes geometry tail moment) 0 tail.start tail.groups tail.gate
+  pub chain : IsGroupChain format limits (tail_bytes geometry tail moment) 0 tail.start tail.groups tail.gate
   pub clean : AreCleanSectors geometry tail.half 0 tail.gate moment
   pub room : tail.gate + 2 ≤ geometry.journal
 
@@ -31,21 +31,21 @@ abbrev pub HasOpenGate : {C : Type 0} → Geometry → Tail C → Moment → Typ
 HasOpenGate geometry tail moment = IsOpenGate (sector_at tail.gate (tail_bytes geometry tail moment))
 
 -- after a group there is a closed gate
-abbrev pub NextIsClosed : {C : Type 0} → CommandFormat C → Load C → List ℕ → ℕ → Type 0
+abbrev pub NextIsClosed : {C : Type 0} → CommandFormat C → GroupOrSeal C → List ℕ → ℕ → Type 0
 NextIsClosed format (Commands commands) bytes gate = ¬ IsOpenGate (sector_at (gate_behind format gate commands) bytes)
 NextIsClosed format Seal bytes gate = Unit {0}
 
 -- what is in flight is after the tail's gate
-pub record HasLoad {C : Type 0} (format : CommandFormat C) (geometry : Geometry) (tail : Tail C) (load : Load C) (moment : Moment) : Type 0 where
-  pub spelled : part (512 * (tail.gate + 1)) (512 * load_sectors format load) (tail_bytes geometry tail moment) ≡ payload_of format (place_of tail) load
+pub record HasLoad {C : Type 0} (format : CommandFormat C) (geometry : Geometry) (tail : Tail C) (load : GroupOrSeal C) (moment : Moment) : Type 0 where
+  pub spelled : part (512 * (tail.gate + 1)) (512 * load_sectors format load) (tail_bytes geometry tail moment) ≡ payload_of format (tail_place tail) load
   pub next : NextIsClosed format load (tail_bytes geometry tail moment) tail.gate
 
 -- and all that was written with it is clean
-abbrev pub IsLoadClean : {C : Type 0} → CommandFormat C → Geometry → Tail C → Load C → Moment → Type 0
+abbrev pub IsLoadClean : {C : Type 0} → CommandFormat C → Geometry → Tail C → GroupOrSeal C → Moment → Type 0
 IsLoadClean format geometry tail load moment = AreCleanSectors geometry tail.half (tail.gate + 1) (written_sectors format load) moment
 
 -- the facts of each phase, beside the groups
-abbrev pub AtPhase : {C : Type 0} → Flush → CommandFormat C → Geometry → Tail C → Load C → Moment → Type 0
+abbrev pub AtPhase : {C : Type 0} → Flush → CommandFormat C → Geometry → Tail C → GroupOrSeal C → Moment → Type 0
 AtPhase Resting format geometry tail load moment = HasClosedGate geometry tail moment
 AtPhase Staged format geometry tail load moment = HasClosedGate geometry tail moment
 AtPhase Written format geometry tail load moment = HasClosedGate geometry tail moment × HasLoad format geometry tail load moment
@@ -59,24 +59,24 @@ AtPhase Durable format geometry tail load moment =
     × AreCleanSectors geometry tail.half tail.gate 1 moment
 
 -- the flusher's part
-pub record FlusherPart {C : Type 0} (phase : Flush) (format : CommandFormat C) (limits : Limits) (geometry : Geometry) (tail : Tail C) (load : Load C)
+pub record FlusherPart {C : Type 0} (phase : Flush) (format : CommandFormat C) (limits : Limits) (geometry : Geometry) (tail : Tail C) (load : GroupOrSeal C)
     (moment : Moment) : Type 0 where
   pub groups : HasGroups format limits geometry tail moment
   pub can : CanBeLoad format limits geometry tail load
   pub facts : AtPhase phase format geometry tail load moment
 
 -- an image's journal there has this reading
-abbrev pub ReadsAs : {C : Type 0} → CommandFormat C → Limits → Geometry → Tail C → List ℕ → Reading C → Type 0
-ReadsAs format limits geometry tail image reading = IsJournal format limits (journal_of geometry tail.half image) tail.start reading
+abbrev pub JournalReadsAs : {C : Type 0} → CommandFormat C → Limits → Geometry → Tail C → List ℕ → Reading C → Type 0
+JournalReadsAs format limits geometry tail image reading = IsJournal format limits (journal_of geometry tail.half image) tail.start reading
 
 -- what it may have: what is committed, or what is in flight too
-abbrev pub MayRead : {C : Type 0} → Flush → CommandFormat C → Limits → Geometry → Tail C → Load C → List ℕ → Type 0
-MayRead Resting format limits geometry tail load image = ReadsAs format limits geometry tail image (without_load tail)
-MayRead Staged format limits geometry tail load image = ReadsAs format limits geometry tail image (without_load tail)
-MayRead Written format limits geometry tail load image = ReadsAs format limits geometry tail image (without_load tail)
-MayRead Stable format limits geometry tail load image = ReadsAs format limits geometry tail image (without_load tail)
+abbrev pub MayRead : {C : Type 0} → Flush → CommandFormat C → Limits → Geometry → Tail C → GroupOrSeal C → List ℕ → Type 0
+MayRead Resting format limits geometry tail load image = JournalReadsAs format limits geometry tail image (without_load tail)
+MayRead Staged format limits geometry tail load image = JournalReadsAs format limits geometry tail image (without_load tail)
+MayRead Written format limits geometry tail load image = JournalReadsAs format limits geometry tail image (without_load tail)
+MayRead Stable format limits geometry tail load image = JournalReadsAs format limits geometry tail image (without_load tail)
 MayRead Opened format limits geometry tail load image =
-    ReadsAs format limits geometry tail image (without_load tail) ⊎ ReadsAs format limits geometry tail image (with_load format tail load)
+    JournalReadsAs format limits geometry tail image (without_load tail) ⊎ JournalReadsAs format limits geometry tail image (with_load format tail load)
 MayRead Doubtful format limits geometry tail load image =
-    ReadsAs format limits geometry tail image (without_load tail) ⊎ ReadsAs format limits geometry tail image (with_load format tail load)
-MayRead Durable format limits geometry tail load image = ReadsAs format limits geometry tail image (with_load format tail load)
+    JournalReadsAs format limits geometry tail image (without_load tail) ⊎ JournalReadsAs format limits geometry tail image (with_load format tail load)
+MayRead Durable format limits geometry tail load image = JournalReadsAs format limits geometry tail image (with_load format tail load)

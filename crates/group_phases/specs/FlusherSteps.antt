@@ -7,9 +7,9 @@ use Rattle.store_layout.specs.CommandFormat.{CommandFormat}
 use Rattle.store_layout.specs.Layout.{Geometry, journal_at}
 use Rattle.group_phases.specs.declared.phases.Flush.{Flush}
 use Rattle.group_phases.specs.declared.phases.Flush.TheVariants.{Resting, Staged, Written, Stable, Opened, Doubtful, Durable}
-use Rattle.group_phases.specs.Setting.{HasTitle}
+use Rattle.group_phases.specs.StoreConfig.{HasTitle}
 use Rattle.byte_lists.specs.Sectors.{open_gate}
-use Rattle.group_phases.specs.Tail.{Load, Commands, Seal, load_bytes, Tail, place_of, CanBeLoad, tail_after}
+use Rattle.group_phases.specs.Tail.{GroupOrSeal, Commands, Seal, load_bytes, Tail, tail_place, CanBeLoad, tail_after}
 use Rattle.group_phases.specs.FlusherPart.{HasGroups, FlusherPart}
 use Rattle.group_phases.specs.Kept.{IsInJournal}
 
@@ -28,23 +28,23 @@ tail_gate_at geometry tail = journal_at geometry tail.half + tail.gate
 -- what it writes lies in the tail's journal
 abbrev pub WritesInJournal : Type 0 → Type 0
 WritesInJournal C =
-    (format : CommandFormat C) (limits : Limits) (geometry : Geometry) (tail : Tail C) (load : Load C) (moment : Moment)
+    (format : CommandFormat C) (limits : Limits) (geometry : Geometry) (tail : Tail C) (load : GroupOrSeal C) (moment : Moment)
     → HasGroups format limits geometry tail moment → CanBeLoad format limits geometry tail load
-    → IsInJournal geometry tail.half (load_at geometry tail) (length (load_bytes format (place_of tail) load))
+    → IsInJournal geometry tail.half (load_at geometry tail) (length (load_bytes format (tail_place tail) load))
     × IsInJournal geometry tail.half (tail_gate_at geometry tail) (length open_gate)
 
 -- what is in flight is written after the tail's gate
 abbrev pub WritesLoad : Type 0 → Type 0 → Type 0 → Type 0
 WritesLoad T E C =
-    (format : CommandFormat C) (limits : Limits) (geometry : Geometry) (tail : Tail C) (load : Load C) (result : Result T E) (old new : Disk)
-    → WriteCall (load_at geometry tail) (load_bytes format (place_of tail) load) result old new → IsHonest old
+    (format : CommandFormat C) (limits : Limits) (geometry : Geometry) (tail : Tail C) (load : GroupOrSeal C) (result : Result T E) (old new : Disk)
+    → WriteCall (load_at geometry tail) (load_bytes format (tail_place tail) load) result old new → IsHonest old
     → HasTitle geometry old.history.now → FlusherPart Staged format limits geometry tail load old.history.now
     → FlusherPart (by_result Written Staged result) format limits geometry tail load new.history.now
 
 -- and that gate is written open
 abbrev pub OpensTailGate : Type 0 → Type 0 → Type 0 → Type 0
 OpensTailGate T E C =
-    (format : CommandFormat C) (limits : Limits) (geometry : Geometry) (tail : Tail C) (load : Load C) (result : Result T E) (old new : Disk)
+    (format : CommandFormat C) (limits : Limits) (geometry : Geometry) (tail : Tail C) (load : GroupOrSeal C) (result : Result T E) (old new : Disk)
     → WriteCall (tail_gate_at geometry tail) open_gate result old new → IsHonest old
     → HasTitle geometry old.history.now → FlusherPart Stable format limits geometry tail load old.history.now
     → FlusherPart (by_result Opened Doubtful result) format limits geometry tail load new.history.now
@@ -52,7 +52,7 @@ OpensTailGate T E C =
 -- a sync from one phase on, which stays where the sync fails
 abbrev pub IsFlusherSync : Type 0 → Type 0 → Type 0 → Flush → Flush → Type 0
 IsFlusherSync T E C from done =
-    (format : CommandFormat C) (limits : Limits) (geometry : Geometry) (tail : Tail C) (load : Load C) (result : Result T E) (old new : Disk)
+    (format : CommandFormat C) (limits : Limits) (geometry : Geometry) (tail : Tail C) (load : GroupOrSeal C) (result : Result T E) (old new : Disk)
     → SyncCall result old new → IsHonest old
     → HasTitle geometry old.history.now → FlusherPart from format limits geometry tail load old.history.now
     → FlusherPart (by_result done from result) format limits geometry tail load new.history.now

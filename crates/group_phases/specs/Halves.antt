@@ -7,7 +7,7 @@ use Rattle.sector_dev.specs.Image.{IsCleanPart}
 use Rattle.store_layout.specs.declared.half.Half.{Half}
 use Rattle.store_layout.specs.Layout.{Geometry, area_at, gate_at, area_of, gate_of, journal_of}
 use Rattle.store_layout.specs.Checkpoint.{Head, Checkpoint, checkpoint_size, IsHead, IsCheckpoint}
-use Rattle.group_phases.specs.Setting.{Setting, AreCleanSectors}
+use Rattle.group_phases.specs.StoreConfig.{StoreConfig, AreCleanSectors}
 
 -- a half's gate reads open, or closed; and it is clean
 abbrev pub ReadsOpen : Geometry → Half → Moment → Type 0
@@ -25,15 +25,15 @@ pub record IsClosedHalf (geometry : Geometry) (half : Half) (moment : Moment) : 
   pub clean : IsGateClean geometry half moment
 
 -- a half's area begins with this checkpoint, or with this head, of a version that is known; and that is clean
-pub record HasCheckpoint {Db C : Type 0} (setting : Setting Db C) (half : Half) (checkpoint : Checkpoint Db) (moment : Moment) : Type 0 where
-  pub begins : IsCheckpoint setting.format.rows (area_of setting.geometry half moment.reads) checkpoint
-  pub known : checkpoint.head.version ≤ setting.latest
-  pub clean : IsCleanPart moment.dirty (512 * area_at setting.geometry half) (checkpoint_size setting.format.rows checkpoint)
+pub record HasCheckpoint {Db C : Type 0} (config : StoreConfig Db C) (half : Half) (checkpoint : Checkpoint Db) (moment : Moment) : Type 0 where
+  pub begins : IsCheckpoint config.format.rows (area_of config.geometry half moment.reads) checkpoint
+  pub known : checkpoint.head.version ≤ config.latest
+  pub clean : IsCleanPart moment.dirty (512 * area_at config.geometry half) (checkpoint_size config.format.rows checkpoint)
 
-pub record HasHead {Db C : Type 0} (setting : Setting Db C) (half : Half) (head : Head) (moment : Moment) : Type 0 where
-  pub begins : IsHead (area_of setting.geometry half moment.reads) head
-  pub known : head.version ≤ setting.latest
-  pub clean : IsCleanPart moment.dirty (512 * area_at setting.geometry half) 24
+pub record HasHead {Db C : Type 0} (config : StoreConfig Db C) (half : Half) (head : Head) (moment : Moment) : Type 0 where
+  pub begins : IsHead (area_of config.geometry half moment.reads) head
+  pub known : head.version ≤ config.latest
+  pub clean : IsCleanPart moment.dirty (512 * area_at config.geometry half) 24
 
 -- the first gate of a half's journal reads closed; and it is clean
 abbrev pub FirstReadsClosed : Geometry → Half → Moment → Type 0

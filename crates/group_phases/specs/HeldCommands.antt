@@ -3,40 +3,40 @@
 use Rattle.std.specs.Prelude.{◌≡◌, ℕ, ◌≤◌, [], ◌∷◌, ◌++◌, length, take}
 use Rattle.sector_dev.specs.Disk.{Moment}
 use Rattle.store_layout.specs.Limits.{limits_of}
-use Rattle.store_layout.specs.Group.{last_place, group_sectors, HasRoom, CanBeGroup}
+use Rattle.store_layout.specs.Group.{last_place, group_sectors, JournalHasRoom, CanBeGroup}
 use Rattle.group_phases.specs.declared.phases.Flush.TheVariants.{Resting, Staged}
 use Rattle.group_phases.specs.declared.phases.Check.TheVariants.{Ready}
-use Rattle.group_phases.specs.Setting.{Setting}
-use Rattle.group_phases.specs.Standing.{Standing, Behind, IsHeldBy}
+use Rattle.group_phases.specs.StoreConfig.{StoreConfig}
+use Rattle.group_phases.specs.CommitState.{CommitState, DeviceContents, IsHeldBy}
 
 -- a command is accepted after the pending ones, whatever is in flight
-abbrev pub accepted : {Db C : Type 0} → Standing Db C → C → Standing Db C
-accepted standing command = record standing { pending = standing.pending ++ command ∷ [] }
+abbrev pub with_accepted_command : {Db C : Type 0} → CommitState Db C → C → CommitState Db C
+with_accepted_command state command = record state { pending = state.pending ++ command ∷ [] }
 
 abbrev pub HeldWhenAccepted : Type 0 → Type 0 → Type 0
 HeldWhenAccepted Db C =
-    (setting : Setting Db C) (standing : Standing Db C) (behind : Behind Db C) (moment : Moment) (command : C)
-    → IsHeldBy setting standing behind moment → IsHeldBy setting (accepted standing command) behind moment
+    (config : StoreConfig Db C) (state : CommitState Db C) (behind : DeviceContents Db C) (moment : Moment) (command : C)
+    → IsHeldBy config state behind moment → IsHeldBy config (with_accepted_command state command) behind moment
 
 -- the first pending commands are staged, in this number, or a seal where they are none
-abbrev pub staged : {Db C : Type 0} → Standing Db C → ℕ → Standing Db C
-staged standing taken = record standing { taken = taken; flush = Staged }
+abbrev pub staged : {Db C : Type 0} → CommitState Db C → ℕ → CommitState Db C
+staged state taken = record state { taken = taken; flush = Staged }
 
 -- a group that may be at the place reached, and has room after the tail's gate
-pub record CanBeStaged {Db C : Type 0} (setting : Setting Db C) (standing : Standing Db C) (taken : ℕ) : Type 0 where
-  pub inside : taken ≤ length standing.pending
-  pub can : CanBeGroup setting.format.commands (limits_of standing.version) standing.value.place (take taken standing.pending)
-  pub room : HasRoom standing.gate (group_sectors setting.format.commands (take taken standing.pending)) setting.geometry.journal
+pub record CanBeStaged {Db C : Type 0} (config : StoreConfig Db C) (state : CommitState Db C) (taken : ℕ) : Type 0 where
+  pub inside : taken ≤ length state.pending
+  pub can : CanBeGroup config.format.commands (limits_of state.version) state.value.place (take taken state.pending)
+  pub room : JournalHasRoom state.gate (group_sectors config.format.commands (take taken state.pending)) config.geometry.journal
 
 abbrev pub HeldWhenGroupIsStaged : Type 0 → Type 0 → Type 0
 HeldWhenGroupIsStaged Db C =
-    (setting : Setting Db C) (standing : Standing Db C) (behind : Behind Db C) (moment : Moment) (taken : ℕ)
-    → standing.flush ≡ Resting → 1 ≤ taken → CanBeStaged setting standing taken
-    → IsHeldBy setting standing behind moment → IsHeldBy setting (staged standing taken) behind moment
+    (config : StoreConfig Db C) (state : CommitState Db C) (behind : DeviceContents Db C) (moment : Moment) (taken : ℕ)
+    → state.flush ≡ Resting → 1 ≤ taken → CanBeStaged config state taken
+    → IsHeldBy config state behind moment → IsHeldBy config (staged state taken) behind moment
 
 -- a seal may be staged where the other half is ready
 abbrev pub HeldWhenSealIsStaged : Type 0 → Type 0 → Type 0
 HeldWhenSealIsStaged Db C =
-    (setting : Setting Db C) (standing : Standing Db C) (behind : Behind Db C) (moment : Moment)
-    → standing.flush ≡ Resting → standing.check ≡ Ready → standing.value.place ≤ last_place
-    → IsHeldBy setting standing behind moment → IsHeldBy setting (staged standing 0) behind moment
+    (config : StoreConfig Db C) (state : CommitState Db C) (behind : DeviceContents Db C) (moment : Moment)
+    → state.flush ≡ Resting → state.check ≡ Ready → state.value.place ≤ last_place
+    → IsHeldBy config state behind moment → IsHeldBy config (staged state 0) behind moment

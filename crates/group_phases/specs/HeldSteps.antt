@@ -7,54 +7,54 @@ use Rattle.sector_dev.specs.Stretch.{Stretch}
 use Rattle.store_layout.specs.Layout.{journal_at}
 use Rattle.group_phases.specs.declared.phases.Flush.{Flush}
 use Rattle.group_phases.specs.declared.phases.Flush.TheVariants.{Staged, Written, Stable, Opened, Doubtful}
-use Rattle.group_phases.specs.Setting.{Setting}
+use Rattle.group_phases.specs.StoreConfig.{StoreConfig}
 use Rattle.byte_lists.specs.Sectors.{open_gate}
 use Rattle.group_phases.specs.Tail.{load_bytes}
 use Rattle.group_phases.specs.FlusherSteps.{by_result}
-use Rattle.group_phases.specs.Standing.{Standing, load_of, Behind, IsHeldBy, IsHeld, OpensToFront}
+use Rattle.group_phases.specs.CommitState.{CommitState, load_of, DeviceContents, IsHeldBy, IsHeld, OpensToFront}
 
 -- the same, with the flusher at another phase
-abbrev pub flushed : {Db C : Type 0} → Standing Db C → Flush → Standing Db C
-flushed standing phase = record standing { flush = phase }
+abbrev pub flushed : {Db C : Type 0} → CommitState Db C → Flush → CommitState Db C
+flushed state phase = record state { flush = phase }
 
 -- the flusher's calls, whatever the checkpointer's phase: what is in flight is written; the tail's gate is written; and a sync
 abbrev pub HeldWhileLoadIsWritten : Type 0 → Type 0 → Type 0 → Type 0 → Type 0
 HeldWhileLoadIsWritten T E Db C =
-    (setting : Setting Db C) (standing : Standing Db C) (behind : Behind Db C) (result : Result T E) (old new : Disk)
-    → standing.flush ≡ Staged
-    → WriteCall (journal_at setting.geometry standing.half + (standing.gate + 1))
-    (load_bytes setting.format.commands standing.value.place (load_of standing)) result old new
-    → IsHonest old → IsHeldBy setting standing behind old.history.now
-    → IsHeldBy setting (flushed standing (by_result Written Staged result)) behind new.history.now
+    (config : StoreConfig Db C) (state : CommitState Db C) (behind : DeviceContents Db C) (result : Result T E) (old new : Disk)
+    → state.flush ≡ Staged
+    → WriteCall (journal_at config.geometry state.half + (state.gate + 1))
+    (load_bytes config.format.commands state.value.place (load_of state)) result old new
+    → IsHonest old → IsHeldBy config state behind old.history.now
+    → IsHeldBy config (flushed state (by_result Written Staged result)) behind new.history.now
 
 abbrev pub HeldWhileGateIsOpened : Type 0 → Type 0 → Type 0 → Type 0 → Type 0
 HeldWhileGateIsOpened T E Db C =
-    (setting : Setting Db C) (standing : Standing Db C) (behind : Behind Db C) (result : Result T E) (old new : Disk)
-    → standing.flush ≡ Stable
-    → WriteCall (journal_at setting.geometry standing.half + standing.gate) open_gate result old new
-    → IsHonest old → IsHeldBy setting standing behind old.history.now
-    → IsHeldBy setting (flushed standing (by_result Opened Doubtful result)) behind new.history.now
+    (config : StoreConfig Db C) (state : CommitState Db C) (behind : DeviceContents Db C) (result : Result T E) (old new : Disk)
+    → state.flush ≡ Stable
+    → WriteCall (journal_at config.geometry state.half + state.gate) open_gate result old new
+    → IsHonest old → IsHeldBy config state behind old.history.now
+    → IsHeldBy config (flushed state (by_result Opened Doubtful result)) behind new.history.now
 
 abbrev pub HeldWhileSynced : Flush → Flush → Type 0 → Type 0 → Type 0 → Type 0 → Type 0
 HeldWhileSynced from done T E Db C =
-    (setting : Setting Db C) (standing : Standing Db C) (behind : Behind Db C) (result : Result T E) (old new : Disk)
-    → standing.flush ≡ from
+    (config : StoreConfig Db C) (state : CommitState Db C) (behind : DeviceContents Db C) (result : Result T E) (old new : Disk)
+    → state.flush ≡ from
     → SyncCall result old new
-    → IsHonest old → IsHeldBy setting standing behind old.history.now
-    → IsHeldBy setting (flushed standing (by_result done from result)) behind new.history.now
+    → IsHonest old → IsHeldBy config state behind old.history.now
+    → IsHeldBy config (flushed state (by_result done from result)) behind new.history.now
 
 -- what a stop within a call leaves opens to a front that one before it or after it may keep
-abbrev pub OpensAroundCall : {Db C : Type 0} → Setting Db C → Standing Db C → Standing Db C → List ℕ → Type 0
-OpensAroundCall setting before after image = OpensToFront setting before image ⊎ OpensToFront setting after image
+abbrev pub OpensAroundCall : {Db C : Type 0} → StoreConfig Db C → CommitState Db C → CommitState Db C → List ℕ → Type 0
+OpensAroundCall config before after image = OpensToFront config before image ⊎ OpensToFront config after image
 
 abbrev pub WritesLeaveFronts : Type 0 → Type 0 → Type 0 → Type 0 → Type 0
 WritesLeaveFronts T E Db C =
-    (setting : Setting Db C) (before after : Standing Db C) (sector : ℕ) (bytes : List ℕ) (result : Result T E) (old new : Disk)
+    (config : StoreConfig Db C) (before after : CommitState Db C) (sector : ℕ) (bytes : List ℕ) (result : Result T E) (old new : Disk)
     → WriteCall sector bytes result old new
-    → (IsHonest old → IsHeld setting before old.history.now) → (IsHonest new → IsHeld setting after new.history.now)
-    → Stretch old new (OpensAroundCall setting before after)
+    → (IsHonest old → IsHeld config before old.history.now) → (IsHonest new → IsHeld config after new.history.now)
+    → Stretch old new (OpensAroundCall config before after)
 
 abbrev pub SyncsLeaveFronts : Type 0 → Type 0 → Type 0 → Type 0 → Type 0
 SyncsLeaveFronts T E Db C =
-    (setting : Setting Db C) (before : Standing Db C) (result : Result T E) (old new : Disk) → SyncCall result old new
-    → (IsHonest old → IsHeld setting before old.history.now) → Stretch old new (OpensToFront setting before)
+    (config : StoreConfig Db C) (before : CommitState Db C) (result : Result T E) (old new : Disk) → SyncCall result old new
+    → (IsHonest old → IsHeld config before old.history.now) → Stretch old new (OpensToFront config before)

@@ -8,65 +8,65 @@ use Rattle.store_layout.specs.Checkpoint.{Checkpoint}
 use Rattle.store_layout.specs.StoreValues.{value_after}
 use Rattle.group_phases.specs.declared.phases.Flush.TheVariants.{Resting, Durable}
 use Rattle.group_phases.specs.declared.phases.Check.TheVariants.{Ready, Sealed, Planned, Live}
-use Rattle.group_phases.specs.Setting.{Setting}
-use Rattle.group_phases.specs.BasePart.{FoldsTo, CanBeWritten}
+use Rattle.group_phases.specs.StoreConfig.{StoreConfig}
+use Rattle.group_phases.specs.BasePart.{FoldsTo, CanBeNewCheckpoint}
 use Rattle.group_phases.specs.CheckpointerSteps.{base_switched, with_new}
-use Rattle.group_phases.specs.Standing.{Standing, Behind, tail_of, base_of, IsHeldBy}
+use Rattle.group_phases.specs.CommitState.{CommitState, DeviceContents, tail_of, checkpoint_pair_of, IsHeldBy}
 use Rattle.group_phases.specs.HeldChecks.{checked}
 
 -- a group that is durable is committed
-abbrev pub group_published : {Db C : Type 0} → Setting Db C → Standing Db C → Standing Db C
-group_published setting standing = record standing {
-  value = value_after setting.format standing.value (take standing.taken standing.pending);
-  pending = drop standing.taken standing.pending;
+abbrev pub group_published : {Db C : Type 0} → StoreConfig Db C → CommitState Db C → CommitState Db C
+group_published config state = record state {
+  value = value_after config.format state.value (take state.taken state.pending);
+  pending = drop state.taken state.pending;
   taken = 0;
   flush = Resting;
-  gate = gate_behind setting.format.commands standing.gate (take standing.taken standing.pending);
+  gate = gate_behind config.format.commands state.gate (take state.taken state.pending);
 }
 
-abbrev pub behind_group : {Db C : Type 0} → Standing Db C → Behind Db C → Behind Db C
-behind_group standing behind = record behind { groups = behind.groups ++ take standing.taken standing.pending ∷ [] }
+abbrev pub behind_group : {Db C : Type 0} → CommitState Db C → DeviceContents Db C → DeviceContents Db C
+behind_group state behind = record behind { groups = behind.groups ++ take state.taken state.pending ∷ [] }
 
 abbrev pub HeldWhenGroupIsPublished : Type 0 → Type 0 → Type 0
 HeldWhenGroupIsPublished Db C =
-    (setting : Setting Db C) (standing : Standing Db C) (behind : Behind Db C) (moment : Moment) → standing.flush ≡ Durable → 1 ≤ standing.taken
-    → IsHeldBy setting standing behind moment → IsHeldBy setting (group_published setting standing) (behind_group standing behind) moment
+    (config : StoreConfig Db C) (state : CommitState Db C) (behind : DeviceContents Db C) (moment : Moment) → state.flush ≡ Durable → 1 ≤ state.taken
+    → IsHeldBy config state behind moment → IsHeldBy config (group_published config state) (behind_group state behind) moment
 
 -- after a seal that is durable the tail continues in the other half, and the sealed half awaits its checkpoint
-abbrev pub seal_published : {Db C : Type 0} → Standing Db C → Standing Db C
-seal_published standing = record standing { flush = Resting; check = Sealed; half = other standing.half; gate = 0 }
+abbrev pub seal_published : {Db C : Type 0} → CommitState Db C → CommitState Db C
+seal_published state = record state { flush = Resting; check = Sealed; half = other state.half; gate = 0 }
 
-abbrev pub behind_seal : {Db C : Type 0} → Standing Db C → Behind Db C → Checkpoint Db → Behind Db C
-behind_seal standing behind next = record {
+abbrev pub behind_seal : {Db C : Type 0} → CommitState Db C → DeviceContents Db C → Checkpoint Db → DeviceContents Db C
+behind_seal state behind next = record {
   groups = [];
   new = next;
   old = behind.new;
   old_groups = behind.groups;
-  old_gate = standing.gate;
+  old_gate = state.gate;
 }
 
 abbrev pub HeldWhenSealIsPublished : Type 0 → Type 0 → Type 0
 HeldWhenSealIsPublished Db C =
-    (setting : Setting Db C) (standing : Standing Db C) (behind : Behind Db C) (moment : Moment) (next : Checkpoint Db)
-    → standing.flush ≡ Durable → standing.taken ≡ 0 → standing.check ≡ Ready
-    → IsHeldBy setting standing behind moment
-    → FoldsTo setting.format (base_switched (base_of standing behind) (tail_of standing behind) next)
-    → IsHeldBy setting (seal_published standing) (behind_seal standing behind next) moment
+    (config : StoreConfig Db C) (state : CommitState Db C) (behind : DeviceContents Db C) (moment : Moment) (next : Checkpoint Db)
+    → state.flush ≡ Durable → state.taken ≡ 0 → state.check ≡ Ready
+    → IsHeldBy config state behind moment
+    → FoldsTo config.format (base_switched (checkpoint_pair_of state behind) (tail_of state behind) next)
+    → IsHeldBy config (seal_published state) (behind_seal state behind next) moment
 
 -- a plan begins, of which nothing is written yet
-abbrev pub behind_plan : {Db C : Type 0} → Behind Db C → Checkpoint Db → Behind Db C
+abbrev pub behind_plan : {Db C : Type 0} → DeviceContents Db C → Checkpoint Db → DeviceContents Db C
 behind_plan behind next = record behind { new = next }
 
 abbrev pub HeldWhenPlanBegins : Type 0 → Type 0 → Type 0
 HeldWhenPlanBegins Db C =
-    (setting : Setting Db C) (standing : Standing Db C) (behind : Behind Db C) (moment : Moment) (next : Checkpoint Db)
-    → standing.check ≡ Sealed → IsHeldBy setting standing behind moment
-    → FoldsTo setting.format (with_new (base_of standing behind) next) → CanBeWritten setting next
-    → IsHeldBy setting (checked standing Planned 0) (behind_plan behind next) moment
+    (config : StoreConfig Db C) (state : CommitState Db C) (behind : DeviceContents Db C) (moment : Moment) (next : Checkpoint Db)
+    → state.check ≡ Sealed → IsHeldBy config state behind moment
+    → FoldsTo config.format (with_new (checkpoint_pair_of state behind) next) → CanBeNewCheckpoint config next
+    → IsHeldBy config (checked state Planned 0) (behind_plan behind next) moment
 
 -- the new half counts, and so does its version
 abbrev pub HeldUnderTheNewVersion : Type 0 → Type 0 → Type 0
 HeldUnderTheNewVersion Db C =
-    (setting : Setting Db C) (standing : Standing Db C) (behind : Behind Db C) (moment : Moment) → standing.check ≡ Live
-    → IsHeldBy setting standing behind moment
-    → IsHeldBy setting (record standing { version = behind.new.head.version }) behind moment
+    (config : StoreConfig Db C) (state : CommitState Db C) (behind : DeviceContents Db C) (moment : Moment) → state.check ≡ Live
+    → IsHeldBy config state behind moment
+    → IsHeldBy config (record state { version = behind.new.head.version }) behind moment

@@ -10,10 +10,10 @@ use Rattle.store_layout.specs.Layout.{Geometry, other, half_sectors, area_at, jo
 use Rattle.group_phases.specs.declared.phases.Flush.{Flush}
 use Rattle.group_phases.specs.declared.phases.Check.{Check}
 use Rattle.group_phases.specs.Range.{Untouched}
-use Rattle.group_phases.specs.Setting.{Setting, HasTitle}
-use Rattle.group_phases.specs.Tail.{Load, Tail}
+use Rattle.group_phases.specs.StoreConfig.{StoreConfig, HasTitle}
+use Rattle.group_phases.specs.Tail.{GroupOrSeal, Tail}
 use Rattle.group_phases.specs.FlusherPart.{FlusherPart}
-use Rattle.group_phases.specs.BasePart.{Base, BasePart}
+use Rattle.group_phases.specs.BasePart.{CheckpointPair, BasePart}
 
 -- the title is untouched, and so is the journal that has the tail
 pub record IsTailUntouched (geometry : Geometry) (half : Half) (old new : Moment) : Type 0 where
@@ -29,22 +29,22 @@ pub record IsBaseUntouched (geometry : Geometry) (half : Half) (old new : Moment
 -- the parts stay
 abbrev pub KeepsFlusherPart : Type 0 → Type 0
 KeepsFlusherPart C =
-    (phase : Flush) (format : CommandFormat C) (limits : Limits) (geometry : Geometry) (tail : Tail C) (load : Load C) (old new : Moment)
+    (phase : Flush) (format : CommandFormat C) (limits : Limits) (geometry : Geometry) (tail : Tail C) (load : GroupOrSeal C) (old new : Moment)
     → HasTitle geometry old → IsTailUntouched geometry tail.half old new
     → FlusherPart phase format limits geometry tail load old → FlusherPart phase format limits geometry tail load new
 
 abbrev pub KeepsBasePart : Type 0 → Type 0 → Type 0
 KeepsBasePart Db C =
-    (phase : Check) (setting : Setting Db C) (base : Base Db C) (written : ℕ) (old new : Moment)
-    → HasTitle setting.geometry old → IsBaseUntouched setting.geometry base.half old new
-    → BasePart phase setting base written old → BasePart phase setting base written new
+    (phase : Check) (config : StoreConfig Db C) (base : CheckpointPair Db C) (written : ℕ) (old new : Moment)
+    → HasTitle config.geometry old → IsBaseUntouched config.geometry base.half old new
+    → BasePart phase config base written old → BasePart phase config base written new
 
 -- this number of bytes, from a sector on, lie in the journal of a half, or beside it in the regions of the store
 pub record IsInJournal (geometry : Geometry) (half : Half) (sector n : ℕ) : Type 0 where
   pub from : journal_at geometry half ≤ sector
   pub to : 512 * sector + n ≤ 512 * (journal_at geometry half + geometry.journal)
 
-pub record IsBefore (geometry : Geometry) (half : Half) (sector n : ℕ) : Type 0 where
+pub record IsBeforeJournal (geometry : Geometry) (half : Half) (sector n : ℕ) : Type 0 where
   pub from : area_at geometry half ≤ sector
   pub to : 512 * sector + n ≤ 512 * journal_at geometry half
 
@@ -53,7 +53,7 @@ pub record IsInHalf (geometry : Geometry) (half : Half) (sector n : ℕ) : Type 
   pub to : 512 * sector + n ≤ 512 * (area_at geometry half + half_sectors geometry)
 
 abbrev pub IsBesideJournal : Geometry → Half → ℕ → ℕ → Type 0
-IsBesideJournal geometry half sector n = IsBefore geometry half sector n ⊎ IsInHalf geometry (other half) sector n
+IsBesideJournal geometry half sector n = IsBeforeJournal geometry half sector n ⊎ IsInHalf geometry (other half) sector n
 
 -- a write into the tail's journal leaves all else of the store, and one beside it leaves the journal, whatever they answer
 abbrev pub TailWritesLeaveBase : Type 0 → Type 0 → Type 0

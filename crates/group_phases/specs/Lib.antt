@@ -1,11 +1,11 @@
 pub mod Range
 pub mod RangeLaws
-pub mod Setting
+pub mod StoreConfig
 pub mod Tail
 pub mod FlusherPart
 pub mod Halves
 pub mod BasePart
-pub mod Standing
+pub mod CommitState
 pub mod StandingLaws
 pub mod Kept
 pub mod FlusherSteps

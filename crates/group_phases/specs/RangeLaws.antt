@@ -5,24 +5,24 @@ use Rattle.sector_dev.specs.Disk.{Moment, Disk, IsHonest, reads_of}
 use Rattle.sector_dev.specs.Image.{IsCleanPart, IsImage}
 use Rattle.sector_dev.specs.Calls.{WriteCall, SyncCall}
 use Rattle.sector_dev.specs.Stretch.{Stretch}
-use Rattle.group_phases.specs.Range.{ReadSo, IsSettled, Untouched, as_moment, AreApart, IsLeftAround}
+use Rattle.group_phases.specs.Range.{ReadSo, IsCleanContent, Untouched, as_moment, AreRangesApart, IsLeftAround}
 
 -- every image has a settled range's bytes there
 abbrev pub IsInEveryImage : Type 0
 IsInEveryImage =
-    (moment : Moment) (at : ℕ) (content image : List ℕ) → IsSettled moment at content → IsImage moment image
+    (moment : Moment) (at : ℕ) (content image : List ℕ) → IsCleanContent moment at content → IsImage moment image
     → part at (length content) image ≡ content
 
 -- a part of a settled range, and two neighbours
 abbrev pub HasSettledParts : Type 0
 HasSettledParts =
     (moment : Moment) (at : ℕ) (content : List ℕ) (from n : ℕ) → from + n ≤ length content
-    → IsSettled moment at content → IsSettled moment (at + from) (part from n content)
+    → IsCleanContent moment at content → IsCleanContent moment (at + from) (part from n content)
 
 abbrev pub JoinsNeighbours : Type 0
 JoinsNeighbours =
     (moment : Moment) (at : ℕ) (front behind : List ℕ)
-    → IsSettled moment at front → IsSettled moment (at + length front) behind → IsSettled moment at (front ++ behind)
+    → IsCleanContent moment at front → IsCleanContent moment (at + length front) behind → IsCleanContent moment at (front ++ behind)
 
 -- what is untouched reads as it did, and stays settled
 abbrev pub ReadsAsBefore : Type 0
@@ -31,7 +31,7 @@ ReadsAsBefore = (at n : ℕ) (old new : Moment) → Untouched at n old new → p
 abbrev pub StaysSettled : Type 0
 StaysSettled =
     (at : ℕ) (content : List ℕ) (old new : Moment) → Untouched at (length content) old new
-    → IsSettled old at content → IsSettled new at content
+    → IsCleanContent old at content → IsCleanContent new at content
 
 -- fewer bytes are untouched too, and what stays twice stays
 abbrev pub HasUntouchedParts : Type 0
@@ -52,7 +52,7 @@ abbrev pub WritesLeaveWhatIsBeside : Type 0 → Type 0 → Type 0
 WritesLeaveWhatIsBeside T E =
     (sector : ℕ) (bytes : List ℕ) (result : Result T E) (old new : Disk) (at n : ℕ)
     → WriteCall sector bytes result old new → IsHonest old → 512 * sector + length bytes ≤ length (reads_of old)
-    → AreApart (512 * sector) (length bytes) at n → Untouched at n old.history.now new.history.now
+    → AreRangesApart (512 * sector) (length bytes) at n → Untouched at n old.history.now new.history.now
 
 -- one that succeeds is read
 abbrev pub WritesAreRead : Type 0 → Type 0 → Type 0
@@ -72,7 +72,7 @@ abbrev pub SyncsSettle : Type 0 → Type 0 → Type 0
 SyncsSettle T E =
     (value : T) (old new : Disk) (at : ℕ) (content : List ℕ)
     → SyncCall (let result : Result T E = Ok value in result) old new → IsHonest old
-    → ReadSo old.history.now at content → IsSettled new.history.now at content
+    → ReadSo old.history.now at content → IsCleanContent new.history.now at content
 
 -- a stop within a call leaves what one before it or after it may
 abbrev pub WritesAreOneMoment : Type 0 → Type 0 → Type 0

@@ -5,20 +5,20 @@ use Rattle.store_layout.specs.Limits.{Limits}
 use Rattle.store_layout.specs.CommandFormat.{CommandFormat}
 use Rattle.store_layout.specs.Layout.{Geometry}
 use Rattle.group_phases.specs.declared.phases.Flush.{Flush}
-use Rattle.group_phases.specs.Setting.{Setting, HasTitle}
-use Rattle.group_phases.specs.Tail.{Load, Tail}
+use Rattle.group_phases.specs.StoreConfig.{StoreConfig, HasTitle}
+use Rattle.group_phases.specs.Tail.{GroupOrSeal, Tail}
 use Rattle.group_phases.specs.FlusherPart.{FlusherPart, MayRead}
-use Rattle.group_phases.specs.Standing.{Standing, IsHeld, OpensToFront}
+use Rattle.group_phases.specs.CommitState.{CommitState, IsHeld, OpensToFront}
 
 -- the flusher's part reports what the tail's journal of each image may read as
 abbrev pub ReadsByItsPart : Type 0 → Type 0
 ReadsByItsPart C =
-    (phase : Flush) (format : CommandFormat C) (limits : Limits) (geometry : Geometry) (tail : Tail C) (load : Load C) (moment : Moment)
+    (phase : Flush) (format : CommandFormat C) (limits : Limits) (geometry : Geometry) (tail : Tail C) (load : GroupOrSeal C) (moment : Moment)
     → HasTitle geometry moment → FlusherPart phase format limits geometry tail load moment
     → EveryImage moment (MayRead phase format limits geometry tail load)
 
 -- and both parts report what each image opens to
 abbrev pub OpensByBothParts : Type 0 → Type 0 → Type 0
 OpensByBothParts Db C =
-    (setting : Setting Db C) (standing : Standing Db C) (moment : Moment) → IsHeld setting standing moment
-    → EveryImage moment (OpensToFront setting standing)
+    (config : StoreConfig Db C) (state : CommitState Db C) (moment : Moment) → IsHeld config state moment
+    → EveryImage moment (OpensToFront config state)

@@ -4,34 +4,34 @@ use Rattle.byte_lists.specs.Sectors.{closed_gate}
 use Rattle.store_layout.specs.declared.half.Half.{Half}
 use Rattle.store_layout.specs.Limits.{Limits}
 use Rattle.store_layout.specs.CommandFormat.{CommandFormat}
-use Rattle.store_layout.specs.Group.{last_place, group_encoding, seal_encoding, group_sectors, HasRoom, CanBeGroup}
-use Rattle.store_layout.specs.Journal.{all_of, Reading, gate_behind, with_group, with_seal}
+use Rattle.store_layout.specs.Group.{last_place, group_encoding, seal_encoding, group_sectors, JournalHasRoom, CanBeGroup}
+use Rattle.store_layout.specs.Journal.{all_of, Reading, gate_behind, reading_with_group, reading_with_seal}
 use Rattle.store_layout.specs.Layout.{Geometry}
 
 -- what is in flight: a group of commands, or a seal
-pub data Load (C : Type 0) : Type 0 where
-  Commands : (commands : List C) → Load C
-  Seal : Load C
+pub data GroupOrSeal (C : Type 0) : Type 0 where
+  Commands : (commands : List C) → GroupOrSeal C
+  Seal : GroupOrSeal C
 
-abbrev pub commands_of : {C : Type 0} → Load C → List C
-commands_of (Commands commands) = commands
-commands_of Seal = []
+abbrev pub group_commands : {C : Type 0} → GroupOrSeal C → List C
+group_commands (Commands commands) = commands
+group_commands Seal = []
 
 -- its payload at a place, and how many sectors that takes
-abbrev pub payload_of : {C : Type 0} → CommandFormat C → ℕ → Load C → List ℕ
+abbrev pub payload_of : {C : Type 0} → CommandFormat C → ℕ → GroupOrSeal C → List ℕ
 payload_of format place (Commands commands) = group_encoding format place commands
 payload_of format place Seal = seal_encoding place
 
-abbrev pub load_sectors : {C : Type 0} → CommandFormat C → Load C → ℕ
+abbrev pub load_sectors : {C : Type 0} → CommandFormat C → GroupOrSeal C → ℕ
 load_sectors format (Commands commands) = group_sectors format commands
 load_sectors format Seal = 1
 
 -- what one write leaves after the tail's gate: the payload, and after a group the gate that follows, closed
-abbrev pub load_bytes : {C : Type 0} → CommandFormat C → ℕ → Load C → List ℕ
+abbrev pub load_bytes : {C : Type 0} → CommandFormat C → ℕ → GroupOrSeal C → List ℕ
 load_bytes format place (Commands commands) = group_encoding format place commands ++ closed_gate
 load_bytes format place Seal = seal_encoding place
 
-abbrev pub written_sectors : {C : Type 0} → CommandFormat C → Load C → ℕ
+abbrev pub written_sectors : {C : Type 0} → CommandFormat C → GroupOrSeal C → ℕ
 written_sectors format (Commands commands) = group_sectors format commands + 1
 written_sectors format Seal = 1
 
@@ -43,22 +43,22 @@ pub record Tail (C : Type 0) : Type 0 where
   pub gate : ℕ
 
 -- the place reached there
-abbrev pub place_of : {C : Type 0} → Tail C → ℕ
-place_of tail = tail.start + length (all_of tail.groups)
+abbrev pub tail_place : {C : Type 0} → Tail C → ℕ
+tail_place tail = tail.start + length (all_of tail.groups)
 
 -- what may be in flight there: a group that may be at that place, and has room, or a seal, which always has
-abbrev pub CanBeLoad : {C : Type 0} → CommandFormat C → Limits → Geometry → Tail C → Load C → Type 0
+abbrev pub CanBeLoad : {C : Type 0} → CommandFormat C → Limits → Geometry → Tail C → GroupOrSeal C → Type 0
 CanBeLoad format limits geometry tail (Commands commands) =
-    CanBeGroup format limits (place_of tail) commands × HasRoom tail.gate (group_sectors format commands) geometry.journal
-CanBeLoad format limits geometry tail Seal = place_of tail ≤ last_place
+    CanBeGroup format limits (tail_place tail) commands × JournalHasRoom tail.gate (group_sectors format commands) geometry.journal
+CanBeLoad format limits geometry tail Seal = tail_place tail ≤ last_place
 
 -- what the tail's journal reads as, without what is in flight and with it
 abbrev pub without_load : {C : Type 0} → Tail C → Reading C
-without_load tail = record { commands = all_of tail.groups; tail = tail.gate; sealed = false; place = place_of tail }
+without_load tail = record { commands = all_of tail.groups; tail = tail.gate; sealed = false; place = tail_place tail }
 
-abbrev pub with_load : {C : Type 0} → CommandFormat C → Tail C → Load C → Reading C
-with_load format tail (Commands commands) = with_group format (without_load tail) commands
-with_load format tail Seal = with_seal (without_load tail)
+abbrev pub with_load : {C : Type 0} → CommandFormat C → Tail C → GroupOrSeal C → Reading C
+with_load format tail (Commands commands) = reading_with_group format (without_load tail) commands
+with_load format tail Seal = reading_with_seal (without_load tail)
 
 -- the tail with a group more
 abbrev pub tail_after : {C : Type 0} → CommandFormat C → Tail C → List C → Tail C

@@ -1,7 +1,7 @@
 //! Laws of the checkpointer's steps, in any format of databases of type `Db` and commands of type `C`. `T` and `E` are what
 //! a call answers.
 
-ghost use Rattle.group_phases.specs.CheckpointerSteps.{StaysUnderLargerLimits, TakesTheNewVersion, PublishesSeal, BeginsPlan, WritesBesideJournal, WritesChunk, SyncsChunks, OpensHalf, SyncsHalf, ClosesHalf, SyncsClose};
+ghost use Rattle.group_phases.specs.CheckpointerSteps.{StaysUnderLargerLimits, TakesTheNewVersion, PublishesSeal, BeginsPlan, WritesBesideJournal, ChunkIsWritten, ChunksAreSynced, OpensHalf, HalfIsSynced, ClosesHalf, CloseIsSynced};
 
 /// The parts stay when the tail's limits grow to those of the new half's version.
 pub fn parts_stay_under_larger_limits<Db, C>()
@@ -24,15 +24,15 @@ pub fn checkpointer_writes_lie_beside_the_journal<Db, C>()
 /// The new checkpoint is written by its sectors, and synced: each call leaves the checkpointer's part of the next phase, or
 /// where it fails of the one before.
 pub fn checkpoints_are_laid<T, E, Db, C>()
-    ensures write { WritesChunk T E Db C }
-    ensures sync { SyncsChunks T E Db C }
+    ensures write { ChunkIsWritten T E Db C }
+    ensures sync { ChunksAreSynced T E Db C }
 {}
 
 /// The new half's gate is written open and synced, and then the old half's gates are written closed and synced: each call
 /// leaves the checkpointer's part of the next phase, or where it fails of one that says so.
 pub fn halves_are_switched<T, E, Db, C>()
     ensures open { OpensHalf T E Db C }
-    ensures open_sync { SyncsHalf T E Db C }
+    ensures open_sync { HalfIsSynced T E Db C }
     ensures close { ClosesHalf T E Db C }
-    ensures close_sync { SyncsClose T E Db C }
+    ensures close_sync { CloseIsSynced T E Db C }
 {}

@@ -25,7 +25,7 @@ use Rattle.group_core.specs.Staging.{Takes, staged_by}
 use Rattle.group_core.specs.Beginning.{plan_begun}
 use Rattle.group_core.specs.Redeeming.{outcome_at}
 use Rattle.group_core.specs.Submitting.{next_place}
-use Rattle.group_recovery.specs.RunSteps.{HasPlanAt, HasPlanned, FlushEvent, CheckEvent, StageEvent, BeginEvent, HaltEvent, LookupEvent}
+use Rattle.group_recovery.specs.RunSteps.{IsPlanOutAt, IsPlanOut, FlushEvent, CheckEvent, StageEvent, BeginEvent, HaltEvent, LookupEvent}
 use Rattle.group_recovery.specs.Holding.{HoldsGroup, HoldsPlan, SealWaits, HoldsTickets, IsHolding}
 use Rattle.group_recovery.proofs.Prefix.{Moves}
 
@@ -208,10 +208,10 @@ module _ (old : StateView) where
   check_rest has busy phase turn written epoch version failed reply.NoValue new step = subst (CheckRest old) (sym step.1) check_same
   check_rest has busy phase turn written epoch version failed _ new step = absurd step
 
-  pub planned_busy : (whole : Bool) → HasPlanned whole old → old.check ≢ check.Ready
+  pub planned_busy : (whole : Bool) → IsPlanOut whole old → old.check ≢ check.Ready
   planned_busy whole has is = let at = has.1 in cc
 
-  pub at_busy : (phase : Check) → phase ≢ check.Ready → HasPlanAt phase old → old.check ≢ check.Ready
+  pub at_busy : (phase : Check) → phase ≢ check.Ready → IsPlanOutAt phase old → old.check ≢ check.Ready
   at_busy phase other has is = other (sym has.1 ∙ is)
 
   pub begin_rest : (reply : Reply) (new : StateView) → BeginEvent reply old new → CheckRest old new

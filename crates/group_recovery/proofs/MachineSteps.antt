@@ -9,17 +9,17 @@ use Rattle.group_recovery.specs.declared.events.PublishRefusal.TheVariants as pu
 use Rattle.group_core.specs.StateView.{StateView}
 use Rattle.group_recovery.specs.Machine.{Machine, machine_of, committed_front}
 use Rattle.group_recovery.specs.MachineSteps.{machine_after, EventsMakeMachineSteps}
-use Rattle.group_recovery.specs.RunSteps.{RunView, PublishEvent, SubmitEvent, RedeemEvent, IsStep}
+use Rattle.group_recovery.specs.RunSteps.{RunView, PublishEvent, SubmitEvent, RedeemEvent, IsRunStep}
 use Rattle.group_recovery.proofs.Held.{Still}
 use Rattle.group_recovery.proofs.Runs.{none_or_some, IsFlushers, IsCheckers, flush_leaves, check_leaves}
 
 stays_still : {old new : StateView} → Still old new → machine_of new ≡ machine_of old
 stays_still still = λ i. record { committed = (still.value i).db; pending = still.pending i; place = (still.value i).place }
 
-flushed : (e : Event) (r : Reply) (old new : RunView) → IsStep e r old new → IsFlushers e → machine_of new.state ≡ machine_of old.state
+flushed : (e : Event) (r : Reply) (old new : RunView) → IsRunStep e r old new → IsFlushers e → machine_of new.state ≡ machine_of old.state
 flushed e r old new step is = stays_still (flush_leaves e r old new step is).still
 
-checked : (e : Event) (r : Reply) (old new : RunView) → IsStep e r old new → IsCheckers e → machine_of new.state ≡ machine_of old.state
+checked : (e : Event) (r : Reply) (old new : RunView) → IsRunStep e r old new → IsCheckers e → machine_of new.state ≡ machine_of old.state
 checked e r old new step is = stays_still (check_leaves e r old new step is).still
 
 -- a seal commits no command

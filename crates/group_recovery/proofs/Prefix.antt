@@ -17,8 +17,8 @@ use Rattle.store_open.specs.Behind.{SameBehind}
 use Rattle.store_open.specs.PathStores.{store_format}
 use Rattle.group_phases.specs.HeldSteps.{OpensAroundCall}
 use Rattle.group_core.specs.StateView.{StateView}
-use Rattle.group_core.specs.Stops.{setting_of, standing_of, MayOpen, StepLeaves}
-use Rattle.group_recovery.specs.RunLeaves.{IsCommitted, OpensToPrefix, RunLeaves}
+use Rattle.group_core.specs.Stops.{config_of, commit_state_of, MayOpen, StepLeaves}
+use Rattle.group_recovery.specs.RunLeaves.{IsFrontCommitted, OpensToPrefix, RunLeaves}
 
 -- The effect of a step on the committed and the pending commands: a number of the first pending commands are committed, and more
 -- commands are accepted. The sizes stay.
@@ -44,7 +44,7 @@ then_front value order done n =
     in_parts value (take done order) (take n (drop done order)) ∙ ap (λ (l : List Command). value_after store_format value l) (sym (take-add done n order))
 
 -- a front of the pending commands, after the committed ones
-module _ (start mid : StateView) (order : List Command) (is : IsCommitted start order mid) where
+module _ (start mid : StateView) (order : List Command) (is : IsFrontCommitted start order mid) where
   to_prefix : (image : List ℕ) → MayOpen mid image → OpensToPrefix start order is.done image
   to_prefix image opens =
       let long : length mid.pending + is.done ≡ length order = ap (λ (l : List Command). length l + is.done) is.pending ∙ length_drop is.done order is.inside in
@@ -58,7 +58,7 @@ module _ (start mid : StateView) (order : List Command) (is : IsCommitted start 
       }
 
   -- one more step
-  committed_then : (new : StateView) (more : List Command) → Moves more mid new → IsCommitted start (order ++ more) new
+  committed_then : (new : StateView) (more : List Command) → Moves more mid new → IsFrontCommitted start (order ++ more) new
   committed_then new more moves =
       let long : length mid.pending + is.done ≡ length order = ap (λ (l : List Command). length l + is.done) is.pending ∙ length_drop is.done order is.inside in
       let within : is.done + moves.shown ≤ length order = omega (arith, long, moves.inside) in
@@ -90,12 +90,12 @@ longer_prefix start order more least image opens = record {
 }
 
 -- the places determine how many commands are committed
-done_is : (start end : StateView) (order : List Command) (is : IsCommitted start order end) → end.value.place - start.value.place ≡ is.done
+done_is : (start end : StateView) (order : List Command) (is : IsFrontCommitted start order end) → end.value.place - start.value.place ≡ is.done
 done_is start end order is =
     let place : end.value.place ≡ start.value.place + length (take is.done order) = ap (λ (v : StoreValue (List RowView)). v.place) is.value in
     omega (arith, place, length-take-le is.done order is.inside)
 
-exit_so : (start end : StateView) (order : List Command) → IsCommitted start order end → (IsHonest end.disk → EveryImage end.disk.history.now (MayOpen end))
+exit_so : (start end : StateView) (order : List Command) → IsFrontCommitted start order end → (IsHonest end.disk → EveryImage end.disk.history.now (MayOpen end))
     → IsHonest end.disk → EveryImage end.disk.history.now (OpensToPrefix start order (end.value.place - start.value.place))
 exit_so start end order is exit honest image left =
     subst (λ (n : ℕ). OpensToPrefix start order n image) (sym (done_is start end order is)) (to_prefix start end order is image (exit honest image left))
@@ -127,7 +127,7 @@ leaves_at_first start stays = record {
   behind = stays.behind;
 }
   where
-    first : IsCommitted start (start.pending ++ []) start
+    first : IsFrontCommitted start (start.pending ++ []) start
     first = record { done = 0; inside = omega arith; value = λ i. record { db = start.value.db; place = same i }; pending = sym (append-nil start.pending) }
       where
         same : start.value.place ≡ start.value.place + 0
@@ -140,16 +140,16 @@ leaves_then start mid new order more so_far moves leaves = record {
   moments =
       stretch_then (OpensToPrefix start (order ++ more) 0) start.disk mid.disk new.disk
       (stretch_weaker (OpensToPrefix start order 0) (OpensToPrefix start (order ++ more) 0) start.disk mid.disk (longer_prefix start order more 0) so_far.moments)
-      (stretch_weaker (OpensAroundCall (setting_of mid) (standing_of mid) (standing_of new)) (OpensToPrefix start (order ++ more) 0) mid.disk new.disk around leaves.moments);
+      (stretch_weaker (OpensAroundCall (config_of mid) (commit_state_of mid) (commit_state_of new)) (OpensToPrefix start (order ++ more) 0) mid.disk new.disk around leaves.moments);
   exit = exit_so start new (order ++ more) after leaves.exit;
   geometry = moves.geometry ∙ so_far.geometry;
   behind = behind_then start mid new so_far.geometry so_far.behind leaves.behind;
 }
   where
-    after : IsCommitted start (order ++ more) new
+    after : IsFrontCommitted start (order ++ more) new
     after = committed_then start mid order so_far.committed new more moves
 
-    around : (image : List ℕ) → OpensAroundCall (setting_of mid) (standing_of mid) (standing_of new) image → OpensToPrefix start (order ++ more) 0 image
+    around : (image : List ℕ) → OpensAroundCall (config_of mid) (commit_state_of mid) (commit_state_of new) image → OpensToPrefix start (order ++ more) 0 image
     around image (inl opens) = longer_prefix start order more 0 image (less_prefix start order so_far.committed.done 0 (omega arith) image (to_prefix start mid order so_far.committed image opens))
     around image (inr opens) =
         less_prefix start (order ++ more) after.done 0 (omega arith) image

@@ -7,17 +7,17 @@ use Rattle.sector_dev.specs.Image.{EveryImage, IsFromImage}
 use Rattle.sector_dev.specs.Stretch.{Stretch}
 use Rattle.sector_dev.proofs.Images.{image_of_reads}
 use Rattle.sector_dev.proofs.Stretches.{stretch_here, stretch_honest}
-use Rattle.store_layout.specs.Opening.{StoreValue, Opening, OpensTo, value_of}
+use Rattle.store_layout.specs.Opening.{StoreValue, Opening, OpensTo, opening_value}
 use Rattle.store_layout.specs.OpeningReading.{opening_of}
 use Rattle.store_layout.proofs.Exports.{has_one_value, opening_read}
 use Rattle.ckpt_pair.specs.Versions.{latest}
-use Rattle.store_open.specs.Open.{RefusesOpening, IsRefusedFor, OpensAlike, IsOpened, ComesBack}
+use Rattle.store_open.specs.Open.{RefusesOpening, IsErrorOfReading, OpensAlike, IsOpened, ComesBack}
 use Rattle.store_open.specs.PathStores.{store_format}
 use Rattle.store_open.specs.Store.{StoreView}
 use Rattle.store_open.specs.declared.error.OpenError.{OpenError}
 use Rattle.store_open.specs.declared.error.OpenError.TheVariants.{NotAStore, Device, Pair, Journal, NoMemory}
-use Rattle.group_core.specs.Ending.{IsSettled}
-use Rattle.group_core.specs.Starting.{value_in}
+use Rattle.group_core.specs.Ending.{HasNothingOut}
+use Rattle.group_core.specs.Starting.{value_of_store}
 use Rattle.group_core.specs.StateView.{StateView}
 use Rattle.group_core.specs.Stops.{StepLeaves}
 use Rattle.group_recovery.specs.Machine.{machine_of}
@@ -28,18 +28,18 @@ use Rattle.group_recovery.proofs.BooksKept.{fronts_reopened}
 module _ (image : List ℕ) where
   -- the store has the value of the image, and an image has at most one value
   module _ (store : StoreView) (opened : IsOpened image store) where
-    opens : OpensTo store_format latest image (value_in store)
+    opens : OpensTo store_format latest image (value_of_store store)
     opens = record { opening = opened.rest.opening; is = opened.same; stands_for = opened.rest.tells.value }
 
     pub has_value : HasValueOf image store
-    has_value value so = has_one_value (List RowView) Command store_format latest image (value_in store) value opens so
+    has_value value so = has_one_value (List RowView) Command store_format latest image (value_of_store store) value opens so
 
     pub reopens_machines : ReopensMachines image store
     reopens_machines machine so = record { kept = so.kept; inside = so.inside; value = has_value _ so.opens }
 
   -- an image that opens is never refused for its contents
   never_refused : {e : OpenError} {opening : Opening (List RowView) Command} → opening_of store_format latest image ≡ Ok opening
-      → IsRefusedFor e (opening_of store_format latest image) → ⊥
+      → IsErrorOfReading e (opening_of store_format latest image) → ⊥
   never_refused read refused = let both = sym read ∙ refused.is in cc
 
   by_error : (e : OpenError) {opening : Opening (List RowView) Command} → opening_of store_format latest image ≡ Ok opening
@@ -60,7 +60,7 @@ alike_opens value before behind opens (inr both) = record {
   opening = both.opening;
   is = both.opens_behind;
   stands_for =
-      has_one_value (List RowView) Command store_format latest before (value_of store_format both.opening) value
+      has_one_value (List RowView) Command store_format latest before (opening_value store_format both.opening) value
       (record { opening = both.opening; is = both.opens_before; stands_for = refl }) opens;
 }
 
@@ -81,7 +81,7 @@ module _ (state : StateView) (leaves : StepLeaves state state) where
     machines_there = subst (λ (d : Disk). IsHonest d → EveryImage d.history.now (OpensToMachine (machine_of state))) (sym same) machines
 
     pub value_at_rest : OpensAtRest state disk → (store : StoreView) → (IsHonest disk → HasValueOf (reads_of disk) store) → IsHonest state.disk → state.pending ≡ []
-        → value_in store ≡ state.value
+        → value_of_store store ≡ state.value
     value_at_rest rests store has honest none = has (honest_there honest) _ (rests (honest_there honest) none).reads
 
     pub moments_left : (new : Disk) → Stretch disk new (IsFromImage disk.history.now OpensAlike) → Stretch state.disk new (OpensToMachine (machine_of state))
@@ -100,7 +100,7 @@ module _ (state : StateView) (leaves : StepLeaves state state) where
       pub front_reopened : (store : StoreView) → (IsHonest disk → ReopensMachines (reads_of disk) store) → IsHonest state.disk → IsReopened (machine_of state) store
       front_reopened store reopens honest = reopens (honest_there honest) (machine_of state) (reads_machine honest)
 
-      pub refused_so : (e : OpenError) (back : Disk) → IsSettled state → ComesBack e disk back → (IsHonest disk → RefusesNoStore e (reads_of disk))
-          → IsSettled state × ComesBack e state.disk back × (IsHonest state.disk → SaysNothingOfTheImage e)
+      pub refused_so : (e : OpenError) (back : Disk) → HasNothingOut state → ComesBack e disk back → (IsHonest disk → RefusesNoStore e (reads_of disk))
+          → HasNothingOut state × ComesBack e state.disk back × (IsHonest state.disk → SaysNothingOfTheImage e)
       refused_so e back settled comes refuses =
           (settled, subst (λ (d : Disk). ComesBack e d back) same comes, λ honest. refuses (honest_there honest) _ (reads_machine honest).opens)

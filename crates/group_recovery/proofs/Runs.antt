@@ -16,11 +16,11 @@ use Rattle.group_recovery.specs.declared.holding.HeldPlan.TheVariants as plan
 use Rattle.group_core.specs.declared.ticket.Ticket.{Ticket}
 use Rattle.group_core.specs.StateView.{StateView}
 use Rattle.group_core.specs.Stops.{StepLeaves}
-use Rattle.group_core.specs.Publishing.{with_group, with_seal}
+use Rattle.group_core.specs.Publishing.{group_committed, journal_sealed}
 use Rattle.group_core.specs.Submitting.{next_place}
 use Rattle.group_core.specs.Redeeming.{halted}
 use Rattle.group_recovery.specs.SameDevice.{DeviceGoesOn}
-use Rattle.group_recovery.specs.RunSteps.{RunView, PublishEvent, SubmitEvent, RedeemEvent, IsStep, IsRun}
+use Rattle.group_recovery.specs.RunSteps.{RunView, PublishEvent, SubmitEvent, RedeemEvent, IsRunStep, IsRun}
 use Rattle.group_recovery.specs.Holding.{HoldsGroup, HoldsPlan, SealWaits, HoldsTickets, IsHolding}
 use Rattle.group_recovery.specs.Winding.{ending_events, winding_events, HasWound}
 use Rattle.group_recovery.specs.RunLeaves.{accepted_by, accepted_in, lock_order, RunLeaves}
@@ -93,7 +93,7 @@ IsFlushers (event.Lookup query now) = Unit {0}
 IsFlushers event.Halt = Unit {0}
 IsFlushers _ = ⊥
 
-pub check_leaves : (e : Event) (r : Reply) (old new : RunView) → IsStep e r old new → IsCheckers e → CheckRest old.state new.state
+pub check_leaves : (e : Event) (r : Reply) (old new : RunView) → IsRunStep e r old new → IsCheckers e → CheckRest old.state new.state
 check_leaves event.Begin r old new step is = begin_rest old.state r new.state step.1
 check_leaves event.WriteChunk r old new step is = check_rest old.state _ (planned_busy old.state false) old.state.check old.state.plan _ old.state.epoch old.state.version check.Planned r new.state step.1
 check_leaves event.SyncChunks r old new step is = check_rest old.state _ (planned_busy old.state true) check.Laid old.state.plan old.state.written old.state.epoch old.state.version check.Planned r new.state step.1
@@ -103,7 +103,7 @@ check_leaves event.CloseHalf r old new step is = check_rest old.state _ (at_busy
 check_leaves event.SyncClose r old new step is = check_rest old.state _ (at_busy old.state check.Closing (λ (same : check.Closing ≡ check.Ready). cc)) check.Ready _ old.state.written old.state.epoch old.state.version check.Closing r new.state step.1
 check_leaves _ r old new step is = absurd is
 
-pub flush_leaves : (e : Event) (r : Reply) (old new : RunView) → IsStep e r old new → IsFlushers e → FlushRest old.state new.state
+pub flush_leaves : (e : Event) (r : Reply) (old new : RunView) → IsRunStep e r old new → IsFlushers e → FlushRest old.state new.state
 flush_leaves event.Stage r old new step is = stage_rest old.state r new.state step.1
 flush_leaves event.WriteGroup r old new step is = flush_rest old.state flush.Staged flush.Written flush.Staged r new.state step.1
 flush_leaves event.SyncGroup r old new step is = flush_rest old.state flush.Written flush.Stable flush.Written r new.state step.1
@@ -113,14 +113,14 @@ flush_leaves (event.Lookup query now) r old new step is = lookup_rest old.state 
 flush_leaves event.Halt r old new step is = halt_rest old.state r new.state step.1
 flush_leaves _ r old new step is = absurd is
 
-flush_moves : (e : Event) (r : Reply) (old new : RunView) → IsStep e r old new → IsFlushers e → Moves [] old.state new.state
+flush_moves : (e : Event) (r : Reply) (old new : RunView) → IsRunStep e r old new → IsFlushers e → Moves [] old.state new.state
 flush_moves e r old new step is = moves_none (flush_leaves e r old new step is).still
 
-check_moves : (e : Event) (r : Reply) (old new : RunView) → IsStep e r old new → IsCheckers e → Moves [] old.state new.state
+check_moves : (e : Event) (r : Reply) (old new : RunView) → IsRunStep e r old new → IsCheckers e → Moves [] old.state new.state
 check_moves e r old new step is = moves_none (check_leaves e r old new step is).still
 
 -- the effect of each event on the committed and the pending commands
-pub step_moves : (e : Event) (r : Reply) (old new : RunView) → old.state.taken ≤ length old.state.pending → IsStep e r old new → Moves (accepted_by e r) old.state new.state
+pub step_moves : (e : Event) (r : Reply) (old new : RunView) → old.state.taken ≤ length old.state.pending → IsRunStep e r old new → Moves (accepted_by e r) old.state new.state
 step_moves (event.Submit command) r old new inside step = submit_moves command r old new step
 step_moves event.Stage r old new inside step = flush_moves event.Stage r old new step tt
 step_moves event.WriteGroup r old new inside step = flush_moves event.WriteGroup r old new step tt
@@ -141,7 +141,7 @@ step_moves event.Halt r old new inside step = flush_moves event.Halt r old new s
 
 -- what a run holds, after the events that touch more
 -- after a seal the other half waits for its checkpoint
-seal_plan : (old : StateView) (held : HeldPlan) → old.check ≡ check.Ready → HoldsPlan held old → HoldsPlan held (with_seal old)
+seal_plan : (old : StateView) (held : HeldPlan) → old.check ≡ check.Ready → HoldsPlan held old → HoldsPlan held (journal_sealed old)
 seal_plan old plan.None ready plans = plans
 seal_plan old (plan.Plan value) ready plans = absurd (let at = plans.1.at in cc)
 seal_plan old (plan.Laid value) ready plans = absurd (let at = plans.1.at in cc)
@@ -151,7 +151,7 @@ seal_plan old (plan.Closing value) ready plans = absurd (let at = plans.1.at in 
 
 module _ {tickets : List (Option Ticket)} {after : HeldGroup} (planned : HeldPlan) (old new : StateView) (holds : HoldsGroup after new) where
   -- a group is committed
-  group_holding : (is : new ≡ with_group old) → old.taken ≤ length old.pending → HoldsTickets tickets old → HoldsPlan planned old → IsHolding new tickets after planned
+  group_holding : (is : new ≡ group_committed old) → old.taken ≤ length old.pending → HoldsTickets tickets old → HoldsPlan planned old → IsHolding new tickets after planned
   group_holding is inside kept plans = record {
     tickets = tickets_stay (subst (TicketsStay old) (sym is) (record { home = refl; next = next; kept = refl })) kept;
     group = holds;
@@ -159,10 +159,10 @@ module _ {tickets : List (Option Ticket)} {after : HeldGroup} (planned : HeldPla
     seal = subst SealWaits (sym is) (λ (out : false ≡ true) none. cc);
   }
     where
-      next : next_place (with_group old) ≡ next_place old
+      next : next_place (group_committed old) ≡ next_place old
       next = omega (arith, length-take-le old.taken old.pending inside, length-drop old.taken old.pending)
 
-  seal_holding : (is : new ≡ with_seal old) → old.check ≡ check.Ready → HoldsTickets tickets old → HoldsPlan planned old → IsHolding new tickets after planned
+  seal_holding : (is : new ≡ journal_sealed old) → old.check ≡ check.Ready → HoldsTickets tickets old → HoldsPlan planned old → IsHolding new tickets after planned
   seal_holding is ready kept plans = record {
     tickets = tickets_stay (subst (TicketsStay old) (sym is) (record { home = refl; next = refl; kept = refl })) kept;
     group = holds;
@@ -238,9 +238,9 @@ device_goes_on leaves = record {
 }
 
 -- a run with one more event
-pub run_then : (events : List Event) (replies : List Reply) (e : Event) (r : Reply) (old mid new : RunView) → IsRun events replies old mid → IsStep e r mid new
+pub run_then : (events : List Event) (replies : List Reply) (e : Event) (r : Reply) (old mid new : RunView) → IsRun events replies old mid → IsRunStep e r mid new
     → DeviceGoesOn mid.state.disk new.state.disk → IsRun (events ++ e ∷ []) (replies ++ r ∷ []) old new
-run_then [] [] e r old mid new is step on = (new, subst (λ (o : RunView). IsStep e r o new) is step, subst (λ (o : RunView). DeviceGoesOn o.state.disk new.state.disk) is on, refl)
+run_then [] [] e r old mid new is step on = (new, subst (λ (o : RunView). IsRunStep e r o new) is step, subst (λ (o : RunView). DeviceGoesOn o.state.disk new.state.disk) is on, refl)
 run_then [] (r' ∷ replies) e r old mid new is step on = absurd is
 run_then (e' ∷ events) [] e r old mid new is step on = absurd is
 run_then (e' ∷ events) (r' ∷ replies) e r old mid new is step on = (is.0, is.1, is.2, run_then events replies e r is.0 mid new is.3 step on)
@@ -259,7 +259,7 @@ pub record RunSoFar (events : List Event) (replies : List Reply) (start now : Ru
   pub leaves : RunLeaves start.state (lock_order start.state events replies) now.state
 
 pub so_far_then : (events : List Event) (replies : List Reply) (e : Event) (r : Reply) (start mid new : RunView) → RunSoFar events replies start mid → mid.state.taken ≤ length mid.state.pending
-    → IsStep e r mid new → StepLeaves mid.state new.state → RunSoFar (events ++ e ∷ []) (replies ++ r ∷ []) start new
+    → IsRunStep e r mid new → StepLeaves mid.state new.state → RunSoFar (events ++ e ∷ []) (replies ++ r ∷ []) start new
 so_far_then events replies e r start mid new so_far inside step leaves = record {
   runs = run_then events replies e r start mid new so_far.runs step (device_goes_on leaves);
   leaves = subst (λ (l : List Command). RunLeaves start.state l new.state) order
@@ -289,7 +289,7 @@ pushed_so (Err e) items pushed r ok is = absurd (cc)
 
 -- one more event
 pub so_far_more : (events : List Event) (i : ℕ) (e : Event) (replies pushed : List Reply) (r : Reply) (start mid new : RunView) → i < length events → e ≡ get_or events i e → pushed ≡ replies ++ r ∷ []
-    → RunSoFar (take i events) replies start mid → mid.state.taken ≤ length mid.state.pending → IsStep e r mid new → StepLeaves mid.state new.state → RunSoFar (take (i + 1) events) pushed start new
+    → RunSoFar (take i events) replies start mid → mid.state.taken ≤ length mid.state.pending → IsRunStep e r mid new → StepLeaves mid.state new.state → RunSoFar (take (i + 1) events) pushed start new
 so_far_more events i e replies pushed r start mid new inside is pushed_is so_far taken step leaves =
     subst (λ (l : List Event). RunSoFar l pushed start new) (sym (take_more events i e inside ∙ ap (λ (x : Event). take i events ++ x ∷ []) (sym is)))
     (subst (λ (l : List Reply). RunSoFar (take i events ++ e ∷ []) l start new) (sym pushed_is) (so_far_then (take i events) replies e r start mid new so_far taken step leaves))
@@ -304,12 +304,12 @@ gone_first start stays = record { replies = []; so_far = so_far_first [] [] star
 
 -- one more of these events, which is read from a list of them
 pub gone_ending : (list : List Event) (i : ℕ) (item : Event) (r : Reply) (start mid new : RunView) → list ≡ ending_events → i < 12 → item ≡ get_or list i item → GoneBy (take i ending_events) start mid
-    → mid.state.taken ≤ length mid.state.pending → IsStep (get_or list i item) r mid new → StepLeaves mid.state new.state → GoneBy (take (i + 1) ending_events) start new
+    → mid.state.taken ≤ length mid.state.pending → IsRunStep (get_or list i item) r mid new → StepLeaves mid.state new.state → GoneBy (take (i + 1) ending_events) start new
 gone_ending list i item r start mid new are inside is gone taken step leaves = record {
   replies = gone.replies ++ r ∷ [];
   so_far =
       so_far_more ending_events i item gone.replies (gone.replies ++ r ∷ []) r start mid new inside (is ∙ ap (λ (l : List Event). get_or l i item) are) refl gone.so_far taken
-      (subst (λ (e : Event). IsStep e r mid new) (sym is) step) leaves;
+      (subst (λ (e : Event). IsRunStep e r mid new) (sym is) step) leaves;
 }
 
 -- all of these events
@@ -317,7 +317,7 @@ pub gone_to_the_end : (i : ℕ) (start now : RunView) → 12 ≤ i → i ≤ 12 
 gone_to_the_end i start now least most gone = let all : i ≡ 12 = omega arith in subst (λ (n : ℕ). GoneBy (take n ending_events) start now) all gone
 
 -- one more ticket
-pub gone_redeeming : (k : ℕ) (r : Reply) (start mid new : RunView) → GoneBy (winding_events k) start mid → mid.state.taken ≤ length mid.state.pending → IsStep (event.Redeem k) r mid new
+pub gone_redeeming : (k : ℕ) (r : Reply) (start mid new : RunView) → GoneBy (winding_events k) start mid → mid.state.taken ≤ length mid.state.pending → IsRunStep (event.Redeem k) r mid new
     → StepLeaves mid.state new.state → GoneBy (winding_events (k + 1)) start new
 gone_redeeming k r start mid new gone taken step leaves =
     let next : suc k ≡ k + 1 = omega arith in

@@ -16,9 +16,9 @@ use Rattle.group_core.specs.declared.ticket.Receipt.{Receipt}
 use Rattle.group_core.specs.declared.ticket.Redeemed.TheVariants.{Committed, Waiting, Unknown}
 use Rattle.group_recovery.specs.declared.events.Reply.TheVariants as reply
 use Rattle.group_core.specs.Redeeming.{outcome_at, redeemed, Redeems}
-use Rattle.group_core.specs.Submitting.{next_place, accepted_rows, with_command, IsTicketOf, Submits}
+use Rattle.group_core.specs.Submitting.{next_place, accepted_rows, with_pending_command, IsTicketOf, Submits}
 use Rattle.group_recovery.specs.RunSteps.{ticket_at, redeemed_at, RedeemEvent, SubmitEvent}
-use Rattle.group_recovery.specs.Holding.{held_at, place_of, run_view, IsOwnTicket, HoldsTickets, AllRedeemed}
+use Rattle.group_recovery.specs.Holding.{held_at, ticket_place, run_view, IsOwnTicket, HoldsTickets, AllRedeemed}
 use Rattle.group_core.proofs.Exports.{there_then, beside_put, beside_taken}
 
 same_or_not : (i k : ℕ) → (i ≡ k) ⊎ (i ≢ k)
@@ -47,7 +47,7 @@ inside tickets k ticket at = by (below_or_past k (length tickets))
 -- the places are those of the tickets
 pub place_at : (tickets : List (Option Ticket)) (k : ℕ) (ticket : Ticket) (view : StateView) → held_at k tickets ≡ Some ticket → ticket_at k (run_view view tickets) ≡ Some ticket.place
 place_at [] k ticket view at = absurd (no_ticket at)
-place_at (t ∷ tickets) zero ticket view at = ap place_of at
+place_at (t ∷ tickets) zero ticket view at = ap ticket_place at
 place_at (t ∷ tickets) (suc k) ticket view at = place_at tickets k ticket view at
 
 -- a ticket is put back where it was taken out
@@ -100,7 +100,7 @@ module _ (tickets : List (Option Ticket)) (k : ℕ) where
   }
 
   pub places_without : (ticket : Ticket) (view : StateView) → run_view (redeemed ticket view) (slice_set tickets k None) ≡ redeemed_at k ticket.place (run_view view tickets)
-  places_without ticket view = λ i. record { state = redeemed ticket view; tickets = map-set place_of tickets k None i }
+  places_without ticket view = λ i. record { state = redeemed ticket view; tickets = map-set ticket_place tickets k None i }
 
 -- one more ticket, after the others
 module _ (tickets : List (Option Ticket)) (last : Ticket) where
@@ -129,10 +129,10 @@ module _ (tickets : List (Option Ticket)) (last : Ticket) where
       by (inr past) = by_end (same_or_not i (length tickets)) past
 
   module _ (command : Command) (view : StateView) (its : IsTicketOf command view last) (holds : HoldsTickets tickets view) where
-    next_then : next_place (with_command command view) ≡ next_place view + 1
+    next_then : next_place (with_pending_command command view) ≡ next_place view + 1
     next_then = omega (arith, length-append view.pending (command ∷ []))
 
-    own_before : (i : ℕ) (ticket : Ticket) → held_at i tickets ≡ Some ticket → IsOwnTicket (with_command command view) ticket
+    own_before : (i : ℕ) (ticket : Ticket) → held_at i tickets ≡ Some ticket → IsOwnTicket (with_pending_command command view) ticket
     own_before i ticket at =
         let own = holds.each i ticket at in
         let before : ticket.place < next_place view = own.before in
@@ -143,16 +143,16 @@ module _ (tickets : List (Option Ticket)) (last : Ticket) where
           kept = subst IsSome (sym (beside_put (next_place view) ticket.place apart view.kept (outcome_of (accepted_rows view) command))) own.kept;
         }
 
-    own_last : IsOwnTicket (with_command command view) last
+    own_last : IsOwnTicket (with_pending_command command view) last
     own_last = record {
       home = its.home;
       before = omega (arith, its.place, next_then);
-      kept = subst IsSome (sym (ap (λ (p : ℕ). outcome_at p (with_command command view).kept) its.place ∙ there_then (next_place view) view.kept (outcome_of (accepted_rows view) command))) refl;
+      kept = subst IsSome (sym (ap (λ (p : ℕ). outcome_at p (with_pending_command command view).kept) its.place ∙ there_then (next_place view) view.kept (outcome_of (accepted_rows view) command))) refl;
     }
 
-    each_more : (i : ℕ) (ticket : Ticket) → IsBefore i ticket ⊎ IsLast i ticket → IsOwnTicket (with_command command view) ticket
+    each_more : (i : ℕ) (ticket : Ticket) → IsBefore i ticket ⊎ IsLast i ticket → IsOwnTicket (with_pending_command command view) ticket
     each_more i ticket (inl before) = own_before i ticket before.at
-    each_more i ticket (inr end) = subst (λ (t : Ticket). IsOwnTicket (with_command command view) t) (sym end.same) own_last
+    each_more i ticket (inr end) = subst (λ (t : Ticket). IsOwnTicket (with_pending_command command view) t) (sym end.same) own_last
 
     below_last : (i : ℕ) (ticket : Ticket) → held_at i tickets ≡ Some ticket → ticket.place ≡ last.place → ⊥
     below_last i ticket at same = let own = holds.each i ticket at in omega (arith, own.before, its.place, same)
@@ -163,14 +163,14 @@ module _ (tickets : List (Option Ticket)) (last : Ticket) where
     apart_more i j first second (inr a) (inl b) same = absurd (below_last j second b.at (sym same ∙ ap (λ (t : Ticket). t.place) a.same))
     apart_more i j first second (inr a) (inr b) same = a.place ∙ sym b.place
 
-    pub holds_more : HoldsTickets more (with_command command view)
+    pub holds_more : HoldsTickets more (with_pending_command command view)
     holds_more = record {
       each = λ i ticket at. each_more i ticket (there_or_last i ticket at);
       apart = λ i j first second at_first at_second same. apart_more i j first second (there_or_last i first at_first) (there_or_last j second at_second) same;
     }
 
-  pub places_more : map place_of more ≡ map place_of tickets ++ Some last.place ∷ []
-  places_more = map-append place_of tickets (Some last ∷ [])
+  pub places_more : map ticket_place more ≡ map ticket_place tickets ++ Some last.place ∷ []
+  places_more = map-append ticket_place tickets (Some last ∷ [])
 
 -- A ticket that was taken out, and the result of redeeming it.
 module _ (tickets left : List (Option Ticket)) (k : ℕ) (ticket : Ticket) (old new : StateView) (here : Some ticket ≡ held_at k tickets) (left_is : left ≡ slice_set tickets k None) where
@@ -223,9 +223,9 @@ module _ (tickets more_tickets : List (Option Ticket)) (ticket : Ticket) (comman
   pub accepted_holds : HoldsTickets tickets old → HoldsTickets more_tickets new
   accepted_holds holds =
       subst (HoldsTickets more_tickets) (sym step.3)
-      (subst (λ (l : List (Option Ticket)). HoldsTickets l (with_command command old)) (sym more_is) (holds_more tickets ticket command old step.2 holds))
+      (subst (λ (l : List (Option Ticket)). HoldsTickets l (with_pending_command command old)) (sym more_is) (holds_more tickets ticket command old step.2 holds))
 
   pub accepted_so : (place : ℕ) → place ≡ ticket.place → SubmitEvent command (reply.Accepted place) (run_view old tickets) (run_view new more_tickets)
   accepted_so place place_is =
       subst (λ (p : ℕ). SubmitEvent command (reply.Accepted p) (run_view old tickets) (run_view new more_tickets)) (sym place_is)
-      (step.0, step.1, step.2.place, step.3, ap (λ (l : List (Option Ticket)). map place_of l) more_is ∙ places_more tickets ticket)
+      (step.0, step.1, step.2.place, step.3, ap (λ (l : List (Option Ticket)). map ticket_place l) more_is ∙ places_more tickets ticket)

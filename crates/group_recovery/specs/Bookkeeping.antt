@@ -19,7 +19,7 @@ use Rattle.group_recovery.specs.declared.events.Reply.{Reply}
 use Rattle.group_recovery.specs.declared.events.Reply.TheVariants as reply
 use Rattle.group_recovery.specs.declared.events.StepRefusal.TheVariants as why
 use Rattle.group_recovery.specs.Machine.{Machine, machine_of}
-use Rattle.group_recovery.specs.RunSteps.{RunView, IsStep}
+use Rattle.group_recovery.specs.RunSteps.{RunView, IsRunStep}
 
 -- The outcomes of the commands that aren't redeemed, by their places, which rise; how many pending commands are in flight; whether
 -- the state has stopped; and the version of the half that counts.
@@ -76,10 +76,10 @@ KeepsBooks _ reply machine old new = new ≡ stopped_by reply old
 
 abbrev pub EventsKeepTheBooks : Type 0
 EventsKeepTheBooks =
-    (e : Event) (r : Reply) (old new : RunView) → IsStep e r old new
+    (e : Event) (r : Reply) (old new : RunView) → IsRunStep e r old new
     → KeepsBooks e r (machine_of old.state) (bookkeeping_of old.state) (bookkeeping_of new.state)
 
 -- a state that has stopped stays stopped
 abbrev pub StopsAreForGood : Type 0
 StopsAreForGood =
-    (e : Event) (r : Reply) (old new : RunView) → IsStep e r old new → old.state.stopped ≡ true → new.state.stopped ≡ true
+    (e : Event) (r : Reply) (old new : RunView) → IsRunStep e r old new → old.state.stopped ≡ true → new.state.stopped ≡ true

@@ -70,9 +70,9 @@ pub record HoldsTickets (tickets : List (Option Ticket)) (view : StateView) : Ty
   pub apart : (i k : ℕ) (ticket other : Ticket) → held_at i tickets ≡ Some ticket → held_at k tickets ≡ Some other → ticket.place ≡ other.place → i ≡ k
 
 -- the places of tickets
-abbrev pub place_of : Option Ticket → Option ℕ
-place_of None = None
-place_of (Some ticket) = Some ticket.place
+abbrev pub ticket_place : Option Ticket → Option ℕ
+ticket_place None = None
+ticket_place (Some ticket) = Some ticket.place
 
 -- no ticket is left
 abbrev pub AllRedeemed : List (Option Ticket) → Type 0
@@ -80,7 +80,7 @@ AllRedeemed tickets = (k : ℕ) → held_at k tickets ≡ None
 
 -- a run as contracts see it
 abbrev pub run_view : StateView → List (Option Ticket) → RunView
-run_view state tickets = record { state = state; tickets = map place_of tickets }
+run_view state tickets = record { state = state; tickets = map ticket_place tickets }
 
 -- What holds for a run between its events: what it holds is of its state, and it holds each value that is out.
 pub record IsHolding (view : StateView) (held : List (Option Ticket)) (held_group : HeldGroup) (held_plan : HeldPlan) : Type 0 where

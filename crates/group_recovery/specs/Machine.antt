@@ -18,8 +18,8 @@ abbrev pub machine_of : StateView → Machine
 machine_of view = record { committed = view.value.db; pending = view.pending; place = view.value.place }
 
 -- a command is accepted after the pending ones
-abbrev pub accepted : Machine → Command → Machine
-accepted machine command = record machine { pending = machine.pending ++ command ∷ [] }
+abbrev pub machine_with_command : Machine → Command → Machine
+machine_with_command machine command = record machine { pending = machine.pending ++ command ∷ [] }
 
 -- this number of the first pending commands are committed
 abbrev pub committed_front : Machine → ℕ → Machine

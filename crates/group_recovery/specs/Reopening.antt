@@ -10,8 +10,8 @@ use Rattle.store_open.specs.PathStores.{store_format}
 use Rattle.store_open.specs.Store.{StoreView}
 use Rattle.store_open.specs.declared.error.OpenError.{OpenError}
 use Rattle.store_open.specs.declared.error.OpenError.TheVariants.{NotAStore, Device, Pair, Journal, NoMemory}
-use Rattle.group_core.specs.Ending.{IsSettled}
-use Rattle.group_core.specs.Starting.{value_in}
+use Rattle.group_core.specs.Ending.{HasNothingOut}
+use Rattle.group_core.specs.Starting.{value_of_store}
 use Rattle.group_core.specs.StateView.{StateView}
 use Rattle.group_core.specs.Stops.{MayOpen}
 use Rattle.group_recovery.specs.declared.reopening.NotReopened.{NotReopened}
@@ -20,8 +20,8 @@ use Rattle.group_recovery.specs.Machine.{Machine, machine_of, reopened}
 use Rattle.group_recovery.specs.RunLeaves.{OpensToPrefix}
 
 -- the committed rows, and the place that is reached
-abbrev pub value_of : Machine → StoreValue (List RowView)
-value_of machine = record { db = machine.committed; place = machine.place }
+abbrev pub machine_value : Machine → StoreValue (List RowView)
+machine_value machine = record { db = machine.committed; place = machine.place }
 
 -- the machine of a state, with all commands of an order pending
 abbrev pub machine_with : StateView → List Command → Machine
@@ -31,7 +31,7 @@ machine_with start order = record (machine_of start) { pending = order }
 pub record OpensToMachine (machine : Machine) (image : List ℕ) : Type 0 where
   pub kept : ℕ
   pub inside : kept ≤ length machine.pending
-  pub opens : OpensTo store_format latest image (value_of (reopened machine kept))
+  pub opens : OpensTo store_format latest image (machine_value (reopened machine kept))
 
 -- What a stop within a run leaves is the machine at its start, with the commands in the order of the lock, reopened; and what a
 -- stop leaves of a state is that state's machine, reopened.
@@ -45,13 +45,13 @@ FrontsAreReopened = (view : StateView) (image : List ℕ) → MayOpen view image
 
 -- the store has the value of the image
 abbrev pub HasValueOf : List ℕ → StoreView → Type 0
-HasValueOf image store = (value : StoreValue (List RowView)) → OpensTo store_format latest image value → value_in store ≡ value
+HasValueOf image store = (value : StoreValue (List RowView)) → OpensTo store_format latest image value → value_of_store store ≡ value
 
 -- the store is this machine, reopened with a front of its pending commands
 pub record IsReopened (machine : Machine) (store : StoreView) : Type 0 where
   pub kept : ℕ
   pub inside : kept ≤ length machine.pending
-  pub value : value_in store ≡ value_of (reopened machine kept)
+  pub value : value_of_store store ≡ machine_value (reopened machine kept)
 
 -- the same for every machine to which the image opens
 abbrev pub ReopensMachines : List ℕ → StoreView → Type 0
@@ -72,9 +72,9 @@ RefusesNoStore e image = (value : StoreValue (List RowView)) → OpensTo store_f
 -- Why a state isn't opened again: it is in use, and is returned; or its device is returned as one that isn't opened, which for
 -- an honest device is not because of its contents.
 abbrev pub IsNotReopened : {D S N : Type 0} → (D → Disk) → NotReopened D S N → StateView → Type 0
-IsNotReopened disk_of (InUse back) state = (¬ IsSettled state) × (back ≡ state)
+IsNotReopened disk_of (InUse back) state = (¬ HasNothingOut state) × (back ≡ state)
 IsNotReopened disk_of (Refused device e) state =
-    IsSettled state × ComesBack e state.disk (disk_of device) × (IsHonest state.disk → SaysNothingOfTheImage e)
+    HasNothingOut state × ComesBack e state.disk (disk_of device) × (IsHonest state.disk → SaysNothingOfTheImage e)
 
 -- the device afterwards: in the store, in the state, or returned
 abbrev pub disk_left : {D S N : Type 0} → (D → Disk) → Result StoreView (NotReopened D S N) → Disk

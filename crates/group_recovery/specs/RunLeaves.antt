@@ -30,7 +30,7 @@ abbrev pub lock_order : StateView → List Event → List Reply → List Command
 lock_order start events replies = start.pending ++ accepted_in events replies
 
 -- At the end a front of that order is committed, which is all that was shown since, and the rest of the order is pending.
-pub record IsCommitted (start : StateView) (order : List Command) (end : StateView) : Type 0 where
+pub record IsFrontCommitted (start : StateView) (order : List Command) (end : StateView) : Type 0 where
   pub done : ℕ
   pub inside : done ≤ length order
   pub value : end.value ≡ value_after store_format start.value (take done order)
@@ -46,7 +46,7 @@ pub record OpensToPrefix (start : StateView) (order : List Command) (least : ℕ
 -- What a run leaves: a front of the order is committed; at each moment since its entry every image opens to a front, and at its
 -- exit to one that has all that is committed then. The sizes stay, and at every moment the bytes after the store are unchanged.
 pub record RunLeaves (start : StateView) (order : List Command) (end : StateView) : Type 0 where
-  pub committed : IsCommitted start order end
+  pub committed : IsFrontCommitted start order end
   pub moments : Stretch start.disk end.disk (OpensToPrefix start order 0)
   pub exit : IsHonest end.disk → EveryImage end.disk.history.now (OpensToPrefix start order (end.value.place - start.value.place))
   pub geometry : end.geometry ≡ start.geometry

@@ -23,9 +23,9 @@ use Rattle.group_recovery.specs.Machine.{machine_of, served}
 use Rattle.group_core.specs.Steps.{spent, is_whole, chunk_written, at_phase, half_counts, half_ready}
 use Rattle.group_core.specs.Staging.{Stages}
 use Rattle.group_core.specs.Publishing.{IsPublished}
-use Rattle.group_core.specs.Beginning.{Begins}
+use Rattle.group_core.specs.Beginning.{BeginsCheckpoint}
 use Rattle.group_core.specs.Redeeming.{outcome_at, kept_without, halted}
-use Rattle.group_core.specs.Submitting.{MayBeSubmitted, HasRoom, IsRefusedFor, next_place, with_command}
+use Rattle.group_core.specs.Submitting.{MayBeSubmitted, CheckpointHasRoom, IsSubmitRefused, next_place, with_pending_command}
 use Rattle.group_recovery.specs.SameDevice.{DeviceGoesOn}
 
 -- a state, and the places of the commands that the run accepted, in their order; `None` once a ticket is redeemed
@@ -38,27 +38,27 @@ abbrev pub ticket_at : ℕ → RunView → Option ℕ
 ticket_at k run = slice_index_or run.tickets k None
 
 -- the flusher's value is out, at this phase; the same for the checkpointer's value; and for its plan, complete or not
-abbrev pub HasGroup : Flush → StateView → Type 0
-HasGroup phase view = (view.group.out ≡ true) × (view.flush ≡ phase)
+abbrev pub IsGroupOut : Flush → StateView → Type 0
+IsGroupOut phase view = (view.group.out ≡ true) × (view.flush ≡ phase)
 
-abbrev pub HasPlanAt : Check → StateView → Type 0
-HasPlanAt phase view = (view.plan.out ≡ true) × (view.check ≡ phase)
+abbrev pub IsPlanOutAt : Check → StateView → Type 0
+IsPlanOutAt phase view = (view.plan.out ≡ true) × (view.check ≡ phase)
 
-abbrev pub HasPlanned : Bool → StateView → Type 0
-HasPlanned whole view = (view.plan.out ≡ true) × (view.check ≡ check.Planned) × (is_whole view ≡ whole)
+abbrev pub IsPlanOut : Bool → StateView → Type 0
+IsPlanOut whole view = (view.plan.out ≡ true) × (view.check ≡ check.Planned) × (is_whole view ≡ whole)
 
 -- A step of the flusher, from one phase to the next, or to another one where the device fails. A state that had stopped, and a device
 -- that fails, spend the value.
 abbrev pub FlushEvent : Flush → Flush → Flush → Reply → StateView → StateView → Type 0
 FlushEvent from to failed reply.Done old new =
-    HasGroup from old × (old.stopped ≡ false) × (new.disk.faults ≡ old.disk.faults)
+    IsGroupOut from old × (old.stopped ≡ false) × (new.disk.faults ≡ old.disk.faults)
     × (new ≡ record old { disk = new.disk; flush = to })
 FlushEvent from to failed (reply.StepRefused why.Stopped) old new =
-    HasGroup from old × (old.stopped ≡ true) × (new ≡ record old { group = spent old.group })
+    IsGroupOut from old × (old.stopped ≡ true) × (new ≡ record old { group = spent old.group })
 FlushEvent from to failed (reply.StepRefused why.Fault) old new =
-    HasGroup from old × (old.stopped ≡ false) × (new.disk.faults ≡ one_more old.disk.faults)
+    IsGroupOut from old × (old.stopped ≡ false) × (new.disk.faults ≡ one_more old.disk.faults)
     × (new ≡ record old { disk = new.disk; flush = failed; group = spent old.group; stopped = true })
-FlushEvent from to failed reply.NoValue old new = (¬ HasGroup from old) × (new ≡ old)
+FlushEvent from to failed reply.NoValue old new = (¬ IsGroupOut from old) × (new ≡ old)
 FlushEvent from to failed _ old new = ⊥
 
 -- A step of the checkpointer, where its value is out as `has` states: the state after it except for the device, and the phase where
@@ -81,15 +81,15 @@ StageEvent (reply.StageRefused e) old new = Stages (Err e) old new
 StageEvent _ old new = ⊥
 
 abbrev pub BeginEvent : Reply → StateView → StateView → Type 0
-BeginEvent reply.Done old new = (plan : Commit AtPlan) × Begins (Ok plan) old new
-BeginEvent (reply.BeginRefused e) old new = Begins (Err e) old new
+BeginEvent reply.Done old new = (plan : Commit AtPlan) × BeginsCheckpoint (Ok plan) old new
+BeginEvent (reply.BeginRefused e) old new = BeginsCheckpoint (Err e) old new
 BeginEvent _ old new = ⊥
 
 -- publishing
 abbrev pub PublishEvent : Reply → StateView → StateView → Type 0
-PublishEvent reply.Done old new = HasGroup flush.Durable old × IsPublished old new
-PublishEvent (reply.PublishRefused publish.NoMemory) old new = HasGroup flush.Durable old × (1 ≤ old.taken) × (new ≡ old)
-PublishEvent reply.NoValue old new = (¬ HasGroup flush.Durable old) × (new ≡ old)
+PublishEvent reply.Done old new = IsGroupOut flush.Durable old × IsPublished old new
+PublishEvent (reply.PublishRefused publish.NoMemory) old new = IsGroupOut flush.Durable old × (1 ≤ old.taken) × (new ≡ old)
+PublishEvent reply.NoValue old new = (¬ IsGroupOut flush.Durable old) × (new ≡ old)
 PublishEvent _ old new = ⊥
 
 -- stopping
@@ -106,9 +106,9 @@ LookupEvent query now _ old new = ⊥
 -- A command is accepted: its place is the next one, and the run has its ticket. Or it is refused, and nothing changes.
 abbrev pub SubmitEvent : Command → Reply → RunView → RunView → Type 0
 SubmitEvent command (reply.Accepted place) old new =
-    MayBeSubmitted command old.state × HasRoom command old.state × (place ≡ next_place old.state)
-    × (new.state ≡ with_command command old.state) × (new.tickets ≡ old.tickets ++ Some place ∷ [])
-SubmitEvent command (reply.Refused e) old new = IsRefusedFor e command old.state × (new ≡ old)
+    MayBeSubmitted command old.state × CheckpointHasRoom command old.state × (place ≡ next_place old.state)
+    × (new.state ≡ with_pending_command command old.state) × (new.tickets ≡ old.tickets ++ Some place ∷ [])
+SubmitEvent command (reply.Refused e) old new = IsSubmitRefused e command old.state × (new ≡ old)
 SubmitEvent command _ old new = ⊥
 
 -- the k-th ticket is redeemed, and the outcome of its place is no longer kept
@@ -135,30 +135,30 @@ RedeemEvent k _ old new = ⊥
 abbrev pub OnState : (StateView → StateView → Type 0) → RunView → RunView → Type 0
 OnState step old new = (new.tickets ≡ old.tickets) × step old.state new.state
 
-abbrev pub IsStep : Event → Reply → RunView → RunView → Type 0
-IsStep (event.Submit command) reply old new = SubmitEvent command reply old new
-IsStep event.Stage reply old new = OnState (StageEvent reply) old new
-IsStep event.WriteGroup reply old new = OnState (FlushEvent flush.Staged flush.Written flush.Staged reply) old new
-IsStep event.SyncGroup reply old new = OnState (FlushEvent flush.Written flush.Stable flush.Written reply) old new
-IsStep event.OpenGate reply old new = OnState (FlushEvent flush.Stable flush.Opened flush.Doubtful reply) old new
-IsStep event.SyncGate reply old new = OnState (FlushEvent flush.Opened flush.Durable flush.Opened reply) old new
-IsStep event.Publish reply old new = OnState (PublishEvent reply) old new
-IsStep (event.Redeem k) reply old new = RedeemEvent k reply old new
-IsStep event.Begin reply old new = OnState (BeginEvent reply) old new
-IsStep event.WriteChunk reply old new =
-    OnState (CheckEvent (HasPlanned false old.state) (chunk_written old.state) check.Planned reply) old new
-IsStep event.SyncChunks reply old new =
-    OnState (CheckEvent (HasPlanned true old.state) (at_phase check.Laid old.state) check.Planned reply) old new
-IsStep event.OpenHalf reply old new =
-    OnState (CheckEvent (HasPlanAt check.Laid old.state) (at_phase check.Switched old.state) check.SwitchFailed reply) old new
-IsStep event.SyncHalf reply old new =
-    OnState (CheckEvent (HasPlanAt check.Switched old.state) (half_counts old.state) check.Switched reply) old new
-IsStep event.CloseHalf reply old new =
-    OnState (CheckEvent (HasPlanAt check.Live old.state) (at_phase check.Closing old.state) check.CloseFailed reply) old new
-IsStep event.SyncClose reply old new =
-    OnState (CheckEvent (HasPlanAt check.Closing old.state) (half_ready old.state) check.Closing reply) old new
-IsStep (event.Lookup query now) reply old new = OnState (LookupEvent query now reply) old new
-IsStep event.Halt reply old new = OnState (HaltEvent reply) old new
+abbrev pub IsRunStep : Event → Reply → RunView → RunView → Type 0
+IsRunStep (event.Submit command) reply old new = SubmitEvent command reply old new
+IsRunStep event.Stage reply old new = OnState (StageEvent reply) old new
+IsRunStep event.WriteGroup reply old new = OnState (FlushEvent flush.Staged flush.Written flush.Staged reply) old new
+IsRunStep event.SyncGroup reply old new = OnState (FlushEvent flush.Written flush.Stable flush.Written reply) old new
+IsRunStep event.OpenGate reply old new = OnState (FlushEvent flush.Stable flush.Opened flush.Doubtful reply) old new
+IsRunStep event.SyncGate reply old new = OnState (FlushEvent flush.Opened flush.Durable flush.Opened reply) old new
+IsRunStep event.Publish reply old new = OnState (PublishEvent reply) old new
+IsRunStep (event.Redeem k) reply old new = RedeemEvent k reply old new
+IsRunStep event.Begin reply old new = OnState (BeginEvent reply) old new
+IsRunStep event.WriteChunk reply old new =
+    OnState (CheckEvent (IsPlanOut false old.state) (chunk_written old.state) check.Planned reply) old new
+IsRunStep event.SyncChunks reply old new =
+    OnState (CheckEvent (IsPlanOut true old.state) (at_phase check.Laid old.state) check.Planned reply) old new
+IsRunStep event.OpenHalf reply old new =
+    OnState (CheckEvent (IsPlanOutAt check.Laid old.state) (at_phase check.Switched old.state) check.SwitchFailed reply) old new
+IsRunStep event.SyncHalf reply old new =
+    OnState (CheckEvent (IsPlanOutAt check.Switched old.state) (half_counts old.state) check.Switched reply) old new
+IsRunStep event.CloseHalf reply old new =
+    OnState (CheckEvent (IsPlanOutAt check.Live old.state) (at_phase check.Closing old.state) check.CloseFailed reply) old new
+IsRunStep event.SyncClose reply old new =
+    OnState (CheckEvent (IsPlanOutAt check.Closing old.state) (half_ready old.state) check.Closing reply) old new
+IsRunStep (event.Lookup query now) reply old new = OnState (LookupEvent query now reply) old new
+IsRunStep event.Halt reply old new = OnState (HaltEvent reply) old new
 
 -- the events make these steps one after the other, with these replies, and all on one device
 abbrev pub IsRun : List Event → List Reply → RunView → RunView → Type 0
@@ -166,4 +166,4 @@ IsRun [] [] old new = new ≡ old
 IsRun [] (r ∷ replies) old new = ⊥
 IsRun (e ∷ events) [] old new = ⊥
 IsRun (e ∷ events) (r ∷ replies) old new =
-    (mid : RunView) × IsStep e r old mid × DeviceGoesOn old.state.disk mid.state.disk × IsRun events replies mid new
+    (mid : RunView) × IsRunStep e r old mid × DeviceGoesOn old.state.disk mid.state.disk × IsRun events replies mid new

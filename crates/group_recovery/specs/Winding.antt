@@ -4,7 +4,7 @@ use Rattle.sector_dev.specs.Disk.{Disk, IsHonest}
 use Rattle.group_recovery.specs.declared.events.Event.{Event}
 use Rattle.group_recovery.specs.declared.events.Event.TheVariants as event
 use Rattle.group_recovery.specs.declared.events.Reply.{Reply}
-use Rattle.group_core.specs.Ending.{IsSettled, HoldsStoreOf}
+use Rattle.group_core.specs.Ending.{HasNothingOut, HoldsStoreOf}
 use Rattle.group_core.specs.StateView.{StateView}
 use Rattle.group_recovery.specs.RunSteps.{RunView, IsRun}
 use Rattle.group_recovery.specs.RunLeaves.{accepted_in, lock_order, RunLeaves}
@@ -41,8 +41,8 @@ OpensAtRest view disk = IsHonest disk → view.pending ≡ [] → HoldsStoreOf v
 -- the device of a state in which no outcome is kept and no value is out, or the run, where something is left
 abbrev pub HandsOutDevice : {D : Type 0} → (D → Disk) → Result D RunView → RunView → Type 0
 HandsOutDevice disk_of (Ok device) run =
-    IsSettled run.state × (disk_of device ≡ run.state.disk) × OpensAtRest run.state (disk_of device)
-HandsOutDevice disk_of (Err back) run = (¬ IsSettled run.state) × (back ≡ run)
+    HasNothingOut run.state × (disk_of device ≡ run.state.disk) × OpensAtRest run.state (disk_of device)
+HandsOutDevice disk_of (Err back) run = (¬ HasNothingOut run.state) × (back ≡ run)
 
 -- the same after more events of the run
 pub record WindsUp {D : Type 0} (disk_of : D → Disk) (result : Result D RunView) (old : RunView) : Type 0 where

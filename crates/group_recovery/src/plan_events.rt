@@ -7,7 +7,7 @@ ghost use Rattle.group_phases.specs.declared.phases.Check.TheVariants.{Closing a
 ghost use Rattle.group_core.specs.Stops.{StepLeaves};
 ghost use Rattle.group_core.specs.Steps.{chunk_written, at_phase, half_counts, half_ready};
 ghost use Rattle.group_recovery.specs.Holding.{HoldsPlan};
-ghost use Rattle.group_recovery.specs.RunSteps.{BeginEvent, CheckEvent, HasPlanAt, HasPlanned};
+ghost use Rattle.group_recovery.specs.RunSteps.{BeginEvent, CheckEvent, IsPlanOutAt, IsPlanOut};
 
 use crate::events::Reply;
 use crate::group_events::refusal;
@@ -39,7 +39,7 @@ pub(crate) fn write_chunk<D: Device, S: Showcase>(
 ) -> Reply
     requires held { HoldsPlan held.old state.old }
     ensures held { HoldsPlan held.new state.new }
-    ensures step { CheckEvent (HasPlanned false state.old) (chunk_written state.old) planned result state.old state.new }
+    ensures step { CheckEvent (IsPlanOut false state.old) (chunk_written state.old) planned result state.old state.new }
     ensures any_moment { StepLeaves state.old state.new }
 {
     match mem::replace(held, HeldPlan::None) {
@@ -72,7 +72,7 @@ pub(crate) fn sync_chunks<D: Device, S: Showcase>(
 ) -> Reply
     requires held { HoldsPlan held.old state.old }
     ensures held { HoldsPlan held.new state.new }
-    ensures step { CheckEvent (HasPlanned true state.old) (at_phase laid state.old) planned result state.old state.new }
+    ensures step { CheckEvent (IsPlanOut true state.old) (at_phase laid state.old) planned result state.old state.new }
     ensures any_moment { StepLeaves state.old state.new }
 {
     match mem::replace(held, HeldPlan::None) {
@@ -105,7 +105,7 @@ pub(crate) fn open_half<D: Device, S: Showcase>(
 ) -> Reply
     requires held { HoldsPlan held.old state.old }
     ensures held { HoldsPlan held.new state.new }
-    ensures step { CheckEvent (HasPlanAt laid state.old) (at_phase switched state.old) switch_failed result state.old state.new }
+    ensures step { CheckEvent (IsPlanOutAt laid state.old) (at_phase switched state.old) switch_failed result state.old state.new }
     ensures any_moment { StepLeaves state.old state.new }
 {
     match mem::replace(held, HeldPlan::None) {
@@ -131,7 +131,7 @@ pub(crate) fn sync_half<D: Device, S: Showcase>(
 ) -> Reply
     requires held { HoldsPlan held.old state.old }
     ensures held { HoldsPlan held.new state.new }
-    ensures step { CheckEvent (HasPlanAt switched state.old) (half_counts state.old) switched result state.old state.new }
+    ensures step { CheckEvent (IsPlanOutAt switched state.old) (half_counts state.old) switched result state.old state.new }
     ensures any_moment { StepLeaves state.old state.new }
 {
     match mem::replace(held, HeldPlan::None) {
@@ -157,7 +157,7 @@ pub(crate) fn close_half<D: Device, S: Showcase>(
 ) -> Reply
     requires held { HoldsPlan held.old state.old }
     ensures held { HoldsPlan held.new state.new }
-    ensures step { CheckEvent (HasPlanAt live state.old) (at_phase closing state.old) close_failed result state.old state.new }
+    ensures step { CheckEvent (IsPlanOutAt live state.old) (at_phase closing state.old) close_failed result state.old state.new }
     ensures any_moment { StepLeaves state.old state.new }
 {
     match mem::replace(held, HeldPlan::None) {
@@ -183,7 +183,7 @@ pub(crate) fn sync_close<D: Device, S: Showcase>(
 ) -> Reply
     requires held { HoldsPlan held.old state.old }
     ensures held { HoldsPlan held.new state.new }
-    ensures step { CheckEvent (HasPlanAt closing state.old) (half_ready state.old) closing result state.old state.new }
+    ensures step { CheckEvent (IsPlanOutAt closing state.old) (half_ready state.old) closing result state.old state.new }
     ensures any_moment { StepLeaves state.old state.new }
 {
     match mem::replace(held, HeldPlan::None) {

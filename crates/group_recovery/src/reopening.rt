@@ -5,8 +5,8 @@ ghost use Rattle.sector_dev.specs.Disk.{IsHonest, reads_of};
 ghost use Rattle.sector_dev.specs.Image.{IsFromImage};
 ghost use Rattle.sector_dev.specs.Stretch.{Stretch};
 ghost use Rattle.store_open.specs.Open.{OpensAlike, ComesBack, disk_after};
-ghost use Rattle.group_core.specs.Ending.{IsSettled};
-ghost use Rattle.group_core.specs.Starting.{value_in};
+ghost use Rattle.group_core.specs.Ending.{HasNothingOut};
+ghost use Rattle.group_core.specs.Starting.{value_of_store};
 ghost use Rattle.group_recovery.specs.Machine.{machine_of};
 ghost use Rattle.group_recovery.specs.Reopening.{OpensToMachine, HasValueOf, IsReopened, ReopensMachines, RefusesNoStore, IsNotReopened, disk_left};
 
@@ -48,10 +48,10 @@ pub fn reopen_state<D: Device, S: Showcase>(
 ) -> Result<Store<D>, NotReopened<D, S>>
 where
     S: Drop,
-    ensures at_rest { IfOk result (λ store. IsHonest state.disk → state.pending ≡ [] → value_in store ≡ state.value) }
+    ensures at_rest { IfOk result (λ store. IsHonest state.disk → state.pending ≡ [] → value_of_store store ≡ state.value) }
     ensures front { IfOk result (λ store. IsHonest state.disk → IsReopened (machine_of state) store) }
     ensures whole { IfOk result (λ store. store.broken ≡ false) }
-    ensures settled { OnOk result (IsSettled state) }
+    ensures settled { OnOk result (HasNothingOut state) }
     ensures refused { IfErr result (λ e. IsNotReopened D.disk e state) }
 
     // At every moment each image that a stop may leave opens to the committed rows, with a front of the pending commands.

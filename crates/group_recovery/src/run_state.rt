@@ -2,7 +2,7 @@
 
 ghost use Rattle.std.specs.Prelude.{◌≡◌, ◌≤◌, length};
 ghost use Rattle.group_core.specs.Stops.{StepLeaves};
-ghost use Rattle.group_recovery.specs.RunSteps.{IsStep};
+ghost use Rattle.group_recovery.specs.RunSteps.{IsRunStep};
 ghost use Rattle.group_recovery.specs.StartsRun.{StartsRun};
 ghost use Rattle.group_recovery.specs.Winding.{HandsOutDevice};
 
@@ -101,7 +101,7 @@ impl<D: Device> Run<D> {
 
     /// Makes an event, and returns the reply to it.
     pub(crate) fn step(&mut self, alloc: Global, event: &Event) -> Reply
-        ensures step { IsStep event.now result self.old self.new }
+        ensures step { IsRunStep event.now result self.old self.new }
         ensures any_moment { StepLeaves self.old.state self.new.state }
     {
         match event {

@@ -5,7 +5,7 @@ use Rattle.std.proofs.lemmas.Str.Pattern.{IsSplitOnceResult, split_after, split_
 use Rattle.isd_as.specs.declared.error.IaError.{IaError}
 use Rattle.isd_as.specs.declared.error.IaError.TheVariants.{BadText, TooLarge}
 use Rattle.isd_as.specs.declared.number.IsdAs.{IsdAs}
-use Rattle.isd_as.specs.Reading.{Reads, ReadsAs}
+use Rattle.isd_as.specs.Reading.{ReadsIsdAs, ReadsAsNumber}
 use Rattle.isd_as.specs.Text.{AreHexGroups, AsNumber, Decimal, Groups, FitsAs, IsAsText, IsDecimal, IsHexGroup, IsIsdAsText, IsLargeAs, IsTooLargeText, Says, as_number}
 use Rattle.isd_as.proofs.Cuts.{cut_once, digits_lack, no_cut}
 use Rattle.isd_as.proofs.SameNumber.{same_parts}
@@ -87,7 +87,7 @@ pub says_from : (text front back : List ℕ) (isd : ℕ) (number : AsNumber) →
 says_from text front back isd number e f b = record { front = front; back = back; joined = e ∙ sym (append_assoc front (45 ∷ []) back); front_says = f; back_says = b }
 
 -- a text whose ISD is decimal fails as its AS does
-pub as_fails : (text : List ℕ) (front back : Bor (List ℕ)) (e : IaError) → IsSplitOnceResult 45 text (Some (front, back)) → IsNumeral 10 front.now → ReadsAs back.now (Err e) → Reads text (Err e)
+pub as_fails : (text : List ℕ) (front back : Bor (List ℕ)) (e : IaError) → IsSplitOnceResult 45 text (Some (front, back)) → IsNumeral 10 front.now → ReadsAsNumber back.now (Err e) → ReadsIsdAs text (Err e)
 as_fails text front back TooLarge h d r =
     record {
       isd = digits_value 10 front.now;
@@ -98,7 +98,7 @@ as_fails text front back TooLarge h d r =
 as_fails text front back BadText h d r = λ g. r g.number (says_cut text g.isd g.number (Some (front, back)) h g.says).1
 
 -- a text is read as one ISD-AS at most
-pub reads_only : (text : List ℕ) (r : Result IsdAs IaError) (ia : IsdAs) → Reads text r → IsIsdAsText text ia → r ≡ Ok ia
+pub reads_only : (text : List ℕ) (r : Result IsdAs IaError) (ia : IsdAs) → ReadsIsdAs text r → IsIsdAsText text ia → r ≡ Ok ia
 reads_only text (Ok found) ia h k =
     let once = says_once text found.isd ia.isd h.number k.number h.says k.says in
     ap Ok (same_parts found ia once.0 (h.asn ∙ ap as_number once.1 ∙ sym k.asn))
@@ -111,7 +111,7 @@ reads_only text (Err TooLarge) ia h k =
     fits_or_large (Groups x y z) p q = q
 reads_only text (Err BadText) ia h k = absurd (h (record { isd = ia.isd; number = k.number; says = k.says }))
 
-pub too_large_only : (text : List ℕ) (r : Result IsdAs IaError) → Reads text r → (IsErrOf r TooLarge) ↔ IsTooLargeText text
+pub too_large_only : (text : List ℕ) (r : Result IsdAs IaError) → ReadsIsdAs text r → (IsErrOf r TooLarge) ↔ IsTooLargeText text
 too_large_only text (Ok found) h = (λ e. absurd cc, λ large. let same : ◌≡◌ {A = Result IsdAs IaError} (Err TooLarge) (Ok found) = reads_only text (Err TooLarge) found large h in absurd cc)
 too_large_only text (Err TooLarge) h = (λ _. h, λ _. refl)
 too_large_only text (Err BadText) h = (λ e. absurd cc, λ large. absurd (h (record { isd = large.isd; number = large.number; says = large.says })))

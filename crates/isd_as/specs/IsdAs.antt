@@ -3,8 +3,8 @@ use Rattle.std.specs.Prelude.{◌≡◌, ℕ, ◌+◌, ◌*◌, ◌/◌, ◌%◌
 use Rattle.isd_as.specs.declared.number.IsdAs.{IsdAs}
 
 -- the 64 bits of an ISD-AS: the upper 16 are the ISD, the lower 48 the AS
-abbrev pub number_of : IsdAs → ℕ
-number_of ia = ia.isd * 2 ^ 48 + ia.asn
+abbrev pub isd_as_number : IsdAs → ℕ
+isd_as_number ia = ia.isd * 2 ^ 48 + ia.asn
 
 -- the ISD, in the upper 16 bits, or the AS is 0
 abbrev pub has_zero_part : ℕ → Bool

@@ -19,13 +19,13 @@ pub record SaysLargeAs (text : List ℕ) : Type 0 where
   pub large : IsLargeAs number
 
 -- the result of reading an AS: a number that fits, or why the text is refused
-abbrev pub ReadsAs : List ℕ → Result ℕ IaError → Type 0
-ReadsAs text (Ok n) = SaysAs text n
-ReadsAs text (Err TooLarge) = SaysLargeAs text
-ReadsAs text (Err BadText) = (number : AsNumber) → ¬ IsAsText text number
+abbrev pub ReadsAsNumber : List ℕ → Result ℕ IaError → Type 0
+ReadsAsNumber text (Ok n) = SaysAs text n
+ReadsAsNumber text (Err TooLarge) = SaysLargeAs text
+ReadsAsNumber text (Err BadText) = (number : AsNumber) → ¬ IsAsText text number
 
 -- the result of reading a text: the ISD-AS that the text denotes, or why the text is refused
-abbrev pub Reads : List ℕ → Result IsdAs IaError → Type 0
-Reads text (Ok ia) = IsIsdAsText text ia
-Reads text (Err TooLarge) = IsTooLargeText text
-Reads text (Err BadText) = ¬ IsInGrammar text
+abbrev pub ReadsIsdAs : List ℕ → Result IsdAs IaError → Type 0
+ReadsIsdAs text (Ok ia) = IsIsdAsText text ia
+ReadsIsdAs text (Err TooLarge) = IsTooLargeText text
+ReadsIsdAs text (Err BadText) = ¬ IsInGrammar text

@@ -14,7 +14,7 @@ pub struct IsdAs {
 
 impl IsdAs {
     ghost use Rattle.isd_as.specs.declared.number.IsdAs.{IsdAs};
-    ghost use Rattle.isd_as.specs.IsdAs.{number_of};
+    ghost use Rattle.isd_as.specs.IsdAs.{isd_as_number};
 
     /// The ISD-AS of an ISD and an AS of 48 bits.
     pub fn new(isd: u16, asn: u64) -> Self
@@ -27,8 +27,8 @@ impl IsdAs {
 
     /// The ISD-AS of 64 bits: the upper 16 are the ISD, the lower 48 the AS.
     pub fn from_u64(number: u64) -> Self
-        ensures number { number_of result ≡ number }
-        ensures only { (ia : IsdAs) → number_of ia ≡ number → result ≡ ia }
+        ensures number { isd_as_number result ≡ number }
+        ensures only { (ia : IsdAs) → isd_as_number ia ≡ number → result ≡ ia }
     {
         IsdAs {
             isd: (number >> 48) as u16,
@@ -38,7 +38,7 @@ impl IsdAs {
 
     /// The 64 bits of the ISD-AS: the upper 16 are the ISD, the lower 48 the AS.
     pub fn to_u64(self) -> u64
-        ensures { result ≡ number_of self }
+        ensures { result ≡ isd_as_number self }
     {
         u64::from(self.isd) << 48 | self.asn
     }

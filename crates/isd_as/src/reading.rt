@@ -1,7 +1,7 @@
 ghost use Rattle.std.specs.Prelude.{◌≡◌, ℕ, ◌+◌, ◌*◌, ◌^◌, ◌<◌, ◌↔◌, IsTrue, IfOk, IfSome, IfNone, IsErrOf};
 ghost use Rattle.std.specs.Str.Parse.{IsNumeral};
 ghost use Rattle.isd_as.specs.declared.number.IsdAs.{IsdAs};
-ghost use Rattle.isd_as.specs.Reading.{Reads, ReadsAs};
+ghost use Rattle.isd_as.specs.Reading.{ReadsIsdAs, ReadsAsNumber};
 ghost use Rattle.isd_as.specs.Text.{AreHexGroups, IsHexGroup, IsInGrammar, IsIsdAsText, IsTooLargeText, isd_as_text};
 
 use crate::error::IaError;
@@ -25,7 +25,7 @@ pub fn parse(text: &str) -> Result<IsdAs, IaError>
 }
 
 fn read(text: &str) -> Result<IsdAs, IaError>
-    ensures { Reads text.now result }
+    ensures { ReadsIsdAs text.now result }
 {
     let Some((front, back)) = text.split_once('-') else {
         return Err(IaError::BadText);
@@ -42,7 +42,7 @@ fn read(text: &str) -> Result<IsdAs, IaError>
 
 // The AS after the dash.
 fn read_as(text: &str) -> Result<u64, IaError>
-    ensures reads { ReadsAs text.now result }
+    ensures reads { ReadsAsNumber text.now result }
     ensures range { IfOk result (λ n. n < 2 ^ 48) }
 {
     if is_decimal(text) {

@@ -15,11 +15,11 @@ use Rattle.group_core.specs.declared.values.Commit.{Commit}
 use Rattle.group_core.specs.declared.ticket.Ticket.{Ticket}
 use Rattle.group_core.specs.StateView.{StateView}
 use Rattle.group_core.specs.Steps.{IsFlushTurn}
-use Rattle.group_core.specs.Publishing.{with_group, with_seal}
+use Rattle.group_core.specs.Publishing.{group_committed, journal_sealed}
 use Rattle.group_core.specs.Redeeming.{outcome_at, kept_without, redeemed}
 use Rattle.once_store.specs.Resting.{CheckRests, IsSteady, HasOnePending}
-use Rattle.once_store.specs.Folding.{IsRoomMade, IsLookedAt}
-use Rattle.once_store.specs.Committing.{IsNextDurable, SameAbove, IsCommitted, IsHeldBack, IsCarried}
+use Rattle.once_store.specs.Folding.{IsRoomMade, OnlyDeviceWasRead}
+use Rattle.once_store.specs.Committing.{IsNextDurable, SameAbove, IsOnePendingCommitted, IsHeldBack, IsCarried}
 
 -- ---- what is carried
 
@@ -31,7 +31,7 @@ carried_by_room old new made = let is = made.state in record {
   home = ap (λ (v : StateView). v.home) is;
 }
 
-pub carried_by_look : (old new : StateView) → IsLookedAt old new → IsCarried old new
+pub carried_by_look : (old new : StateView) → OnlyDeviceWasRead old new → IsCarried old new
 carried_by_look old new look = let is = look.state in record {
   value = ap (λ (v : StateView). v.value) is;
   pending = ap (λ (v : StateView). v.pending) is;
@@ -47,7 +47,7 @@ carried_by_durable value old new next = let is = next.state in record {
   home = ap (λ (v : StateView). v.home) is;
 }
 
-pub carried_by_seal : (old new : StateView) → new ≡ with_seal old → IsCarried old new
+pub carried_by_seal : (old new : StateView) → new ≡ journal_sealed old → IsCarried old new
 carried_by_seal old new is = record {
   value = ap (λ (v : StateView). v.value) is;
   pending = ap (λ (v : StateView). v.pending) is;
@@ -106,7 +106,7 @@ durable_steady value old new steady ready next =
       );
     }
 
-pub seal_steady : (old new : StateView) → IsSteady old → old.check ≡ Ready → 1 ≤ old.gate → new ≡ with_seal old → IsSteady new
+pub seal_steady : (old new : StateView) → IsSteady old → old.check ≡ Ready → 1 ≤ old.gate → new ≡ journal_sealed old → IsSteady new
 seal_steady old new steady ready some is =
     let rests = ready_rests old steady ready in
     let low = rests.1 some in
@@ -129,12 +129,12 @@ module _ (ticket : Ticket) (outcome : Outcome) (old : StateView) (one : HasOnePe
   none_left = λ i. drop (taken i) (one.pending i)
 
   abbrev after : StateView
-  after = redeemed ticket (with_group old)
+  after = redeemed ticket (group_committed old)
 
   one_more : after.value.place ≡ old.value.place + 1
   one_more = ap (λ (l : List Command). old.value.place + length l) taken_all
 
-  after_committed : outcome_at ticket.place old.kept ≡ Some outcome → IsCommitted outcome old after
+  after_committed : outcome_at ticket.place old.kept ≡ Some outcome → IsOnePendingCommitted outcome old after
   after_committed found =
       let rests = ready_rests old steady ready in
       record {
@@ -160,11 +160,11 @@ module _ (ticket : Ticket) (outcome : Outcome) (old : StateView) (one : HasOnePe
       }
 
 pub committed : (ticket : Ticket) (outcome : Outcome) (old new : StateView) → HasOnePending ticket old → IsSteady old → old.check ≡ Ready → old.taken ≡ 1
-    → outcome_at ticket.place old.kept ≡ Some outcome → new ≡ redeemed ticket (with_group old) → IsCommitted outcome old new
-committed ticket outcome old new one steady ready taken found is = subst (λ (v : StateView). IsCommitted outcome old v) (sym is) (after_committed ticket outcome old one steady ready taken found)
+    → outcome_at ticket.place old.kept ≡ Some outcome → new ≡ redeemed ticket (group_committed old) → IsOnePendingCommitted outcome old new
+committed ticket outcome old new one steady ready taken found is = subst (λ (v : StateView). IsOnePendingCommitted outcome old v) (sym is) (after_committed ticket outcome old one steady ready taken found)
 
 -- and so it is from a state on by which it was carried
-pub committed_from : (outcome : Outcome) (start old new : StateView) → IsCarried start old → IsCommitted outcome old new → IsCommitted outcome start new
+pub committed_from : (outcome : Outcome) (start old new : StateView) → IsCarried start old → IsOnePendingCommitted outcome old new → IsOnePendingCommitted outcome start new
 committed_from outcome start old new carried done =
     let same = same_so start old carried in
     let above = done.same in

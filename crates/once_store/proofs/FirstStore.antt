@@ -14,7 +14,7 @@ use Rattle.store_layout.proofs.Opened.{is_opened_so}
 use Rattle.ckpt_pair.specs.Versions.{latest}
 use Rattle.store_open.specs.NewStore.{IsNewStore}
 use Rattle.store_open.specs.PathStores.{store_format}
-use Rattle.store_open.specs.Store.{StoreView, Tells}
+use Rattle.store_open.specs.Store.{StoreView, HasOpening}
 use Rattle.store_open.specs.Open.{IsOpened}
 use Rattle.store_open.proofs.NewStores.{formatted_in_any}
 use Rattle.once_store.specs.Resting.{sizes}
@@ -26,7 +26,7 @@ use Rattle.sector_dev.specs.Disk.{IsHonest}
 use Rattle.sector_dev.specs.MemDevice.{memory_disk}
 use Rattle.store_layout.specs.Checkpoint.{Head}
 use Rattle.group_core.specs.StateView.{StateView}
-use Rattle.group_core.specs.Starting.{GoesOn, IsStarted, check_in}
+use Rattle.group_core.specs.Starting.{CanContinue, IsStarted, check_in}
 use Rattle.group_core.specs.Starting.{started as started_state}
 use Rattle.once_store.specs.Resting.{CheckRests}
 
@@ -56,7 +56,7 @@ pub first_store : (image : List ℕ) (store : StoreView) → AreBytes image → 
 first_store image store bytes new opened whole =
     let there = (is_opened_so (List RowView) Command store_format latest image opened.rest.opening bytes).1 opened.same in
     let one : opened.rest.opening ≡ first_opening = one_ok opened.rest.opening first_opening (opening_of store_format latest image) there (reads_first image bytes new) in
-    let tells : Tells store first_opening = subst (λ (o : Opening (List RowView) Command). Tells store o) one opened.rest.tells in
+    let tells : HasOpening store first_opening = subst (λ (o : Opening (List RowView) Command). HasOpening store o) one opened.rest.tells in
     record {
       geometry = sym tells.geometry;
       head = sym tells.head;
@@ -76,7 +76,7 @@ differ e = absurd cc
 -- its state rests, with no rows at place 0
 pub first_state : (store : StoreView) (home : ℕ) (state : StateView) → IsFirst store → IsStarted store home state → IsFirstState state
 first_state store home state first started =
-    let goes : GoesOn store = record {
+    let goes : CanContinue store = record {
       whole = first.whole;
       rows = subst (λ (r : List RowView). 32 + rows_len r ≤ 512 * store.geometry.checkpoint) (sym first.rows) (omega (arith, ap (λ (g : Geometry). g.checkpoint) first.geometry));
       sealed = λ sealed. absurd (differ (sym sealed ∙ first.unsealed));

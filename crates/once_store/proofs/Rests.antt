@@ -6,7 +6,7 @@ use Rattle.group_phases.specs.declared.phases.Check.{Check}
 use Rattle.group_phases.specs.declared.phases.Check.TheVariants.{Ready, Sealed, Planned, Laid, Switched, SwitchFailed, Live, Closing, CloseFailed}
 use Rattle.group_core.specs.StateView.{StateView}
 use Rattle.once_store.specs.Resting.{CheckRests, IsSteady}
-use Rattle.once_store.specs.Folding.{MayFold, IsReadyOrFolded, IsRoomMade, IsLookedAt}
+use Rattle.once_store.specs.Folding.{MayFold, IsReadyOrFolded, IsRoomMade, OnlyDeviceWasRead}
 
 -- it rests in one of two phases
 two_phases : (check : Check) (view : StateView) → CheckRests check view → (check ≡ Ready) ⊎ (check ≡ Sealed)
@@ -68,7 +68,7 @@ rests_on Closing old disk rests = rests
 rests_on CloseFailed old disk rests = rests
 
 -- and so it does where its device was read
-pub looked_at : (old new : StateView) → IsSteady old → new ≡ record old { disk = new.disk } → IsLookedAt old new
+pub looked_at : (old new : StateView) → IsSteady old → new ≡ record old { disk = new.disk } → OnlyDeviceWasRead old new
 looked_at old new steady is = record {
   steady = subst IsSteady (sym is) (record {
     geometry = steady.geometry;

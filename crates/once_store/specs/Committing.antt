@@ -11,7 +11,7 @@ use Rattle.group_core.specs.declared.ticket.Redeemed.TheVariants.{Committed, Wai
 use Rattle.group_core.specs.StateView.{StateView}
 use Rattle.group_core.specs.Steps.{IsFlushTurn}
 use Rattle.group_core.specs.Submitting.{accepted_rows, next_place}
-use Rattle.group_core.specs.Publishing.{with_group, with_seal}
+use Rattle.group_core.specs.Publishing.{group_committed, journal_sealed}
 use Rattle.group_core.specs.Redeeming.{outcome_at, redeemed}
 use Rattle.once_store.specs.Resting.{IsSteady, HasOnePending}
 
@@ -27,8 +27,8 @@ pub record IsNextDurable (value : Commit AtDurable) (old new : StateView) : Type
 abbrev pub PublishesAndRedeems : {N : Type 0} → Ticket → Commit AtDurable → Result (Redeemed N) (Ticket × Commit AtDurable)
     → StateView → StateView → Type 0
 PublishesAndRedeems ticket durable (Ok (Committed receipt)) old new =
-    (old.taken ≡ 1) × (outcome_at ticket.place old.kept ≡ Some receipt.outcome) × (new ≡ redeemed ticket (with_group old))
-PublishesAndRedeems ticket durable (Ok (Waiting back)) old new = (old.taken ≡ 0) × (back ≡ ticket) × (new ≡ with_seal old)
+    (old.taken ≡ 1) × (outcome_at ticket.place old.kept ≡ Some receipt.outcome) × (new ≡ redeemed ticket (group_committed old))
+PublishesAndRedeems ticket durable (Ok (Waiting back)) old new = (old.taken ≡ 0) × (back ≡ ticket) × (new ≡ journal_sealed old)
 PublishesAndRedeems ticket durable (Ok (Unknown place)) old new = ⊥
 PublishesAndRedeems ticket durable (Ok (Stranger back)) old new = ⊥
 PublishesAndRedeems ticket durable (Err (back, value)) old new = (old.taken ≡ 1) × (back ≡ ticket) × (value ≡ durable) × (new ≡ old)
@@ -40,7 +40,7 @@ pub record SameAbove (old new : StateView) : Type 0 where
   pub home : new.home ≡ old.home
 
 -- the pending command is committed, and this is its outcome
-pub record IsCommitted (outcome : Outcome) (old new : StateView) : Type 0 where
+pub record IsOnePendingCommitted (outcome : Outcome) (old new : StateView) : Type 0 where
   pub outcome_is : outcome_at old.value.place old.kept ≡ Some outcome
   pub steady : IsSteady new
   pub rests : new.flush ≡ Resting

@@ -55,6 +55,6 @@ pub record IsRoomMade (old new : StateView) : Type 0 where
   }
 
 -- the device was read, and nothing else has changed
-pub record IsLookedAt (old new : StateView) : Type 0 where
+pub record OnlyDeviceWasRead (old new : StateView) : Type 0 where
   pub steady : IsSteady new
   pub state : new ≡ record old { disk = new.disk }

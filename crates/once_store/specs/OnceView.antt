@@ -20,10 +20,10 @@ abbrev pub no_rows : OnceView
 no_rows = record { rows = []; place = 0 }
 
 -- nothing is held where nothing is pending; or a pending command's ticket is, and the value of its group where that is durable
-abbrev pub Holds : Option Held → StateView → Type 0
-Holds None view = (view.pending ≡ []) × (view.kept ≡ []) × (view.flush ≡ Resting)
-Holds (Some held) view = HasOnePending held.ticket view × HoldsDurable held.durable view
+abbrev pub HoldsPending : Option Held → StateView → Type 0
+HoldsPending None view = (view.pending ≡ []) × (view.kept ≡ []) × (view.flush ≡ Resting)
+HoldsPending (Some held) view = HasOnePending held.ticket view × HoldsDurable held.durable view
 
 pub record IsLone (view : StateView) (held : Option Held) : Type 0 where
   pub steady : IsSteady view
-  pub holds : Holds held view
+  pub holds : HoldsPending held view

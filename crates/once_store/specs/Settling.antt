@@ -5,7 +5,7 @@ use Rattle.once_store.specs.declared.committing.Held.{Held}
 use Rattle.once_store.specs.OnceView.{once_view, IsLone}
 
 -- nothing is held any more, and the layer above sees no change
-pub record IsSettled (old new : StateView) : Type 0 where
+pub record IsNothingHeld (old new : StateView) : Type 0 where
   pub lone : IsLone new None
   pub same : once_view new ≡ once_view old
 

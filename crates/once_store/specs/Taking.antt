@@ -13,14 +13,14 @@ use Rattle.once_store.specs.OnceView.{OnceView}
 abbrev pub FitStore : List RowView → Type 0
 FitStore rows = 32 + rows_len rows ≤ 512 * 4096
 
-abbrev pub with_command : OnceView → Command → OnceView
-with_command old command = record { rows = database_after old.rows command; place = old.place + 1 }
+abbrev pub once_view_with_command : OnceView → Command → OnceView
+once_view_with_command old command = record { rows = database_after old.rows command; place = old.place + 1 }
 
 -- the command is taken at the next place: one is left, and the rows after it fit
 pub record TakesCommand (old : OnceView) (command : Command) (new : OnceView) : Type 0 where
   pub left : old.place ≢ last_place
   pub fits : FitStore (database_after old.rows command)
-  pub taken : new ≡ with_command old command
+  pub taken : new ≡ once_view_with_command old command
 
 -- The command is taken, with its place and its outcome; or the last place is reached, or else the rows after it don't fit, and nothing
 -- changes. Where memory runs out nothing changes, or it is taken, and its outcome isn't reported.

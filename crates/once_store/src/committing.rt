@@ -5,7 +5,7 @@ ghost use Rattle.group_phases.specs.declared.phases.Flush.TheVariants.{Resting a
 ghost use Rattle.group_phases.specs.declared.phases.Check.TheVariants.{Ready as ready};
 ghost use Rattle.group_core.specs.Steps.{IsFlushTurn};
 ghost use Rattle.once_store.specs.Resting.{IsSteady, HasOnePending};
-ghost use Rattle.once_store.specs.Committing.{PublishesAndRedeems, IsCommitted, IsHeldBack};
+ghost use Rattle.once_store.specs.Committing.{PublishesAndRedeems, IsOnePendingCommitted, IsHeldBack};
 
 use crate::flushing::next_durable;
 use crate::folding::make_room;
@@ -25,7 +25,7 @@ pub(crate) fn commit_pending(state: &mut MemoryState, ticket: Ticket) -> Result<
     requires one { HasOnePending ticket state.old }
     requires rests { state.old.flush ≡ resting }
     requires steady { IsSteady state.old }
-    ensures committed { IfOk result (λ outcome. IsCommitted outcome state.old state.new) }
+    ensures committed { IfOk result (λ outcome. IsOnePendingCommitted outcome state.old state.new) }
     ensures held { IfErr result (λ held. IsHeldBack held.ticket held.durable ticket state.old state.new) }
 {
     if make_room(state).is_err() {
@@ -58,7 +58,7 @@ fn commit_after_seal(state: &mut MemoryState, ticket: Ticket) -> Result<Outcome,
     requires rests { state.old.flush ≡ resting }
     requires steady { IsSteady state.old }
     requires empty { state.old.gate ≡ 0 }
-    ensures committed { IfOk result (λ outcome. IsCommitted outcome state.old state.new) }
+    ensures committed { IfOk result (λ outcome. IsOnePendingCommitted outcome state.old state.new) }
     ensures held { IfErr result (λ held. IsHeldBack held.ticket held.durable ticket state.old state.new) }
 {
     if make_room(state).is_err() {
@@ -88,7 +88,7 @@ pub(crate) fn commit_durable(
     requires taken { state.old.taken ≡ 1 }
     requires ready { state.old.check ≡ ready }
     requires steady { IsSteady state.old }
-    ensures committed { IfOk result (λ outcome. IsCommitted outcome state.old state.new) }
+    ensures committed { IfOk result (λ outcome. IsOnePendingCommitted outcome state.old state.new) }
     ensures held { IfErr result (λ held. IsHeldBack held.ticket held.durable ticket state.old state.new) }
 {
     match publish_and_redeem(state, ticket, durable) {

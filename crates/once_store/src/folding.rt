@@ -5,7 +5,7 @@ ghost use Rattle.group_phases.specs.declared.phases.Check.TheVariants.{Laid as a
 ghost use Rattle.store_layout.specs.Group.{last_place};
 ghost use Rattle.group_core.specs.Steps.{IsPlanTurn, IsCheckTurn};
 ghost use Rattle.once_store.specs.Resting.{IsSteady};
-ghost use Rattle.once_store.specs.Folding.{HasWholeSectors, IsFoldedFrom, MayFold, IsReadyOrFolded, IsRoomMade, IsLookedAt};
+ghost use Rattle.once_store.specs.Folding.{HasWholeSectors, IsFoldedFrom, MayFold, IsReadyOrFolded, IsRoomMade, OnlyDeviceWasRead};
 
 use crate::memory_state::{MemoryState, never_fails};
 use group_core::{BeginError, Laid, Plan};
@@ -17,7 +17,7 @@ pub(crate) fn make_room(state: &mut MemoryState) -> Result<(), AllocError>
     requires steady { IsSteady state.old }
     requires place { state.old.value.place < last_place }
     ensures made { OnOk result (IsRoomMade state.old state.new) }
-    ensures same { OnErr result (IsLookedAt state.old state.new) }
+    ensures same { OnErr result (OnlyDeviceWasRead state.old state.new) }
 {
     fold(state)
 }

@@ -2,7 +2,7 @@
 
 ghost use Rattle.std.specs.Prelude.{◌≡◌, None, Some, OnOk, IfErr};
 ghost use Rattle.once_store.specs.OnceView.{once_view, IsLone};
-ghost use Rattle.once_store.specs.Settling.{IsSettled, IsUnsettled};
+ghost use Rattle.once_store.specs.Settling.{IsNothingHeld, IsUnsettled};
 
 use crate::committing::{Held, commit_durable, commit_pending};
 use crate::memory_state::MemoryState;
@@ -39,7 +39,7 @@ pub(crate) fn hold(held: &mut Option<Held>, back: Held)
 /// Commits the command of which this is held, where something is.
 fn commit_held(state: &mut MemoryState, held: Option<Held>) -> Result<(), Held>
     requires lone { IsLone state.old held }
-    ensures settled { OnOk result (IsSettled state.old state.new) }
+    ensures settled { OnOk result (IsNothingHeld state.old state.new) }
     ensures held { IfErr result (λ back. IsUnsettled back state.old state.new) }
 {
     match held {

@@ -17,7 +17,7 @@ use Rattle.path_db.specs.declared.error.DbError.TheVariants.{BadRecord}
 use Rattle.path_db.specs.RecordSteps.{◌>>=◌}
 use Rattle.path_db.specs.RowRecord.{rows_encoding, has_row, record_of, spelled_segment, row_decoding, rows_decoding}
 use Rattle.path_db.specs.RowsReader.{AreRefused}
-use Rattle.path_db.specs.RowWalk.{IsTooLong}
+use Rattle.path_db.specs.RowWalk.{IsRowTooLong}
 use Rattle.path_db.proofs.Spelled.{has_room}
 use Rattle.path_db.proofs.RowPieces.{row_by, row_is, part_longer}
 use Rattle.path_db.proofs.RowsRead.{row_refused}
@@ -50,7 +50,7 @@ long_row bytes long =
     (λ there. not_spelled (part 5 (four_at 1 bytes) bytes)
     (omega (arith, long, has_room bytes there, length-drop 5 bytes, length-take (four_at 1 bytes) (drop 5 bytes))))
 
-module _ (rows : List RowView) (left fed : List ℕ) (is : IsDatabase rows) (same : rows_encoding rows ++ left ≡ fed) (long : IsTooLong left) where
+module _ (rows : List RowView) (left fed : List ℕ) (is : IsDatabase rows) (same : rows_encoding rows ++ left ≡ fed) (long : IsRowTooLong left) where
   apart : (behind : List ℕ) → fed ++ behind ≡ rows_encoding rows ++ (left ++ behind)
   apart behind = ap (λ (t : List ℕ). t ++ behind) (sym same) ∙ append_assoc (rows_encoding rows) left behind
 

@@ -3,7 +3,7 @@ use Rattle.std.proofs.Common.{◌≡◌, ◌<◌, length, arith, ℕ, Bool, true
 use Rattle.seg_slots.specs.declared.error.SegError.{SegError}
 use Rattle.path_db.specs.declared.error.DbError.{DbError}
 use Rattle.path_rows.specs.Database.{RowView}
-use Rattle.path_db.specs.RecordSteps.{◌>>=◌, check}
+use Rattle.path_db.specs.RecordSteps.{◌>>=◌, demand}
 use Rattle.path_db.specs.RowRecord.{record_of, row_decoding, spelled_segment, HasOutline, rows_within, rows_decoding}
 use Rattle.path_db.proofs.Records.{outlined}
 
@@ -11,7 +11,7 @@ step : {A B : Type 0} (r : Result A DbError) (f : A → Result B DbError) (x : B
 step (Ok a) f x e = (a, refl, e)
 step (Err d) f x e = absurd (cc)
 
-checked : (b : Bool) (reason : DbError) (u : Unit {0}) → check b reason ≡ Ok u → b ≡ true
+checked : (b : Bool) (reason : DbError) (u : Unit {0}) → demand b reason ≡ Ok u → b ≡ true
 checked true reason u e = refl
 checked false reason u e = absurd (cc)
 

@@ -22,9 +22,9 @@ use Rattle.seg_core.proofs.RoundTrip.{decoding-encoding}
 use Rattle.path_db.specs.declared.error.DbError.TheVariants.{BadRecord}
 use Rattle.path_rows.specs.declared.command.Command.TheVariants.{Register, Purge, Remove}
 use Rattle.path_rows.specs.Database.{RowView, AreWhole}
-use Rattle.path_db.specs.RecordSteps.{◌>>=◌, check}
+use Rattle.path_db.specs.RecordSteps.{◌>>=◌, demand}
 use Rattle.path_db.specs.RowRecord.{row_record, rows_encoding, row_size, has_row, record_of, spelled_segment, row_decoding}
-use Rattle.path_db.specs.CommandRecord.{segments_len, command_encoding, items_decoding, registration_decoding, purge_decoding, removal_decoding, command_decoding}
+use Rattle.path_db.specs.CommandRecord.{segments_len, command_encoding, items_decoding, registration_record_decoding, purge_decoding, removal_decoding, command_decoding}
 use Rattle.path_db.specs.RecordLaws.{WrittenCommandsAreRead}
 
 -- ---- a row
@@ -38,8 +38,8 @@ spelled_read : (s : SegmentView) → IsSegment s → spelled_segment (segment_en
 unfolding spelled_segment
 spelled_read s is =
     let message = segment_encoding s in
-    ap (λ r. record_of r >>= λ segment. check (same_bytes message (segment_encoding segment)) BadRecord >>= λ _. Ok segment) (decoding-encoding s is)
-    ∙ ap (λ h. check h BadRecord >>= λ _. Ok s) ((pointwise_decides Decides-eqb message message).1 refl)
+    ap (λ r. record_of r >>= λ segment. demand (same_bytes message (segment_encoding segment)) BadRecord >>= λ _. Ok segment) (decoding-encoding s is)
+    ∙ ap (λ h. demand h BadRecord >>= λ _. Ok s) ((pointwise_decides Decides-eqb message message).1 refl)
 
 room_by : (bytes : List ℕ) → row_size bytes ≤ length bytes → has_row bytes ≡ true
 room_by bytes le =
@@ -49,7 +49,7 @@ read_by : (bytes : List ℕ) (kind : SegType) (s : SegmentView) → has_row byte
     → part 5 (four_at 1 bytes) bytes ≡ segment_encoding s → IsSegment s → row_decoding bytes ≡ Ok (kind, s)
 unfolding row_decoding
 read_by bytes kind s there number content is =
-    ap (λ h. check h BadRecord >>= λ _. record_of (type_of (slice_index bytes 0)) >>= λ k. spelled_segment (part 5 (four_at 1 bytes) bytes) >>= λ segment. Ok (k, segment)) there
+    ap (λ h. demand h BadRecord >>= λ _. record_of (type_of (slice_index bytes 0)) >>= λ k. spelled_segment (part 5 (four_at 1 bytes) bytes) >>= λ segment. Ok (k, segment)) there
     ∙ ap (λ n. record_of (type_of n) >>= λ k. spelled_segment (part 5 (four_at 1 bytes) bytes) >>= λ segment. Ok (k, segment)) number
     ∙ ap (λ r. r >>= λ k. spelled_segment (part 5 (four_at 1 bytes) bytes) >>= λ segment. Ok (k, segment)) (type_read kind)
     ∙ ap (λ m. spelled_segment m >>= λ segment. Ok (kind, segment)) content
@@ -109,14 +109,14 @@ encoding_len (row ∷ rows) =
     omega (arith, split, record_len row, encoding_len rows, sum_by-cons (λ (row : RowView). length (segment_encoding row.1)) row rows)
 
 registration_back : (rows : List RowView) → length rows ≤ 16 → segments_len rows ≤ 131072 → AreWhole rows
-    → registration_decoding (length rows ∷ rows_encoding rows) ≡ Ok (Register rows)
-unfolding registration_decoding
+    → registration_record_decoding (length rows ∷ rows_encoding rows) ≡ Ok (Register rows)
+unfolding registration_record_decoding
 registration_back rows few short whole =
     let count = length rows in
     let items = rows_encoding rows in
     let sized : length items ≤ 131072 + 5 * count = omega (arith, encoding_len rows) in
-    ap (λ h. check h BadRecord >>= λ _. check (nat_le (length items) (131072 + 5 * count)) BadRecord >>= λ _. items_decoding count items >>= λ rows. Ok (Register rows)) (le-leb count 16 few)
-    ∙ ap (λ h. check h BadRecord >>= λ _. items_decoding count items >>= λ rows. Ok (Register rows)) (le-leb (length items) (131072 + 5 * count) sized)
+    ap (λ h. demand h BadRecord >>= λ _. demand (nat_le (length items) (131072 + 5 * count)) BadRecord >>= λ _. items_decoding count items >>= λ rows. Ok (Register rows)) (le-leb count 16 few)
+    ∙ ap (λ h. demand h BadRecord >>= λ _. items_decoding count items >>= λ rows. Ok (Register rows)) (le-leb (length items) (131072 + 5 * count) sized)
     ∙ ap (λ r. r >>= λ rows. Ok (Register rows)) (items_back rows whole)
 
 purge_back : (moment : ℕ) → moment < 2 ^ 64 → purge_decoding (to_be_bytes w64 moment) ≡ Ok (Purge moment)
@@ -127,8 +127,8 @@ purge_back moment small =
 removal_back : (kind : SegType) (id : List ℕ) → length id ≡ 32 → removal_decoding (type_number kind ∷ id) ≡ Ok (Remove kind id)
 unfolding removal_decoding
 removal_back kind id size =
-    ap (λ r. r >>= λ k. check (length id == 32) BadRecord >>= λ _. Ok (Remove k id)) (type_read kind)
-    ∙ ap (λ (n : ℕ). check (n == 32) BadRecord >>= λ _. Ok (Remove kind id)) size
+    ap (λ r. r >>= λ k. demand (length id == 32) BadRecord >>= λ _. Ok (Remove k id)) (type_read kind)
+    ∙ ap (λ (n : ℕ). demand (n == 32) BadRecord >>= λ _. Ok (Remove kind id)) size
 
 pub command_read_back : WrittenCommandsAreRead
 unfolding command_decoding command_encoding

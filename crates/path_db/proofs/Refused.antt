@@ -16,8 +16,8 @@ use Rattle.seg_core.specs.Segment.{segment_decoding}
 use Rattle.path_db.specs.declared.error.DbError.{DbError}
 use Rattle.path_db.specs.declared.error.DbError.TheVariants.{NoMemory, BadRecord, Order}
 use Rattle.path_rows.specs.Database.{RowView, IsDatabase, AreWhole}
-use Rattle.path_db.specs.RecordSteps.{◌>>=◌, check}
-use Rattle.path_db.specs.RowRecord.{row_record, rows_encoding, row_size, has_row, record_of, spelled_segment, row_decoding, is_above, rows_within, rows_decoding}
+use Rattle.path_db.specs.RecordSteps.{◌>>=◌, demand}
+use Rattle.path_db.specs.RowRecord.{row_record, rows_encoding, row_size, has_row, record_of, spelled_segment, row_decoding, is_row_above, rows_within, rows_decoding}
 use Rattle.path_db.specs.RecordRefusals.{HasNoRecord, HasLowerRow, BadRecordIsExact, OrderIsExact, RowsWantNoMemory}
 use Rattle.path_db.proofs.Spelled.{row_spelled, row_whole, bytes_drop}
 use Rattle.path_db.proofs.ReadBack.{row_back, record_len}
@@ -34,7 +34,7 @@ bad_step (Err x) rest e first others read = let same : x ≡ e = cc in sym same 
 pub bad_end : {A : Type 0} (a : A) (x : DbError) → Ok a ≡ Err x → x ≡ BadRecord
 bad_end a x e = absurd cc
 
-pub bad_check : (holds : Bool) (x : DbError) → check holds BadRecord ≡ Err x → x ≡ BadRecord
+pub bad_check : (holds : Bool) (x : DbError) → demand holds BadRecord ≡ Err x → x ≡ BadRecord
 bad_check true x e = absurd cc
 bad_check false x e = let same : BadRecord ≡ x = cc in sym same
 
@@ -46,13 +46,13 @@ bad_spelling : (message : List ℕ) (x : DbError) → spelled_segment message �
 unfolding spelled_segment
 bad_spelling message x read =
     bad_step (record_of (segment_decoding message)) _ x (bad_record (segment_decoding message))
-    (λ segment y later. bad_step (check (same_bytes message (segment_encoding segment)) BadRecord) (λ _. Ok segment) y (bad_check (same_bytes message (segment_encoding segment))) (λ _ z ends. bad_end segment z ends) later) read
+    (λ segment y later. bad_step (demand (same_bytes message (segment_encoding segment)) BadRecord) (λ _. Ok segment) y (bad_check (same_bytes message (segment_encoding segment))) (λ _ z ends. bad_end segment z ends) later) read
 
 pub bad_row : (bytes : List ℕ) (x : DbError) → row_decoding bytes ≡ Err x → x ≡ BadRecord
 unfolding row_decoding
 bad_row bytes x read =
     let message = part 5 (four_at 1 bytes) bytes in
-    bad_step (check (has_row bytes) BadRecord) _ x (bad_check (has_row bytes))
+    bad_step (demand (has_row bytes) BadRecord) _ x (bad_check (has_row bytes))
     (λ _ y later. bad_step (record_of (type_of (slice_index bytes 0))) _ y (bad_record (type_of (slice_index bytes 0)))
     (λ kind z last. bad_step (spelled_segment message) (λ segment. Ok (kind, segment)) z (bad_spelling message) (λ segment w ends. bad_end (kind, segment) w ends) last) later) read
 
@@ -62,7 +62,7 @@ bad_row bytes x read =
 record Lower (before : Option RowView) (bytes : List ℕ) (e : DbError) : Type 0 where
   row : RowView
   read : row_decoding bytes ≡ Ok row
-  lower : is_above before row ≡ false
+  lower : is_row_above before row ≡ false
   reason : e ≡ Order
 
 -- after rows in order there are bytes that are refused as a row, or a row whose key isn't above the last one's
@@ -80,7 +80,7 @@ or_some : (last : Option RowView) (row : RowView) (before : Option RowView) → 
 or_some None row before = refl
 or_some (Some x) row before = refl
 
-stops_later : (before : Option RowView) (row : RowView) (bytes behind : List ℕ) (e : DbError) → row_record row ++ behind ≡ bytes → is_above before row ≡ true → IsSegment row.1
+stops_later : (before : Option RowView) (row : RowView) (bytes behind : List ℕ) (e : DbError) → row_record row ++ behind ≡ bytes → is_row_above before row ≡ true → IsSegment row.1
     → Stops (Some row) behind e → Stops before bytes e
 stops_later before row bytes behind e spelled above is so = record {
   rows = row ∷ so.rows;
@@ -101,8 +101,8 @@ failed_of (Err x) f e read = let same : x ≡ e = cc in ap (λ (y : DbError). Er
 
 at_key : (n : ℕ) (before : Option RowView) (bytes : List ℕ) (e : DbError) (row : RowView) → AreBytes bytes → 0 < length bytes
     → ((row : RowView) → rows_within n (Some row) (drop (row_size bytes) bytes) ≡ Err e → Stops (Some row) (drop (row_size bytes) bytes) e)
-    → row_decoding bytes ≡ Ok row → (holds : Bool) → is_above before row ≡ holds
-    → (check holds Order >>= λ _. rows_within n (Some row) (drop (row_size bytes) bytes) >>= λ rows. Ok (row ∷ rows)) ≡ Err e → Stops before bytes e
+    → row_decoding bytes ≡ Ok row → (holds : Bool) → is_row_above before row ≡ holds
+    → (demand holds Order >>= λ _. rows_within n (Some row) (drop (row_size bytes) bytes) >>= λ rows. Ok (row ∷ rows)) ≡ Err e → Stops before bytes e
 at_key n before bytes e row each some later is true above read =
     let behind = drop (row_size bytes) bytes in
     let failed = failed_of (rows_within n (Some row) behind) (λ rows. row ∷ rows) e read in
@@ -114,8 +114,8 @@ at_key n before bytes e row each some later is false lower read =
 at_row : (n : ℕ) (before : Option RowView) (bytes : List ℕ) (e : DbError) → AreBytes bytes → 0 < length bytes
     → ((row : RowView) → rows_within n (Some row) (drop (row_size bytes) bytes) ≡ Err e → Stops (Some row) (drop (row_size bytes) bytes) e)
     → (r : Result RowView DbError) → row_decoding bytes ≡ r
-    → (r >>= λ row. check (is_above before row) Order >>= λ _. rows_within n (Some row) (drop (row_size bytes) bytes) >>= λ rows. Ok (row ∷ rows)) ≡ Err e → Stops before bytes e
-at_row n before bytes e each some later (Ok row) is read = at_key n before bytes e row each some later is (is_above before row) refl read
+    → (r >>= λ row. demand (is_row_above before row) Order >>= λ _. rows_within n (Some row) (drop (row_size bytes) bytes) >>= λ rows. Ok (row ∷ rows)) ≡ Err e → Stops before bytes e
+at_row n before bytes e each some later (Ok row) is read = at_key n before bytes e row each some later is (is_row_above before row) refl read
 at_row n before bytes e each some later (Err x) is read =
     let same : x ≡ e = cc in
     record { rows = []; rest = bytes; rise = tt; whole = tt; split = refl; some = some; each = each; cause = inl (is ∙ ap (λ (y : DbError). Err y) same) }
@@ -205,7 +205,7 @@ lower_row bytes so (inr is) = record {
   database = database_of bytes Order so;
   split = so.split ∙ ap (λ (t : List ℕ). rows_encoding so.rows ++ t) (sym (row_spelled so.rest is.row so.each is.read));
   whole = row_whole so.rest is.row so.each is.read;
-  lower = ap (λ (o : Option RowView). is_above o is.row) (sym (or_none (last_of so.rows))) ∙ is.lower;
+  lower = ap (λ (o : Option RowView). is_row_above o is.row) (sym (or_none (last_of so.rows))) ∙ is.lower;
 }
 
 refused_lower : (bytes : List ℕ) → HasLowerRow bytes → rows_decoding bytes ≡ Err Order

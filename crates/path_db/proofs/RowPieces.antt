@@ -13,8 +13,8 @@ use Rattle.seg_core.specs.Registration.{type_of}
 use Rattle.path_db.specs.declared.error.DbError.{DbError}
 use Rattle.path_db.specs.declared.error.DbError.TheVariants.{BadRecord, Order}
 use Rattle.path_rows.specs.Database.{RowView, IsDatabase}
-use Rattle.path_db.specs.RecordSteps.{◌>>=◌, check}
-use Rattle.path_db.specs.RowRecord.{row_record, rows_encoding, row_size, has_row, record_of, spelled_segment, row_decoding, is_above, rows_decoding}
+use Rattle.path_db.specs.RecordSteps.{◌>>=◌, demand}
+use Rattle.path_db.specs.RowRecord.{row_record, rows_encoding, row_size, has_row, record_of, spelled_segment, row_decoding, is_row_above, rows_decoding}
 use Rattle.path_db.specs.RowsReader.{AreRefused}
 use Rattle.path_db.proofs.Spelled.{has_room, row_spelled}
 use Rattle.path_db.proofs.Records.{whole_more}
@@ -29,19 +29,19 @@ either : (last : Option RowView) (row : RowView) (before : Option RowView) → o
 either None row before = refl
 either (Some x) row before = refl
 
-rises_more : (before : Option RowView) (rows : List RowView) (row : RowView) → Rises before rows → is_above (option_or (last_of rows) before) row ≡ true
+rises_more : (before : Option RowView) (rows : List RowView) (row : RowView) → Rises before rows → is_row_above (option_or (last_of rows) before) row ≡ true
     → Rises before (rows ++ row ∷ [])
 rises_more before [] row all above = (above, tt)
 rises_more before (first ∷ rows) row all above =
-    (all.0, rises_more (Some first) rows row all.1 (ap (λ (o : Option RowView). is_above o row) (sym (either (last_of rows) first before)) ∙ above))
+    (all.0, rises_more (Some first) rows row all.1 (ap (λ (o : Option RowView). is_row_above o row) (sym (either (last_of rows) first before)) ∙ above))
 
 or_none : (last : Option RowView) → option_or last None ≡ last
 or_none None = refl
 or_none (Some x) = refl
 
-pub database_more : (rows : List RowView) (row : RowView) → IsDatabase rows → IsSegment row.1 → is_above (last_of rows) row ≡ true → IsDatabase (rows ++ row ∷ [])
+pub database_more : (rows : List RowView) (row : RowView) → IsDatabase rows → IsSegment row.1 → is_row_above (last_of rows) row ≡ true → IsDatabase (rows ++ row ∷ [])
 database_more rows row is segment above = record {
-  rising = rising (rows ++ row ∷ []) (rises_more None rows row (rises rows is.rising) (ap (λ (o : Option RowView). is_above o row) (or_none (last_of rows)) ∙ above));
+  rising = rising (rows ++ row ∷ []) (rises_more None rows row (rises rows is.rising) (ap (λ (o : Option RowView). is_row_above o row) (or_none (last_of rows)) ∙ above));
   whole = whole_more rows row is.whole segment;
 }
 
@@ -59,7 +59,7 @@ encoded_more rows row left each read =
 -- the row by whether it is whole, by its first byte and by its message
 unfoldable pub row_by : Bool → ℕ → List ℕ → Result RowView DbError
 row_by there first message =
-    check there BadRecord >>= λ _. record_of (type_of first) >>= λ kind. spelled_segment message >>= λ segment. Ok (kind, segment)
+    demand there BadRecord >>= λ _. record_of (type_of first) >>= λ kind. spelled_segment message >>= λ segment. Ok (kind, segment)
 
 pub row_is : (bytes : List ℕ) → row_decoding bytes ≡ row_by (has_row bytes) (slice_index bytes 0) (part 5 (four_at 1 bytes) bytes)
 unfolding row_decoding row_by
@@ -115,7 +115,7 @@ module _ (rows : List RowView) (left fed : List ℕ) (is : IsDatabase rows) (sam
       ∙ row_refused (rows_decoding (rows_encoding rows ++ (left ++ behind))) rows e (left ++ behind) (some behind) (row_longer left behind there ∙ read)
       (behind_database rows (left ++ behind) is)
 
-  pub falls_on : (row : RowView) → row_decoding left ≡ Ok row → is_above (last_of rows) row ≡ false → AreRefused fed Order
+  pub falls_on : (row : RowView) → row_decoding left ≡ Ok row → is_row_above (last_of rows) row ≡ false → AreRefused fed Order
   falls_on row read falls behind =
       ap rows_decoding (apart behind)
       ∙ row_falls (rows_decoding (rows_encoding rows ++ (left ++ behind))) rows row (left ++ behind) (some behind) (row_longer left behind there ∙ read) falls

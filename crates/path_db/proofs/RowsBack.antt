@@ -13,8 +13,8 @@ use Rattle.byte_lists.proofs.Contents.{length-part}
 use Rattle.path_db.specs.declared.error.DbError.{DbError}
 use Rattle.path_db.specs.declared.error.DbError.TheVariants.{Order}
 use Rattle.path_rows.specs.Database.{RowView, key_order, IsRising, AreWhole, row_len, rows_len}
-use Rattle.path_db.specs.RecordSteps.{◌>>=◌, check}
-use Rattle.path_db.specs.RowRecord.{row_record, rows_encoding, row_size, row_decoding, is_above, rows_within, rows_decoding}
+use Rattle.path_db.specs.RecordSteps.{◌>>=◌, demand}
+use Rattle.path_db.specs.RowRecord.{row_record, rows_encoding, row_size, row_decoding, is_row_above, rows_within, rows_decoding}
 use Rattle.path_db.specs.RecordLaws.{WrittenRowsAreRead, WrittenRowsAreCounted, ReadRowsAreSpelled}
 use Rattle.path_rows.proofs.Exports.{AllAbove, above_less}
 use Rattle.path_db.proofs.Spelled.{went, segment_back, has_room, row_steps, row_spelled, row_whole, bytes_drop}
@@ -25,7 +25,7 @@ use Rattle.path_db.proofs.ReadBack.{row_back, record_len}
 -- each key is strictly above the one before
 abbrev pub Rises : Option RowView → List RowView → Type 0
 Rises before [] = Unit {0}
-Rises before (row ∷ rows) = (is_above before row ≡ true) × Rises (Some row) rows
+Rises before (row ∷ rows) = (is_row_above before row ≡ true) × Rises (Some row) rows
 
 rises_behind : (row : RowView) (rows : List RowView) → AllAbove row rows → IsRising rows → Rises (Some row) rows
 rises_behind row [] all rising = tt
@@ -53,7 +53,7 @@ rising (row ∷ rows) all = rising_behind row rows all.1
 
 -- ---- read
 
-in_order : {B : Type 0} (holds : Bool) (rest : Result B DbError) (b : B) → (check holds Order >>= λ _. rest) ≡ Ok b → (holds ≡ true) × (rest ≡ Ok b)
+in_order : {B : Type 0} (holds : Bool) (rest : Result B DbError) (b : B) → (demand holds Order >>= λ _. rest) ≡ Ok b → (holds ≡ true) × (rest ≡ Ok b)
 in_order true rest b e = (refl, e)
 in_order false rest b e = absurd cc
 
@@ -76,8 +76,8 @@ within_read (suc n) before [] (row ∷ rows) le read = absurd cc
 within_read (suc n) before (b ∷ tail) rows le read =
     let bytes = b ∷ tail in
     let behind = drop (row_size bytes) bytes in
-    let a = went (row_decoding bytes) (λ row. check (is_above before row) Order >>= λ _. rows_within n (Some row) behind >>= λ rows. Ok (row ∷ rows)) rows read in
-    let o = in_order (is_above before a.value) (rows_within n (Some a.value) behind >>= λ rows. Ok (a.value ∷ rows)) rows a.others in
+    let a = went (row_decoding bytes) (λ row. demand (is_row_above before row) Order >>= λ _. rows_within n (Some row) behind >>= λ rows. Ok (row ∷ rows)) rows read in
+    let o = in_order (is_row_above before a.value) (rows_within n (Some a.value) behind >>= λ rows. Ok (a.value ∷ rows)) rows a.others in
     let r = went (rows_within n (Some a.value) behind) (λ rows. Ok (a.value ∷ rows)) rows o.1 in
     let same : (a.value ∷ r.value) ≡ rows = cc (r.others) in
     let takes = row_takes bytes a.value a.first in
@@ -109,8 +109,8 @@ within_back (suc n) before (row ∷ rows) le all whole =
     let short : length (rows_encoding rows) ≤ n =
     omega (arith, ap length (flat_map-cons row_record row rows), length-append (row_record row) (rows_encoding rows), record_len row) in
     ap (λ (t : List ℕ). rows_within (suc n) before t) (flat_map-cons row_record row rows)
-    ∙ ap (λ r. r >>= λ first. check (is_above before first) Order >>= λ _. rows_within n (Some first) (drop (row_size bytes) bytes) >>= λ others. Ok (first ∷ others)) one.0
-    ∙ ap (λ h. check h Order >>= λ _. rows_within n (Some row) (drop (row_size bytes) bytes) >>= λ others. Ok (row ∷ others)) all.0
+    ∙ ap (λ r. r >>= λ first. demand (is_row_above before first) Order >>= λ _. rows_within n (Some first) (drop (row_size bytes) bytes) >>= λ others. Ok (first ∷ others)) one.0
+    ∙ ap (λ h. demand h Order >>= λ _. rows_within n (Some row) (drop (row_size bytes) bytes) >>= λ others. Ok (row ∷ others)) all.0
     ∙ ap (λ (t : List ℕ). rows_within n (Some row) t >>= λ others. Ok (row ∷ others)) one.1
     ∙ ap (λ r. r >>= λ others. Ok (row ∷ others)) (within_back n (Some row) rows short all.1 whole.1)
 
@@ -138,8 +138,8 @@ within_spelled (suc n) before [] (row ∷ rows) each le read = absurd cc
 within_spelled (suc n) before (b ∷ tail) rows each le read =
     let bytes = b ∷ tail in
     let behind = drop (row_size bytes) bytes in
-    let a = went (row_decoding bytes) (λ row. check (is_above before row) Order >>= λ _. rows_within n (Some row) behind >>= λ rows. Ok (row ∷ rows)) rows read in
-    let o = in_order (is_above before a.value) (rows_within n (Some a.value) behind >>= λ rows. Ok (a.value ∷ rows)) rows a.others in
+    let a = went (row_decoding bytes) (λ row. demand (is_row_above before row) Order >>= λ _. rows_within n (Some row) behind >>= λ rows. Ok (row ∷ rows)) rows read in
+    let o = in_order (is_row_above before a.value) (rows_within n (Some a.value) behind >>= λ rows. Ok (a.value ∷ rows)) rows a.others in
     let r = went (rows_within n (Some a.value) behind) (λ rows. Ok (a.value ∷ rows)) rows o.1 in
     let same : (a.value ∷ r.value) ≡ rows = cc (r.others) in
     let short : length behind ≤ n = omega (arith, le, length-drop (row_size bytes) bytes) in

@@ -26,9 +26,9 @@ use Rattle.path_db.specs.declared.error.DbError.TheVariants.{BadRecord}
 use Rattle.path_rows.specs.declared.command.Command.{Command}
 use Rattle.path_rows.specs.declared.command.Command.TheVariants.{Register, Purge, Remove}
 use Rattle.path_rows.specs.Database.{RowView}
-use Rattle.path_db.specs.RecordSteps.{◌>>=◌, check}
+use Rattle.path_db.specs.RecordSteps.{◌>>=◌, demand}
 use Rattle.path_db.specs.RowRecord.{row_record, rows_encoding, row_size, has_row, record_of, spelled_segment, row_decoding}
-use Rattle.path_db.specs.CommandRecord.{command_encoding, items_decoding, registration_decoding, purge_decoding, removal_decoding, command_decoding}
+use Rattle.path_db.specs.CommandRecord.{command_encoding, items_decoding, registration_record_decoding, purge_decoding, removal_decoding, command_decoding}
 use Rattle.path_rows.proofs.Exports.{take_all}
 use Rattle.path_db.specs.RecordLaws.{ReadCommandsAreSpelled, CommandsAreReadOn}
 
@@ -44,7 +44,7 @@ pub went : {A B : Type 0} (r : Result A DbError) (rest : A → Result B DbError)
 went (Ok x) rest b e = record { value = x; first = refl; others = e }
 went (Err x) rest b e = absurd cc
 
-pub checked : {B : Type 0} (holds : Bool) (rest : Result B DbError) (b : B) → (check holds BadRecord >>= λ _. rest) ≡ Ok b → (holds ≡ true) × (rest ≡ Ok b)
+pub checked : {B : Type 0} (holds : Bool) (rest : Result B DbError) (b : B) → (demand holds BadRecord >>= λ _. rest) ≡ Ok b → (holds ≡ true) × (rest ≡ Ok b)
 checked true rest b e = (refl, e)
 checked false rest b e = absurd cc
 
@@ -60,7 +60,7 @@ type_back (suc (suc (suc (suc n)))) kind e = absurd cc
 pub segment_back : (message : List ℕ) (s : SegmentView) → spelled_segment message ≡ Ok s → message ≡ segment_encoding s
 unfolding spelled_segment
 segment_back message s read =
-    let a = went (record_of (segment_decoding message)) (λ segment. check (same_bytes message (segment_encoding segment)) BadRecord >>= λ _. Ok segment) s read in
+    let a = went (record_of (segment_decoding message)) (λ segment. demand (same_bytes message (segment_encoding segment)) BadRecord >>= λ _. Ok segment) s read in
     let b = checked (same_bytes message (segment_encoding a.value)) (Ok a.value) s a.others in
     let same : a.value ≡ s = cc (b.1) in
     (pointwise_decides Decides-eqb message (segment_encoding a.value)).0 b.0 ∙ ap segment_encoding same
@@ -125,7 +125,7 @@ is_of (Err x) s e = absurd cc
 spelled_whole : (message : List ℕ) (s : SegmentView) → AreBytes message → spelled_segment message ≡ Ok s → IsSegment s
 unfolding spelled_segment
 spelled_whole message s each read =
-    let a = went (record_of (segment_decoding message)) (λ segment. check (same_bytes message (segment_encoding segment)) BadRecord >>= λ _. Ok segment) s read in
+    let a = went (record_of (segment_decoding message)) (λ segment. demand (same_bytes message (segment_encoding segment)) BadRecord >>= λ _. Ok segment) s read in
     let b = checked (same_bytes message (segment_encoding a.value)) (Ok a.value) s a.others in
     let same : a.value ≡ s = cc (b.1) in
     subst IsSegment same (decoding-IsSegment message a.value each (is_of (segment_decoding message) a.value a.first))
@@ -159,11 +159,11 @@ items_spelled (suc count) bytes rows each read =
 pub tail_bytes : (b : ℕ) (bytes : List ℕ) → AreBytes (b ∷ bytes) → AreBytes bytes
 tail_bytes b bytes each i = each (suc i)
 
-registration_spelled : (body : List ℕ) (command : Command) → AreBytes body → registration_decoding body ≡ Ok command → command_encoding command ≡ 1 ∷ body
-unfolding registration_decoding command_encoding
+registration_spelled : (body : List ℕ) (command : Command) → AreBytes body → registration_record_decoding body ≡ Ok command → command_encoding command ≡ 1 ∷ body
+unfolding registration_record_decoding command_encoding
 registration_spelled [] command each read = absurd cc
 registration_spelled (count ∷ items) command each read =
-    let a = checked (nat_le count 16) (check (nat_le (length items) (131072 + 5 * count)) BadRecord >>= λ _. items_decoding count items >>= λ rows. Ok (Register rows)) command read in
+    let a = checked (nat_le count 16) (demand (nat_le (length items) (131072 + 5 * count)) BadRecord >>= λ _. items_decoding count items >>= λ rows. Ok (Register rows)) command read in
     let b = checked (nat_le (length items) (131072 + 5 * count)) (items_decoding count items >>= λ rows. Ok (Register rows)) command a.1 in
     let r = went (items_decoding count items) (λ rows. Ok (Register rows)) command b.1 in
     let same : Register r.value ≡ command = cc (r.others) in
@@ -183,13 +183,13 @@ removal_spelled : (body : List ℕ) (command : Command) → removal_decoding bod
 unfolding removal_decoding command_encoding
 removal_spelled [] command read = absurd cc
 removal_spelled (kind ∷ id) command read =
-    let k = went (record_of (type_of kind)) (λ kind. check (length id == 32) BadRecord >>= λ _. Ok (Remove kind id)) command read in
+    let k = went (record_of (type_of kind)) (λ kind. demand (length id == 32) BadRecord >>= λ _. Ok (Remove kind id)) command read in
     let a = checked (length id == 32) (Ok (Remove k.value id)) command k.others in
     let same : Remove k.value id ≡ command = cc (a.1) in
     ap command_encoding (sym same) ∙ ap (λ (n : ℕ). 3 ∷ n ∷ id) (type_back kind k.value k.first)
 
 by_kind : (a b d removals : Bool) (kind : ℕ) (body : List ℕ) (command : Command) → AreBytes body → (kind == 1) ≡ a → (kind == 2) ≡ b → (kind == 3) ≡ d
-    → (if a then registration_decoding body else if b then purge_decoding body else if d then (if removals then removal_decoding body else Err BadRecord) else Err BadRecord) ≡ Ok command
+    → (if a then registration_record_decoding body else if b then purge_decoding body else if d then (if removals then removal_decoding body else Err BadRecord) else Err BadRecord) ≡ Ok command
     → command_encoding command ≡ kind ∷ body
 by_kind true b d removals kind body command each is_a is_b is_d read = registration_spelled body command each read ∙ ap (λ (n : ℕ). n ∷ body) (sym (eqb-true kind 1 is_a))
 by_kind false true d removals kind body command each is_a is_b is_d read = purge_spelled body command each read ∙ ap (λ (n : ℕ). n ∷ body) (sym (eqb-true kind 2 is_b))
@@ -217,4 +217,4 @@ pub command_read_on : CommandsAreReadOn
 unfolding command_decoding
 command_read_on small large [] command more read = absurd cc
 command_read_on small large (kind ∷ body) command more read =
-    reads_on (kind == 1) (kind == 2) (kind == 3) small large (registration_decoding body) (purge_decoding body) (removal_decoding body) command more read
+    reads_on (kind == 1) (kind == 2) (kind == 3) small large (registration_record_decoding body) (purge_decoding body) (removal_decoding body) command more read

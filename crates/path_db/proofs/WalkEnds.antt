@@ -5,9 +5,9 @@ use Rattle.std.proofs.lemmas.List.{length-append}
 use Rattle.path_rows.specs.Database.{RowView}
 use Rattle.path_db.specs.declared.error.DbError.{DbError}
 use Rattle.path_db.specs.declared.error.DbError.TheVariants.{BadRecord, Order}
-use Rattle.path_db.specs.RecordSteps.{◌>>=◌, check}
+use Rattle.path_db.specs.RecordSteps.{◌>>=◌, demand}
 use Rattle.seg_slots.specs.Message.{last_of}
-use Rattle.path_db.specs.RowRecord.{rows_encoding, row_size, has_row, row_decoding, is_above, rows_within, rows_decoding}
+use Rattle.path_db.specs.RowRecord.{rows_encoding, row_size, has_row, row_decoding, is_row_above, rows_within, rows_decoding}
 use Rattle.path_db.specs.RowWalk.{WalkView, HasGiven}
 use Rattle.path_db.proofs.RowPieces.{all_read, cut_off}
 use Rattle.path_db.proofs.RowsRead.{rows_behind}
@@ -34,11 +34,11 @@ others_of given (Ok others) rows is = (others, refl, cc)
 others_of given (Err e) rows is = absurd cc
 
 one_at_least : (before : Option RowView) (b : ℕ) (bytes : List ℕ) (row : Result RowView DbError) (rest : RowView → Result (List RowView) DbError) (others : List RowView)
-    → (row >>= λ row. check (is_above before row) Order >>= λ _. rest row >>= λ rows. let r : Result (List RowView) DbError = Ok (row ∷ rows) in r) ≡ Ok others → 0 < length others
-one_at_least before b bytes (Ok row) rest others is = by_order (is_above before row) (rest row) is
+    → (row >>= λ row. demand (is_row_above before row) Order >>= λ _. rest row >>= λ rows. let r : Result (List RowView) DbError = Ok (row ∷ rows) in r) ≡ Ok others → 0 < length others
+one_at_least before b bytes (Ok row) rest others is = by_order (is_row_above before row) (rest row) is
   where
     by_order : (above : Bool) (rows : Result (List RowView) DbError)
-        → (check above Order >>= λ _. rows >>= λ rows. let r : Result (List RowView) DbError = Ok (row ∷ rows) in r) ≡ Ok others → 0 < length others
+        → (demand above Order >>= λ _. rows >>= λ rows. let r : Result (List RowView) DbError = Ok (row ∷ rows) in r) ≡ Ok others → 0 < length others
     by_order true (Ok rows) is = let e : row ∷ rows ≡ others = cc in omega (arith, ap length e)
     by_order true (Err e) is = absurd cc
     by_order false rows is = absurd cc

@@ -8,7 +8,7 @@ use Rattle.seg_slots.specs.Message.{last_of}
 use Rattle.path_db.specs.declared.error.DbError.{DbError}
 use Rattle.path_db.specs.declared.error.DbError.TheVariants.{Order}
 use Rattle.path_rows.specs.Database.{RowView, key_of}
-use Rattle.path_db.specs.RowRecord.{rows_encoding, row_size, has_row, row_decoding, is_above}
+use Rattle.path_db.specs.RowRecord.{rows_encoding, row_size, has_row, row_decoding, is_row_above}
 use Rattle.path_db.specs.RowsReader.{AreRefused}
 use Rattle.path_db.specs.RowWalk.{WalkView, HasGiven, is_above_bytes, IsNoNextRow}
 use Rattle.path_db.specs.declared.key.Key.{Key}
@@ -27,12 +27,12 @@ fed_more fed piece given walk rest is more = record {
       ∙ ap (λ (l : List ℕ). l ++ piece) is.split;
 }
 
-above_so : (last : Option RowView) (row : RowView) → is_above_bytes (option_map key_of last) row ≡ is_above last row
+above_so : (last : Option RowView) (row : RowView) → is_above_bytes (option_map key_of last) row ≡ is_row_above last row
 above_so None row = refl
 above_so (Some before) row = refl
 
 module _ (fed : List ℕ) (given : List RowView) (walk : WalkView) (is : HasGiven fed given walk) (left : List ℕ) (left_is : left ≡ walk.rest) (row : RowView) where
-  above_is : (b : Bool) → is_above_bytes walk.last row ≡ b → is_above (last_of given) row ≡ b
+  above_is : (b : Bool) → is_above_bytes walk.last row ≡ b → is_row_above (last_of given) row ≡ b
   above_is b e = sym (above_so (last_of given) row) ∙ ap (λ (k : Option (List ℕ)). is_above_bytes k row) (sym is.last) ∙ e
 
   split_so : rows_encoding given ++ left ≡ fed

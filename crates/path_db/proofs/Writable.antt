@@ -14,10 +14,10 @@ use Rattle.path_db.specs.declared.error.DbError.TheVariants.{BadRecord}
 use Rattle.path_rows.specs.declared.command.Command.{Command}
 use Rattle.path_rows.specs.declared.command.Command.TheVariants.{Register, Purge, Remove}
 use Rattle.path_rows.specs.Database.{RowView, AreWhole}
-use Rattle.path_db.specs.RecordSteps.{◌>>=◌, check}
+use Rattle.path_db.specs.RecordSteps.{◌>>=◌, demand}
 use Rattle.path_db.specs.RowRecord.{row_size, record_of, row_decoding}
-use Rattle.path_db.specs.CommandRecord.{segments_len, items_decoding, registration_decoding, purge_decoding, removal_decoding, command_decoding}
-use Rattle.path_db.specs.RecordLaws.{CanBeWritten, ReadCommandsCanBeWritten}
+use Rattle.path_db.specs.CommandRecord.{segments_len, items_decoding, registration_record_decoding, purge_decoding, removal_decoding, command_decoding}
+use Rattle.path_db.specs.RecordLaws.{HasCommandRecord, ReadCommandsCanBeWritten}
 use Rattle.path_db.proofs.RowsBack.{row_takes}
 use Rattle.path_db.proofs.Spelled.{went, checked, row_whole, bytes_drop, tail_bytes}
 
@@ -52,11 +52,11 @@ items_size (suc count) bytes rows read =
     let sized : segments_len (a.value ∷ b.value) + 5 * suc count ≡ length bytes = omega (arith, sum, takes.0, takes.1, later.1, length-drop (row_size bytes) bytes) in
     subst (λ (l : List RowView). (length l ≡ suc count) × (segments_len l + 5 * suc count ≡ length bytes)) same (ap suc later.0, sized)
 
-registration_can : (removals : Bool) (body : List ℕ) (command : Command) → AreBytes body → registration_decoding body ≡ Ok command → CanBeWritten removals command
-unfolding registration_decoding
+registration_can : (removals : Bool) (body : List ℕ) (command : Command) → AreBytes body → registration_record_decoding body ≡ Ok command → HasCommandRecord removals command
+unfolding registration_record_decoding
 registration_can removals [] command each read = absurd cc
 registration_can removals (count ∷ items) command each read =
-    let a = checked (nat_le count 16) (check (nat_le (length items) (131072 + 5 * count)) BadRecord >>= λ _. items_decoding count items >>= λ rows. Ok (Register rows)) command read in
+    let a = checked (nat_le count 16) (demand (nat_le (length items) (131072 + 5 * count)) BadRecord >>= λ _. items_decoding count items >>= λ rows. Ok (Register rows)) command read in
     let b = checked (nat_le (length items) (131072 + 5 * count)) (items_decoding count items >>= λ rows. Ok (Register rows)) command a.1 in
     let r = went (items_decoding count items) (λ rows. Ok (Register rows)) command b.1 in
     let same : Register r.value ≡ command = cc (r.others) in
@@ -64,32 +64,32 @@ registration_can removals (count ∷ items) command each read =
     let so = items_size count items r.value r.first in
     let few = leb-true count 16 a.0 in
     let short = leb-true (length items) (131072 + 5 * count) b.0 in
-    subst (CanBeWritten removals) same (record {
+    subst (HasCommandRecord removals) same (record {
       limits = (omega (arith, so.0, few), omega (arith, so.1, short));
       whole = items_whole count items r.value are r.first;
       widths = tt;
       allowed = tt;
     })
 
-purge_can : (removals : Bool) (body : List ℕ) (command : Command) → AreBytes body → purge_decoding body ≡ Ok command → CanBeWritten removals command
+purge_can : (removals : Bool) (body : List ℕ) (command : Command) → AreBytes body → purge_decoding body ≡ Ok command → HasCommandRecord removals command
 unfolding purge_decoding
 purge_can removals body command each read =
     let a = checked (length body == 8) (Ok (Purge (eight_at 0 body))) command read in
     let same : Purge (eight_at 0 body) ≡ command = cc (a.1) in
-    subst (CanBeWritten removals) same (record { limits = tt; whole = tt; widths = eight_small (part 0 8 body) (bytes-part 0 8 body each); allowed = tt })
+    subst (HasCommandRecord removals) same (record { limits = tt; whole = tt; widths = eight_small (part 0 8 body) (bytes-part 0 8 body each); allowed = tt })
 
-removal_can : (body : List ℕ) (command : Command) → removal_decoding body ≡ Ok command → CanBeWritten true command
+removal_can : (body : List ℕ) (command : Command) → removal_decoding body ≡ Ok command → HasCommandRecord true command
 unfolding removal_decoding
 removal_can [] command read = absurd cc
 removal_can (kind ∷ id) command read =
-    let k = went (record_of (type_of kind)) (λ kind. check (length id == 32) BadRecord >>= λ _. Ok (Remove kind id)) command read in
+    let k = went (record_of (type_of kind)) (λ kind. demand (length id == 32) BadRecord >>= λ _. Ok (Remove kind id)) command read in
     let a = checked (length id == 32) (Ok (Remove k.value id)) command k.others in
     let same : Remove k.value id ≡ command = cc (a.1) in
-    subst (CanBeWritten true) same (record { limits = tt; whole = tt; widths = eqb-true (length id) 32 a.0; allowed = refl })
+    subst (HasCommandRecord true) same (record { limits = tt; whole = tt; widths = eqb-true (length id) 32 a.0; allowed = refl })
 
 by_kind : (a b d removals : Bool) (body : List ℕ) (command : Command) → AreBytes body
-    → (if a then registration_decoding body else if b then purge_decoding body else if d then (if removals then removal_decoding body else Err BadRecord) else Err BadRecord) ≡ Ok command
-    → CanBeWritten removals command
+    → (if a then registration_record_decoding body else if b then purge_decoding body else if d then (if removals then removal_decoding body else Err BadRecord) else Err BadRecord) ≡ Ok command
+    → HasCommandRecord removals command
 by_kind true b d removals body command each read = registration_can removals body command each read
 by_kind false true d removals body command each read = purge_can removals body command each read
 by_kind false false true true body command each read = removal_can body command read

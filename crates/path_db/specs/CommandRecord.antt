@@ -11,7 +11,7 @@ use Rattle.path_rows.specs.declared.command.Command.TheVariants.{Register, Purge
 use Rattle.path_db.specs.declared.error.DbError.{DbError}
 use Rattle.path_db.specs.declared.error.DbError.TheVariants.{BadRecord}
 use Rattle.path_rows.specs.Database.{RowView}
-use Rattle.path_db.specs.RecordSteps.{◌>>=◌, check}
+use Rattle.path_db.specs.RecordSteps.{◌>>=◌, demand}
 use Rattle.path_db.specs.RowRecord.{rows_encoding, row_decoding, row_size, record_of, HasOutline}
 
 -- the bytes of the segments' encodings alone
@@ -41,18 +41,18 @@ items_decoding (suc count) bytes = do
   Ok (row ∷ rows)
 
 -- a count of at most 16, and this number of rows: each takes five bytes beside its segment's, which are at most 131,072 together
-unfoldable pub registration_decoding : List ℕ → Result Command DbError
-registration_decoding [] = Err BadRecord
-registration_decoding (count ∷ items) = do
-  _ ← check (nat_le count MOST_REGISTERED) BadRecord
-  _ ← check (nat_le (length items) (MOST_REGISTERED_BYTES + 5 * count)) BadRecord
+unfoldable pub registration_record_decoding : List ℕ → Result Command DbError
+registration_record_decoding [] = Err BadRecord
+registration_record_decoding (count ∷ items) = do
+  _ ← demand (nat_le count MOST_REGISTERED) BadRecord
+  _ ← demand (nat_le (length items) (MOST_REGISTERED_BYTES + 5 * count)) BadRecord
   rows ← items_decoding count items
   Ok (Register rows)
 
 -- a moment
 unfoldable pub purge_decoding : List ℕ → Result Command DbError
 purge_decoding body = do
-  _ ← check (length body == 8) BadRecord
+  _ ← demand (length body == 8) BadRecord
   Ok (Purge (eight_at 0 body))
 
 -- a type and an id
@@ -60,14 +60,14 @@ unfoldable pub removal_decoding : List ℕ → Result Command DbError
 removal_decoding [] = Err BadRecord
 removal_decoding (kind ∷ id) = do
   kind ← record_of (type_of kind)
-  _ ← check (length id == 32) BadRecord
+  _ ← demand (length id == 32) BadRecord
   Ok (Remove kind id)
 
 -- the command whose record these bytes are; a removal only where removals are allowed
 unfoldable pub command_decoding : Bool → List ℕ → Result Command DbError
 command_decoding removals [] = Err BadRecord
 command_decoding removals (kind ∷ body) =
-    if kind == 1 then registration_decoding body
+    if kind == 1 then registration_record_decoding body
     else if kind == 2 then purge_decoding body
     else if kind == 3 then (if removals then removal_decoding body else Err BadRecord)
     else Err BadRecord
@@ -80,8 +80,8 @@ pub record WantsItems (body : List ℕ) : Type 0 where
   pub outline : HasOutline (drop 1 body)
 
 -- To read the command takes memory if it is such a registration.
-abbrev pub WantsMemory : List ℕ → Type 0
-WantsMemory bytes = (slice_index bytes 0 ≡ 1) × WantsItems (drop 1 bytes)
+abbrev pub CommandWantsMemory : List ℕ → Type 0
+CommandWantsMemory bytes = (slice_index bytes 0 ≡ 1) × WantsItems (drop 1 bytes)
 
 -- removals are allowed from version 2 on
 abbrev pub allows_removals : ℕ → Bool

@@ -39,7 +39,7 @@ WrittenCommandsAreRead =
     → command_decoding removals (command_encoding command) ≡ Ok command
 
 -- The command has a record that is read as this command.
-pub record CanBeWritten (removals : Bool) (command : Command) : Type 0 where
+pub record HasCommandRecord (removals : Bool) (command : Command) : Type 0 where
   pub limits : IsWithinLimits command
   pub whole : HasWholeSegments command
   pub widths : HasWidths command
@@ -49,7 +49,7 @@ pub record CanBeWritten (removals : Bool) (command : Command) : Type 0 where
 abbrev pub ReadCommandsCanBeWritten : Type 0
 ReadCommandsCanBeWritten =
     (removals : Bool) (bytes : List ℕ) (command : Command) → AreBytes bytes
-    → command_decoding removals bytes ≡ Ok command → CanBeWritten removals command
+    → command_decoding removals bytes ≡ Ok command → HasCommandRecord removals command
 
 -- The records of a database are read as its rows.
 abbrev pub WrittenRowsAreRead : Type 0

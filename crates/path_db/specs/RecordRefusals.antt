@@ -7,9 +7,9 @@ use Rattle.path_rows.specs.declared.command.Command.{Command}
 use Rattle.path_db.specs.declared.error.DbError.{DbError}
 use Rattle.path_db.specs.declared.error.DbError.TheVariants.{NoMemory, BadRecord, Order}
 use Rattle.path_rows.specs.Database.{RowView, IsDatabase}
-use Rattle.path_db.specs.RowRecord.{row_record, rows_encoding, is_above, rows_decoding}
+use Rattle.path_db.specs.RowRecord.{row_record, rows_encoding, is_row_above, rows_decoding}
 use Rattle.path_db.specs.CommandRecord.{command_encoding, command_decoding}
-use Rattle.path_db.specs.RecordLaws.{CanBeWritten}
+use Rattle.path_db.specs.RecordLaws.{HasCommandRecord}
 
 -- After the records of a database, perhaps an empty one, there are bytes that begin with no row's record.
 pub record HasNoRecord (bytes : List ℕ) : Type 0 where
@@ -28,7 +28,7 @@ pub record HasLowerRow (bytes : List ℕ) : Type 0 where
   pub database : IsDatabase rows
   pub split : bytes ≡ rows_encoding rows ++ (row_record row ++ rest)
   pub whole : IsSegment row.1
-  pub lower : is_above (last_of rows) row ≡ false
+  pub lower : is_row_above (last_of rows) row ≡ false
 
 -- Bytes are refused as rows with BadRecord exactly where, after the records of a database, they begin with no row's record.
 abbrev pub BadRecordIsExact : Type 0
@@ -46,7 +46,7 @@ RowsWantNoMemory = (bytes : List ℕ) → AreBytes bytes → rows_decoding bytes
 abbrev pub CommandRefusalIsExact : Type 0
 CommandRefusalIsExact =
     (removals : Bool) (bytes : List ℕ) → AreBytes bytes
-    → (command_decoding removals bytes ≡ Err BadRecord) ↔ ((command : Command) → CanBeWritten removals command → command_encoding command ≢ bytes)
+    → (command_decoding removals bytes ≡ Err BadRecord) ↔ ((command : Command) → HasCommandRecord removals command → command_encoding command ≢ bytes)
 
 -- All commands that are refused are refused with the same error.
 abbrev pub CommandsHaveOneRefusal : Type 0

@@ -10,15 +10,15 @@ abbrev pub ◌>>=◌ : {A B : Type 0} → Result A DbError → (A → Result B D
 (Err e) >>= rest = Err e
 
 -- continues where the test holds, and is refused for this reason where the test fails
-abbrev pub check : Bool → DbError → Result (Unit {0}) DbError
-check holds reason = if holds then Ok tt else Err reason
+abbrev pub demand : Bool → DbError → Result (Unit {0}) DbError
+demand holds reason = if holds then Ok tt else Err reason
 
 -- A call returns exactly what the reading gives, seen by `view`, unless memory was refused.
-abbrev pub Gives : {X Y : Type 0} → (X → Y) → Result X DbError → Result Y DbError → Type 0
-Gives view (Ok x) reading = reading ≡ Ok (view x)
-Gives view (Err e) reading = e ≢ NoMemory → reading ≡ Err e
+abbrev pub GivesRecord : {X Y : Type 0} → (X → Y) → Result X DbError → Result Y DbError → Type 0
+GivesRecord view (Ok x) reading = reading ≡ Ok (view x)
+GivesRecord view (Err e) reading = e ≢ NoMemory → reading ≡ Err e
 
 -- A call that takes no memory returns exactly what the reading gives.
-abbrev pub Reads : {X Y : Type 0} → (X → Y) → Result X DbError → Result Y DbError → Type 0
-Reads view (Ok x) reading = reading ≡ Ok (view x)
-Reads view (Err e) reading = reading ≡ Err e
+abbrev pub ReadsRecord : {X Y : Type 0} → (X → Y) → Result X DbError → Result Y DbError → Type 0
+ReadsRecord view (Ok x) reading = reading ≡ Ok (view x)
+ReadsRecord view (Err e) reading = reading ≡ Err e

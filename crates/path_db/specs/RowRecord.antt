@@ -14,7 +14,7 @@ use Rattle.seg_core.specs.Encoding.{segment_encoding}
 use Rattle.path_db.specs.declared.error.DbError.{DbError}
 use Rattle.path_db.specs.declared.error.DbError.TheVariants.{BadRecord, Order}
 use Rattle.path_rows.specs.Database.{RowView, key_order}
-use Rattle.path_db.specs.RecordSteps.{◌>>=◌, check}
+use Rattle.path_db.specs.RecordSteps.{◌>>=◌, demand}
 
 -- ---- writing
 
@@ -45,13 +45,13 @@ record_of (Err e) = Err BadRecord
 unfoldable pub spelled_segment : List ℕ → Result SegmentView DbError
 spelled_segment message = do
   segment ← record_of (segment_decoding message)
-  _ ← check (same_bytes message (segment_encoding segment)) BadRecord
+  _ ← demand (same_bytes message (segment_encoding segment)) BadRecord
   Ok segment
 
 -- the row at the front
 unfoldable pub row_decoding : List ℕ → Result RowView DbError
 row_decoding bytes = do
-  _ ← check (has_row bytes) BadRecord
+  _ ← demand (has_row bytes) BadRecord
   kind ← record_of (type_of (slice_index bytes 0))
   segment ← spelled_segment (part 5 (four_at 1 bytes) bytes)
   Ok (kind, segment)
@@ -65,9 +65,9 @@ pub record HasOutline (bytes : List ℕ) : Type 0 where
 -- ---- reading all
 
 -- the row is the first, or its key is strictly above that of the row before
-abbrev pub is_above : Option RowView → RowView → Bool
-is_above None row = true
-is_above (Some before) row = is_lt (key_order before row)
+abbrev pub is_row_above : Option RowView → RowView → Bool
+is_row_above None row = true
+is_row_above (Some before) row = is_lt (key_order before row)
 
 -- the rows of all bytes after a row, where `most` is at least the number of rows
 unfoldable pub rows_within : ℕ → Option RowView → List ℕ → Result (List RowView) DbError
@@ -75,7 +75,7 @@ rows_within zero before bytes = Ok []
 rows_within (suc most) before [] = Ok []
 rows_within (suc most) before (b ∷ bytes) = do
   row ← row_decoding (b ∷ bytes)
-  _ ← check (is_above before row) Order
+  _ ← demand (is_row_above before row) Order
   rows ← rows_within most (Some row) (drop (row_size (b ∷ bytes)) (b ∷ bytes))
   Ok (row ∷ rows)
 

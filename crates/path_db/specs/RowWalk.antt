@@ -41,12 +41,12 @@ abbrev pub is_above_key : Option Key → RowView → Bool
 is_above_key last row = is_above_bytes (option_map key_bytes last) row
 
 -- The length of a row is there, and is above that of any segment.
-pub record IsTooLong (left : List ℕ) : Type 0 where
+pub record IsRowTooLong (left : List ℕ) : Type 0 where
   pub there : 5 ≤ length left
   pub long : 16384 < four_at 1 left
 
 -- The record at the front, which has at most 16,389 bytes, is not whole.
-pub record IsShort (left : List ℕ) : Type 0 where
+pub record IsRowCutShort (left : List ℕ) : Type 0 where
   pub none : has_row left ≡ false
   pub few : length left < 16389
 
@@ -69,4 +69,4 @@ pub record IsLowerRow (left : List ℕ) (last : Option Key) : Type 0 where
 -- the bytes are no next row, whatever bytes come next: the length is too large, or a whole record is no row, or its key isn't above
 abbrev pub IsNoNextRow : List ℕ → Option Key → DbError → Type 0
 IsNoNextRow left last e =
-    ((e ≡ BadRecord) × IsTooLong left) ⊎ ((has_row left ≡ true) × ((row_decoding left ≡ Err e) ⊎ (IsLowerRow left last × (e ≡ Order))))
+    ((e ≡ BadRecord) × IsRowTooLong left) ⊎ ((has_row left ≡ true) × ((row_decoding left ≡ Err e) ⊎ (IsLowerRow left last × (e ≡ Order))))

@@ -5,11 +5,11 @@ ghost use Rattle.std.specs.Int.{w64, to_be_bytes};
 ghost use Rattle.seg_core.specs.Encoding.{IsSegment};
 ghost use Rattle.seg_core.specs.Registration.{type_number};
 ghost use Rattle.path_db.specs.declared.error.DbError.TheVariants.{NoMemory};
-ghost use Rattle.path_db.specs.RecordSteps.{Gives, Reads};
+ghost use Rattle.path_db.specs.RecordSteps.{GivesRecord, ReadsRecord};
 ghost use Rattle.path_rows.specs.Database.{AreWhole};
 ghost use Rattle.path_rows.specs.Command.{HasWholeSegments};
 ghost use Rattle.path_db.specs.RowRecord.{rows_encoding, HasOutline};
-ghost use Rattle.path_db.specs.CommandRecord.{IsWithinLimits, command_encoding, items_decoding, registration_decoding, purge_decoding, removal_decoding, command_decoding, allows_removals, WantsItems, WantsMemory};
+ghost use Rattle.path_db.specs.CommandRecord.{IsWithinLimits, command_encoding, items_decoding, registration_record_decoding, purge_decoding, removal_decoding, command_decoding, allows_removals, WantsItems, CommandWantsMemory};
 
 use crate::error::DbError;
 use crate::format::{PURGE_RECORD, REGISTER_RECORD, REMOVE_RECORD, allows_removals};
@@ -92,10 +92,10 @@ fn put_removal(kind: SegType, id: &[u8; 32], out: &mut Vec<u8>) -> Result<(), Al
 /// registration with too many segments or bytes take no memory. A command that is read can be written.
 #[tactic(auto, unfolding(crate::specs::CommandRecord::command_decoding))]
 pub fn read_command(alloc: Global, bytes: &[u8], version: u32) -> Result<Command, DbError>
-    ensures decoding { Gives (λ command. command) result (command_decoding (allows_removals version) bytes.now) }
+    ensures decoding { GivesRecord (λ command. command) result (command_decoding (allows_removals version) bytes.now) }
     ensures whole { IfOk result HasWholeSegments }
     ensures limits { IfOk result IsWithinLimits }
-    ensures memory { IfErr result (λ e. e ≡ NoMemory → WantsMemory bytes.now) }
+    ensures memory { IfErr result (λ e. e ≡ NoMemory → CommandWantsMemory bytes.now) }
 {
     let [kind, body @ ..] = bytes else {
         return Err(DbError::BadRecord);
@@ -111,7 +111,7 @@ pub fn read_command(alloc: Global, bytes: &[u8], version: u32) -> Result<Command
 /// Reads a count, and this number of segments.
 #[tactic(auto, unfolding(crate::specs::CommandRecord::registration_decoding))]
 fn read_registration(alloc: Global, body: &[u8]) -> Result<Command, DbError>
-    ensures decoding { Gives (λ command. command) result (registration_decoding body.now) }
+    ensures decoding { GivesRecord (λ command. command) result (registration_record_decoding body.now) }
     ensures whole { IfOk result HasWholeSegments }
     ensures limits { IfOk result IsWithinLimits }
     ensures memory { IfErr result (λ e. e ≡ NoMemory → WantsItems body.now) }
@@ -129,7 +129,7 @@ fn read_registration(alloc: Global, body: &[u8]) -> Result<Command, DbError>
 
 /// Reads this number of segments, each with its type. Their records have to be all of the bytes.
 fn read_items(alloc: Global, count: usize, bytes: &[u8]) -> Result<Vec<(SegType, Segment)>, DbError>
-    ensures decoding { Gives (λ rows. rows.items) result (items_decoding count bytes.now) }
+    ensures decoding { GivesRecord (λ rows. rows.items) result (items_decoding count bytes.now) }
     ensures whole { IfOk result (λ rows. AreWhole rows.items) }
     ensures memory { IfErr result (λ e. e ≡ NoMemory → (1 ≤ count) × HasOutline bytes.now) }
 {
@@ -149,7 +149,7 @@ fn read_items(alloc: Global, count: usize, bytes: &[u8]) -> Result<Vec<(SegType,
 /// Reads a moment of eight bytes, big-endian.
 #[tactic(auto, unfolding(crate::specs::CommandRecord::purge_decoding))]
 fn read_purge(body: &[u8]) -> Result<Command, DbError>
-    ensures decoding { Reads (λ command. command) result (purge_decoding body.now) }
+    ensures decoding { ReadsRecord (λ command. command) result (purge_decoding body.now) }
     ensures whole { IfOk result HasWholeSegments }
     ensures limits { IfOk result IsWithinLimits }
     ensures memory { IfErr result (λ e. e ≢ NoMemory) }
@@ -163,7 +163,7 @@ fn read_purge(body: &[u8]) -> Result<Command, DbError>
 /// Reads a type of one byte and an id of 32.
 #[tactic(auto, unfolding(crate::specs::CommandRecord::removal_decoding))]
 fn read_removal(body: &[u8]) -> Result<Command, DbError>
-    ensures decoding { Reads (λ command. command) result (removal_decoding body.now) }
+    ensures decoding { ReadsRecord (λ command. command) result (removal_decoding body.now) }
     ensures whole { IfOk result HasWholeSegments }
     ensures limits { IfOk result IsWithinLimits }
     ensures memory { IfErr result (λ e. e ≢ NoMemory) }

@@ -5,10 +5,10 @@ ghost use Rattle.seg_core.specs.Encoding.{IsSegment, segment_encoding};
 ghost use Rattle.seg_core.specs.Registration.{type_of};
 ghost use Rattle.seg_core.specs.Segment.{segment_outline};
 ghost use Rattle.path_db.specs.declared.error.DbError.TheVariants.{NoMemory, BadRecord};
-ghost use Rattle.path_db.specs.RecordSteps.{Gives, Reads};
+ghost use Rattle.path_db.specs.RecordSteps.{GivesRecord, ReadsRecord};
 ghost use Rattle.path_rows.specs.Database.{IsDatabase, AreWhole};
 ghost use Rattle.path_rows.specs.Row.{row_view, row_views};
-ghost use Rattle.path_db.specs.RowRecord.{row_record, rows_encoding, row_size, has_row, record_of, row_decoding, spelled_segment, HasOutline, is_above, rows_decoding};
+ghost use Rattle.path_db.specs.RowRecord.{row_record, rows_encoding, row_size, has_row, record_of, row_decoding, spelled_segment, HasOutline, is_row_above, rows_decoding};
 ghost use Rattle.seg_slots.specs.Message.{last_of};
 
 use crate::error::DbError;
@@ -67,7 +67,7 @@ pub fn row_head(kind: SegType, segment: &Segment) -> [u8; 5]
 
 /// The type with the number of this byte.
 pub(crate) fn type_from(byte: u8) -> Result<SegType, DbError>
-    ensures { Reads (λ kind. kind) result (record_of (type_of byte)) }
+    ensures { ReadsRecord (λ kind. kind) result (record_of (type_of byte)) }
 {
     match SegType::from_number(u64::from(byte)) {
         Ok(kind) => Ok(kind),
@@ -95,7 +95,7 @@ pub(crate) fn size_of_row(bytes: &[u8]) -> Result<usize, DbError>
 /// The segment of a message, which has to be the segment's one encoding.
 #[tactic(auto, unfolding(crate::specs::RowRecord::spelled_segment))]
 fn read_spelled(alloc: Global, message: &[u8]) -> Result<Segment, DbError>
-    ensures decoding { Gives (λ segment. segment) result (spelled_segment message.now) }
+    ensures decoding { GivesRecord (λ segment. segment) result (spelled_segment message.now) }
     ensures whole { IfOk result IsSegment }
     ensures outline { OnOk result (IsOk (segment_outline message.now)) }
     ensures memory { IfErr result (λ e. e ≡ NoMemory → IsOk (segment_outline message.now)) }
@@ -114,7 +114,7 @@ fn read_spelled(alloc: Global, message: &[u8]) -> Result<Segment, DbError>
 /// The row at the front of the bytes, and the bytes after its record.
 #[tactic(auto, unfolding(crate::specs::RowRecord::row_decoding))]
 pub(crate) fn read_row(alloc: Global, bytes: &[u8]) -> Result<((SegType, Segment), &[u8]), DbError>
-    ensures decoding { Gives (λ read. read.0) result (row_decoding bytes.now) }
+    ensures decoding { GivesRecord (λ read. read.0) result (row_decoding bytes.now) }
     ensures behind { IfOk result (λ read. read.1.now ≡ drop (row_size bytes.now) bytes.now) }
     ensures whole { IfOk result (λ read. IsSegment read.0.1) }
     ensures outline { OnOk result (HasOutline bytes.now) }
@@ -130,7 +130,7 @@ pub(crate) fn read_row(alloc: Global, bytes: &[u8]) -> Result<((SegType, Segment
 /// `BadRecord` for bytes that are no record, `Order` for a row whose key isn't strictly above the key of the row before. No bytes
 /// are an empty database. The call takes memory from the first row on whose segment has an outline.
 pub fn read_rows(alloc: Global, bytes: &[u8]) -> Result<PathDb, DbError>
-    ensures decoding { Gives (λ rows. rows) result (rows_decoding bytes.now) }
+    ensures decoding { GivesRecord (λ rows. rows) result (rows_decoding bytes.now) }
     ensures whole { IfOk result IsDatabase }
     ensures memory { IfErr result (λ e. e ≡ NoMemory → HasOutline bytes.now) }
 {
@@ -140,7 +140,7 @@ pub fn read_rows(alloc: Global, bytes: &[u8]) -> Result<PathDb, DbError>
 
 /// Reads rows whose keys rise.
 fn read_rising(alloc: Global, bytes: &[u8]) -> Result<Vec<Row>, DbError>
-    ensures decoding { Gives (λ rows. row_views rows.items) result (rows_decoding bytes.now) }
+    ensures decoding { GivesRecord (λ rows. row_views rows.items) result (rows_decoding bytes.now) }
     ensures whole { IfOk result (λ rows. AreWhole (row_views rows.items)) }
     ensures memory { IfErr result (λ e. e ≡ NoMemory → HasOutline bytes.now) }
 {
@@ -160,7 +160,7 @@ fn read_rising(alloc: Global, bytes: &[u8]) -> Result<Vec<Row>, DbError>
 
 /// Whether there is no row before, or the key is strictly above that of the last row.
 pub(crate) fn is_above_last(rows: &[Row], row: &Row) -> bool
-    ensures { result ≡ is_above (last_of (row_views rows.now)) (row_view row.now) }
+    ensures { result ≡ is_row_above (last_of (row_views rows.now)) (row_view row.now) }
 {
     match rows.last() {
         Some(before) => before.cmp_key(row.kind, &row.id).is_lt(),

@@ -6,7 +6,7 @@ ghost use Rattle.path_rows.specs.Database.{RowView};
 ghost use Rattle.path_rows.specs.Row.{row_view};
 ghost use Rattle.path_db.specs.RowRecord.{has_row, row_size, HasOutline};
 ghost use Rattle.path_db.specs.RowsReader.{AreRefused};
-ghost use Rattle.path_db.specs.RowWalk.{HasGiven, IsNextRow, IsNoNextRow, IsTooLong, IsShort, is_above_key};
+ghost use Rattle.path_db.specs.RowWalk.{HasGiven, IsNextRow, IsNoNextRow, IsRowTooLong, IsRowCutShort, is_above_key};
 
 use crate::error::DbError;
 use crate::key::Key;
@@ -110,7 +110,7 @@ fn bytes_from(bytes: &[u8], at: usize) -> &[u8]
 
 /// The row at the front of the bytes, after a row with this key, and the length of its record. `None` where the record is not whole.
 fn next_of(alloc: Global, last: &Option<Key>, left: &[u8]) -> Result<Option<(Row, usize)>, DbError>
-    ensures row { IfOk result (λ next. MatchOption next (IsShort left.now) (λ found. IsNextRow left.now last.now (row_view found.0) found.1)) }
+    ensures row { IfOk result (λ next. MatchOption next (IsRowCutShort left.now) (λ found. IsNextRow left.now last.now (row_view found.0) found.1)) }
     ensures refused { IfErr result (λ e. e ≢ NoMemory → IsNoNextRow left.now last.now e) }
     ensures memory { IfErr result (λ e. e ≡ NoMemory → HasOutline left.now) }
 {
@@ -127,9 +127,9 @@ fn next_of(alloc: Global, last: &Option<Key>, left: &[u8]) -> Result<Option<(Row
 
 /// The length of the record at the front, or `None` where the record is not whole. A segment of more than 16,384 bytes is refused.
 fn size_of_next(left: &[u8]) -> Result<Option<usize>, DbError>
-    ensures size { IfOk result (λ size. MatchOption size (IsShort left.now)
+    ensures size { IfOk result (λ size. MatchOption size (IsRowCutShort left.now)
         (λ size. (has_row left.now ≡ true) × (size ≡ row_size left.now) × (size ≤ length left.now))) }
-    ensures refused { IfErr result (λ e. (e ≡ BadRecord) × IsTooLong left.now) }
+    ensures refused { IfErr result (λ e. (e ≡ BadRecord) × IsRowTooLong left.now) }
 {
     if is_too_long(left) {
         return Err(DbError::BadRecord);
@@ -139,7 +139,7 @@ fn size_of_next(left: &[u8]) -> Result<Option<usize>, DbError>
 
 /// Whether the length of the record's segment is there, and is above 16,384 bytes.
 fn is_too_long(left: &[u8]) -> bool
-    ensures { IsTrue result ↔ IsTooLong left.now }
+    ensures { IsTrue result ↔ IsRowTooLong left.now }
 {
     left.len() >= ROW_HEAD && read_u32(left, 1) as usize > MOST_SEGMENT_BYTES
 }

@@ -2,7 +2,7 @@
 
 ghost use Rattle.std.specs.Prelude.{◌≡◌, ◌≢◌, ◌<◌, ◌≤◌, ◌++◌, [], length, drop, IfOk, IfErr, IsOk};
 ghost use Rattle.path_db.specs.declared.error.DbError.TheVariants.{NoMemory};
-ghost use Rattle.path_db.specs.RecordSteps.{Gives};
+ghost use Rattle.path_db.specs.RecordSteps.{GivesRecord};
 ghost use Rattle.path_rows.specs.Database.{IsDatabase};
 ghost use Rattle.path_rows.specs.Row.{row_views};
 ghost use Rattle.path_db.specs.RowRecord.{rows_encoding, rows_decoding, has_row};
@@ -69,7 +69,7 @@ impl RowsReader {
 
     /// The rows of all bytes that were fed, as `read_rows` returns them. The call takes memory only where there are rows.
     pub fn finish(self) -> Result<PathDb, DbError>
-        ensures decoding { Gives (λ rows. rows) result (rows_decoding self) }
+        ensures decoding { GivesRecord (λ rows. rows) result (rows_decoding self) }
         ensures whole { IfOk result IsDatabase }
         ensures memory { IfErr result (λ e. e ≡ NoMemory → IsOk (rows_decoding self) × (0 < length self)) }
     {

@@ -11,7 +11,7 @@ use Rattle.store_layout.specs.Opening.{StoreValue}
 use Rattle.store_layout.specs.StoreValues.{value_after}
 use Rattle.store_open.specs.PathStores.{store_format}
 use Rattle.path_hub.specs.declared.rule.SeenGroups.{SeenGroups}
-use Rattle.path_hub.specs.Shown.{with_command, newcomer, shown_after, IsShown, KeepsRule, IsSeen, IsGrown}
+use Rattle.path_hub.specs.Shown.{value_with_command, newcomer, shown_after, IsShownAfter, KeepsRule, IsSeen, HasSeenGroup}
 use Rattle.path_hub.specs.Showcase.{Publishes}
 use Rattle.path_hub.proofs.Groups.{prefix_whole, prefix_more, commands_lead, same_groups, shown_more}
 
@@ -50,8 +50,8 @@ module _ (opening : StoreValue (List RowView)) where
         record { shown = h.shown; later = h.seats seat v at },
       )
 
-  pub grows : (seat : ℕ) (v : SeenGroups) (x next : StoreValue (List RowView)) (group : List Command) → IsShown opening x v.groups → 1 ≤ length group
-      → next ≡ fold with_command x group → TurnsAt (KeepsRule opening) seat v x next (IsGrown group)
+  pub grows : (seat : ℕ) (v : SeenGroups) (x next : StoreValue (List RowView)) (group : List Command) → IsShownAfter opening x v.groups → 1 ≤ length group
+      → next ≡ fold value_with_command x group → TurnsAt (KeepsRule opening) seat v x next (HasSeenGroup group)
   grows seat v x next group mine full is views h at =
       let places : (shown_after opening h.groups).place ≡ (shown_after opening v.groups).place = ap (λ s. s.place) (sym h.shown.is ∙ mine.is) in
       let same : v.groups ≡ h.groups = same_groups opening v.groups h.groups (h.seats seat v at) h.shown.whole (omega (arith, places)) in
@@ -60,7 +60,7 @@ module _ (opening : StoreValue (List RowView)) where
         w,
         record {
           groups = now;
-          shown = subst (λ (y : StoreValue (List RowView)). IsShown opening y now) (sym (is ∙ commands_lead x group)) (shown_more opening x h.groups group h.shown full);
+          shown = subst (λ (y : StoreValue (List RowView)). IsShownAfter opening y now) (sym (is ∙ commands_lead x group)) (shown_more opening x h.groups group h.shown full);
           seats = seats_set h.groups now views seat w h.seats (λ front p. prefix_more front h.groups (group ∷ []) p) (prefix_whole now);
         },
         ap (λ l. l ++ group ∷ []) (sym same),
@@ -68,8 +68,8 @@ module _ (opening : StoreValue (List RowView)) where
 
   -- what a step of the writer gives, put together
   pub publishes : {E : Type 0} (x y : StoreValue (List RowView)) (group before left : List Command) (v w : SeenGroups) (r : Result (Unit {0}) E)
-      → IsShown opening x v.groups → 1 ≤ length before → before ≡ group
-      → MatchResult r (λ _. (y ≡ fold with_command x before) × (left ≡ [])) (λ _. (y ≡ x) × (left ≡ before))
+      → IsShownAfter opening x v.groups → 1 ≤ length before → before ≡ group
+      → MatchResult r (λ _. (y ≡ fold value_with_command x before) × (left ≡ [])) (λ _. (y ≡ x) × (left ≡ before))
       → MatchResult r (λ _. w.groups ≡ v.groups ++ group ∷ []) (λ _. w ≡ v)
       → Publishes opening r before x v.groups left y w.groups
   publishes x y group before left v w (Ok u) shown full same values rule =
@@ -78,11 +78,11 @@ module _ (opening : StoreValue (List RowView)) where
         values.1,
         is,
         grown,
-        subst (λ (z : StoreValue (List RowView)). IsShown opening z w.groups) (sym is) (subst (IsShown opening (value_after store_format x before)) (sym grown) (shown_more opening x v.groups before shown full)),
+        subst (λ (z : StoreValue (List RowView)). IsShownAfter opening z w.groups) (sym is) (subst (IsShownAfter opening (value_after store_format x before)) (sym grown) (shown_more opening x v.groups before shown full)),
       )
   publishes x y group before left v w (Err e) shown full same values rule = (
     values.1,
     values.0,
     ap (λ u. u.groups) rule,
-    subst (λ (z : StoreValue (List RowView)). IsShown opening z w.groups) (sym values.0) (subst (IsShown opening x) (sym (ap (λ u. u.groups) rule)) shown),
+    subst (λ (z : StoreValue (List RowView)). IsShownAfter opening z w.groups) (sym values.0) (subst (IsShownAfter opening x) (sym (ap (λ u. u.groups) rule)) shown),
   )

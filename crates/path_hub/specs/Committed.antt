@@ -6,7 +6,7 @@ use Rattle.path_hub.specs.declared.error.HubError.{HubError}
 use Rattle.path_hub.specs.declared.error.HubError.TheVariants as hub
 
 -- What a hub's receipt of a command says: the receipt shows that command, and its note a place above the command's own.
-pub record IsCommitted (handed : Command) (receipt : Receipt ℕ) : Type 0 where
+pub record ReceiptShows (handed : Command) (receipt : Receipt ℕ) : Type 0 where
   pub command : receipt.command.value ≡ handed
   pub note : MatchOption receipt.note ⊥ (λ shown. receipt.place < shown)
 

@@ -13,8 +13,8 @@ use Rattle.store_open.specs.PathStores.{store_format}
 use Rattle.path_hub.specs.declared.rule.SeenGroups.{SeenGroups}
 
 -- rows and their place after one command more
-abbrev pub with_command : StoreValue (List RowView) → Command → StoreValue (List RowView)
-with_command value command = record { db = database_after value.db command; place = value.place + 1 }
+abbrev pub value_with_command : StoreValue (List RowView) → Command → StoreValue (List RowView)
+value_with_command value command = record { db = database_after value.db command; place = value.place + 1 }
 
 -- What a hub that opened with this value shows after these groups.
 abbrev pub shown_after : StoreValue (List RowView) → List (List Command) → StoreValue (List RowView)
@@ -25,30 +25,30 @@ abbrev pub AreGroups : List (List Command) → Type 0
 AreGroups groups = AllByRecursion (λ group. 1 ≤ length group) groups
 
 -- one group more, where it isn't empty
-abbrev pub with_group : List (List Command) → List Command → List (List Command)
-with_group groups [] = groups
-with_group groups (command ∷ more) = groups ++ (command ∷ more) ∷ []
+abbrev pub groups_with : List (List Command) → List Command → List (List Command)
+groups_with groups [] = groups
+groups_with groups (command ∷ more) = groups ++ (command ∷ more) ∷ []
 
 -- a seat that has seen nothing
 abbrev pub newcomer : SeenGroups
 newcomer = record { groups = [] }
 
 -- this is what is shown after these groups, of which none is empty
-pub record IsShown (opening value : StoreValue (List RowView)) (groups : List (List Command)) : Type 0 where
+pub record IsShownAfter (opening value : StoreValue (List RowView)) (groups : List (List Command)) : Type 0 where
   pub is : value ≡ shown_after opening groups
   pub whole : AreGroups groups
 
 -- The readers' rule: there are groups after which this is shown, and each seat has seen a front of them.
 pub record KeepsRule (opening value : StoreValue (List RowView)) (views : List SeenGroups) : Type 0 where
   pub groups : List (List Command)
-  pub shown : IsShown opening value groups
+  pub shown : IsShownAfter opening value groups
   pub seats : (seat : ℕ) (view : SeenGroups) → get_elem? views seat ≡ some view → IsPrefix view.groups groups
 
 -- What a reader's step says: the reader has then seen all groups after which this is shown, and they begin with those that it had seen.
 pub record IsSeen (opening : StoreValue (List RowView)) (old : SeenGroups) (before after : StoreValue (List RowView)) (new : SeenGroups) : Type 0 where
-  pub shown : IsShown opening after new.groups
+  pub shown : IsShownAfter opening after new.groups
   pub later : IsPrefix old.groups new.groups
 
 -- what the writer's step says: the writer has then seen one group more
-abbrev pub IsGrown : List Command → SeenGroups → StoreValue (List RowView) → StoreValue (List RowView) → SeenGroups → Type 0
-IsGrown group old before after new = new.groups ≡ old.groups ++ group ∷ []
+abbrev pub HasSeenGroup : List Command → SeenGroups → StoreValue (List RowView) → StoreValue (List RowView) → SeenGroups → Type 0
+HasSeenGroup group old before after new = new.groups ≡ old.groups ++ group ∷ []

@@ -3,7 +3,7 @@
 ghost use Rattle.std.specs.Prelude.{◌≡◌, ◌⊎◌, IfErr, OnOk};
 ghost use Rattle.sector_dev.specs.Disk.{IsHonest};
 ghost use Rattle.sector_dev.specs.Image.{EveryImage};
-ghost use Rattle.group_core.specs.Starting.{value_in};
+ghost use Rattle.group_core.specs.Starting.{value_of_store};
 ghost use Rattle.path_hub.specs.declared.error.HubError.TheVariants.{NoMemory, NoReader};
 ghost use Rattle.path_hub.specs.Left.{OpensAfter};
 
@@ -52,7 +52,7 @@ pub fn with_crew<
     ensures why { IfErr result.1 (λ e. (e ≡ NoMemory) ⊎ (e ≡ NoReader)) }
 
     // A device that is honest opens to the store's rows and place after some commands.
-    ensures left { OnOk result.1 (IsHonest (D.disk result.0) → EveryImage (D.disk result.0).history.now (OpensAfter (value_in store))) }
+    ensures left { OnOk result.1 (IsHonest (D.disk result.0) → EveryImage (D.disk result.0).history.now (OpensAfter (value_of_store store))) }
 {
     named_crew::<Brand, D, C, R>(rt, alloc, store, home, crew)
 }
@@ -64,7 +64,7 @@ fn named_crew<
     C: Crew<D, R> + Sync,
     R: Wait + Clock + Threads + Copy + Drop + Send + Sync,
 >(rt: R, alloc: Global, store: Store<D>, home: u64, crew: &C) -> (D, Result<u64, HubError>)
-    requires { value_in store ≡ N.opening }
+    requires { value_of_store store ≡ N.opening }
     ensures why { IfErr result.1 (λ e. (e ≡ NoMemory) ⊎ (e ≡ NoReader)) }
     ensures left { OnOk result.1 (IsHonest (D.disk result.0) → EveryImage (D.disk result.0).history.now (OpensAfter N.opening)) }
 {

@@ -2,7 +2,7 @@
 
 ghost use Rattle.std.specs.Prelude.{◌≡◌, IfOk, IfErr};
 ghost use Rattle.path_hub.specs.declared.error.HubError.TheVariants.{NoReader};
-ghost use Rattle.path_hub.specs.Committed.{IsCommitted, RefusesCommand};
+ghost use Rattle.path_hub.specs.Committed.{ReceiptShows, RefusesCommand};
 ghost use Rattle.path_hub.specs.Numbers.{AreNumbers};
 
 use crate::changes::Changes;
@@ -61,7 +61,7 @@ impl<D: Device, N: HubName, R: Wait + Clock> Hub<D, N, R> {
     /// whether the store keeps the command is not known.
     #[tactic(auto, using(crate::proofs::Committed::is_committed))]
     pub fn register(&self, command: Command) -> Result<Receipt<HubNote<N>>, HubError>
-        ensures committed { IfOk result (IsCommitted command) }
+        ensures committed { IfOk result (ReceiptShows command) }
         ensures why { IfErr result RefusesCommand }
     {
         let mut ticket = match self.submit(command) {

@@ -4,9 +4,9 @@ ghost use Rattle.std.specs.Prelude.{◌≡◌, ◌⊎◌, [], IfOk, IfErr, drop}
 ghost use Rattle.left_right.specs.Sides.{view};
 ghost use Rattle.sector_dev.specs.Disk.{IsHonest};
 ghost use Rattle.sector_dev.specs.Image.{EveryImage};
-ghost use Rattle.group_core.specs.Starting.{value_in};
+ghost use Rattle.group_core.specs.Starting.{value_of_store};
 ghost use Rattle.path_hub.specs.declared.error.HubError.TheVariants.{NoMemory, NoReader};
-ghost use Rattle.path_hub.specs.Shown.{IsShown};
+ghost use Rattle.path_hub.specs.Shown.{IsShownAfter};
 ghost use Rattle.path_hub.specs.Left.{OpensAfter};
 
 use crate::changes::Changes;
@@ -63,7 +63,7 @@ fn do_with<N: HubName, D: Device + Drop, J: HubJob<D, R>, R: Wait + Clock + Copy
     home: u64,
     job: J,
 ) -> Result<J::Out, (Store<D>, J, HubError)>
-    requires { value_in store ≡ N.opening }
+    requires { value_of_store store ≡ N.opening }
     ensures done { IfOk result (J.does job) }
     ensures back { IfErr result (λ back. (back.0 ≡ store) × (back.1 ≡ job)) }
     ensures why { IfErr result (λ back. (back.2 ≡ NoMemory) ⊎ (back.2 ≡ NoReader)) }
@@ -87,7 +87,7 @@ impl<D: Device, N: HubName, R: Wait + Clock> Hub<D, N, R> {
     ) -> Result<Hub<D, N, R>, (Store<D>, HubError)>
     where
         R: Copy,
-        requires { value_in store ≡ N.opening }
+        requires { value_of_store store ≡ N.opening }
         ensures back { IfErr result (λ back. back.0 ≡ store) }
         ensures why { IfErr result (λ back. (back.1 ≡ NoMemory) ⊎ (back.1 ≡ NoReader)) }
     {
@@ -141,7 +141,7 @@ fn new_writer<N: HubName>(
 ) -> Result<HubWriter<N>, AllocError>
     requires { record { db = db.now; place = place } ≡ N.opening }
     ensures value { IfOk result (λ w. w.desk.shown.value ≡ N.opening) }
-    ensures shown { IfOk result (λ w. IsShown N.opening w.desk.shown.value (view w.desk.place).groups) }
+    ensures shown { IfOk result (λ w. IsShownAfter N.opening w.desk.shown.value (view w.desk.place).groups) }
     ensures idle { IfOk result (λ w. drop w.behind w.log.items ≡ []) }
 {
     let first = Published::new(db.try_clone()?, place);

@@ -48,13 +48,13 @@ impl Published {
 }
 
 impl Absorb<Command> for Published {
-    ghost use Rattle.path_hub.specs.Shown.{with_command};
+    ghost use Rattle.path_hub.specs.Shown.{value_with_command};
 
     type State = Published;
 
     ghost state = { λ s. s };
 
-    ghost applied = { with_command };
+    ghost applied = { value_with_command };
 
     fn absorb_first(&mut self, command: &Command, _other: &Published) -> Result<(), AllocError> {
         let Some(next) = self.place.checked_add(1) else {

@@ -57,7 +57,7 @@ pub(crate) struct PublishesGroup<G> {
 }
 
 impl<G: GroupName> Outcome<Published, SeenGroups> for PublishesGroup<G> {
-    ghost use Rattle.path_hub.specs.Shown.{IsGrown};
+    ghost use Rattle.path_hub.specs.Shown.{HasSeenGroup};
 
-    ghost then = { IsGrown G.group };
+    ghost then = { HasSeenGroup G.group };
 }

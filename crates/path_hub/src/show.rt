@@ -4,9 +4,9 @@ ghost use Rattle.std.specs.Prelude.{◌≡◌, ◌+◌, ◌<◌, ◌≤◌, [], 
 ghost use Rattle.store_layout.specs.Group.{last_place};
 ghost use Rattle.store_layout.specs.StoreValues.{value_after};
 ghost use Rattle.store_open.specs.PathStores.{store_format};
-ghost use Rattle.group_core.specs.Showing.{IsFront};
+ghost use Rattle.group_core.specs.Showing.{IsFrontOf};
 ghost use Rattle.left_right.specs.Sides.{view};
-ghost use Rattle.path_hub.specs.Shown.{IsShown, with_group};
+ghost use Rattle.path_hub.specs.Shown.{IsShownAfter, groups_with};
 ghost use Rattle.path_hub.specs.Showcase.{Publishes};
 
 use crate::name::HubName;
@@ -73,7 +73,7 @@ pub struct HubShow<N: HubName, R: Wait> {
 impl<N: HubName, R: Wait> Model for HubShow<N, R> {
     ghost use Rattle.std.specs.Prelude.{◌≡◌, length, drop};
     ghost use Rattle.left_right.specs.Sides.{view as seat_view};
-    ghost use Rattle.path_hub.specs.Shown.{IsShown};
+    ghost use Rattle.path_hub.specs.Shown.{IsShownAfter};
     ghost use Rattle.path_hub.specs.Showing.{Showing};
 
     ghost Value = { Showing };
@@ -85,7 +85,7 @@ impl<N: HubName, R: Wait> Model for HubShow<N, R> {
     } };
 
     ghost invariant = { λ h.
-        IsShown N.opening h.writer.desk.shown.value (seat_view h.writer.desk.place).groups
+        IsShownAfter N.opening h.writer.desk.shown.value (seat_view h.writer.desk.place).groups
         × (h.owed ≡ length (drop h.writer.behind h.writer.log.items)) };
 }
 
@@ -102,14 +102,14 @@ impl<N: HubName, R: Wait> Showcase for HubShow<N, R> {
 
     fn show(&mut self, group: &[Command]) -> Result<(), AllocError>
         requires room { self.old.value.place + length group.now ≤ last_place }
-        requires next { IsFront self.old.owed group.now }
+        requires next { IsFrontOf self.old.owed group.now }
         ensures shown { OnOk result (self.new.value ≡ value_after store_format self.old.value group.now) }
         ensures paid { OnOk result (self.new.owed ≡ []) }
         ensures same { OnErr result (self.new.value ≡ self.old.value) }
-        ensures owed { OnErr result (IsFront self.new.owed group.now) }
+        ensures owed { OnErr result (IsFrontOf self.new.owed group.now) }
 
         // The published list has the group as one more, or is as it was.
-        ensures groups { MatchResult result (λ _. self.new.groups ≡ with_group self.old.groups group.now) (λ _. self.new.groups ≡ self.old.groups) }
+        ensures groups { MatchResult result (λ _. self.new.groups ≡ groups_with self.old.groups group.now) (λ _. self.new.groups ≡ self.old.groups) }
     {
         if group.is_empty() {
             return Ok(());
@@ -142,7 +142,7 @@ impl<N: HubName, R: Wait> ShowsRows for HubShow<N, R> {
 impl<N: HubName, R: Wait> HubShow<N, R> {
     /// Shows by this writer, which has published no group yet.
     pub(crate) fn over(rt: R, alloc: Global, writer: HubWriter<N>) -> HubShow<N, R>
-        requires shown { IsShown N.opening writer.desk.shown.value (view writer.desk.place).groups }
+        requires shown { IsShownAfter N.opening writer.desk.shown.value (view writer.desk.place).groups }
         requires idle { drop writer.behind writer.log.items ≡ [] }
         ensures value { result.value ≡ writer.desk.shown.value }
         ensures owed { result.owed ≡ [] }
@@ -197,7 +197,7 @@ fn hand_over<N: HubName>(
 
 /// Publishes what the writer has as one group.
 fn publish_in<N: HubName, R: Wait>(rt: &R, writer: &mut HubWriter<N>) -> Result<(), AllocError>
-    requires shown { IsShown N.opening writer.old.desk.shown.value (view writer.old.desk.place).groups }
+    requires shown { IsShownAfter N.opening writer.old.desk.shown.value (view writer.old.desk.place).groups }
     requires some { 0 < length (drop writer.old.behind writer.old.log.items) }
     ensures { Publishes N.opening result
         (drop writer.old.behind writer.old.log.items) writer.old.desk.shown.value (view writer.old.desk.place).groups
@@ -211,7 +211,7 @@ fn publish<N: HubName, R: Wait>(
     rt: &R,
     writer: HubWriter<N>,
 ) -> (HubWriter<N>, Result<(), AllocError>)
-    requires shown { IsShown N.opening writer.desk.shown.value (view writer.desk.place).groups }
+    requires shown { IsShownAfter N.opening writer.desk.shown.value (view writer.desk.place).groups }
     requires some { 0 < length (drop writer.behind writer.log.items) }
     ensures { Publishes N.opening result.1
         (drop writer.behind writer.log.items) writer.desk.shown.value (view writer.desk.place).groups
@@ -225,7 +225,7 @@ fn publish_group<N: HubName, G: GroupName, R: Wait>(
     rt: &R,
     writer: HubWriter<N>,
 ) -> (HubWriter<N>, Result<(), AllocError>)
-    requires shown { IsShown N.opening writer.desk.shown.value (view writer.desk.place).groups }
+    requires shown { IsShownAfter N.opening writer.desk.shown.value (view writer.desk.place).groups }
     requires some { 0 < length (drop writer.behind writer.log.items) }
     requires group { drop writer.behind writer.log.items ≡ G.group }
     ensures { Publishes N.opening result.1

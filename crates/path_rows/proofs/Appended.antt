@@ -11,8 +11,8 @@ use Rattle.path_rows.specs.declared.row.Row.{Row}
 use Rattle.path_rows.specs.Row.{row_view, row_views}
 use Rattle.path_rows.specs.Database.{RowView, key_of, key_order, IsRising, AreWhole, IsDatabase, is_under, row_under}
 use Rattle.path_rows.specs.Put.{put_before, database_after_put}
-use Rattle.path_rows.specs.RowMap.{Holds, indexed_key}
-use Rattle.path_rows.specs.EndKeys.{is_of, is_index_key, ends_at, stands, IsIndex}
+use Rattle.path_rows.specs.RowMap.{HasRowPut, indexed_key}
+use Rattle.path_rows.specs.EndKeys.{is_of, is_index_key, ends_at, stands, IsEndIndex}
 use Rattle.path_rows.proofs.Order.{AllAbove, turned_less}
 use Rattle.path_rows.proofs.Keys.{its_key, under_first}
 use Rattle.path_rows.proofs.Canon.{database_is_canonical}
@@ -66,7 +66,7 @@ under_last k [] row rising = refl
 under_last k (old ∷ rows) row rising =
     under_first_or_last k old row rows (is_under k old) (is_under k row) refl refl (last_above old rows row rising.0) (under_last k rows row rising.1)
 
-pub rows_last : (rows new : List RowView) (row : RowView) → IsRising (rows ++ row ∷ []) → IsRising new → Holds rows row new → new ≡ rows ++ row ∷ []
+pub rows_last : (rows new : List RowView) (row : RowView) → IsRising (rows ++ row ∷ []) → IsRising new → HasRowPut rows row new → new ≡ rows ++ row ∷ []
 rows_last rows new row rising after holds = database_is_canonical new (rows ++ row ∷ []) after rising (λ k. holds k ∙ sym (under_last k rows row rising))
 
 -- ---- an index
@@ -82,8 +82,8 @@ same_key end p q row its = both (is_same q p) (is_index_key end q row)
     both false true there back = back refl
     both false false there back = refl
 
-pub index_last : (end : EndOf) (rows : List RowView) (row : RowView) (p : IndexKey) (before after : List IndexKey) → IsRising (rows ++ row ∷ []) → IsIndex end rows before
-    → is_index_key end p row ≡ true → ((q : IndexKey) → has after q ≡ (is_same q p || has before q)) → IsIndex end (rows ++ row ∷ []) after
+pub index_last : (end : EndOf) (rows : List RowView) (row : RowView) (p : IndexKey) (before after : List IndexKey) → IsRising (rows ++ row ∷ []) → IsEndIndex end rows before
+    → is_index_key end p row ≡ true → ((q : IndexKey) → has after q ≡ (is_same q p || has before q)) → IsEndIndex end (rows ++ row ∷ []) after
 index_last end rows row p before after rising index its added q =
     added q ∙ ap (λ b. b || has before q) (same_key end p q row its) ∙ ap (λ b. is_index_key end q row || b) (index q) ∙ at_key (is_under (indexed_key q) row) refl
     ∙ ap (ends_at end q.isd_as) (sym (under_last (indexed_key q) rows row rising))

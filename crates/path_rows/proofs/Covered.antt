@@ -8,7 +8,7 @@ use Rattle.path_rows.specs.Database.{RowView, key_of, IsRising, AreWhole, IsData
 use Rattle.path_rows.specs.Put.{is_newer, database_after_puts}
 use Rattle.path_rows.specs.CommandLaws.{winner, left_by_put, left_by_puts}
 use Rattle.path_rows.specs.RowMap.{indexed_key}
-use Rattle.path_rows.specs.EndKeys.{is_of, is_index_key, ends_at, stands, IsSeenTo, AreSeenTo, IsIndex, IsCovered, IsGrown, HasAll}
+use Rattle.path_rows.specs.EndKeys.{is_of, is_index_key, ends_at, stands, IsSeenTo, AreSeenTo, IsEndIndex, IsCovered, IsIndexGrown, HasAll}
 use Rattle.path_rows.proofs.Keys.{its_key, puts_leave}
 use Rattle.path_rows.proofs.PutRow.{found_is_under}
 use Rattle.path_rows.proofs.Rising.{database_puts}
@@ -60,7 +60,7 @@ has_index_key end rows q r found of = both_from (is_under (indexed_key q) r) (is
 -- ---- after puts
 
 module _ (end : EndOf) (old new : List RowView) (rising : IsRising old) (touched before after : List IndexKey) (all : AreSeenIn end old touched new)
-    (index : IsIndex end old before) (grown : IsGrown touched before after) (added : HasAll touched after) where
+    (index : IsEndIndex end old before) (grown : IsIndexGrown touched before after) (added : HasAll touched after) where
   at_key : (q : IndexKey) → (row_under (indexed_key q) (database_after_puts old new) ≡ row_under (indexed_key q) old) ⊎ IsPut end old touched (indexed_key q) (row_under (indexed_key q) (database_after_puts old new))
   at_key q = subst (λ found. (found ≡ row_under (indexed_key q) old) ⊎ IsPut end old touched (indexed_key q) found) (sym (puts_leave (indexed_key q) old new rising)) (from_puts end old touched (indexed_key q) (row_under (indexed_key q) old) new all)
 
@@ -100,7 +100,7 @@ module _ (end : EndOf) (old new : List RowView) (rising : IsRising old) (touched
   covers_puts = record { kept = covers_kept; within = covers_within }
 
 -- where no index key is touched, the index is unchanged
-covered_index : (end : EndOf) (rows : List RowView) (index_keys : List IndexKey) → IsCovered end rows [] index_keys → IsIndex end rows index_keys
+covered_index : (end : EndOf) (rows : List RowView) (index_keys : List IndexKey) → IsCovered end rows [] index_keys → IsEndIndex end rows index_keys
 covered_index end rows index_keys covered q = both (has index_keys q) (stands end rows q) (covered.within q) (covered.kept q)
   where
     both : (a b : Bool) → (a ≡ true → (b ≡ true) ⊎ (false ≡ true)) → (b ≡ true → a ≡ true) → a ≡ b
@@ -111,12 +111,12 @@ covered_index end rows index_keys covered q = both (has index_keys q) (stands en
     both false true within kept = kept refl
     both false false within kept = refl
 
-pub index_kept : (end : EndOf) (old : List RowView) (row : RowView) (index_keys : List IndexKey) → IsRising old → IsIndex end old index_keys → IsSeenTo end [] row (row_under (key_of row) old) → IsIndex end (database_after_puts old (row ∷ [])) index_keys
+pub index_kept : (end : EndOf) (old : List RowView) (row : RowView) (index_keys : List IndexKey) → IsRising old → IsEndIndex end old index_keys → IsSeenTo end [] row (row_under (key_of row) old) → IsEndIndex end (database_after_puts old (row ∷ [])) index_keys
 index_kept end old row index_keys rising index seen =
     covered_index end (database_after_puts old (row ∷ [])) index_keys
     (covers_puts end old (row ∷ []) rising [] index_keys index_keys (seen, tt) index (record { kept = λ q e. e; within = λ q e. inl e }) (λ q e. absurd (false≢true e)))
 
-pub covers_same : (end : EndOf) (rows : List RowView) (touched before after : List IndexKey) → IsIndex end rows before → IsGrown touched before after → IsCovered end rows touched after
+pub covers_same : (end : EndOf) (rows : List RowView) (touched before after : List IndexKey) → IsEndIndex end rows before → IsIndexGrown touched before after → IsCovered end rows touched after
 covers_same end rows touched before after index grown = record {
   kept = λ q so. grown.kept q (index q ∙ so);
   within = λ q there. within_same q (grown.within q there);
@@ -134,7 +134,7 @@ seen_from end rows index_keys (row ∷ new) all = (all.0, seen_from end rows ind
 
 module _ {A B E F : Type 0} where
   pub covers_either : (end : EndOf) (old new now : List RowView) (touched before after : List IndexKey) (added : Result A E) (r : Result B F) → IsRising old → AreSeenIn end old touched new
-      → IsIndex end old before → IsGrown touched before after → OnOk added (HasAll touched after) → OnOk r (IsOk added) → OnOk r (now ≡ database_after_puts old new) → OnErr r (now ≡ old) → IsCovered end now touched after
+      → IsEndIndex end old before → IsIndexGrown touched before after → OnOk added (HasAll touched after) → OnOk r (IsOk added) → OnOk r (now ≡ database_after_puts old new) → OnErr r (now ≡ old) → IsCovered end now touched after
   covers_either end old new now touched before after (Ok x) (Ok y) rising all index grown added ok put same =
       subst (λ l. IsCovered end l touched after) (sym put) (covers_puts end old new rising touched before after all index grown added)
   covers_either end old new now touched before after (Err e) (Ok y) rising all index grown added ok put same = absurd (false≢true ok)

@@ -7,7 +7,7 @@ use Rattle.seg_core.specs.declared.entry.Entry.{Entry}
 use Rattle.seg_core.specs.SegmentView.{EntryView}
 use Rattle.seg_core.specs.EntryView.{entry_view, entry_views}
 use Rattle.seg_slots.specs.Message.{last_of}
-use Rattle.path_rows.specs.Answer.{covers_entry, first_of}
+use Rattle.path_rows.specs.Answer.{covers_entry, first_entry_of}
 
 -- the view of the entry that a reference refers to
 abbrev pub seen : Option (Bor Entry) → Option EntryView
@@ -17,11 +17,11 @@ seen_copied : (found : Option (Bor Entry)) (there : Option Entry) → option_cop
 seen_copied None there e = ap (λ o. option_map entry_view o) e
 seen_copied (Some x) there e = ap (λ o. option_map entry_view o) e
 
-begins_first : (ia : ℕ) (entries : List Entry) → covers_entry ia (option_map entry_view (slice_get entries 0)) ≡ covers_entry ia (first_of (entry_views entries))
+begins_first : (ia : ℕ) (entries : List Entry) → covers_entry ia (option_map entry_view (slice_get entries 0)) ≡ covers_entry ia (first_entry_of (entry_views entries))
 begins_first ia [] = refl
 begins_first ia (e ∷ entries) = refl
 
-pub begins_is : (ia : ℕ) (entries : List Entry) (found : Option (Bor Entry)) → option_copied found ≡ slice_get entries 0 → covers_entry ia (seen found) ≡ covers_entry ia (first_of (entry_views entries))
+pub begins_is : (ia : ℕ) (entries : List Entry) (found : Option (Bor Entry)) → option_copied found ≡ slice_get entries 0 → covers_entry ia (seen found) ≡ covers_entry ia (first_entry_of (entry_views entries))
 begins_is ia entries found e = ap (covers_entry ia) (seen_copied found (slice_get entries 0) e) ∙ begins_first ia entries
 
 -- the last element of a list is the element before its end

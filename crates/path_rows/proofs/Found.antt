@@ -13,7 +13,7 @@ use Rattle.std.proofs.lemmas.Bool.{false≢true}
 use Rattle.path_rows.specs.declared.row.Row.{Row}
 use Rattle.path_rows.specs.Database.{RowView, key_of, IsRising, is_under, row_under}
 use Rattle.path_rows.specs.Command.{database_after_removal}
-use Rattle.path_rows.specs.Row.{row_view, row_views, IsIndex, IsGap}
+use Rattle.path_rows.specs.Row.{row_view, row_views, IsIndexOfKey, IsGap}
 use Rattle.path_rows.proofs.Order.{AllAbove, turned_less}
 
 -- ---- rows of other keys
@@ -82,7 +82,7 @@ removed_at (row ∷ rows) rising (suc i) d lt =
     ∙ ap (λ l. row ∷ l) (removed_at rows rising.1 i d (omega arith))
 
 -- the row that a search found, by the views of the rows
-module _ (rows : List Row) (rising : IsRising (row_views rows)) (k : List ℕ) (at : ℕ) (index : IsIndex rows k at) (d : Row) where
+module _ (rows : List Row) (rising : IsRising (row_views rows)) (k : List ℕ) (at : ℕ) (index : IsIndexOfKey rows k at) (d : Row) where
   in_views : at < length (row_views rows)
   in_views = rw (length-map rows row_view) index.0
 

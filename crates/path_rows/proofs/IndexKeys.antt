@@ -9,7 +9,7 @@ use Rattle.std.proofs.lemmas.Bool.{false≢true}
 use Rattle.std.proofs.lemmas.Bool.Decides.{eqb_tells}
 use Rattle.std.proofs.lemmas.Map.Lookups.{exact_bytes, exact_unsigned}
 use Rattle.std.proofs.lemmas.Option.{slice_get-get_or}
-use Rattle.isd_as.specs.IsdAs.{number_of}
+use Rattle.isd_as.specs.IsdAs.{isd_as_number}
 use Rattle.seg_core.specs.declared.entry.Entry.{Entry}
 use Rattle.seg_core.specs.EntryView.{entry_view, entry_views}
 use Rattle.seg_slots.specs.Message.{last_of}
@@ -114,11 +114,11 @@ number_itself n = elim (eqb_tells n n) [
   | inr other ↦ absurd (other.1 refl)
 ]
 
-pub last_is : (entries : List Entry) (d : Entry) → 0 < length entries → is_of (last_of (entry_views entries)) (number_of (get_or entries (length entries - 1) d).ia) ≡ true
+pub last_is : (entries : List Entry) (d : Entry) → 0 < length entries → is_of (last_of (entry_views entries)) (isd_as_number (get_or entries (length entries - 1) d).ia) ≡ true
 last_is entries d some =
     let i = length entries - 1 in
     let there : last_of (entry_views entries) ≡ Some (entry_view (get_or entries i d)) = sym (last_seen entry_view entries) ∙ ap (option_map entry_view) (slice_get-get_or entries i d (omega (arith, some))) in
-    ap (λ o. is_of o (number_of (get_or entries i d).ia)) there ∙ number_itself (number_of (get_or entries i d).ia)
+    ap (λ o. is_of o (isd_as_number (get_or entries i d).ia)) there ∙ number_itself (isd_as_number (get_or entries i d).ia)
 
 -- ---- index keys of rows
 

@@ -13,7 +13,7 @@ use Rattle.path_rows.specs.declared.row.Row.{Row}
 use Rattle.path_rows.specs.declared.change.Change.TheVariants.{Inserted, Updated, Kept}
 use Rattle.path_rows.specs.Database.{RowView, key, key_of, key_order, IsRising}
 use Rattle.path_rows.specs.Put.{is_newer, database_after_put, change_of}
-use Rattle.path_rows.specs.Row.{row_view, row_views, IsIndex, IsGap}
+use Rattle.path_rows.specs.Row.{row_view, row_views, IsIndexOfKey, IsGap}
 use Rattle.path_rows.proofs.Lens.{insert_views}
 use Rattle.path_rows.proofs.Order.{IsGapFor, put_at, change_at, put_in_gap, change_in_gap}
 
@@ -46,7 +46,7 @@ comparisons_rise (x ∷ rows) rising k zero (suc j) d le lt =
     lower_index (key_of (row_view x)) (key_of (row_view later)) k (key_cmp (key_of (row_view later)) k) refl lower
 
 -- a binary search by key ends at the key, or at the gap where the key would be
-pub searched : (rows : List Row) → IsRising (row_views rows) → (k : List ℕ) (r : Result ℕ ℕ) → IsSearchInRange r (length rows) → IsBinarySearchResult (λ row. key_cmp (key_of (row_view row)) k) rows r → record { found : IfOk r (IsIndex rows k); absent : IfErr r (IsGap rows k) }
+pub searched : (rows : List Row) → IsRising (row_views rows) → (k : List ℕ) (r : Result ℕ ℕ) → IsSearchInRange r (length rows) → IsBinarySearchResult (λ row. key_cmp (key_of (row_view row)) k) rows r → record { found : IfOk r (IsIndexOfKey rows k); absent : IfErr r (IsGap rows k) }
 searched rows rising k (Ok at) in_range equal = record { found = (in_range, equal); absent = tt }
 searched rows rising k (Err at) in_range parted = record { found = tt; absent = (in_range, parted (comparisons_rise rows rising k)) }
 
@@ -57,7 +57,7 @@ key_is row = ap (λ id. key row.kind id) row.identified
 
 -- ---- a put at the index
 
-module _ (rows : List Row) (rising : IsRising (row_views rows)) (row : Row) (at : ℕ) (there : IsIndex rows (key_of (row_view row)) at) where
+module _ (rows : List Row) (rising : IsRising (row_views rows)) (row : Row) (at : ℕ) (there : IsIndexOfKey rows (key_of (row_view row)) at) where
   -- the row at the index
   abbrev old_row : Row
   old_row = get_or rows at row

@@ -17,7 +17,7 @@ use Rattle.path_rows.specs.Database.{RowView, key_of, key_order, IsRising, is_un
 use Rattle.path_rows.specs.Put.{is_newer, database_after_put, change_before, change_of}
 use Rattle.path_rows.specs.Command.{database_after_removal}
 use Rattle.path_rows.specs.CommandLaws.{winner, kept_if}
-use Rattle.path_rows.specs.RowMap.{Holds}
+use Rattle.path_rows.specs.RowMap.{HasRowPut}
 use Rattle.path_rows.specs.Saved.{wins, is_key, Stood, is_saved, IsLeft, PutsBack}
 use Rattle.path_rows.proofs.Rising.{rising_put}
 use Rattle.path_rows.proofs.Found.{turned}
@@ -51,7 +51,7 @@ kept_rows rows row rising e =
     database_is_canonical rows (database_after_put rows row) rising (rising_put rows row rising)
     (λ k. kept_under k row rows (is_under k row) refl e ∙ sym (put_leaves k rows row rising))
 
-pub new_rows : (rows new : List RowView) (row : RowView) → IsRising rows → IsRising new → wins row (row_under (key_of row) rows) ≡ true → Holds rows row new → new ≡ database_after_put rows row
+pub new_rows : (rows new : List RowView) (row : RowView) → IsRising rows → IsRising new → wins row (row_under (key_of row) rows) ≡ true → HasRowPut rows row new → new ≡ database_after_put rows row
 new_rows rows new row rising after e holds =
     database_is_canonical new (database_after_put rows row) after (rising_put rows row rising)
     (λ k. holds k ∙ new_under k row rows (is_under k row) refl e ∙ sym (put_leaves k rows row rising))
@@ -114,11 +114,11 @@ left_none k l (Some r) false e so =
 pub removal_leaves : (k l : List ℕ) (rows : List RowView) → IsRising rows → row_under k (database_after_removal rows l) ≡ (if is_key k l then None else row_under k rows)
 removal_leaves k l rows rising = test_leaves k (λ row. not (is_under l row)) rows rising ∙ left_none k l (row_under k rows) (is_key k l) refl (found_is_under k rows)
 
-pub set_holds : {E : Type 0} (r : Result (Option Row) E) (old new : List RowView) (row : RowView) → IfOk r (λ _. Holds old row new) → OnErr r (row_under (key_of row) old ≡ None) → IsSome (row_under (key_of row) old) → Holds old row new
+pub set_holds : {E : Type 0} (r : Result (Option Row) E) (old new : List RowView) (row : RowView) → IfOk r (λ _. HasRowPut old row new) → OnErr r (row_under (key_of row) old ≡ None) → IsSome (row_under (key_of row) old) → HasRowPut old row new
 set_holds (Ok before) old new row holds absent some = holds
 set_holds (Err e) old new row holds absent some = absurd (false≢true (subst IsSome absent some))
 
-pub back_leaves : (l : List ℕ) (orig old new : List RowView) (row : RowView) → Some row ≡ row_under l orig → IsSome (row_under l old) → (IsSome (row_under (key_of row) old) → Holds old row new)
+pub back_leaves : (l : List ℕ) (orig old new : List RowView) (row : RowView) → Some row ≡ row_under l orig → IsSome (row_under l old) → (IsSome (row_under (key_of row) old) → HasRowPut old row new)
     → (k : List ℕ) → row_under k new ≡ (if is_key k l then Some row else row_under k old)
 back_leaves l orig old new row e there holds k =
     let its = its_key l row (found_is_under l orig row (sym e)) in

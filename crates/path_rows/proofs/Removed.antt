@@ -12,7 +12,7 @@ use Rattle.path_rows.specs.Command.{is_valid_beyond, database_after_purge, datab
 use Rattle.path_rows.specs.CommandLaws.{kept_if}
 use Rattle.path_rows.specs.RowMap.{indexed_key}
 use Rattle.path_rows.specs.Saved.{is_key}
-use Rattle.path_rows.specs.EndKeys.{is_of, is_index_key, ends_at, stands, IsIndex}
+use Rattle.path_rows.specs.EndKeys.{is_of, is_index_key, ends_at, stands, IsEndIndex}
 use Rattle.path_rows.proofs.Keys.{test_leaves, its_key, equal_from}
 use Rattle.path_rows.proofs.Rising.{rising_filtered}
 use Rattle.path_rows.proofs.Canon.{database_is_canonical}
@@ -29,8 +29,8 @@ purged_index_key end number p (Some row) = by (p row)
     by true = refl
     by false = refl
 
-pub purged_index : (end : EndOf) (rows : List RowView) (moment : ℕ) (before after : List IndexKey) → IsRising rows → IsIndex end rows before
-    → ((q : IndexKey) → has after q ≡ (is_some (row_under (indexed_key q) (database_after_purge rows moment)) && has before q)) → IsIndex end (database_after_purge rows moment) after
+pub purged_index : (end : EndOf) (rows : List RowView) (moment : ℕ) (before after : List IndexKey) → IsRising rows → IsEndIndex end rows before
+    → ((q : IndexKey) → has after q ≡ (is_some (row_under (indexed_key q) (database_after_purge rows moment)) && has before q)) → IsEndIndex end (database_after_purge rows moment) after
 purged_index end rows moment before after rising index kept q =
     let left = test_leaves (indexed_key q) (is_valid_beyond moment) rows rising in
     kept q
@@ -63,7 +63,7 @@ module _ (end : EndOf) (rows : List RowView) (rising : IsRising rows) (l : List 
   and_false true = refl
   and_false false = refl
 
-  removed_index_key : (q : IndexKey) (b c : Bool) (before after : List IndexKey) → is_key (indexed_key q) l ≡ b → is_of (end row.1.entries) q.isd_as ≡ c → IsIndex end rows before → has after q ≡ (not (is_same q p) && has before q)
+  removed_index_key : (q : IndexKey) (b c : Bool) (before after : List IndexKey) → is_key (indexed_key q) l ≡ b → is_of (end row.1.entries) q.isd_as ≡ c → IsEndIndex end rows before → has after q ≡ (not (is_same q p) && has before q)
       → has after q ≡ ends_at end q.isd_as (if b then None else row_under (indexed_key q) rows)
   removed_index_key q true true before after e of index taken =
       let same = same_if q p (one_index_key end q p row (both_from (is_under (indexed_key q) row) (is_of (end row.1.entries) q.isd_as) (subst (λ k. is_under k row ≡ true) (sym (key_from q e)) (found_is_under l rows row there)) of) its) in
@@ -73,19 +73,19 @@ module _ (end : EndOf) (rows : List RowView) (rising : IsRising rows) (l : List 
   removed_index_key q false c before after e of index taken =
       taken ∙ ap (λ b. not b && has before q) (other_index_key q (is_same q p) refl e) ∙ index q
 
-  pub removed_index : (before after : List IndexKey) (left : List RowView) → left ≡ database_after_removal rows l → IsIndex end rows before → ((q : IndexKey) → has after q ≡ (not (is_same q p) && has before q)) → IsIndex end left after
+  pub removed_index : (before after : List IndexKey) (left : List RowView) → left ≡ database_after_removal rows l → IsEndIndex end rows before → ((q : IndexKey) → has after q ≡ (not (is_same q p) && has before q)) → IsEndIndex end left after
   removed_index before after left is index taken q =
       removed_index_key q (is_key (indexed_key q) l) (is_of (end row.1.entries) q.isd_as) before after refl refl index (taken q)
       ∙ sym (ap (λ rows. stands end rows q) is ∙ ap (ends_at end q.isd_as) (removal_leaves (indexed_key q) l rows rising))
 
 -- where no row is under a key, a removal keeps all index keys
-pub kept_index : (end : EndOf) (rows left : List RowView) (index_keys : List IndexKey) → left ≡ rows → IsIndex end rows index_keys → IsIndex end left index_keys
+pub kept_index : (end : EndOf) (rows left : List RowView) (index_keys : List IndexKey) → left ≡ rows → IsEndIndex end rows index_keys → IsEndIndex end left index_keys
 kept_index end rows left index_keys same index q = index q ∙ ap (λ rows. stands end rows q) (sym same)
 
-pub purged_now : (end : EndOf) (rows now : List RowView) (moment : ℕ) (before after : List IndexKey) → now ≡ database_after_purge rows moment → IsRising rows → IsIndex end rows before
-    → ((q : IndexKey) → has after q ≡ (is_some (row_under (indexed_key q) now) && has before q)) → IsIndex end now after
+pub purged_now : (end : EndOf) (rows now : List RowView) (moment : ℕ) (before after : List IndexKey) → now ≡ database_after_purge rows moment → IsRising rows → IsEndIndex end rows before
+    → ((q : IndexKey) → has after q ≡ (is_some (row_under (indexed_key q) now) && has before q)) → IsEndIndex end now after
 purged_now end rows now moment before after left rising index kept =
-    subst (λ l. IsIndex end l after) (sym left)
+    subst (λ l. IsEndIndex end l after) (sym left)
     (purged_index end rows moment before after rising index (λ q. kept q ∙ ap (λ l. is_some (row_under (indexed_key q) l) && has before q) left))
 
 -- a removal under a key without a row changes nothing

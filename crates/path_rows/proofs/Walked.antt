@@ -27,9 +27,9 @@ use Rattle.path_rows.specs.Database.{RowView, key_of, IsRising, is_under, row_un
 use Rattle.path_rows.specs.CommandLaws.{kept_if}
 use Rattle.path_rows.specs.RowMap.{indexed_key}
 use Rattle.path_rows.specs.Saved.{is_key}
-use Rattle.path_rows.specs.EndKeys.{end_of, is_of, ends_at, IsIndex}
+use Rattle.path_rows.specs.EndKeys.{entry_at_end, is_of, ends_at, IsEndIndex}
 use Rattle.path_rows.specs.declared.end.End.TheVariants.{First, Last}
-use Rattle.path_rows.specs.Answer.{covers_entry, first_of, is_of_type, matches, is_shown, answer_of}
+use Rattle.path_rows.specs.Answer.{covers_entry, first_entry_of, is_of_type, matches, is_shown, answer_of}
 use Rattle.path_rows.specs.Command.{is_valid_beyond}
 use Rattle.path_rows.specs.Walk.{IsExact, rows_at}
 use Rattle.path_rows.proofs.Order.{AllAbove}
@@ -133,7 +133,7 @@ all_there index_keys =
     let set : BTreeSet IndexKey = record { keys = index_keys } in
     recursion_from_All (λ x. has index_keys x ≡ true) index_keys (All-set_contains index_key_total set)
 
-module _ (end : EndOf) (rows : List RowView) (index_keys : List IndexKey) (kind number : ℕ) (index : IsIndex end rows index_keys) where
+module _ (end : EndOf) (rows : List RowView) (index_keys : List IndexKey) (kind number : ℕ) (index : IsEndIndex end rows index_keys) where
   -- a row of the type, with this ISD-AS at its end
   abbrev is_there : RowView → Bool
   is_there row = (type_number row.0 == kind) && is_of (end row.1.entries) number
@@ -239,18 +239,18 @@ module _ (kind : SegType) (start end now : ℕ) (row : RowView) (shown : is_show
   matched = first_from (matches kind start end row) (is_valid_beyond now row) shown
 
   typed : (type_number row.0 == type_number kind) ≡ true
-  typed = first_from (type_number row.0 == type_number kind) (covers_entry start (first_of row.1.entries) && covers_entry end (last_of row.1.entries)) matched
+  typed = first_from (type_number row.0 == type_number kind) (covers_entry start (first_entry_of row.1.entries) && covers_entry end (last_of row.1.entries)) matched
 
-  covered : (covers_entry start (first_of row.1.entries) && covers_entry end (last_of row.1.entries)) ≡ true
-  covered = second_from (type_number row.0 == type_number kind) (covers_entry start (first_of row.1.entries) && covers_entry end (last_of row.1.entries)) matched
+  covered : (covers_entry start (first_entry_of row.1.entries) && covers_entry end (last_of row.1.entries)) ≡ true
+  covered = second_from (type_number row.0 == type_number kind) (covers_entry start (first_entry_of row.1.entries) && covers_entry end (last_of row.1.entries)) matched
 
   pub last_shown : IsExact end → ((type_number row.0 == type_number kind) && is_of (last_of row.1.entries) end) ≡ true
   last_shown exact = both_from (type_number row.0 == type_number kind) (is_of (last_of row.1.entries) end) typed
-      (exact_entry end (last_of row.1.entries) exact (second_from (covers_entry start (first_of row.1.entries)) (covers_entry end (last_of row.1.entries)) covered))
+      (exact_entry end (last_of row.1.entries) exact (second_from (covers_entry start (first_entry_of row.1.entries)) (covers_entry end (last_of row.1.entries)) covered))
 
-  pub first_shown : IsExact start → ((type_number row.0 == type_number kind) && is_of (first_of row.1.entries) start) ≡ true
-  first_shown exact = both_from (type_number row.0 == type_number kind) (is_of (first_of row.1.entries) start) typed
-      (exact_entry start (first_of row.1.entries) exact (first_from (covers_entry start (first_of row.1.entries)) (covers_entry end (last_of row.1.entries)) covered))
+  pub first_shown : IsExact start → ((type_number row.0 == type_number kind) && is_of (first_entry_of row.1.entries) start) ≡ true
+  first_shown exact = both_from (type_number row.0 == type_number kind) (is_of (first_entry_of row.1.entries) start) typed
+      (exact_entry start (first_entry_of row.1.entries) exact (first_from (covers_entry start (first_entry_of row.1.entries)) (covers_entry end (last_of row.1.entries)) covered))
 
 -- a test that implies another selects the same rows after the other
 module _ (w p : RowView → Bool) (implied : (row : RowView) → w row ≡ true → p row ≡ true) where
@@ -263,19 +263,19 @@ module _ (w p : RowView → Bool) (implied : (row : RowView) → w row ≡ true 
   implied_kept [] = refl
   implied_kept (row ∷ rows) = implied_tested row (p row) (w row) (filter p rows) rows refl refl (implied_kept rows)
 
-pub answer_at_last : (limit : ℕ) (rows : List RowView) (index_keys walk : List IndexKey) (kind : SegType) (start end now : ℕ) → IsRising rows → IsIndex (end_of Last) rows index_keys → IsStrictlySortedBy index_key_cmp index_keys → IsExact end
+pub answer_at_last : (limit : ℕ) (rows : List RowView) (index_keys walk : List IndexKey) (kind : SegType) (start end now : ℕ) → IsRising rows → IsEndIndex (entry_at_end Last) rows index_keys → IsStrictlySortedBy index_key_cmp index_keys → IsExact end
     → walk ≡ filter (stands_at (type_number kind) end) index_keys → answer_of limit (rows_at rows walk) kind start end now ≡ answer_of limit rows kind start end now
 unfolding answer_of
 answer_at_last limit rows index_keys walk kind start end now rising index sorted exact is =
-    ap (λ l. take limit (filter (is_shown kind start end now) l)) (ap (rows_at rows) is ∙ walked (end_of Last) rows index_keys (type_number kind) end index rising sorted)
+    ap (λ l. take limit (filter (is_shown kind start end now) l)) (ap (rows_at rows) is ∙ walked (entry_at_end Last) rows index_keys (type_number kind) end index rising sorted)
     ∙ ap (take limit) (implied_kept (is_shown kind start end now) (λ row. (type_number row.0 == type_number kind) && is_of (last_of row.1.entries) end) (λ row shown. last_shown kind start end now row shown exact) rows)
 
-pub answer_at_first : (limit : ℕ) (rows : List RowView) (index_keys walk : List IndexKey) (kind : SegType) (start end now : ℕ) → IsRising rows → IsIndex (end_of First) rows index_keys → IsStrictlySortedBy index_key_cmp index_keys → IsExact start
+pub answer_at_first : (limit : ℕ) (rows : List RowView) (index_keys walk : List IndexKey) (kind : SegType) (start end now : ℕ) → IsRising rows → IsEndIndex (entry_at_end First) rows index_keys → IsStrictlySortedBy index_key_cmp index_keys → IsExact start
     → walk ≡ filter (stands_at (type_number kind) start) index_keys → answer_of limit (rows_at rows walk) kind start end now ≡ answer_of limit rows kind start end now
 unfolding answer_of
 answer_at_first limit rows index_keys walk kind start end now rising index sorted exact is =
-    ap (λ l. take limit (filter (is_shown kind start end now) l)) (ap (rows_at rows) is ∙ walked (end_of First) rows index_keys (type_number kind) start index rising sorted)
-    ∙ ap (take limit) (implied_kept (is_shown kind start end now) (λ row. (type_number row.0 == type_number kind) && is_of (first_of row.1.entries) start) (λ row shown. first_shown kind start end now row shown exact) rows)
+    ap (λ l. take limit (filter (is_shown kind start end now) l)) (ap (rows_at rows) is ∙ walked (entry_at_end First) rows index_keys (type_number kind) start index rising sorted)
+    ∙ ap (take limit) (implied_kept (is_shown kind start end now) (λ row. (type_number row.0 == type_number kind) && is_of (first_entry_of row.1.entries) start) (λ row shown. first_shown kind start end now row shown exact) rows)
 
 pub answer_of_type : (limit : ℕ) (rows walk : List RowView) (kind : SegType) (start end now : ℕ) → walk ≡ filter (is_of_type kind) rows → answer_of limit walk kind start end now ≡ answer_of limit rows kind start end now
 unfolding answer_of

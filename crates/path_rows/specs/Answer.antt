@@ -13,9 +13,9 @@ abbrev pub covers_entry : ℕ → Option EntryView → Bool
 covers_entry pattern None = false
 covers_entry pattern (Some e) = covers_number pattern e.ia
 
-abbrev pub first_of : List EntryView → Option EntryView
-first_of [] = None
-first_of (e ∷ es) = Some e
+abbrev pub first_entry_of : List EntryView → Option EntryView
+first_entry_of [] = None
+first_entry_of (e ∷ es) = Some e
 
 -- the row is of this type
 abbrev pub is_of_type : SegType → RowView → Bool
@@ -24,7 +24,7 @@ is_of_type kind row = type_number row.0 == type_number kind
 -- A row is of the type, the start covers its first entry, and the end its last.
 abbrev pub matches : SegType → ℕ → ℕ → RowView → Bool
 matches kind start end row =
-    (type_number row.0 == type_number kind) && (covers_entry start (first_of row.1.entries) && covers_entry end (last_of row.1.entries))
+    (type_number row.0 == type_number kind) && (covers_entry start (first_entry_of row.1.entries) && covers_entry end (last_of row.1.entries))
 
 -- a row that matches and expires after this moment, in half seconds since 1970
 abbrev pub is_shown : SegType → ℕ → ℕ → ℕ → RowView → Bool

@@ -7,14 +7,14 @@ use Rattle.end_index.specs.IndexKey.{has}
 use Rattle.path_rows.specs.declared.end.End.{End}
 use Rattle.path_rows.specs.declared.end.End.TheVariants.{First, Last}
 use Rattle.path_rows.specs.Database.{RowView, is_under, row_under}
-use Rattle.path_rows.specs.Answer.{first_of}
+use Rattle.path_rows.specs.Answer.{first_entry_of}
 use Rattle.path_rows.specs.RowMap.{indexed_key}
 use Rattle.path_rows.specs.Saved.{Stood}
 
 -- the entry at an end
-abbrev pub end_of : End → List EntryView → Option EntryView
-end_of First entries = first_of entries
-end_of Last entries = last_of entries
+abbrev pub entry_at_end : End → List EntryView → Option EntryView
+entry_at_end First entries = first_entry_of entries
+entry_at_end Last entries = last_of entries
 
 -- there is an entry, and it is of this ISD-AS
 abbrev pub is_of : Option EntryView → ℕ → Bool
@@ -61,8 +61,8 @@ AreSeenTo end index_keys [] (stood ∷ saved) = ⊥
 AreSeenTo end index_keys (row ∷ rows) [] = ⊥
 
 -- the index keys are exactly those of the rows
-abbrev pub IsIndex : (List EntryView → Option EntryView) → List RowView → List IndexKey → Type 0
-IsIndex end rows index_keys = (q : IndexKey) → has index_keys q ≡ stands end rows q
+abbrev pub IsEndIndex : (List EntryView → Option EntryView) → List RowView → List IndexKey → Type 0
+IsEndIndex end rows index_keys = (q : IndexKey) → has index_keys q ≡ stands end rows q
 
 -- The index keys are those of the rows, and perhaps some of the touched ones.
 pub record IsCovered (end : List EntryView → Option EntryView) (rows : List RowView) (touched index_keys : List IndexKey) : Type 0 where
@@ -70,7 +70,7 @@ pub record IsCovered (end : List EntryView → Option EntryView) (rows : List Ro
   pub within : (q : IndexKey) → has index_keys q ≡ true → (stands end rows q ≡ true) ⊎ (has touched q ≡ true)
 
 -- The index keys after are those before, and perhaps some of the touched ones.
-pub record IsGrown (touched before after : List IndexKey) : Type 0 where
+pub record IsIndexGrown (touched before after : List IndexKey) : Type 0 where
   pub kept : (q : IndexKey) → has before q ≡ true → has after q ≡ true
   pub within : (q : IndexKey) → has after q ≡ true → (has before q ≡ true) ⊎ (has touched q ≡ true)
 

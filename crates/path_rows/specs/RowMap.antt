@@ -26,8 +26,8 @@ pub record AreKeyed (entries : List (RowKey × Row)) : Type 0 where
   pub rising : IsRising (views_of entries)
 
 -- the row is under its key, and under each other key is the row that was there before
-abbrev pub Holds : List RowView → RowView → List RowView → Type 0
-Holds old row new = (k : List ℕ) → row_under k new ≡ (if is_under k row then Some row else row_under k old)
+abbrev pub HasRowPut : List RowView → RowView → List RowView → Type 0
+HasRowPut old row new = (k : List ℕ) → row_under k new ≡ (if is_under k row then Some row else row_under k old)
 
 -- the key of the row at an index key
 abbrev pub indexed_key : IndexKey → List ℕ

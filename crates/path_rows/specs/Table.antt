@@ -3,7 +3,7 @@ use Rattle.std.specs.Prelude.{◌≡◌, List}
 use Rattle.path_rows.specs.declared.database.PathDb.TheInside.{Inside}
 use Rattle.path_rows.specs.declared.end.End.TheVariants.{First, Last}
 use Rattle.path_rows.specs.Database.{RowView, IsDatabase, rows_len}
-use Rattle.path_rows.specs.EndKeys.{end_of, IsIndex}
+use Rattle.path_rows.specs.EndKeys.{entry_at_end, IsEndIndex}
 
 abbrev pub rows_of_table : Inside → List RowView
 rows_of_table s = s.rows
@@ -12,5 +12,5 @@ rows_of_table s = s.rows
 pub record IsTable (s : Inside) : Type 0 where
   pub database : IsDatabase s.rows
   pub counted : s.bytes ≡ rows_len s.rows
-  pub first : IsIndex (end_of First) s.rows s.by_first
-  pub last : IsIndex (end_of Last) s.rows s.by_last
+  pub first : IsEndIndex (entry_at_end First) s.rows s.by_first
+  pub last : IsEndIndex (entry_at_end Last) s.rows s.by_last

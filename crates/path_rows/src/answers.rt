@@ -3,13 +3,13 @@
 ghost use Rattle.std.specs.Prelude.{◌≡◌, ◌<◌, ◌≤◌, ◌∷◌, ◌++◌, [], length, take, filter, IfOk, OnOk, OnErr, IsTrue};
 ghost use Rattle.std.specs.List.{AllByRecursion};
 ghost use Rattle.std.specs.Option.{option_map};
-ghost use Rattle.isd_as.specs.IsdAs.{number_of};
+ghost use Rattle.isd_as.specs.IsdAs.{isd_as_number};
 ghost use Rattle.seg_core.specs.Encoding.{IsSegment};
 ghost use Rattle.seg_core.specs.EntryView.{entry_view, entry_views};
 ghost use Rattle.seg_slots.specs.Message.{last_of};
 ghost use Rattle.path_rows.specs.Row.{row_view, row_views};
-ghost use Rattle.path_rows.specs.Answer.{covers_entry, first_of, matches, is_shown, segments_of};
-ghost use Rattle.path_rows.specs.Wanted.{answer_to, is_wanted};
+ghost use Rattle.path_rows.specs.Answer.{covers_entry, first_entry_of, matches, is_shown, segments_of};
+ghost use Rattle.path_rows.specs.Wanted.{answer_to_wanted, is_wanted};
 ghost use Rattle.path_rows.specs.Walk.{IsExact, rows_at, rows_there};
 
 use crate::row::Row;
@@ -34,7 +34,7 @@ pub(crate) struct Wanted {
 impl Wanted {
     /// Whether the lookup asks for this row.
     fn is_shown(&self, row: &Row) -> bool
-        ensures { result ≡ is_shown self.now.kind (number_of self.now.start) (number_of self.now.end) self.now.moment (row_view row.now) }
+        ensures { result ≡ is_shown self.now.kind (isd_as_number self.now.start) (isd_as_number self.now.end) self.now.moment (row_view row.now) }
     {
         self.matches(row) && self.moment < expiry(&row.segment)
     }
@@ -51,7 +51,7 @@ impl Wanted {
 
     /// Whether the row is of the type, and its ends are covered.
     fn matches(&self, row: &Row) -> bool
-        ensures { result ≡ matches self.now.kind (number_of self.now.start) (number_of self.now.end) (row_view row.now) }
+        ensures { result ≡ matches self.now.kind (isd_as_number self.now.start) (isd_as_number self.now.end) (row_view row.now) }
     {
         let entries = row.segment.entries();
         row.kind.number() == self.kind.number()
@@ -62,21 +62,21 @@ impl Wanted {
 
 /// Whether the pattern covers the first ISD-AS.
 fn covers_first(pattern: IsdAs, entries: &[Entry]) -> bool
-    ensures { result ≡ covers_entry (number_of pattern) (first_of (entry_views entries.now)) }
+    ensures { result ≡ covers_entry (isd_as_number pattern) (first_entry_of (entry_views entries.now)) }
 {
     covers_entry(pattern, entries.first())
 }
 
 /// Whether the pattern covers the last ISD-AS.
 fn covers_last(pattern: IsdAs, entries: &[Entry]) -> bool
-    ensures { result ≡ covers_entry (number_of pattern) (last_of (entry_views entries.now)) }
+    ensures { result ≡ covers_entry (isd_as_number pattern) (last_of (entry_views entries.now)) }
 {
     covers_entry(pattern, entries.last())
 }
 
 /// Whether there is an entry, and the pattern covers its ISD-AS.
 fn covers_entry(pattern: IsdAs, entry: Option<&Entry>) -> bool
-    ensures { result ≡ covers_entry (number_of pattern) (option_map (λ e. entry_view e.now) entry.entry) }
+    ensures { result ≡ covers_entry (isd_as_number pattern) (option_map (λ e. entry_view e.now) entry.entry) }
 {
     match entry {
         Some(entry) => covers(pattern, entry.ia),
@@ -87,7 +87,7 @@ fn covers_entry(pattern: IsdAs, entry: Option<&Entry>) -> bool
 /// Whether the rows for a pattern are found by the index keys of its ISD-AS: no part of the pattern is 0, and the pattern isn't
 /// 2^64 - 1.
 pub(crate) fn is_indexed(pattern: IsdAs) -> bool
-    ensures { IsTrue result → IsExact (number_of pattern) }
+    ensures { IsTrue result → IsExact (isd_as_number pattern) }
 {
     pattern.isd != 0 && pattern.asn != 0 && pattern.to_u64() < u64::MAX
 }
@@ -99,8 +99,8 @@ pub(crate) fn first_shown(
     wanted: Wanted,
     limit: usize,
 ) -> Result<Vec<Segment>, AllocError>
-    ensures same { IfOk result (λ found. found.items ≡ segments_of (answer_to limit rows.entry wanted)) }
-    ensures memory { OnErr result (0 < length (answer_to limit rows.entry wanted)) }
+    ensures same { IfOk result (λ found. found.items ≡ segments_of (answer_to_wanted limit rows.entry wanted)) }
+    ensures memory { OnErr result (0 < length (answer_to_wanted limit rows.entry wanted)) }
     ensures few { IfOk result (λ found. length found.items ≤ limit) }
     ensures whole { IfOk result (λ found. AllByRecursion IsSegment found.items) }
 {
@@ -200,8 +200,8 @@ pub(crate) fn shown_at(
     wanted: Wanted,
     limit: usize,
 ) -> Result<Vec<Segment>, AllocError>
-    ensures same { IfOk result (λ found. found.items ≡ segments_of (answer_to limit (rows_at rows.now index_keys.entry) wanted)) }
-    ensures memory { OnErr result (0 < length (answer_to limit (rows_at rows.now index_keys.entry) wanted)) }
+    ensures same { IfOk result (λ found. found.items ≡ segments_of (answer_to_wanted limit (rows_at rows.now index_keys.entry) wanted)) }
+    ensures memory { OnErr result (0 < length (answer_to_wanted limit (rows_at rows.now index_keys.entry) wanted)) }
     ensures few { IfOk result (λ found. length found.items ≤ limit) }
     ensures whole { IfOk result (λ found. AllByRecursion IsSegment found.items) }
 {

@@ -11,7 +11,7 @@ ghost use Rattle.path_rows.specs.Command.{database_after, database_after_purge, 
 ghost use Rattle.path_rows.specs.Row.{row_view, row_views};
 ghost use Rattle.path_rows.specs.Answer.{answer_of, segments_of};
 ghost use Rattle.seg_core.specs.Encoding.{IsSegment};
-ghost use Rattle.isd_as.specs.IsdAs.{number_of};
+ghost use Rattle.isd_as.specs.IsdAs.{isd_as_number};
 
 use crate::answers::{Wanted, first_shown, is_indexed, shown_at};
 use crate::command::Command;
@@ -283,8 +283,8 @@ impl PathDb {
         now: u64,
         limit: usize,
     ) -> Result<Vec<Segment>, AllocError>
-        ensures same { IfOk result (λ found. found.items ≡ segments_of (answer_of limit self.now kind (number_of start) (number_of end) now)) }
-        ensures memory { OnErr result (0 < length (answer_of limit self.now kind (number_of start) (number_of end) now)) }
+        ensures same { IfOk result (λ found. found.items ≡ segments_of (answer_of limit self.now kind (isd_as_number start) (isd_as_number end) now)) }
+        ensures memory { OnErr result (0 < length (answer_of limit self.now kind (isd_as_number start) (isd_as_number end) now)) }
         ensures few { IfOk result (λ found. length found.items ≤ limit) }
         ensures whole { IfOk result (λ found. AllByRecursion IsSegment found.items) }
     {

@@ -9,7 +9,7 @@ ghost use Rattle.path_rows.specs.Database.{row_under};
 ghost use Rattle.path_rows.specs.RowMap.{indexed_key};
 ghost use Rattle.path_rows.specs.Row.{row_view, row_views};
 ghost use Rattle.path_rows.specs.Saved.{saved_view};
-ghost use Rattle.path_rows.specs.EndKeys.{end_of, is_of, is_index_key, stands, EndAlike, IsSeenTo, AreSeenTo, IsIndex, IsCovered, IsGrown, HasAll};
+ghost use Rattle.path_rows.specs.EndKeys.{entry_at_end, is_of, is_index_key, stands, EndAlike, IsSeenTo, AreSeenTo, IsEndIndex, IsCovered, IsIndexGrown, HasAll};
 
 use crate::end::End;
 use crate::format::type_byte;
@@ -21,7 +21,7 @@ use std::alloc::{AllocError, Global};
 
 /// The index key of a row by the ISD-AS at this end.
 pub(crate) fn index_key_of(end: End, row: &Row) -> IndexKey
-    ensures { is_index_key (end_of end) result (row_view row.now) ≡ true }
+    ensures { is_index_key (entry_at_end end) result (row_view row.now) ≡ true }
 {
     IndexKey {
         kind: type_byte(row.kind),
@@ -32,7 +32,7 @@ pub(crate) fn index_key_of(end: End, row: &Row) -> IndexKey
 
 /// The ISD-AS at this end of a row, as 64 bits.
 fn isd_as_at(end: End, row: &Row) -> u64
-    ensures { is_of (end_of end (row_view row.now).1.entries) result ≡ true }
+    ensures { is_of (entry_at_end end (row_view row.now).1.entries) result ≡ true }
 {
     let entries = row.segment.entries();
     match end {
@@ -49,7 +49,7 @@ pub(crate) fn touched_keys(
     saved: &[Saved],
 ) -> Result<Vec<IndexKey>, AllocError>
     requires { length saved.now ≡ length new.now }
-    ensures seen { IfOk result (λ index_keys. AreSeenTo (end_of end) index_keys.items (row_views new.now) (map saved_view saved.now)) }
+    ensures seen { IfOk result (λ index_keys. AreSeenTo (entry_at_end end) index_keys.items (row_views new.now) (map saved_view saved.now)) }
     ensures memory { OnErr result (0 < length new.now) }
 {
     let mut index_keys = Vec::new(alloc);
@@ -67,7 +67,7 @@ fn touch(
     stood: &Option<Row>,
 ) -> Result<(), AllocError>
     ensures kept { OnOk result ((q : IndexKey) → has index_keys.old.items q ≡ true → has index_keys.new.items q ≡ true) }
-    ensures seen { OnOk result (IsSeenTo (end_of end) index_keys.new.items (row_view new.now) (option_map row_view stood.now)) }
+    ensures seen { OnOk result (IsSeenTo (entry_at_end end) index_keys.new.items (row_view new.now) (option_map row_view stood.now)) }
 {
     let index_key = index_key_of(end, new);
     if let Some(row) = stood {
@@ -83,15 +83,15 @@ fn touch(
 
 /// Whether two rows have the same ISD-AS numbers at both ends.
 pub(crate) fn keeps_keys(new: &Row, old: &Row) -> bool
-    ensures first { result ≡ true → EndAlike (end_of First) (row_view new.now) (row_view old.now) }
-    ensures last { result ≡ true → EndAlike (end_of Last) (row_view new.now) (row_view old.now) }
+    ensures first { result ≡ true → EndAlike (entry_at_end First) (row_view new.now) (row_view old.now) }
+    ensures last { result ≡ true → EndAlike (entry_at_end Last) (row_view new.now) (row_view old.now) }
 {
     ends_alike(End::First, new, old) && ends_alike(End::Last, new, old)
 }
 
 /// Whether two rows have the same ISD-AS at this end.
 fn ends_alike(end: End, new: &Row, old: &Row) -> bool
-    ensures { result ≡ true → EndAlike (end_of end) (row_view new.now) (row_view old.now) }
+    ensures { result ≡ true → EndAlike (entry_at_end end) (row_view new.now) (row_view old.now) }
 {
     isd_as_at(end, new) == isd_as_at(end, old)
 }
@@ -116,8 +116,8 @@ pub(crate) fn add_both(
     by_last: &mut EndIndex,
     lasts: &[IndexKey],
 ) -> Result<(), AllocError>
-    ensures first { IsGrown firsts.now by_first.old by_first.new }
-    ensures last { IsGrown lasts.now by_last.old by_last.new }
+    ensures first { IsIndexGrown firsts.now by_first.old by_first.new }
+    ensures last { IsIndexGrown lasts.now by_last.old by_last.new }
     ensures all_first { OnOk result (HasAll firsts.now by_first.new) }
     ensures all_last { OnOk result (HasAll lasts.now by_last.new) }
     ensures memory { OnErr result ((0 < length firsts.now) ⊎ (0 < length lasts.now)) }
@@ -135,8 +135,8 @@ pub(crate) fn keep_standing(index: &mut EndIndex, rows: &RowMap)
 
 /// Removes those of the touched index keys that have no row. This takes no memory.
 pub(crate) fn sweep(end: End, index: &mut EndIndex, rows: &RowMap, index_keys: &[IndexKey])
-    requires { IsCovered (end_of end) rows.now index_keys.now index.old }
-    ensures { IsIndex (end_of end) rows.now index.new }
+    requires { IsCovered (entry_at_end end) rows.now index_keys.now index.old }
+    ensures { IsEndIndex (entry_at_end end) rows.now index.new }
 {
     for index_key in index_keys {
         if !is_standing(end, rows, index_key) {
@@ -147,7 +147,7 @@ pub(crate) fn sweep(end: End, index: &mut EndIndex, rows: &RowMap, index_keys: &
 
 /// Whether an index key has a row.
 fn is_standing(end: End, rows: &RowMap, index_key: &IndexKey) -> bool
-    ensures { result ≡ stands (end_of end) rows.now index_key.now }
+    ensures { result ≡ stands (entry_at_end end) rows.now index_key.now }
 {
     match rows.at(index_key) {
         Some(row) => isd_as_at(end, row) == index_key.isd_as,

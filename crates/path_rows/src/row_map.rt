@@ -6,10 +6,10 @@ ghost use Rattle.path_rows.specs.declared.end.End.TheVariants.{First, Last};
 ghost use Rattle.path_rows.specs.Database.{IsRising, key, key_of, row_under, row_len, rows_len};
 ghost use Rattle.path_rows.specs.Command.{database_after_purge, database_after_removal};
 ghost use Rattle.path_rows.specs.Answer.{is_of_type};
-ghost use Rattle.path_rows.specs.EndKeys.{end_of, IsSeenTo};
+ghost use Rattle.path_rows.specs.EndKeys.{entry_at_end, IsSeenTo};
 ghost use Rattle.path_rows.specs.Put.{database_after_put, change_of};
 ghost use Rattle.path_rows.specs.Row.{row_view};
-ghost use Rattle.path_rows.specs.RowMap.{Holds, bytes_of, len_if_any, indexed_key};
+ghost use Rattle.path_rows.specs.RowMap.{HasRowPut, bytes_of, len_if_any, indexed_key};
 
 use crate::change::Change;
 use crate::end_keys::keeps_keys;
@@ -129,7 +129,7 @@ impl RowMap {
 
     /// Puts a row under its key, and returns the row that was there. Replacing a row takes no memory.
     pub(crate) fn set(&mut self, row: Row) -> Result<Option<Row>, AllocError>
-        ensures ok { IfOk result (λ old. Holds self.old (row_view row) self.new) }
+        ensures ok { IfOk result (λ old. HasRowPut self.old (row_view row) self.new) }
         ensures old { IfOk result (λ old. option_map row_view old ≡ row_under (key_of (row_view row)) self.old) }
         ensures bytes { IfOk result (λ old. rows_len self.new + len_if_any (option_map row_view old) ≡ rows_len self.old + row_len (row_view row)) }
         ensures err { OnErr result (self.new ≡ self.old) }
@@ -147,8 +147,8 @@ impl RowMap {
         requires { bytes.old ≡ rows_len self.old }
         ensures rows { ForSome result (λ _. self.new ≡ database_after_put self.old (row_view row)) }
         ensures change { ForSome result (λ change. change ≡ change_of self.old (row_view row)) }
-        ensures first { ForSome result (λ _. IsSeenTo (end_of First) [] (row_view row) (row_under (key_of (row_view row)) self.old)) }
-        ensures last { ForSome result (λ _. IsSeenTo (end_of Last) [] (row_view row) (row_under (key_of (row_view row)) self.old)) }
+        ensures first { ForSome result (λ _. IsSeenTo (entry_at_end First) [] (row_view row) (row_under (key_of (row_view row)) self.old)) }
+        ensures last { ForSome result (λ _. IsSeenTo (entry_at_end Last) [] (row_view row) (row_under (key_of (row_view row)) self.old)) }
         ensures bytes { bytes.new ≡ rows_len self.new }
         ensures more { bytes.new ≤ bytes.old + row_len (row_view row) }
         ensures none { result ≡ None → self.new ≡ self.old }

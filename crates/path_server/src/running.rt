@@ -3,7 +3,7 @@
 ghost use Rattle.std.specs.Prelude.{OnOk};
 ghost use Rattle.sector_dev.specs.Disk.{IsHonest};
 ghost use Rattle.sector_dev.specs.Image.{EveryImage};
-ghost use Rattle.group_core.specs.Starting.{value_in};
+ghost use Rattle.group_core.specs.Starting.{value_of_store};
 ghost use Rattle.path_hub.specs.Left.{OpensAfter};
 
 use crate::error::RunError;
@@ -65,7 +65,7 @@ pub fn serve_store<
     options: &Options,
     reports: &O,
 ) -> (D, Result<u64, RunError>)
-    ensures { OnOk result.1 (IsHonest (D.disk result.0) → EveryImage (D.disk result.0).history.now (OpensAfter (value_in store))) }
+    ensures { OnOk result.1 (IsHonest (D.disk result.0) → EveryImage (D.disk result.0).history.now (OpensAfter (value_of_store store))) }
 {
     match &options.key {
         Some(key) => serve_checked(rt, alloc, listeners, store, options, key, reports),
@@ -89,7 +89,7 @@ fn serve_checked<
     verifier: &V,
     reports: &O,
 ) -> (D, Result<u64, RunError>)
-    ensures { OnOk result.1 (IsHonest (D.disk result.0) → EveryImage (D.disk result.0).history.now (OpensAfter (value_in store))) }
+    ensures { OnOk result.1 (IsHonest (D.disk result.0) → EveryImage (D.disk result.0).history.now (OpensAfter (value_of_store store))) }
 {
     let begun = Instant::now(&rt).ok();
     let server = Server::new(alloc, listeners, begun, options, verifier, reports);

@@ -17,12 +17,12 @@ use Rattle.reply_codes.specs.Checking.{first_refusal}
 use Rattle.reply_codes.specs.Replies.{reply_to_command}
 use Rattle.path_session.specs.Serving.{Serving, at_moment}
 use Rattle.path_session.specs.Answered.{AnswersCommand, AnswersChecked, AnswersRegistration, AnswersRemoval, IsAnswered, HubAnswers}
-use Rattle.path_session.specs.Taking.{IsTaken}
+use Rattle.path_session.specs.Taking.{IsCommandAnswered}
 
 -- ---- commands
 
 command_answered : (taken : Ack → ReplyView) (old : Serving) (c : Command) (result : Result Ack Refusal) (new : Serving)
-    → IsTaken old c result new → AnswersCommand taken old c (reply_to_command taken result) new
+    → IsCommandAnswered old c result new → AnswersCommand taken old c (reply_to_command taken result) new
 command_answered taken old c (Ok ack) new took = inl (record { ack = ack; replied = refl; committed = took })
 command_answered taken old c (Err (refusal.Submit e)) new took = inr (inl (record { why = e; refused = (refl, took) }))
 command_answered taken old c (Err refusal.Stopped) new took = inr (inr (refl, took))
@@ -33,7 +33,7 @@ command_answered taken old c (Err (refusal.Lookup e)) new took = absurd took
 command_answered taken old c (Err refusal.NoReader) new took = absurd took
 
 -- the clock isn't asked while the hub is
-moment_stays : (old : Serving) (c : Command) (result : Result Ack Refusal) (new : Serving) → IsTaken old c result new → new.moment ≡ old.moment
+moment_stays : (old : Serving) (c : Command) (result : Result Ack Refusal) (new : Serving) → IsCommandAnswered old c result new → new.moment ≡ old.moment
 moment_stays old c (Ok ack) new took = ap (λ (s : Serving). s.moment) took.kept
 moment_stays old c (Err (refusal.Submit e)) new took = ap (λ (s : Serving). s.moment) took
 moment_stays old c (Err refusal.Stopped) new took = ap (λ (s : Serving). s.moment) took
@@ -46,7 +46,7 @@ moment_stays old c (Err refusal.NoReader) new took = absurd took
 module _ (opening : StoreValue (List RowView)) (old : Serving) where
   pub registration_answered : (body : List ℕ) (rows : List RowView) (moment : ℕ) (result : Result Ack Refusal) (new : Serving)
       → registration_decoding body ≡ Ok rows → first_refusal old.verifies moment rows ≡ None
-      → IsTaken (at_moment old moment) (command.Register rows) result new
+      → IsCommandAnswered (at_moment old moment) (command.Register rows) result new
       → HubAnswers opening old (Register body) (reply_to_command (λ ack. Registered ack) result) new
   unfolding IsAnswered
   registration_answered body rows moment result new is accepted took =
@@ -58,7 +58,7 @@ module _ (opening : StoreValue (List RowView)) (old : Serving) where
       inr (subst (λ (read : Result (List RowView) SegError). AnswersRegistration old read reply new) (sym is) at_new)
 
   pub removal_answered : (kind : ℕ) (id : List ℕ) (of_type : SegType) (result : Result Ack Refusal) (new : Serving)
-      → type_of kind ≡ Ok of_type → IsTaken old (command.Remove of_type id) result new
+      → type_of kind ≡ Ok of_type → IsCommandAnswered old (command.Remove of_type id) result new
       → HubAnswers opening old (Remove kind id) (reply_to_command (λ ack. Removed ack) result) new
   unfolding IsAnswered
   removal_answered kind id of_type result new is took =
@@ -67,6 +67,6 @@ module _ (opening : StoreValue (List RowView)) (old : Serving) where
       inr (subst (λ (read : Result SegType SegError). AnswersRemoval old id read reply new) (sym is) answered)
 
   pub purge_answered : (moment : ℕ) (result : Result Ack Refusal) (new : Serving)
-      → IsTaken old (command.Purge moment) result new → HubAnswers opening old (Purge moment) (reply_to_command (λ ack. Purged ack) result) new
+      → IsCommandAnswered old (command.Purge moment) result new → HubAnswers opening old (Purge moment) (reply_to_command (λ ack. Purged ack) result) new
   unfolding IsAnswered
   purge_answered moment result new took = inr (command_answered (λ ack. Purged ack) old (command.Purge moment) result new took)

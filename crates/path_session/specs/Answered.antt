@@ -28,14 +28,14 @@ use Rattle.reply_codes.specs.Checking.{first_refusal}
 use Rattle.path_session.specs.Serving.{Serving, at_moment}
 
 -- a refusal, which changes nothing
-abbrev pub IsRefused : ℕ → Serving → ReplyView → Serving → Type 0
-IsRefused code old reply new = (reply ≡ Refused code) × (new ≡ old)
+abbrev pub IsRefusedWithCode : ℕ → Serving → ReplyView → Serving → Type 0
+IsRefusedWithCode code old reply new = (reply ≡ Refused code) × (new ≡ old)
 
 -- ---- commands
 
 -- The command was committed: its receipt is kept, without its note, and the acknowledgement has the receipt's place and outcome; and
 -- more than that place was seen.
-pub record IsCommitted (old : Serving) (c : Command) (ack : Ack) (new : Serving) : Type 0 where
+pub record AcknowledgesCommit (old : Serving) (c : Command) (ack : Ack) (new : Serving) : Type 0 where
   pub receipt : Receipt ℕ
   pub kept : new ≡ record old { seen = new.seen; last = Some receipt }
   pub shows : receipt.command.value ≡ c
@@ -49,31 +49,31 @@ pub record IsCommitted (old : Serving) (c : Command) (ack : Ack) (new : Serving)
 pub record IsAcknowledged (taken : Ack → ReplyView) (old : Serving) (c : Command) (reply : ReplyView) (new : Serving) : Type 0 where
   pub ack : Ack
   pub replied : reply ≡ taken ack
-  pub committed : IsCommitted old c ack new
+  pub committed : AcknowledgesCommit old c ack new
 
 -- The hub did not accept the command.
 pub record IsNotAccepted (old : Serving) (reply : ReplyView) (new : Serving) : Type 0 where
   pub why : SubmitError
-  pub refused : IsRefused (submit_code why) old reply new
+  pub refused : IsRefusedWithCode (submit_code why) old reply new
 
 -- The command was committed; or it was not accepted, or the store stopped before it was committed, and nothing changed.
 abbrev pub AnswersCommand : (Ack → ReplyView) → Serving → Command → ReplyView → Serving → Type 0
 AnswersCommand taken old c reply new =
-    IsAcknowledged taken old c reply new ⊎ (IsNotAccepted old reply new ⊎ IsRefused stopped_code old reply new)
+    IsAcknowledged taken old c reply new ⊎ (IsNotAccepted old reply new ⊎ IsRefusedWithCode stopped_code old reply new)
 
 abbrev pub AnswersChecked : Serving → List RowView → Option CheckError → ReplyView → Serving → Type 0
 AnswersChecked old rows None reply new = AnswersCommand Registered old (command.Register rows) reply new
-AnswersChecked old rows (Some e) reply new = IsRefused (check_code e) old reply new
+AnswersChecked old rows (Some e) reply new = IsRefusedWithCode (check_code e) old reply new
 
 -- The clock is asked for a registration that was read, whose segments are checked at the moment that it gave.
 abbrev pub AnswersRegistration : Serving → Result (List RowView) SegError → ReplyView → Serving → Type 0
 AnswersRegistration old (Ok rows) reply new =
     AnswersChecked (at_moment old new.moment) rows (first_refusal old.verifies new.moment rows) reply new
-AnswersRegistration old (Err e) reply new = IsRefused (seg_code e) old reply new
+AnswersRegistration old (Err e) reply new = IsRefusedWithCode (seg_code e) old reply new
 
 abbrev pub AnswersRemoval : Serving → List ℕ → Result SegType SegError → ReplyView → Serving → Type 0
 AnswersRemoval old id (Ok kind) reply new = AnswersCommand Removed old (command.Remove kind id) reply new
-AnswersRemoval old id (Err e) reply new = IsRefused (seg_code e) old reply new
+AnswersRemoval old id (Err e) reply new = IsRefusedWithCode (seg_code e) old reply new
 
 -- ---- lookups
 
@@ -90,7 +90,7 @@ module _ (opening : StoreValue (List RowView)) where
     pub fresh : old.seen ≤ place_after opening new.groups
 
   -- The reply has the segments that the query shows, of what the reader was shown.
-  pub record IsFound (old : Serving) (query : QueryView) (reply : ReplyView) (new : Serving) : Type 0 where
+  pub record RepliesWithSegments (old : Serving) (query : QueryView) (reply : ReplyView) (new : Serving) : Type 0 where
     pub looked : HasLooked old new
     pub replied : reply ≡ Found query.kind (segments_of (found_after new.groups query new.moment))
 
@@ -107,16 +107,16 @@ module _ (opening : StoreValue (List RowView)) where
     pub refused : reply ≡ Refused reader_code
 
   abbrev pub LooksUp : Serving → QueryView → ReplyView → Serving → Type 0
-  LooksUp old query reply new = IsFound old query reply new ⊎ (LacksMemory old query reply new ⊎ LacksReader old reply new)
+  LooksUp old query reply new = RepliesWithSegments old query reply new ⊎ (LacksMemory old query reply new ⊎ LacksReader old reply new)
 
   -- The clock is asked for a lookup that was classified, which is answered at the moment that it gave.
   abbrev pub AnswersQuery : Serving → Result QueryView LookupError → ReplyView → Serving → Type 0
   AnswersQuery old (Ok query) reply new = LooksUp (at_moment old new.moment) query reply new
-  AnswersQuery old (Err e) reply new = IsRefused (lookup_code e) old reply new
+  AnswersQuery old (Err e) reply new = IsRefusedWithCode (lookup_code e) old reply new
 
   abbrev pub AnswersLookup : Serving → Result (ℕ × ℕ) SegError → ReplyView → Serving → Type 0
   AnswersLookup old (Ok ends) reply new = AnswersQuery old (query_of old.roster ends.0 ends.1) reply new
-  AnswersLookup old (Err e) reply new = IsRefused (seg_code e) old reply new
+  AnswersLookup old (Err e) reply new = IsRefusedWithCode (seg_code e) old reply new
 
   -- ---- messages
 
@@ -128,12 +128,12 @@ module _ (opening : StoreValue (List RowView)) where
   IsAnswered old (Remove kind id) reply new = AnswersRemoval old id (type_of kind) reply new
 
   -- Memory may run out where a registration is read, once its outline was read.
-  abbrev pub IsOutOfMemory : Serving → MessageView → ReplyView → Serving → Type 0
-  IsOutOfMemory old (Register body) reply new = IsRefused memory_code old reply new × IsOk (registration_outline body)
-  IsOutOfMemory old (Lookup body) reply new = ⊥
-  IsOutOfMemory old (Purge moment) reply new = ⊥
-  IsOutOfMemory old (Remove kind id) reply new = ⊥
+  abbrev pub RegistrationLacksMemory : Serving → MessageView → ReplyView → Serving → Type 0
+  RegistrationLacksMemory old (Register body) reply new = IsRefusedWithCode memory_code old reply new × IsOk (registration_outline body)
+  RegistrationLacksMemory old (Lookup body) reply new = ⊥
+  RegistrationLacksMemory old (Purge moment) reply new = ⊥
+  RegistrationLacksMemory old (Remove kind id) reply new = ⊥
 
   -- What a service over a hub that opened with this value may answer to a message, and what it is then.
   abbrev pub HubAnswers : Serving → MessageView → ReplyView → Serving → Type 0
-  HubAnswers old message reply new = IsOutOfMemory old message reply new ⊎ IsAnswered old message reply new
+  HubAnswers old message reply new = RegistrationLacksMemory old message reply new ⊎ IsAnswered old message reply new

@@ -5,15 +5,15 @@ use Rattle.session_core.specs.declared.service.Ack.{Ack}
 use Rattle.reply_codes.specs.declared.refusal.Refusal.{Refusal}
 use Rattle.reply_codes.specs.declared.refusal.Refusal.TheVariants.{NoMemory, Message, Check, Lookup, Submit, NoReader, Stopped}
 use Rattle.path_session.specs.Serving.{Serving}
-use Rattle.path_session.specs.Answered.{IsCommitted}
+use Rattle.path_session.specs.Answered.{AcknowledgesCommit}
 
 -- The command was committed; or it was not accepted, or the store stopped before it was committed, and nothing changed.
-abbrev pub IsTaken : Serving → Command → Result Ack Refusal → Serving → Type 0
-IsTaken old c (Ok ack) new = IsCommitted old c ack new
-IsTaken old c (Err (Submit e)) new = new ≡ old
-IsTaken old c (Err Stopped) new = new ≡ old
-IsTaken old c (Err NoMemory) new = ⊥
-IsTaken old c (Err (Message e)) new = ⊥
-IsTaken old c (Err (Check e)) new = ⊥
-IsTaken old c (Err (Lookup e)) new = ⊥
-IsTaken old c (Err NoReader) new = ⊥
+abbrev pub IsCommandAnswered : Serving → Command → Result Ack Refusal → Serving → Type 0
+IsCommandAnswered old c (Ok ack) new = AcknowledgesCommit old c ack new
+IsCommandAnswered old c (Err (Submit e)) new = new ≡ old
+IsCommandAnswered old c (Err Stopped) new = new ≡ old
+IsCommandAnswered old c (Err NoMemory) new = ⊥
+IsCommandAnswered old c (Err (Message e)) new = ⊥
+IsCommandAnswered old c (Err (Check e)) new = ⊥
+IsCommandAnswered old c (Err (Lookup e)) new = ⊥
+IsCommandAnswered old c (Err NoReader) new = ⊥

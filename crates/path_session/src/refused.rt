@@ -1,14 +1,14 @@
 //! What a hub refuses, as the refusal of a message.
 
 ghost use Rattle.std.specs.Prelude.{◌≡◌};
-ghost use Rattle.path_session.specs.Refused.{refusal_of};
+ghost use Rattle.path_session.specs.Refused.{hub_refusal};
 
 use path_hub::HubError;
 use reply_codes::Refusal;
 
 /// The refusal of a message whose call of the hub was refused.
 pub(crate) fn refusal_of(error: HubError) -> Refusal
-    ensures { result ≡ refusal_of error }
+    ensures { result ≡ hub_refusal error }
 {
     match error {
         HubError::NoMemory => Refusal::NoMemory,

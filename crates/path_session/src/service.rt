@@ -9,7 +9,7 @@ ghost use Rattle.session_core.specs.Reply.{Registered, Purged, Removed};
 ghost use Rattle.reply_codes.specs.Replies.{reply_to_command, reply_to_query};
 ghost use Rattle.path_session.specs.Serving.{beginning};
 ghost use Rattle.path_session.specs.Answered.{HubAnswers};
-ghost use Rattle.path_session.specs.Taking.{IsTaken};
+ghost use Rattle.path_session.specs.Taking.{IsCommandAnswered};
 ghost use Rattle.path_session.specs.Kept.{serving};
 
 use crate::clock::Now;
@@ -90,7 +90,7 @@ impl<'a, D: Device, N: HubName, R: Wait + Clock, V: Verifier, C: Now> HubService
 
     /// Has a command committed, learns its receipt and keeps it.
     fn take(&mut self, command: Command) -> Result<Ack, Refusal>
-        ensures { IsTaken (serving V.verifies C.moment self.old) command result (serving V.verifies C.moment self.new) }
+        ensures { IsCommandAnswered (serving V.verifies C.moment self.old) command result (serving V.verifies C.moment self.new) }
     {
         let mut receipt = self.hub.register(command).map_err(refusal_of)?;
         self.reader.learn(&mut receipt);

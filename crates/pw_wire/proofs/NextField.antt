@@ -8,7 +8,7 @@ use Rattle.pw_wire.specs.declared.field.Field.{Field}
 use Rattle.pw_wire.specs.Decoding.{IsBytes}
 use Rattle.pw_wire.specs.Field.{FieldValue, FieldView, IsField, IsFieldFault, field_at}
 use Rattle.pw_wire.specs.Fields.{fields, fault}
-use Rattle.pw_wire.specs.View.{value_view, field_view, Finds, IsStep, Steps}
+use Rattle.pw_wire.specs.View.{value_view, field_view, Finds, HasFirstField, Steps}
 use Rattle.pw_wire.proofs.Varints.{ok_is, err_is}
 use Rattle.pw_wire.proofs.FieldLemmas.{field_again, field_took, fault_again, fault_is}
 use Rattle.pw_wire.proofs.Messages.{fields-nil, fault-nil, nothing_read, fields-read, fault-read, fields-failed, fault-failed, not_nothing}
@@ -64,7 +64,7 @@ fails bytes (Err d) fits failed e = (
 )
 
 -- what a field that was read shows of the whole message
-pub step : (bytes : List ℕ) (f : FieldView) (len : ℕ) → IsBytes bytes → field_at bytes ≡ Ok (f, len) → IsStep bytes f len
+pub step : (bytes : List ℕ) (f : FieldView) (len : ℕ) → IsBytes bytes → field_at bytes ≡ Ok (f, len) → HasFirstField bytes f len
 step bytes f len fits read =
     let took = field_took bytes (f, len) read in
     record { positive = took.positive; within = took.within; fields_are = fields-read bytes f len read; fault_is = fault-read bytes f len read }

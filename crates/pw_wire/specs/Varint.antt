@@ -8,7 +8,7 @@ use Rattle.pw_wire.specs.Decoding.{◌>>=◌}
 -- ---- what a varint is
 
 -- A continuation byte is 128 plus the low seven bits of the number; the bytes after it encode the bits above.
-pub record GoesOn (EncodesAbove : ℕ → Type 0) (byte n : ℕ) : Type 0 where
+pub record IsContinuationByte (EncodesAbove : ℕ → Type 0) (byte n : ℕ) : Type 0 where
   pub low : ℕ
   pub high : ℕ
   pub byte_is : byte ≡ 128 + low
@@ -21,7 +21,7 @@ pub record GoesOn (EncodesAbove : ℕ → Type 0) (byte n : ℕ) : Type 0 where
 abbrev pub EncodesNumber : List ℕ → ℕ → Type 0
 EncodesNumber [] n = ⊥
 EncodesNumber (b ∷ []) n = (b < 128) × (n ≡ b)
-EncodesNumber (b ∷ c ∷ bytes) n = GoesOn (λ high. EncodesNumber (c ∷ bytes) high) b n
+EncodesNumber (b ∷ c ∷ bytes) n = IsContinuationByte (λ high. EncodesNumber (c ∷ bytes) high) b n
 
 -- A varint has at most ten bytes, and a number of 64 bits. Zeros at the top are allowed.
 pub record IsVarint (bytes : List ℕ) (n : ℕ) : Type 0 where

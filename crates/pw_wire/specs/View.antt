@@ -27,14 +27,14 @@ field_read (Ok found) = Ok (field_view found.0, found.1)
 field_read (Err e) = Err e
 
 -- what was found is the field of this number and value, and has this length
-pub record IsFound (found : Field × ℕ) (field_number : ℕ) (value : FieldValue) (len : ℕ) : Type 0 where
+pub record IsFoundField (found : Field × ℕ) (field_number : ℕ) (value : FieldValue) (len : ℕ) : Type 0 where
   pub number_is : found.0.number ≡ field_number
   pub value_is : value_view found.0.value ≡ value
   pub len_is : found.1 ≡ len
 
 -- a call found this field, of this length
 abbrev pub Finds : Result (Option (Field × ℕ)) WireError → ℕ → FieldValue → ℕ → Type 0
-Finds (Ok (Some next)) field_number value len = IsFound next field_number value len
+Finds (Ok (Some next)) field_number value len = IsFoundField next field_number value len
 Finds (Ok None) field_number value len = ⊥
 Finds (Err e) field_number value len = ⊥
 
@@ -45,7 +45,7 @@ pub record IsEnd (bytes : List ℕ) : Type 0 where
   pub no_fault : fault bytes ≡ None
 
 -- The bytes begin with a field, and then come the fields and the fault of the bytes after it.
-pub record IsStep (bytes : List ℕ) (f : FieldView) (len : ℕ) : Type 0 where
+pub record HasFirstField (bytes : List ℕ) (f : FieldView) (len : ℕ) : Type 0 where
   pub positive : 1 ≤ len
   pub within : len ≤ length bytes
   pub fields_are : fields bytes ≡ f ∷ fields (drop len bytes)
@@ -54,5 +54,5 @@ pub record IsStep (bytes : List ℕ) (f : FieldView) (len : ℕ) : Type 0 where
 -- What the result of one call shows of the whole message: its end, its first field, or its fault.
 abbrev pub Steps : List ℕ → Result (Option (Field × ℕ)) WireError → Type 0
 Steps bytes (Ok None) = IsEnd bytes
-Steps bytes (Ok (Some next)) = IsStep bytes (field_view next.0) next.1
+Steps bytes (Ok (Some next)) = HasFirstField bytes (field_view next.0) next.1
 Steps bytes (Err e) = (fields bytes ≡ []) × (fault bytes ≡ Some e)

@@ -2,7 +2,7 @@ ghost use Rattle.std.specs.Prelude.{◌≡◌, ◌≢◌, ◌↔◌, ℕ, ◌+�
 ghost use Rattle.pw_wire.specs.Varint.{varint_at};
 ghost use Rattle.std.specs.Option.{ForSome};
 ghost use Rattle.pw_wire.specs.Field.{FieldValue, Bytes, IsField, IsFieldFault, varint_field, bytes_field, number_at, bytes_at, fixed64_at, fixed32_at, value_at, field_at};
-ghost use Rattle.pw_wire.specs.View.{value_view, value_read, field_view, field_read, Finds, IsStep, Steps};
+ghost use Rattle.pw_wire.specs.View.{value_view, value_read, field_view, field_read, Finds, HasFirstField, Steps};
 
 use crate::error::WireError;
 use crate::field::{Field, Value};
@@ -35,7 +35,7 @@ pub fn next_field(bytes: &[u8]) -> Result<Option<(Field<'_>, usize)>, WireError>
 pub fn first_number(field_number: u8, bytes: &[u8]) -> Option<(u64, usize)>
     requires positive { 1 ≤ field_number }
     requires below { field_number < 16 }
-    ensures found { ForSome result (λ found. IsStep bytes.now (varint_field field_number found.0) found.1) }
+    ensures found { ForSome result (λ found. HasFirstField bytes.now (varint_field field_number found.0) found.1) }
     ensures none { IfNone result ((rest : List ℕ) (n len : ℕ) → bytes.now ≡ (field_number * 8) ∷ rest → varint_at rest ≢ Ok (n, len)) }
 {
     number_under(field_number, bytes)
@@ -47,7 +47,7 @@ pub fn first_number(field_number: u8, bytes: &[u8]) -> Option<(u64, usize)>
 pub fn first_bytes(field_number: u8, bytes: &[u8]) -> Option<(&[u8], usize)>
     requires positive { 1 ≤ field_number }
     requires below { field_number < 16 }
-    ensures found { ForSome result (λ found. IsStep bytes.now (bytes_field field_number found.0.now) found.1) }
+    ensures found { ForSome result (λ found. HasFirstField bytes.now (bytes_field field_number found.0.now) found.1) }
     ensures none { IfNone result ((rest found : List ℕ) (len : ℕ) → bytes.now ≡ (field_number * 8 + 2) ∷ rest → bytes_at rest ≢ Ok (Bytes found, len)) }
 {
     bytes_under(field_number, bytes)

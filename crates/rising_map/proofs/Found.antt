@@ -8,7 +8,7 @@ use Rattle.std.specs.List.Sorted.{IsNonDecreasingBy, IsBinarySearchResult, IsSea
 use Rattle.std.proofs.lemmas.List.{get_or_read}
 use Rattle.std.proofs.lemmas.Map.Lookups.{exact_unsigned}
 use Rattle.rising_map.specs.declared.slots.Slot.{Slot}
-use Rattle.rising_map.specs.Slots.{IsRising, IsFound}
+use Rattle.rising_map.specs.Slots.{AreRisingSlots, IsFoundSlot}
 use Rattle.rising_map.proofs.Rising.{all_at}
 
 index_by : (o p : Ordering) (a b n : ℕ) → MatchOrdering o (a < n) (a ≡ n) (n < a) → MatchOrdering p (b < n) (b ≡ n) (n < b) → a ≤ b → ordering_index o ≤ ordering_index p
@@ -21,14 +21,14 @@ index_by Greater Equal a b n one other order = absurd (omega (arith, one, other,
 index_by Greater Greater a b n one other order = omega arith
 
 module _ {V : Type 0} where
-  never_falls : (slots : List (Slot V)) → IsRising slots → (i j : ℕ) (d : Slot V) → i ≤ j → j < length slots → (get_or slots i d).number ≤ (get_or slots j d).number
+  never_falls : (slots : List (Slot V)) → AreRisingSlots slots → (i j : ℕ) (d : Slot V) → i ≤ j → j < length slots → (get_or slots i d).number ≤ (get_or slots j d).number
   never_falls [] rising i j d order inside = absurd (omega (arith, inside))
   never_falls (s ∷ slots) rising zero zero d order inside = omega arith
   never_falls (s ∷ slots) rising zero (suc j) d order inside = let less = all_at (λ t. s.number < t.number) slots rising.0 j d (omega (arith, inside)) in omega (arith, less)
   never_falls (s ∷ slots) rising (suc i) zero d order inside = absurd (omega (arith, order))
   never_falls (s ∷ slots) rising (suc i) (suc j) d order inside = never_falls slots rising.1 i j d (omega (arith, order)) (omega (arith, inside))
 
-  module _ (slots : List (Slot V)) (rising : IsRising slots) (number : ℕ) where
+  module _ (slots : List (Slot V)) (rising : AreRisingSlots slots) (number : ℕ) where
     -- all are below a number that is above the last one
     pub all_below : (x : Slot V) → 0 < length slots → x ≡ get_or slots (length slots - 1) x → x.number < number → (k : ℕ) (d : Slot V) → k < length slots → (get_or slots k d).number < number
     all_below x some is less k d inside =
@@ -42,7 +42,7 @@ module _ {V : Type 0} where
         (ranks (get_or slots i d).number number) (ranks (get_or slots j d).number number) (never_falls slots rising i j d order inside)
 
     -- what a search by halving finds
-    pub found_so : (r : Result ℕ ℕ) → IsSearchInRange r (length slots) → IsBinarySearchResult (λ (s : Slot V). nat_cmp s.number number) slots r → IsFound slots number r
+    pub found_so : (r : Result ℕ ℕ) → IsSearchInRange r (length slots) → IsBinarySearchResult (λ (s : Slot V). nat_cmp s.number number) slots r → IsFoundSlot slots number r
     found_so (Ok at) inside is = (inside, λ d. exact_unsigned (get_or slots at d).number number (is d))
     found_so (Err at) inside is =
         let parts = is index_rises in (
@@ -54,11 +54,11 @@ module _ {V : Type 0} where
         )
 
   -- a place among the slots that a call was passed
-  pub found_at : (passed slots : List (Slot V)) (number at : ℕ) (r : Result ℕ ℕ) → passed ≡ slots → IsFound passed number r → r ≡ Ok at → (at < length slots) × ((d : Slot V) → (get_or slots at d).number ≡ number)
+  pub found_at : (passed slots : List (Slot V)) (number at : ℕ) (r : Result ℕ ℕ) → passed ≡ slots → IsFoundSlot passed number r → r ≡ Ok at → (at < length slots) × ((d : Slot V) → (get_or slots at d).number ≡ number)
   found_at passed slots number at r same found is =
-      subst (λ (q : Result ℕ ℕ). IsFound slots number q) is (subst (λ (l : List (Slot V)). IsFound l number r) same found)
+      subst (λ (q : Result ℕ ℕ). IsFoundSlot slots number q) is (subst (λ (l : List (Slot V)). IsFoundSlot l number r) same found)
 
-  pub found_gap : (passed slots : List (Slot V)) (number at : ℕ) (r : Result ℕ ℕ) → passed ≡ slots → IsFound passed number r → r ≡ Err at
+  pub found_gap : (passed slots : List (Slot V)) (number at : ℕ) (r : Result ℕ ℕ) → passed ≡ slots → IsFoundSlot passed number r → r ≡ Err at
       → (at ≤ length slots) × IsPartitionPoint (λ (s : Slot V). s.number < number) (λ (s : Slot V). number < s.number) slots at
   found_gap passed slots number at r same found is =
-      subst (λ (q : Result ℕ ℕ). IsFound slots number q) is (subst (λ (l : List (Slot V)). IsFound l number r) same found)
+      subst (λ (q : Result ℕ ℕ). IsFoundSlot slots number q) is (subst (λ (l : List (Slot V)). IsFoundSlot l number r) same found)

@@ -3,7 +3,7 @@ use Rattle.std.proofs.Common.{◌≡◌, ℕ, suc, ◌<◌, List, [], ◌∷◌,
 use Rattle.std.specs.Option.{is_some}
 use Rattle.std.specs.List.{AllByRecursion, filter}
 use Rattle.rising_map.specs.declared.slots.Slot.{Slot}
-use Rattle.rising_map.specs.Slots.{entries_of, with_entry, IsRising}
+use Rattle.rising_map.specs.Slots.{entries_of, with_entry, AreRisingSlots}
 
 module _ {V : Type 0} where
   abbrev pub is_full : Slot V → Bool
@@ -36,10 +36,10 @@ module _ {V : Type 0} where
   above_full n [] all = tt
   above_full n (s ∷ slots) all = passed_above n (is_full s) s (full slots) all.0 (above_full n slots all.1)
 
-  passed_rising : (b : Bool) (s : Slot V) (slots : List (Slot V)) → AllByRecursion (λ t. s.number < t.number) slots → IsRising slots → IsRising (cond b (s ∷ slots) slots)
+  passed_rising : (b : Bool) (s : Slot V) (slots : List (Slot V)) → AllByRecursion (λ t. s.number < t.number) slots → AreRisingSlots slots → AreRisingSlots (cond b (s ∷ slots) slots)
   passed_rising true s slots first rest = (first, rest)
   passed_rising false s slots first rest = rest
 
-  pub still_rising : (slots : List (Slot V)) → IsRising slots → IsRising (full slots)
+  pub still_rising : (slots : List (Slot V)) → AreRisingSlots slots → AreRisingSlots (full slots)
   still_rising [] rising = tt
   still_rising (s ∷ slots) rising = passed_rising (is_full s) s (full slots) (above_full s.number slots rising.0) (still_rising slots rising.1)

@@ -8,7 +8,7 @@ use Rattle.std.specs.BTreeMap.{insert_entry, is_at}
 use Rattle.std.specs.Map.{keys_of, lookup, remove_entry}
 use Rattle.std.proofs.lemmas.List.{set_split, set-get_or, get_or-take, get_or-drop, get_or_read}
 use Rattle.rising_map.specs.declared.slots.Slot.{Slot}
-use Rattle.rising_map.specs.Slots.{entries_of, with_entry, IsRising}
+use Rattle.rising_map.specs.Slots.{entries_of, with_entry, AreRisingSlots}
 use Rattle.rising_map.proofs.Rising.{all_from, rises, rising_inserted, rising_replaced}
 use Rattle.rising_map.proofs.Entries.{less, found_behind, taken_behind, put_behind, not_found, put_first, found_here, taken_here, put_here}
 
@@ -45,13 +45,13 @@ module _ {V : Type 0} where
   keys_rise_by n (Some v) entries all rising = (all, rising)
 
   -- the entries' numbers rise
-  pub keys_rise : (slots : List (Slot V)) → IsRising slots → IsStrictlySortedBy nat_cmp (keys_of (entries_of slots))
+  pub keys_rise : (slots : List (Slot V)) → AreRisingSlots slots → IsStrictlySortedBy nat_cmp (keys_of (entries_of slots))
   unfolding IsStrictlySortedBy
   keys_rise [] rising = tt
   keys_rise (s ∷ slots) rising = keys_rise_by s.number s.value (entries_of slots) (above_keys s.number slots rising.0) (keys_rise slots rising.1)
 
 -- at a slot of the number
-module _ {V : Type 0} (slots : List (Slot V)) (rising : IsRising slots) (n at : ℕ) (inside : at < length slots) (s : Slot V) (is : s ≡ get_or slots at s) (same : s.number ≡ n) where
+module _ {V : Type 0} (slots : List (Slot V)) (rising : AreRisingSlots slots) (n at : ℕ) (inside : at < length slots) (s : Slot V) (is : s ≡ get_or slots at s) (same : s.number ≡ n) where
   abbrev below : List (Slot V)
   below = take at slots
 
@@ -85,8 +85,8 @@ module _ {V : Type 0} (slots : List (Slot V)) (rising : IsRising slots) (n at : 
       ∙ found_here n s.number s.value (entries_of above) same (not_found n above all_above)
 
   module _ (t : Slot V) (its : t.number ≡ n) where
-    pub set_rising : IsRising (set slots at t)
-    set_rising = rw (set_split slots at t inside) (rising_replaced below above s t (its ∙ sym same) (subst IsRising apart rising))
+    pub set_rising : AreRisingSlots (set slots at t)
+    set_rising = rw (set_split slots at t inside) (rising_replaced below above s t (its ∙ sym same) (subst AreRisingSlots apart rising))
 
     pub set_counted : length (entries_of (set slots at t)) + count s.value ≡ length (entries_of slots) + count t.value
     set_counted =
@@ -115,7 +115,7 @@ module _ {V : Type 0} (slots : List (Slot V)) (rising : IsRising slots) (n at : 
         )
 
 -- where no slot has the number
-module _ {V : Type 0} (slots : List (Slot V)) (rising : IsRising slots) (n at : ℕ) (inside : at ≤ length slots)
+module _ {V : Type 0} (slots : List (Slot V)) (rising : AreRisingSlots slots) (n at : ℕ) (inside : at ≤ length slots)
     (parts : IsPartitionPoint (λ (s : Slot V). s.number < n) (λ (s : Slot V). n < s.number) slots at) where
   abbrev before : List (Slot V)
   before = take at slots
@@ -144,8 +144,8 @@ module _ {V : Type 0} (slots : List (Slot V)) (rising : IsRising slots) (n at : 
     abbrev new : Slot V
     new = record { number = n; value = Some w }
 
-    pub inserted_rising : IsRising (insert slots at new)
-    inserted_rising = rising_inserted before after new (subst IsRising split rising) all_before all_after
+    pub inserted_rising : AreRisingSlots (insert slots at new)
+    inserted_rising = rising_inserted before after new (subst AreRisingSlots split rising) all_before all_after
 
     pub inserted_counted : length (entries_of (insert slots at new)) ≡ length (entries_of slots) + 1
     inserted_counted =

@@ -9,7 +9,7 @@ use Rattle.std.specs.BTreeMap.{insert_entry, is_at}
 use Rattle.std.specs.Map.{keys_of, lookup, remove_entry}
 use Rattle.std.proofs.lemmas.List.Edits.{length-insert}
 use Rattle.rising_map.specs.declared.slots.Slot.{Slot}
-use Rattle.rising_map.specs.Slots.{entries_of, with_entry, IsRising, AreSlots}
+use Rattle.rising_map.specs.Slots.{entries_of, with_entry, AreRisingSlots, AreSlots}
 use Rattle.rising_map.proofs.Entries.{none_taken}
 use Rattle.rising_map.proofs.Places.{count, keys_rise, value_here, value_missing, set_rising, set_counted, set_put, set_taken, inserted_rising, inserted_counted, inserted_put}
 
@@ -61,7 +61,7 @@ module _ {V : Type 0} (slots : List (Slot V)) (holes : ℕ) (has : AreSlots slot
       taken_so view is_view = set_taken slots has.rising n at place.0 s is its_number hole one_number refl ∙ ap (λ (l : List (ℕ × V)). remove_entry (is_at (nat_cmp n)) l) is_view
 
       -- a hole is left
-      pub left_rising : IsRising (set slots at hole)
+      pub left_rising : AreRisingSlots (set slots at hole)
       left_rising = set_rising slots has.rising n at place.0 s is its_number hole one_number
 
       module _ (some : is_some s.value ≡ true) where
@@ -108,7 +108,7 @@ module _ {V : Type 0} (slots : List (Slot V)) (holes : ℕ) (has : AreSlots slot
       }
 
 -- where no slot has the number
-module _ {V : Type 0} (slots : List (Slot V)) (rising : IsRising slots) (n at : ℕ)
+module _ {V : Type 0} (slots : List (Slot V)) (rising : AreRisingSlots slots) (n at : ℕ)
     (place : (at ≤ length slots) × IsPartitionPoint (λ (s : Slot V). s.number < n) (λ (s : Slot V). n < s.number) slots at) (view : List (ℕ × V)) (is_view : entries_of slots ≡ view) where
   pub missing_so : lookup (is_at (nat_cmp n)) view ≡ None
   missing_so = ap (λ (l : List (ℕ × V)). lookup (is_at (nat_cmp n)) l) (sym is_view) ∙ value_missing slots rising n at place.0 place.1
@@ -120,11 +120,11 @@ module _ {V : Type 0} (slots : List (Slot V)) (rising : IsRising slots) (n at : 
   added_so w more is = ap entries_of is ∙ inserted_put slots rising n at place.0 place.1 w ∙ ap (λ (l : List (ℕ × V)). insert_entry nat_cmp l n w) is_view
 
 -- the numbers of a view rise
-pub view_rises : {X : Type 0} (slots : List (Slot X)) → IsRising slots → (view : List (ℕ × X)) → entries_of slots ≡ view → IsStrictlySortedBy nat_cmp (keys_of view)
+pub view_rises : {X : Type 0} (slots : List (Slot X)) → AreRisingSlots slots → (view : List (ℕ × X)) → entries_of slots ≡ view → IsStrictlySortedBy nat_cmp (keys_of view)
 view_rises {X} slots rising view is_view = subst (λ (l : List (ℕ × X)). IsStrictlySortedBy nat_cmp (keys_of l)) is_view (keys_rise slots rising)
 
 -- no hole is left
-pub closed : {X : Type 0} (old new : List (Slot X)) → entries_of new ≡ entries_of old → IsRising new → length new ≡ length (entries_of old) → AreSlots new 0
+pub closed : {X : Type 0} (old new : List (Slot X)) → entries_of new ≡ entries_of old → AreRisingSlots new → length new ≡ length (entries_of old) → AreSlots new 0
 closed old new same rising full = record {
   rising = rising;
   counted = omega (arith, ap length same, full);

@@ -16,18 +16,18 @@ module _ {V : Type 0} where
   entries_of (s ∷ slots) = with_entry s.number s.value (entries_of slots)
 
   -- each slot's number is below those of the slots after it
-  abbrev pub IsRising : List (Slot V) → Type 0
-  IsRising [] = Unit {0}
-  IsRising (s ∷ slots) = AllByRecursion (λ t. s.number < t.number) slots × IsRising slots
+  abbrev pub AreRisingSlots : List (Slot V) → Type 0
+  AreRisingSlots [] = Unit {0}
+  AreRisingSlots (s ∷ slots) = AllByRecursion (λ t. s.number < t.number) slots × AreRisingSlots slots
 
   -- the slot that has this number, or how many are below it where none has it
-  abbrev pub IsFound : List (Slot V) → ℕ → Result ℕ ℕ → Type 0
-  IsFound slots number found =
+  abbrev pub IsFoundSlot : List (Slot V) → ℕ → Result ℕ ℕ → Type 0
+  IsFoundSlot slots number found =
       MatchResult found (λ at. (at < length slots) × HoldsAt (λ s. s.number ≡ number) slots at)
       (λ at. (at ≤ length slots) × IsPartitionPoint (λ s. s.number < number) (λ s. number < s.number) slots at)
 
   -- the slots rise, so many of them are holes, and there are no more holes than entries
   pub record AreSlots (slots : List (Slot V)) (holes : ℕ) : Type 0 where
-    pub rising : IsRising slots
+    pub rising : AreRisingSlots slots
     pub counted : holes + length (entries_of slots) ≡ length slots
     pub half : holes ≤ length (entries_of slots)

@@ -1,7 +1,7 @@
 //! Slots by rising number, and where a number is among them.
 
 ghost use Rattle.std.specs.Prelude.{◌≡◌, ◌≤◌, length, insert, OnOk, OnErr};
-ghost use Rattle.rising_map.specs.Slots.{entries_of, IsFound, IsRising};
+ghost use Rattle.rising_map.specs.Slots.{entries_of, IsFoundSlot, AreRisingSlots};
 
 use std::alloc::AllocError;
 
@@ -17,8 +17,8 @@ pub(crate) struct Slot<V: Copy> {
 /// all slots', or the slots from the first one to it have no gap, this takes constant time, and else time by the logarithm of their
 /// number.
 pub(crate) fn find<V: Copy>(slots: &[Slot<V>], number: u64) -> Result<usize, usize>
-    requires { IsRising slots.now }
-    ensures { IsFound slots.now number result }
+    requires { AreRisingSlots slots.now }
+    ensures { IsFoundSlot slots.now number result }
 {
     let len = slots.len();
     if len == 0 || slots[len - 1].number < number {
@@ -54,9 +54,9 @@ pub(crate) fn add<V: Copy>(
 
 /// Removes all holes. This takes no memory.
 pub(crate) fn close_holes<V: Copy>(slots: &mut Vec<Slot<V>>)
-    requires { IsRising slots.old.items }
+    requires { AreRisingSlots slots.old.items }
     ensures entries { entries_of slots.new.items ≡ entries_of slots.old.items }
-    ensures rising { IsRising slots.new.items }
+    ensures rising { AreRisingSlots slots.new.items }
     ensures full { length slots.new.items ≡ length (entries_of slots.old.items) }
 {
     slots.retain(|slot| slot.value.is_some());

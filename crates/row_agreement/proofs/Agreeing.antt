@@ -13,7 +13,7 @@ use Rattle.path_rows.specs.declared.command.Command.TheVariants.{Register}
 use Rattle.path_rows.specs.Database.{RowView, key_of, is_under, row_under}
 use Rattle.path_rows.specs.Command.{database_after, database_after_all}
 use Rattle.path_rows.specs.CommandLaws.{candidates, KeysAreSeparate, CommandsKeepDatabase, DatabaseIsCanonical, RegisterLeavesNewest}
-use Rattle.row_agreement.specs.Agreement.{commands_of, rows_of, AreApart, RegistrationsCommute, RegistrationsRepeat}
+use Rattle.row_agreement.specs.Agreement.{register_commands, all_rows_of, HaveDistinctTimestamps, RegistrationsCommute, RegistrationsRepeat}
 use Rattle.row_agreement.proofs.Members.{passed, passes_in}
 use Rattle.row_agreement.proofs.Newest.{agree, stays}
 use Rattle.row_agreement.proofs.Folds.{database_left, newest_left}
@@ -32,7 +32,7 @@ under_too : (k : List ℕ) (xs ys : List RowView) → ((row : RowView) → Conta
 under_too k xs ys into row found =
     let both = passed (is_under k) xs row found in passes_in (is_under k) ys row (into row both.0) both.1
 
-apart_under : (k : List ℕ) (xs : List RowView) → AreApart xs → (row other : RowView) → Contains (filter (is_under k) xs) row → Contains (filter (is_under k) xs) other → row.1.timestamp ≡ other.1.timestamp → row ≡ other
+apart_under : (k : List ℕ) (xs : List RowView) → HaveDistinctTimestamps xs → (row other : RowView) → Contains (filter (is_under k) xs) row → Contains (filter (is_under k) xs) other → row.1.timestamp ≡ other.1.timestamp → row ≡ other
 apart_under k xs apart row other found found_too same =
     let one = passed (is_under k) xs row found in
     let two = passed (is_under k) xs other found_too in
@@ -45,20 +45,20 @@ in_candidates k rows new row found = Contains-append_right (option_to_list (row_
 module _ (separate : KeysAreSeparate) (keep : CommandsKeepDatabase) (newest : RegisterLeavesNewest) (canonical : DatabaseIsCanonical) where
   pub commute : RegistrationsCommute
   commute rows one other is whole whole_too same apart =
-      canonical (database_after_all rows (commands_of one)) (database_after_all rows (commands_of other))
+      canonical (database_after_all rows (register_commands one)) (database_after_all rows (register_commands other))
       (database_left separate keep newest rows one is whole).rising (database_left separate keep newest rows other is whole_too).rising
-      (λ k. agree (filter (is_under k) (rows_of one)) (filter (is_under k) (rows_of other))
-      (under_too k (rows_of one) (rows_of other) (λ row. (same row).0)) (under_too k (rows_of other) (rows_of one) (λ row. (same row).1))
-      (apart_under k (rows_of one) apart) (row_under k rows) _ _
+      (λ k. agree (filter (is_under k) (all_rows_of one)) (filter (is_under k) (all_rows_of other))
+      (under_too k (all_rows_of one) (all_rows_of other) (λ row. (same row).0)) (under_too k (all_rows_of other) (all_rows_of one) (λ row. (same row).1))
+      (apart_under k (all_rows_of one) apart) (row_under k rows) _ _
       (newest_left separate keep newest k rows one is.rising) (newest_left separate keep newest k rows other is.rising))
 
   pub repeat : RegistrationsRepeat
   repeat rows registrations again is whole whole_again known =
       let left = database_left separate keep newest rows registrations is whole in
-      canonical (database_after (database_after_all rows (commands_of registrations)) (Register again)) (database_after_all rows (commands_of registrations))
-      (keep (database_after_all rows (commands_of registrations)) (Register again) left whole_again).rising left.rising
-      (λ k. stays (candidates k rows (rows_of registrations)) (filter (is_under k) again)
-      (λ row found. in_candidates k rows (rows_of registrations) row (under_too k again (rows_of registrations) known row found))
-      (row_under k (database_after_all rows (commands_of registrations))) _
+      canonical (database_after (database_after_all rows (register_commands registrations)) (Register again)) (database_after_all rows (register_commands registrations))
+      (keep (database_after_all rows (register_commands registrations)) (Register again) left whole_again).rising left.rising
+      (λ k. stays (candidates k rows (all_rows_of registrations)) (filter (is_under k) again)
+      (λ row found. in_candidates k rows (all_rows_of registrations) row (under_too k again (all_rows_of registrations) known row found))
+      (row_under k (database_after_all rows (register_commands registrations))) _
       (newest_left separate keep newest k rows registrations is.rising)
-      (newest k (database_after_all rows (commands_of registrations)) again left.rising))
+      (newest k (database_after_all rows (register_commands registrations)) again left.rising))

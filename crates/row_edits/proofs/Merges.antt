@@ -12,7 +12,7 @@ use Rattle.path_rows.specs.declared.command.Command.{Command}
 use Rattle.path_rows.specs.Database.{RowView, key_of, is_under, row_under, IsRising, IsDatabase}
 use Rattle.path_rows.specs.Command.{database_after, database_after_all, HasWholeSegments}
 use Rattle.path_rows.specs.CommandLaws.{kept_if, KeysAreSeparate, CommandsKeepDatabase, DatabaseIsCanonical}
-use Rattle.row_edits.specs.Merging.{order_of, keys_named_by, has_key, KeysRise, Covers, outlives, one_if, by_order, up_to_row, rows_left, merged}
+use Rattle.row_edits.specs.Merging.{order_of, keys_named_by, has_key, KeysRise, Includes, outlives, one_if, by_order, up_to_row, rows_left, merged}
 use Rattle.row_edits.specs.Laws.{left_of, AreUnder}
 use Rattle.row_edits.proofs.Keys.{same_key, turned_greater, KeysAbove, RowsAbove, not_above, none_above, keys_above, rows_above, IsOf, its_key, found_of}
 use Rattle.row_edits.proofs.Untouched.{unnamed, left_of_key}
@@ -194,7 +194,7 @@ module _ (separate : KeysAreSeparate) (canonical : DatabaseIsCanonical) (keep : 
   after_all rows (command ∷ commands) is whole = after_all (database_after rows command) commands (keep rows command is whole.0) whole.1
 
   module _ (rows : List RowView) (commands : List Command) (keys : List (List ℕ)) (is : IsDatabase rows) (whole : AllByRecursion HasWholeSegments commands)
-      (rise : KeysRise keys) (covers : Covers keys (keys_named_by commands)) where
+      (rise : KeysRise keys) (covers : Includes keys (keys_named_by commands)) where
     abbrev left : List ℕ → Option RowView
     left = left_of rows commands
 

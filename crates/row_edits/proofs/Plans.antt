@@ -20,7 +20,7 @@ use Rattle.row_edits.specs.declared.edit.Edit.TheVariants.{Keep, Pass, Put}
 use Rattle.row_edits.specs.Merging.{order_of, one_if, by_order, rows_left, merged}
 use Rattle.row_edits.specs.Found.{found_by_order, rows_found}
 use Rattle.row_edits.specs.Edits.{record_if_any, edited, bytes_in, puts_in, count_rows}
-use Rattle.row_edits.specs.Planning.{keys_done, keys_left, IsPlanned, IsBefore, IsFound, IsEnding, MakesAll, unless, when, SameEdits}
+use Rattle.row_edits.specs.Planning.{keys_done, keys_left, IsPlanned, IsBeforeRowEdit, IsAfterKeyPuts, IsEnding, MakesAll, rows_unless, rows_when, SameEdits}
 use Rattle.row_edits.proofs.Pours.{record_len}
 
 -- ---- edits after others
@@ -135,7 +135,7 @@ module _ (keys : List Key) (at : ℕ) (d : Key) (lt : at < length keys) where
       ∙ omega arith
 
   module _ (row : RowView) (p : RowView → Bool) (seen : List RowView) (edits : List Edit) (kept : ℕ) (olds : List RowView)
-      (before : IsBefore row keys p seen at edits kept olds) where
+      (before : IsBeforeRowEdit row keys p seen at edits kept olds) where
     counted : length (rows_encoding seen) ≡ rows_len seen
     counted = counted_rows seen
 
@@ -180,7 +180,7 @@ module _ (keys : List Key) (at : ℕ) (d : Key) (lt : at < length keys) where
     put_bytes : bytes_in (edits ++ Put ∷ []) ≡ rows_len seen
     put_bytes = omega (arith, bytes_behind edits (Put ∷ []), before.bytes)
 
-    pub put_below : order_of (key_bytes k) (key_of row) ≡ Less → IsBefore row keys p seen (at + 1) (edits ++ Put ∷ []) kept olds
+    pub put_below : order_of (key_bytes k) (key_of row) ≡ Less → IsBeforeRowEdit row keys p seen (at + 1) (edits ++ Put ∷ []) kept olds
     put_below order = record {
       inside = omega (arith, lt);
       puts = put_puts;
@@ -190,7 +190,7 @@ module _ (keys : List Key) (at : ℕ) (d : Key) (lt : at < length keys) where
       finds = λ rows. before.finds rows ∙ ap (λ (l : List RowView). olds ++ l) (found_on Less rows order);
     }
 
-    pub put_same : order_of (key_bytes k) (key_of row) ≡ Equal → IsFound true row keys p seen (at + 1) (edits ++ Put ∷ []) kept olds
+    pub put_same : order_of (key_bytes k) (key_of row) ≡ Equal → IsAfterKeyPuts true row keys p seen (at + 1) (edits ++ Put ∷ []) kept olds
     put_same order = record {
       inside = omega (arith, lt);
       puts = put_puts;
@@ -200,7 +200,7 @@ module _ (keys : List Key) (at : ℕ) (d : Key) (lt : at < length keys) where
       finds = λ rows. before.finds rows ∙ ap (λ (l : List RowView). olds ++ l) (found_on Equal rows order);
     }
 
-    pub none_same : order_of (key_bytes k) (key_of row) ≡ Greater → IsFound false row keys p seen at edits kept olds
+    pub none_same : order_of (key_bytes k) (key_of row) ≡ Greater → IsAfterKeyPuts false row keys p seen at edits kept olds
     none_same order = record {
       inside = before.inside;
       puts = before.puts;
@@ -224,7 +224,7 @@ empty_map [] e = refl
 empty_map (x ∷ l) e = absurd (omega (arith, e))
 
 pub none_left : (keys : List Key) (at : ℕ) (row : RowView) (p : RowView → Bool) (seen : List RowView) (edits : List Edit) (kept : ℕ) (olds : List RowView) → length keys ≤ at
-    → IsBefore row keys p seen at edits kept olds → IsFound false row keys p seen at edits kept olds
+    → IsBeforeRowEdit row keys p seen at edits kept olds → IsAfterKeyPuts false row keys p seen at edits kept olds
 none_left keys at row p seen edits kept olds end before = record {
   inside = before.inside;
   puts = before.puts;
@@ -266,9 +266,9 @@ module _ (keys : List Key) (at : ℕ) (row : RowView) (p : RowView → Bool) (se
       len_of (first ∷ l) = omega (arith, sum_by-cons row_len first (l ++ row ∷ []), sum_by-cons row_len first l, len_of l)
 
   -- by the last edit and what becomes of the row's record
-  ends : (found : Bool) (last : Edit) (made : List ℕ) (kept_now : ℕ) (olds_now : List RowView) → IsFound found row keys p seen at edits kept olds → SameEdits (edits ++ last ∷ []) after
-      → bytes_in (last ∷ []) ≡ row_len row → puts_in (last ∷ []) ≡ 0 → edited (last ∷ []) [] (row_record row) ≡ made → rows_encoding (unless found (one_if p row)) ≡ made
-      → kept + length (unless found (one_if p row)) ≡ kept_now → olds ++ when found (row ∷ []) ≡ olds_now
+  ends : (found : Bool) (last : Edit) (made : List ℕ) (kept_now : ℕ) (olds_now : List RowView) → IsAfterKeyPuts found row keys p seen at edits kept olds → SameEdits (edits ++ last ∷ []) after
+      → bytes_in (last ∷ []) ≡ row_len row → puts_in (last ∷ []) ≡ 0 → edited (last ∷ []) [] (row_record row) ≡ made → rows_encoding (rows_unless found (one_if p row)) ≡ made
+      → kept + length (rows_unless found (one_if p row)) ≡ kept_now → olds ++ rows_when found (row ∷ []) ≡ olds_now
       → IsPlanned keys p (seen ++ row ∷ []) at after kept_now olds_now
   ends found last made kept_now olds_now is same len none makes_it made_is more_kept more_olds = record {
     inside = is.inside;
@@ -278,16 +278,16 @@ module _ (keys : List Key) (at : ℕ) (row : RowView) (p : RowView → Bool) (se
         ap (λ (l : List RowView). rows_encoding (merged left p (map key_bytes keys) l)) (append_assoc seen (row ∷ []) rows)
         ∙ is.makes left rows
         ∙ ap (λ (l : List ℕ). edited edits (map left (keys_done keys at)) (rows_encoding seen) ++ l)
-        (flat_map-append row_record (unless found (one_if p row)) (merged left p (keys_left keys at) rows) ∙ ap (λ (l : List ℕ). l ++ rows_encoding (merged left p (keys_left keys at) rows)) (made_is ∙ sym makes_it))
+        (flat_map-append row_record (rows_unless found (one_if p row)) (merged left p (keys_left keys at) rows) ∙ ap (λ (l : List ℕ). l ++ rows_encoding (merged left p (keys_left keys at) rows)) (made_is ∙ sym makes_it))
         ∙ sym (append_assoc (edited edits (map left (keys_done keys at)) (rows_encoding seen)) (edited (last ∷ []) [] (row_record row)) (rows_encoding (merged left p (keys_left keys at) rows)))
         ∙ ap (λ (l : List ℕ). l ++ rows_encoding (merged left p (keys_left keys at) rows)) (sym (whole left));
     counts = λ left rows.
         let all : length (merged left p (map key_bytes keys) ((seen ++ row ∷ []) ++ rows)) ≡ length (merged left p (map key_bytes keys) (seen ++ row ∷ rows)) =
         ap (λ (l : List RowView). length (merged left p (map key_bytes keys) l)) (append_assoc seen (row ∷ []) rows) in
-        omega (arith, all, is.counts left rows, length-append (unless found (one_if p row)) (merged left p (keys_left keys at) rows), more_kept);
+        omega (arith, all, is.counts left rows, length-append (rows_unless found (one_if p row)) (merged left p (keys_left keys at) rows), more_kept);
     finds = λ rows.
         ap (rows_found (map key_bytes keys)) (append_assoc seen (row ∷ []) rows) ∙ is.finds rows
-        ∙ sym (append_assoc olds (when found (row ∷ [])) (rows_found (keys_left keys at) rows))
+        ∙ sym (append_assoc olds (rows_when found (row ∷ [])) (rows_found (keys_left keys at) rows))
         ∙ ap (λ (l : List RowView). l ++ rows_found (keys_left keys at) rows) more_olds;
   }
     where
@@ -305,7 +305,7 @@ module _ (keys : List Key) (at : ℕ) (row : RowView) (p : RowView → Bool) (se
       append-nil (take (row_len row) (row_record row)) ∙ ap (λ (n : ℕ). take n (row_record row)) (sym (record_len row))
       ∙ ap (take (length (row_record row))) (sym (append-nil (row_record row))) ∙ take-append_seam (row_record row) []
 
-  pub ends_kept : (size : ℕ) → size ≡ row_len row → p row ≡ true → IsFound false row keys p seen at edits kept olds → SameEdits (edits ++ Keep size ∷ []) after
+  pub ends_kept : (size : ℕ) → size ≡ row_len row → p row ≡ true → IsAfterKeyPuts false row keys p seen at edits kept olds → SameEdits (edits ++ Keep size ∷ []) after
       → IsPlanned keys p (seen ++ row ∷ []) at after (kept + 1) olds
   ends_kept size sized passes is same =
       let one : length (one_if p row) ≡ 1 = ap (λ (b : Bool). length (if b then row ∷ [] else [])) passes in
@@ -314,20 +314,20 @@ module _ (keys : List Key) (at : ℕ) (row : RowView) (p : RowView → Bool) (se
       (ap (λ (b : Bool). rows_encoding (if b then row ∷ [] else [])) passes ∙ one_record row)
       (omega (arith, one)) (append-nil olds)
 
-  pub ends_dropped : (size : ℕ) → size ≡ row_len row → p row ≡ false → IsFound false row keys p seen at edits kept olds → SameEdits (edits ++ Pass size ∷ []) after
+  pub ends_dropped : (size : ℕ) → size ≡ row_len row → p row ≡ false → IsAfterKeyPuts false row keys p seen at edits kept olds → SameEdits (edits ++ Pass size ∷ []) after
       → IsPlanned keys p (seen ++ row ∷ []) at after kept olds
   ends_dropped size sized fails is same =
       let none : length (one_if p row) ≡ 0 = ap (λ (b : Bool). length (if b then row ∷ [] else [])) fails in
       ends false (Pass size) [] kept olds is same (omega (arith, sized)) refl refl (ap (λ (b : Bool). rows_encoding (if b then row ∷ [] else [])) fails)
       (omega (arith, none)) (append-nil olds)
 
-  pub ends_touched : (size : ℕ) → size ≡ row_len row → IsFound true row keys p seen at edits kept olds → SameEdits (edits ++ Pass size ∷ []) after
+  pub ends_touched : (size : ℕ) → size ≡ row_len row → IsAfterKeyPuts true row keys p seen at edits kept olds → SameEdits (edits ++ Pass size ∷ []) after
       → IsPlanned keys p (seen ++ row ∷ []) at after kept (olds ++ row ∷ [])
   ends_touched size sized is same = ends true (Pass size) [] kept (olds ++ row ∷ []) is same (omega (arith, sized)) refl refl refl (omega arith) refl
 
 -- before the next row
 pub before_next : (keys : List Key) (at : ℕ) (row : RowView) (p : RowView → Bool) (seen : List RowView) (edits : List Edit) (kept : ℕ) (olds : List RowView)
-    → IsPlanned keys p seen at edits kept olds → IsBefore row keys p seen at edits kept olds
+    → IsPlanned keys p seen at edits kept olds → IsBeforeRowEdit row keys p seen at edits kept olds
 before_next keys at row p seen edits kept olds is = record {
   inside = is.inside;
   puts = is.puts;

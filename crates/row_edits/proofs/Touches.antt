@@ -13,7 +13,7 @@ use Rattle.std.proofs.lemmas.Map.Lookups.{exact_bytes}
 use Rattle.path_db.specs.declared.key.Key.{Key}
 use Rattle.path_db.specs.Key.{key_bytes}
 use Rattle.row_edits.specs.Merging.{order_of, has_key, KeysRise}
-use Rattle.row_edits.specs.Touched.{IsKeyOrder, is_above, risen}
+use Rattle.row_edits.specs.Touched.{IsKeyOrder, is_key_above, risen}
 use Rattle.row_edits.proofs.Keys.{KeysAbove, keys_above, turned_greater}
 
 either : (b r : Bool) → (if b then true else r) ≡ b || r
@@ -64,11 +64,11 @@ less_from Less e = refl
 less_from Equal e = absurd (false≢true e)
 less_from Greater e = absurd (false≢true e)
 
-above_both : (last : Option (List ℕ)) (k : List ℕ) (ks : List (List ℕ)) → is_above last k ≡ true → KeysAbove k ks → Above last (k ∷ ks)
+above_both : (last : Option (List ℕ)) (k : List ℕ) (ks : List (List ℕ)) → is_key_above last k ≡ true → KeysAbove k ks → Above last (k ∷ ks)
 above_both None k ks e above = tt
 above_both (Some last) k ks e above = (less_from (order_of last k) e, keys_above last k ks (less_from (order_of last k) e) above)
 
-rise_step : (b : Bool) (last : Option (List ℕ)) (k : List ℕ) (ks : List (List ℕ)) → is_above last k ≡ b
+rise_step : (b : Bool) (last : Option (List ℕ)) (k : List ℕ) (ks : List (List ℕ)) → is_key_above last k ≡ b
     → (KeysAbove k (risen (Some k) ks) × KeysRise (risen (Some k) ks)) → (Above last (risen last ks) × KeysRise (risen last ks))
     → (Above last (if b then k ∷ risen (Some k) ks else risen last ks) × KeysRise (if b then k ∷ risen (Some k) ks else risen last ks))
 rise_step true last k ks e taken left = (above_both last k (risen (Some k) ks) e taken.0, (taken.0, taken.1))
@@ -77,7 +77,7 @@ rise_step false last k ks e taken left = left
 pub risen_rise : (last : Option (List ℕ)) (ks : List (List ℕ)) → (Above last (risen last ks) × KeysRise (risen last ks))
 risen_rise None [] = (tt, tt)
 risen_rise (Some last) [] = (tt, tt)
-risen_rise last (k ∷ ks) = rise_step (is_above last k) last k ks refl (risen_rise (Some k) ks) (risen_rise last ks)
+risen_rise last (k ∷ ks) = rise_step (is_key_above last k) last k ks refl (risen_rise (Some k) ks) (risen_rise last ks)
 
 -- no key is lost that isn't the last one
 twice : (b r : Bool) → (if b then true else r) ≡ (if b then true else (if b then true else r))

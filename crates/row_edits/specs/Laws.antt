@@ -11,7 +11,7 @@ use Rattle.path_db.specs.RowRecord.{rows_encoding}
 use Rattle.row_edits.specs.declared.edit.Edit.{Edit}
 use Rattle.row_edits.specs.Edits.{edited}
 use Rattle.row_edits.specs.Planning.{is_beyond, MakesAll}
-use Rattle.row_edits.specs.Merging.{keys_named_by, has_key, KeysRise, Covers, outlives, rows_left, merged}
+use Rattle.row_edits.specs.Merging.{keys_named_by, has_key, KeysRise, Includes, outlives, rows_left, merged}
 
 -- what commands leave under a key of these rows
 abbrev pub left_of : List RowView → List Command → List ℕ → Option RowView
@@ -22,7 +22,7 @@ left_of rows commands k = left_under_all k (row_under k rows) commands
 abbrev pub MergesAreFolds : Type 0
 MergesAreFolds =
     (rows : List RowView) (commands : List Command) (keys : List (List ℕ)) → IsDatabase rows → AllByRecursion HasWholeSegments commands
-    → KeysRise keys → Covers keys (keys_named_by commands)
+    → KeysRise keys → Includes keys (keys_named_by commands)
     → merged (left_of rows commands) (outlives commands) keys rows ≡ database_after_all rows commands
 
 -- the key of each row is among keys
@@ -33,7 +33,7 @@ AreUnder keys rows = (k : List ℕ) (row : RowView) → row_under k rows ≡ Som
 abbrev pub KeysMakeFolds : Type 0
 KeysMakeFolds =
     (rows : List RowView) (commands : List Command) (keys : List (List ℕ)) → IsDatabase rows → AllByRecursion HasWholeSegments commands
-    → KeysRise keys → Covers keys (keys_named_by commands) → AreUnder keys rows
+    → KeysRise keys → Includes keys (keys_named_by commands) → AreUnder keys rows
     → rows_left (left_of rows commands) keys ≡ database_after_all rows commands
 
 -- Edits that were planned of rows make the records of the rows after commands, where each `Put` has what is left under its key.
@@ -41,6 +41,6 @@ abbrev pub PlansMakeFolds : Type 0
 PlansMakeFolds =
     (rows : List RowView) (commands : List Command) (keys : List Key) (purged : Option ℕ) (edits : List Edit) (kept : ℕ) (olds : List RowView)
     → IsDatabase rows → AllByRecursion HasWholeSegments commands
-    → KeysRise (map key_bytes keys) → Covers (map key_bytes keys) (keys_named_by commands) → ((row : RowView) → is_beyond purged row ≡ outlives commands row)
+    → KeysRise (map key_bytes keys) → Includes (map key_bytes keys) (keys_named_by commands) → ((row : RowView) → is_beyond purged row ≡ outlives commands row)
     → MakesAll keys (is_beyond purged) rows edits kept olds
     → edited edits (map (left_of rows commands) (map key_bytes keys)) (rows_encoding rows) ≡ rows_encoding (database_after_all rows commands)

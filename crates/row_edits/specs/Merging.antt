@@ -37,8 +37,8 @@ KeysRise [] = Unit {0}
 KeysRise (k ∷ ks) = AllByRecursion (λ l. order_of k l ≡ Less) ks × KeysRise ks
 
 -- every key of the second list is in the first
-abbrev pub Covers : List (List ℕ) → List (List ℕ) → Type 0
-Covers keys named = (k : List ℕ) → has_key named k ≡ true → has_key keys k ≡ true
+abbrev pub Includes : List (List ℕ) → List (List ℕ) → Type 0
+Includes keys named = (k : List ℕ) → has_key named k ≡ true → has_key keys k ≡ true
 
 -- no purge drops the row: the command is none, or the row expires after its moment
 abbrev pub outlives_one : Command → RowView → Bool

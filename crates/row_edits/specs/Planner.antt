@@ -7,9 +7,9 @@ use Rattle.path_db.specs.Key.{key_bytes}
 use Rattle.path_db.specs.RowRecord.{rows_encoding}
 use Rattle.row_edits.specs.declared.plan.Plan.{Plan}
 use Rattle.row_edits.specs.declared.planner.Planner.{Planner}
-use Rattle.row_edits.specs.Merging.{keys_named_by, KeysRise, Covers, outlives}
+use Rattle.row_edits.specs.Merging.{keys_named_by, KeysRise, Includes, outlives}
 use Rattle.row_edits.specs.Edits.{views_if_any, edited, bytes_in, bytes_out}
-use Rattle.row_edits.specs.Planning.{is_beyond, IsPlanned, IsFound}
+use Rattle.row_edits.specs.Planning.{is_beyond, IsPlanned, IsAfterKeyPuts}
 
 -- The edits of a planner are those of these rows, and it has counted the rows that are kept.
 pub record HasPlanned (seen : List RowView) (planner : Planner) : Type 0 where
@@ -21,7 +21,7 @@ pub record HasPlanned (seen : List RowView) (planner : Planner) : Type 0 where
 -- the rows.
 pub record HasSeen (commands : List Command) (seen : List RowView) (planner : Planner) : Type 0 where
   pub rise : KeysRise (map key_bytes planner.keys.items)
-  pub covers : Covers (map key_bytes planner.keys.items) (keys_named_by commands)
+  pub covers : Includes (map key_bytes planner.keys.items) (keys_named_by commands)
   pub purges : (row : RowView) → is_beyond planner.purged row ≡ outlives commands row
   pub planned : HasPlanned seen planner
 
@@ -30,7 +30,7 @@ pub record PlansOn (found : Bool) (row : RowView) (old new : Planner) : Type 0 w
   pub keys : new.keys.items ≡ old.keys.items
   pub purged : new.purged ≡ old.purged
   pub more : (seen : List RowView) (count : ℕ) → old.kept ≡ min count (2 ^ 64 - 1)
-      → IsFound found row old.keys.items (is_beyond old.purged) seen old.at old.edits.items count old.olds.items
+      → IsAfterKeyPuts found row old.keys.items (is_beyond old.purged) seen old.at old.edits.items count old.olds.items
       → HasPlanned (seen ++ row ∷ []) new
 
 -- By a plan these rows become those after commands: its edits, with the rows that they put, make the records after of the records

@@ -29,8 +29,8 @@ abbrev pub keys_left : List Key → ℕ → List (List ℕ)
 keys_left keys at = map key_bytes (drop at keys)
 
 -- what is still to be merged: by what is left under keys, by the keys that are left, and by the rows to come
-abbrev pub Tail : Type 0
-Tail = (List ℕ → Option RowView) → List (List ℕ) → List RowView → List RowView
+abbrev pub StillToMerge : Type 0
+StillToMerge = (List ℕ → Option RowView) → List (List ℕ) → List RowView → List RowView
 
 -- what is still to be found: by the keys that are left, and by the rows to come
 abbrev pub TailFound : Type 0
@@ -40,7 +40,7 @@ TailFound = List (List ℕ) → List RowView → List RowView
 -- of the merge, and the tail is what is still to be merged (`makes`); the rows that are kept and those that are put are counted
 -- (`counts`); and `olds` are the rows seen that are under keys (`finds`). `next` gives the rows after those seen.
 pub record Makes (keys : List Key) (p : RowView → Bool) (seen : List RowView) (at : ℕ) (edits : List Edit) (kept : ℕ) (olds : List RowView)
-    (next : List RowView → List RowView) (tail : Tail) (found : TailFound) : Type 0 where
+    (next : List RowView → List RowView) (tail : StillToMerge) (found : TailFound) : Type 0 where
   pub inside : at ≤ length keys
   pub puts : puts_in edits ≡ at
   pub bytes : bytes_in edits ≡ rows_len seen
@@ -58,24 +58,24 @@ IsPlanned keys p seen at edits kept olds =
     Makes keys p seen at edits kept olds (λ rows. rows) (λ left ks rows. merged left p ks rows) (λ ks rows. rows_found ks rows)
 
 -- before the next row has an edit
-abbrev pub IsBefore : RowView → List Key → (RowView → Bool) → List RowView → ℕ → List Edit → ℕ → List RowView → Type 0
-IsBefore row keys p seen at edits kept olds =
+abbrev pub IsBeforeRowEdit : RowView → List Key → (RowView → Bool) → List RowView → ℕ → List Edit → ℕ → List RowView → Type 0
+IsBeforeRowEdit row keys p seen at edits kept olds =
     Makes keys p seen at edits kept olds (λ rows. row ∷ rows) (λ left ks rows. merged left p ks (row ∷ rows)) (λ ks rows. rows_found ks (row ∷ rows))
 
 -- rows, where a test fails or where it holds
-abbrev pub unless : Bool → List RowView → List RowView
-unless true rows = []
-unless false rows = rows
+abbrev pub rows_unless : Bool → List RowView → List RowView
+rows_unless true rows = []
+rows_unless false rows = rows
 
-abbrev pub when : Bool → List RowView → List RowView
-when true rows = rows
-when false rows = []
+abbrev pub rows_when : Bool → List RowView → List RowView
+rows_when true rows = rows
+rows_when false rows = []
 
 -- the same after the keys up to the row's have a `Put`, where it is known whether its own is one of them
-abbrev pub IsFound : Bool → RowView → List Key → (RowView → Bool) → List RowView → ℕ → List Edit → ℕ → List RowView → Type 0
-IsFound found row keys p seen at edits kept olds =
+abbrev pub IsAfterKeyPuts : Bool → RowView → List Key → (RowView → Bool) → List RowView → ℕ → List Edit → ℕ → List RowView → Type 0
+IsAfterKeyPuts found row keys p seen at edits kept olds =
     Makes keys p seen at edits kept olds (λ rows. row ∷ rows)
-    (λ left ks rows. unless found (one_if p row) ++ merged left p ks rows) (λ ks rows. when found (row ∷ []) ++ rows_found ks rows)
+    (λ left ks rows. rows_unless found (one_if p row) ++ merged left p ks rows) (λ ks rows. rows_when found (row ∷ []) ++ rows_found ks rows)
 
 -- after the last row
 abbrev pub IsEnding : List Key → (RowView → Bool) → List RowView → ℕ → List Edit → ℕ → List RowView → Type 0

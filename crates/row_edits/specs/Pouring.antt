@@ -38,8 +38,8 @@ untaken view bytes = view.out ++ edited view.edits view.rows (drop view.position
 abbrev pub untaken_len : PourView → ℕ
 untaken_len view = length view.out + bytes_out view.edits view.rows
 
-abbrev pub end_of : PourView → ℕ
-end_of view = view.position + bytes_in view.edits
+abbrev pub edits_end : PourView → ℕ
+edits_end view = view.position + bytes_in view.edits
 
 -- how many bytes the first edit keeps
 abbrev pub kept_first : List Edit → ℕ
@@ -66,7 +66,7 @@ with_next_row (row ∷ rows) view = record view { out = view.out ++ record_if_an
 pub record Pours (from : ℕ) (window : List ℕ) (old new : PourView) : Type 0 where
   pub same : (bytes : List ℕ) → take (length window) (drop from bytes) ≡ window → untaken new bytes ≡ untaken old bytes
   pub len : untaken_len new ≡ untaken_len old
-  pub end : end_of new ≡ end_of old
+  pub end : edits_end new ≡ edits_end old
   pub forward : old.position ≤ new.position
 
 -- the next byte that is wanted isn't in the window

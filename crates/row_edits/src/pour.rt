@@ -45,7 +45,7 @@ impl Pour {
     ghost use Rattle.std.specs.Prelude.{◌^◌, ◌⊎◌, None, IfOk, List, ℕ};
     ghost use Rattle.std.specs.Option.{ForSome};
     ghost use Rattle.row_edits.specs.Edits.{bytes_in, views_if_any};
-    ghost use Rattle.row_edits.specs.Pouring.{Pours, WhyStopped, IsOutside, left_to_keep, with_edit, with_next_row, untaken, untaken_len, end_of, steps_left};
+    ghost use Rattle.row_edits.specs.Pouring.{Pours, WhyStopped, IsOutside, left_to_keep, with_edit, with_next_row, untaken, untaken_len, edits_end, steps_left};
 
     /// A pour of the 32 bytes of a head, and of what edits make with the rows that they put. It takes the memory of its buffer.
     pub fn new(
@@ -164,7 +164,7 @@ impl Pour {
         requires more { 1 < length self.old.edits }
         ensures same { (bytes : List ℕ) → untaken self.new bytes ≡ untaken self.old bytes }
         ensures len { untaken_len self.new ≡ untaken_len self.old }
-        ensures end { end_of self.new ≡ end_of self.old }
+        ensures end { edits_end self.new ≡ edits_end self.old }
         ensures forward { self.old.position ≤ self.new.position }
         ensures smaller { steps_left self.new < steps_left self.old }
     {
@@ -177,10 +177,10 @@ impl Pour {
     fn enter(&mut self, edit: Edit)
         requires room { length self.old.out < 131072 }
         requires none { left_to_keep self.old ≡ 0 }
-        requires end { end_of (with_edit edit self.old) < 2 ^ 33 }
+        requires end { edits_end (with_edit edit self.old) < 2 ^ 33 }
         ensures same { (bytes : List ℕ) → untaken self.new bytes ≡ untaken (with_edit edit self.old) bytes }
         ensures len { untaken_len self.new ≡ untaken_len (with_edit edit self.old) }
-        ensures end { end_of self.new ≡ end_of (with_edit edit self.old) }
+        ensures end { edits_end self.new ≡ edits_end (with_edit edit self.old) }
         ensures forward { self.old.position ≤ self.new.position }
         ensures edits { length self.new.edits ≡ length self.old.edits }
         ensures out { length self.old.out ≤ length self.new.out }

@@ -5,7 +5,7 @@ ghost use Rattle.path_rows.specs.Database.{RowView, key_of};
 ghost use Rattle.path_db.specs.Key.{key_bytes};
 ghost use Rattle.row_edits.specs.Merging.{order_of};
 ghost use Rattle.path_rows.specs.Row.{row_view};
-ghost use Rattle.row_edits.specs.Planning.{IsPlanned, IsBefore, IsFound, SameEdits, MakesAll};
+ghost use Rattle.row_edits.specs.Planning.{IsPlanned, IsBeforeRowEdit, IsAfterKeyPuts, SameEdits, MakesAll};
 
 use crate::edit::Edit;
 use path_db::{Key, Row};
@@ -21,8 +21,8 @@ pub(crate) fn put_up_to(
     edits: &mut Vec<Edit>,
 ) -> Result<(usize, bool), AllocError>
     ensures { IfOk result (λ found. (p : RowView → Bool) (seen : List RowView) (kept : ℕ) (olds : List RowView)
-        → IsBefore (row_view row.now) keys.now p seen at edits.old.items kept olds
-        → IsFound found.1 (row_view row.now) keys.now p seen found.0 edits.new.items kept olds) }
+        → IsBeforeRowEdit (row_view row.now) keys.now p seen at edits.old.items kept olds
+        → IsAfterKeyPuts found.1 (row_view row.now) keys.now p seen found.0 edits.new.items kept olds) }
 {
     let mut at = at;
     while at < keys.len() {

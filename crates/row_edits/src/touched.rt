@@ -5,9 +5,9 @@ ghost use Rattle.std.specs.Option.{option_map};
 ghost use Rattle.path_rows.specs.Command.{is_valid_beyond};
 ghost use Rattle.path_rows.specs.Database.{RowView, key_of};
 ghost use Rattle.path_db.specs.Key.{key_bytes};
-ghost use Rattle.row_edits.specs.Merging.{keys_named, keys_named_by, outlives, outlives_one, has_key, KeysRise, Covers};
+ghost use Rattle.row_edits.specs.Merging.{keys_named, keys_named_by, outlives, outlives_one, has_key, KeysRise, Includes};
 ghost use Rattle.row_edits.specs.Planning.{is_beyond};
-ghost use Rattle.row_edits.specs.Touched.{IsKeyOrder, is_above, risen};
+ghost use Rattle.row_edits.specs.Touched.{IsKeyOrder, is_key_above, risen};
 
 use path_db::{Command, Key};
 use seg_core::{SegType, Segment};
@@ -49,8 +49,8 @@ fn later(greatest: Option<u64>, moment: u64) -> u64
 /// computes the id of each segment that is registered.
 pub fn touched_keys(alloc: Global, commands: &[Command]) -> Result<Vec<Key>, AllocError>
     ensures rise { IfOk result (λ keys. KeysRise (map key_bytes keys.items)) }
-    ensures covers { IfOk result (λ keys. Covers (map key_bytes keys.items) (keys_named_by commands.now)) }
-    ensures named { IfOk result (λ keys. Covers (keys_named_by commands.now) (map key_bytes keys.items)) }
+    ensures covers { IfOk result (λ keys. Includes (map key_bytes keys.items) (keys_named_by commands.now)) }
+    ensures named { IfOk result (λ keys. Includes (keys_named_by commands.now) (map key_bytes keys.items)) }
 {
     let mut keys = named_keys(alloc, commands)?;
     sort_keys(&mut keys);
@@ -82,7 +82,7 @@ fn without_repeats(alloc: Global, keys: &[Key]) -> Result<Vec<Key>, AllocError>
 
 /// Whether a key is above the last one, where there is one.
 fn is_above(last: Option<Key>, key: &Key) -> bool
-    ensures { result ≡ is_above (option_map key_bytes last) (key_bytes key.now) }
+    ensures { result ≡ is_key_above (option_map key_bytes last) (key_bytes key.now) }
 {
     match last {
         Some(last) => last.order(key).is_lt(),

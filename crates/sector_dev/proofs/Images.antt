@@ -4,12 +4,12 @@ use Rattle.std.proofs.Common.{◌≡◌, ◌⊎◌, inl, inr, ℕ, ◌+◌, ◌-
 use Rattle.std.proofs.lemmas.Bool.{cases_lt}
 use Rattle.std.proofs.lemmas.List.Elements.{All-nil, All-cons, All-head, All-tail}
 use Rattle.byte_lists.specs.Content.{AreBytes, part, overwrite}
-use Rattle.sector_dev.specs.Disk.{Span, Moment, History, after_write, after_sync}
+use Rattle.sector_dev.specs.Disk.{ByteRange, Moment, History, after_write, after_sync}
 use Rattle.sector_dev.specs.Image.{IsClean, IsCleanPart, IsImage, EveryImage}
 use Rattle.byte_lists.proofs.Contents.{length-overwrite, overwrite_before, overwrite_within, overwrite_behind, length-part, get_or-part, same_part, same_content, overwrite_same, overwrite_twice, bytes_overwrite, bytes-part}
 
 -- a range does not contain this byte
-abbrev pub IsBeside : ℕ → Span → Type 0
+abbrev pub IsBeside : ℕ → ByteRange → Type 0
 IsBeside i span = span.start ≤ i → span.start + span.len ≤ i
 
 -- where there is no range, nothing is dirty
@@ -20,19 +20,19 @@ pub clean_part_none : (at n : ℕ) → IsCleanPart [] at n
 clean_part_none at n i from to = clean_none i
 
 -- one more range leaves clean the bytes that it doesn't contain
-pub clean_beside : (start len : ℕ) (dirty : List Span) (i : ℕ) → (start ≤ i → start + len ≤ i) → IsClean dirty i → IsClean (record { start = start; len = len } ∷ dirty) i
+pub clean_beside : (start len : ℕ) (dirty : List ByteRange) (i : ℕ) → (start ≤ i → start + len ≤ i) → IsClean dirty i → IsClean (record { start = start; len = len } ∷ dirty) i
 clean_beside start len dirty i beside clean = All-cons (IsBeside i) (record { start = start; len = len }) dirty beside clean
 
-pub clean_part_beside : (start len : ℕ) (dirty : List Span) (at n : ℕ) → (start + len ≤ at) ⊎ (at + n ≤ start) → IsCleanPart dirty at n → IsCleanPart (record { start = start; len = len } ∷ dirty) at n
+pub clean_part_beside : (start len : ℕ) (dirty : List ByteRange) (at n : ℕ) → (start + len ≤ at) ⊎ (at + n ≤ start) → IsCleanPart dirty at n → IsCleanPart (record { start = start; len = len } ∷ dirty) at n
 clean_part_beside start len dirty at n (inl before) clean = λ i from to. clean_beside start len dirty i (λ _. omega arith) (clean i from to)
 clean_part_beside start len dirty at n (inr behind) clean = λ i from to. clean_beside start len dirty i (λ met. absurd (omega arith)) (clean i from to)
 
 -- a part of a clean part
-pub clean_part_in : (dirty : List Span) (at n from m : ℕ) → at ≤ from → from + m ≤ at + n → IsCleanPart dirty at n → IsCleanPart dirty from m
+pub clean_part_in : (dirty : List ByteRange) (at n from m : ℕ) → at ≤ from → from + m ≤ at + n → IsCleanPart dirty at n → IsCleanPart dirty from m
 clean_part_in dirty at n from m low high clean i here to = clean i (omega arith) (omega arith)
 
 -- bytes that are clean with one more range are clean without it
-pub clean_before : (start len : ℕ) (dirty : List Span) (i : ℕ) → IsClean (record { start = start; len = len } ∷ dirty) i → (start ≤ i → start + len ≤ i) × IsClean dirty i
+pub clean_before : (start len : ℕ) (dirty : List ByteRange) (i : ℕ) → IsClean (record { start = start; len = len } ∷ dirty) i → (start ≤ i → start + len ≤ i) × IsClean dirty i
 clean_before start len dirty i clean = (
   All-head (IsBeside i) (record { start = start; len = len }) dirty clean,
   All-tail (IsBeside i) (record { start = start; len = len }) dirty clean,
@@ -46,7 +46,7 @@ image_of_reads moment bytes = record { size = refl; bytes = bytes; clean = λ i 
 pub image_is_reads : (moment : Moment) (content : List ℕ) → moment.dirty ≡ [] → IsImage moment content → content ≡ moment.reads
 image_is_reads moment content none image =
     same_content content moment.reads image.size
-    (λ i below. image.clean i (subst (λ (dirty : List Span). IsClean dirty i) (sym none) (clean_none i)))
+    (λ i below. image.clean i (subst (λ (dirty : List ByteRange). IsClean dirty i) (sym none) (clean_none i)))
 
 -- in a clean part an image has the bytes that reads return
 pub image_part : (moment : Moment) (content : List ℕ) (at n : ℕ) → IsImage moment content → IsCleanPart moment.dirty at n → part at n content ≡ part at n moment.reads

@@ -6,7 +6,7 @@ use Rattle.std.proofs.lemmas.Bool.Decides.{nat_tests}
 use Rattle.std.proofs.lemmas.List.{take_at, drop_at, drop-drop, drop-take, take-take, take-append-drop, take-append-le, length-take-le, get_or_append_left, get_or-append_right}
 use borrow.Rule.Slice.PartMut.{put_mid, post_of}
 use Rattle.byte_lists.specs.Content.{part, overwrite}
-use Rattle.sector_dev.specs.Disk.{Span, Moment, History}
+use Rattle.sector_dev.specs.Disk.{ByteRange, Moment, History}
 use Rattle.sector_dev.specs.Calls.{Lands, one_more}
 use Rattle.sector_dev.specs.PositionedFile.{FileState, IsHonestFile, DirtiesOnly, CoversDirty, TransfersIn, failures_after_transfer}
 use Rattle.sector_dev.specs.FileDevice.{LandsWhole, WritesWhole, front}
@@ -234,7 +234,7 @@ module _ (offset done : ℕ) (bytes : List ℕ) (start mid later : FileState) (b
   }
 
 -- the effect of a write of a file on the device over the file
-module _ (sectors at : ℕ) (bytes : List ℕ) (old new : FileState) (past later : List Moment) (dirty dirtied : List Span) where
+module _ (sectors at : ℕ) (bytes : List ℕ) (old new : FileState) (past later : List Moment) (dirty dirtied : List ByteRange) where
   abbrev before : History
   before = record { past = past; now = record { reads = front sectors old.bytes; dirty = dirty } }
 
@@ -256,13 +256,13 @@ module _ (sectors at : ℕ) (bytes : List ℕ) (old new : FileState) (past later
         history = λ i. record { past = trail.0 i; now = record { reads = reads i; dirty = spans i } };
       }
     where
-      span : ℕ → Span
+      span : ℕ → ByteRange
       span n = record { start = 512 * at; len = n }
 
 -- what was covered is covered after a write that the device has noted
-pub covers_written : (at n : ℕ) (dirty dirtied : List Span) (old new : FileState) → CoversDirty dirty old → DirtiesOnly at n old.dirty new.dirty → dirtied ≡ record { start = at; len = n } ∷ dirty → CoversDirty dirtied new
+pub covers_written : (at n : ℕ) (dirty dirtied : List ByteRange) (old new : FileState) → CoversDirty dirty old → DirtiesOnly at n old.dirty new.dirty → dirtied ≡ record { start = at; len = n } ∷ dirty → CoversDirty dirtied new
 covers_written at n dirty dirtied old new covers after_write is i clean =
-    let both = clean_before at n dirty i (subst (λ (spans : List Span). IsClean spans i) is clean) in
+    let both = clean_before at n dirty i (subst (λ (spans : List ByteRange). IsClean spans i) is clean) in
     after_write i (covers i both.1) both.0
 
 -- a write within the front does not change the length of the file

@@ -3,14 +3,14 @@ use Rattle.std.specs.Prelude.{◌≡◌, ℕ, ◌*◌, Bool, IsTrue, List, [], �
 use Rattle.byte_lists.specs.Content.{AreBytes, overwrite}
 
 -- a range of bytes
-pub record Span : Type 0 where
+pub record ByteRange : Type 0 where
   pub start : ℕ
   pub len : ℕ
 
 -- the bytes that reads return, and the ranges written since the last sync that succeeded
 pub record Moment : Type 0 where
   pub reads : List ℕ
-  pub dirty : List Span
+  pub dirty : List ByteRange
 
 -- the moments until now, the oldest first: each write, and each sync that succeeds, adds a new one
 pub record History : Type 0 where

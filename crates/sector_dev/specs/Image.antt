@@ -2,14 +2,14 @@
 -- an image of the moment after it, and in the middle of a sync an image of the moment before it.
 use Rattle.std.specs.Prelude.{◌≡◌, ℕ, ◌+◌, ◌<◌, ◌≤◌, List, length, drop, slice_index, All}
 use Rattle.byte_lists.specs.Content.{AreBytes}
-use Rattle.sector_dev.specs.Disk.{Span, Moment, History, moments}
+use Rattle.sector_dev.specs.Disk.{ByteRange, Moment, History, moments}
 
 -- no range contains the byte at this offset
-abbrev pub IsClean : List Span → ℕ → Type 0
-IsClean dirty i = All (λ (span : Span). span.start ≤ i → span.start + span.len ≤ i) dirty
+abbrev pub IsClean : List ByteRange → ℕ → Type 0
+IsClean dirty i = All (λ (span : ByteRange). span.start ≤ i → span.start + span.len ≤ i) dirty
 
 -- no range contains any of the n bytes at an offset
-abbrev pub IsCleanPart : List Span → ℕ → ℕ → Type 0
+abbrev pub IsCleanPart : List ByteRange → ℕ → ℕ → Type 0
 IsCleanPart dirty at n = (i : ℕ) → at ≤ i → i < at + n → IsClean dirty i
 
 -- bytes, as many as reads return, and the same wherever nothing is dirty

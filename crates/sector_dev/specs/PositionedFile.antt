@@ -1,7 +1,7 @@
 -- The effects of the calls of a file that is read and written at offsets. The effect on an honest file is defined under that premise.
 use Rattle.std.specs.Prelude.{◌≡◌, ℕ, ◌+◌, ◌≤◌, Bool, IsTrue, List, [], length, take, Result, Ok, Err, IfOk, OnOk, OnErr, if◌then◌else◌, ◌==◌, ◌&&◌, nat_lt}
 use Rattle.byte_lists.specs.Content.{part, overwrite}
-use Rattle.sector_dev.specs.Disk.{Span}
+use Rattle.sector_dev.specs.Disk.{ByteRange}
 use Rattle.sector_dev.specs.Image.{IsClean}
 use Rattle.sector_dev.specs.Calls.{count_after, one_more}
 
@@ -10,7 +10,7 @@ use Rattle.sector_dev.specs.Calls.{count_after, one_more}
 pub record FileState : Type 0 where
   pub is_honest : Bool
   pub bytes : List ℕ
-  pub dirty : List Span
+  pub dirty : List ByteRange
   pub failures : ℕ
 
 -- the file keeps the bytes that are written to it, and nothing else writes to it
@@ -37,11 +37,11 @@ pub record SyncsFile {T E : Type 0} (result : Result T E) (old new : FileState) 
   pub unchanged : IsHonestFile old → OnErr result (new.dirty ≡ old.dirty)
 
 -- nothing is dirty but what was dirty before, and the n bytes at an offset
-abbrev pub DirtiesOnly : ℕ → ℕ → List Span → List Span → Type 0
+abbrev pub DirtiesOnly : ℕ → ℕ → List ByteRange → List ByteRange → Type 0
 DirtiesOnly offset n old new = (i : ℕ) → IsClean old i → (offset ≤ i → offset + n ≤ i) → IsClean new i
 
 -- bytes that are clean in the device are clean in the file
-abbrev pub CoversDirty : List Span → FileState → Type 0
+abbrev pub CoversDirty : List ByteRange → FileState → Type 0
 CoversDirty dirty file = (i : ℕ) → IsClean dirty i → IsClean file.dirty i
 
 -- one transfer out of the file, of the number of bytes that it returns, at most those asked for

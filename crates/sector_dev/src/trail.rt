@@ -1,7 +1,7 @@
 //! The history of a device, for proofs alone: a trail takes no memory, and its functions do nothing.
 ghost use Rattle.std.specs.Prelude.{◌≡◌, List, [], ◌∷◌, ◌++◌};
 ghost use Rattle.std.specs.Borrow.{ftrue};
-ghost use Rattle.sector_dev.specs.Disk.{Span, Moment};
+ghost use Rattle.sector_dev.specs.Disk.{ByteRange, Moment};
 
 use crate::PositionedFile;
 use std::marker::Model;
@@ -20,11 +20,11 @@ impl HoldsBytes for Vec<u8> {
 /// The source of a trail.
 trait TrailSource {
     ghost use Rattle.std.specs.Prelude.{List};
-    ghost use Rattle.sector_dev.specs.Disk.{Span, Moment};
+    ghost use Rattle.sector_dev.specs.Disk.{ByteRange, Moment};
 
     ghost past: { Self → List Moment };
 
-    ghost dirty: { Self → List Span };
+    ghost dirty: { Self → List ByteRange };
 }
 
 // No past moments, and nothing is dirty.
@@ -80,7 +80,7 @@ impl<'a, B: HoldsBytes> TrailSource for SyncStep<'a, B> {
 #[derive(Drop)]
 pub(crate) struct Trail {
     pub ghost past: { List Moment },
-    pub ghost dirty: { List Span },
+    pub ghost dirty: { List ByteRange },
 }
 
 impl Model for Trail {

@@ -7,7 +7,7 @@ use Rattle.seg_core.specs.Encoding.{IsSegment}
 use Rattle.seg_check.specs.declared.error.CheckError.TheVariants.{BadSignature, Expired}
 use Rattle.seg_check.specs.Expiry.{expiry_of}
 use Rattle.seg_check.specs.Signatures.{Verdicts, is_verified, AllVerified}
-use Rattle.seg_check.specs.Checking.{IsAccepted, HasFirstBad, HasExpired, first_bad_behind, first_bad, refusal_of, check_refusal}
+use Rattle.seg_check.specs.Checking.{IsAccepted, HasFirstBad, HasExpired, first_bad_behind, first_bad, check_error_of, check_refusal}
 
 -- ---- entries after earlier ones
 
@@ -138,17 +138,17 @@ HasFirstBad-some verifies info entries at has =
 
 -- ---- the refusal
 
-refusal-none : (bad : Option ℕ) (expired : Bool) → refusal_of bad expired ≡ None → (bad ≡ None) × (expired ≡ false)
+refusal-none : (bad : Option ℕ) (expired : Bool) → check_error_of bad expired ≡ None → (bad ≡ None) × (expired ≡ false)
 refusal-none None true is = absurd cc
 refusal-none None false is = (refl, refl)
 refusal-none (Some at) expired is = absurd cc
 
-refusal-bad : (bad : Option ℕ) (expired : Bool) (at : ℕ) → refusal_of bad expired ≡ Some (BadSignature at) → bad ≡ Some at
+refusal-bad : (bad : Option ℕ) (expired : Bool) (at : ℕ) → check_error_of bad expired ≡ Some (BadSignature at) → bad ≡ Some at
 refusal-bad None true at is = absurd cc
 refusal-bad None false at is = absurd cc
 refusal-bad (Some index) expired at is = cc
 
-refusal-expired : (bad : Option ℕ) (expired : Bool) → refusal_of bad expired ≡ Some Expired → (bad ≡ None) × (expired ≡ true)
+refusal-expired : (bad : Option ℕ) (expired : Bool) → check_error_of bad expired ≡ Some Expired → (bad ≡ None) × (expired ≡ true)
 refusal-expired None true is = (refl, refl)
 refusal-expired None false is = absurd cc
 refusal-expired (Some at) expired is = absurd cc

@@ -42,10 +42,10 @@ abbrev pub first_bad : Verdicts → List ℕ → List EntryView → Option ℕ
 first_bad = first_bad_behind []
 
 -- a bad signature is the refusal, else the expiry
-abbrev pub refusal_of : Option ℕ → Bool → Option CheckError
-refusal_of (Some at) expired = Some (BadSignature at)
-refusal_of None expired = if expired then Some Expired else None
+abbrev pub check_error_of : Option ℕ → Bool → Option CheckError
+check_error_of (Some at) expired = Some (BadSignature at)
+check_error_of None expired = if expired then Some Expired else None
 
 -- the first refusal of a segment: the entries in order, then its expiry
 unfoldable pub check_refusal : Verdicts → ℕ → SegmentView → Option CheckError
-check_refusal verifies now s = refusal_of (first_bad verifies s.info s.entries) (nat_le (expiry_of s) now)
+check_refusal verifies now s = check_error_of (first_bad verifies s.info s.entries) (nat_le (expiry_of s) now)

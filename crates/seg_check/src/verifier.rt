@@ -1,7 +1,7 @@
 //! Verifiers, which decide whether a signature is good.
 
 ghost use Rattle.std.specs.Prelude.{◌≡◌, ℕ, List, Bool, true};
-ghost use Rattle.isd_as.specs.IsdAs.{number_of};
+ghost use Rattle.isd_as.specs.IsdAs.{isd_as_number};
 ghost use Rattle.seg_check.specs.Signatures.{referred_pieces};
 
 use isd_as::IsdAs;
@@ -15,7 +15,7 @@ pub trait Verifier {
     /// signature of an entry covers beside its own bytes: the segment's information, then, for each earlier entry in order,
     /// the signed bytes and the signature.
     fn verify(&self, ia: IsdAs, signed: &[u8], signature: &[u8], associated: &[&[u8]]) -> bool
-        ensures { result ≡ verifies self.now (number_of ia) signed.now signature.now (referred_pieces associated.now) };
+        ensures { result ≡ verifies self.now (isd_as_number ia) signed.now signature.now (referred_pieces associated.now) };
 }
 
 /// A verifier by which every signature is good.

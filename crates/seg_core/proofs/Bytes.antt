@@ -12,8 +12,8 @@ use Rattle.pw_wire.proofs.Exports.{whole, varint_encoding_is}
 use Rattle.seg_slots.specs.declared.error.SegError.{SegError}
 use Rattle.seg_slots.specs.declared.error.SegError.TheVariants as error
 use Rattle.seg_slots.specs.declared.shape.FieldKind.{FieldKind}
-use Rattle.seg_slots.specs.Steps.{◌>>=◌, unless}
-use Rattle.seg_slots.specs.Message.{message_fields, misfit_after, varint_in, bytes_in, number_fields, number_field, bytes_fields, bytes_field, bytes_field_or_empty, last_of}
+use Rattle.seg_slots.specs.Steps.{◌>>=◌, unless_refused}
+use Rattle.seg_slots.specs.Message.{message_fields, misfit_after, varint_in, bytes_of_value, number_fields, number_field, bytes_fields, last_bytes_field, bytes_field_or_empty, last_of}
 
 -- ---- lists of bytes
 
@@ -65,7 +65,7 @@ fields_fit (f ∷ fs) bytes are begins =
 
 -- a message that has passed its checks has no fault
 faultless : {B : Type 0} (found misfit : Option SegError) (gs : List FieldView) (f : List FieldView → Result B SegError) (y : B)
-    → ((unless found >>= λ _. unless misfit >>= λ _. Ok gs) >>= f) ≡ Ok y → found ≡ None
+    → ((unless_refused found >>= λ _. unless_refused misfit >>= λ _. Ok gs) >>= f) ≡ Ok y → found ≡ None
 faultless None misfit gs f y e = refl
 faultless (Some d) misfit gs f y e = absurd cc
 
@@ -104,7 +104,7 @@ number_fields-fit : (k : ℕ) (fs : List FieldView) → AllValuesFit fs → AllN
 number_fields-fit k [] fits = tt
 number_fields-fit k (f ∷ fs) fits = one_number (f.number == k) f.value (number_fields k fs) fits.0 (number_fields-fit k fs fits.1)
 
-one_bytes : (same : Bool) (value : FieldValue) (ts : List (List ℕ)) → ValueFits value → AllBytes ts → AllBytes ((if same then bytes_in value else []) ++ ts)
+one_bytes : (same : Bool) (value : FieldValue) (ts : List (List ℕ)) → ValueFits value → AllBytes ts → AllBytes ((if same then bytes_of_value value else []) ++ ts)
 one_bytes false value ts fits all = all
 one_bytes true (Varint n) ts fits all = all
 one_bytes true (Fixed64 n) ts fits all = all
@@ -135,11 +135,11 @@ or_empty (Some t) are = are t refl
 pub number_field-fits : (k : ℕ) (fs : List FieldView) → AllValuesFit fs → number_field k fs < 2 ^ 64
 number_field-fits k fs fits = or_zero (last_of (number_fields k fs)) (last-all (λ n. n < 2 ^ 64) (number_fields k fs) (number_fields-fit k fs fits))
 
-pub bytes_field-IsBytes : (k : ℕ) (fs : List FieldView) → AllValuesFit fs → ForSome (bytes_field k fs) IsBytes
+pub bytes_field-IsBytes : (k : ℕ) (fs : List FieldView) → AllValuesFit fs → ForSome (last_bytes_field k fs) IsBytes
 bytes_field-IsBytes k fs fits = last-all IsBytes (bytes_fields k fs) (bytes_fields-IsBytes k fs fits)
 
 pub bytes_field_or_empty-IsBytes : (k : ℕ) (fs : List FieldView) → AllValuesFit fs → IsBytes (bytes_field_or_empty k fs)
-bytes_field_or_empty-IsBytes k fs fits = or_empty (bytes_field k fs) (bytes_field-IsBytes k fs fits)
+bytes_field_or_empty-IsBytes k fs fits = or_empty (last_bytes_field k fs) (bytes_field-IsBytes k fs fits)
 
 -- ---- encodings are bytes
 

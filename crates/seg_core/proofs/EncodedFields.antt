@@ -5,7 +5,7 @@ use Rattle.pw_wire.specs.Field.{FieldView, bytes_field, bytes_field_encoding}
 use Rattle.pw_wire.specs.Fields.{fields, fault}
 use Rattle.seg_slots.specs.declared.shape.FieldKind.{FieldKind}
 use Rattle.seg_core.specs.Shapes.{path_segment_shape, as_entry_shape, signed_message_shape}
-use Rattle.seg_slots.specs.Message.{message_fields, misfit_after, bytes_field as last_bytes, bytes_fields, bytes_field_or_empty}
+use Rattle.seg_slots.specs.Message.{message_fields, misfit_after, last_bytes_field, bytes_fields, bytes_field_or_empty}
 use Rattle.seg_core.specs.SegmentView.{EntryView, SegmentView}
 use Rattle.seg_core.specs.Encoding.{bytes_encoding, optional_encoding, signed_encoding, as_entry_encoding, entries_encoding, segment_encoding}
 use Rattle.pw_wire.proofs.Exports.{fields-nil, fault-nil, fields-bytes_field, fault-bytes_field}
@@ -143,11 +143,11 @@ signature-there [] (c ∷ t) = refl
 signature-there (b ∷ s) [] = refl
 signature-there (b ∷ s) (c ∷ t) = refl
 
-pub unsigned-there : (s : List ℕ) (o : Option (List ℕ)) → last_bytes 2 (bytes_field 1 s ∷ optional_fields 2 o) ≡ o
+pub unsigned-there : (s : List ℕ) (o : Option (List ℕ)) → last_bytes_field 2 (bytes_field 1 s ∷ optional_fields 2 o) ≡ o
 unsigned-there s None = refl
 unsigned-there s (Some t) = refl
 
-pub signed_message-there : (s : List ℕ) (o : Option (List ℕ)) → last_bytes 1 (bytes_field 1 s ∷ optional_fields 2 o) ≡ Some s
+pub signed_message-there : (s : List ℕ) (o : Option (List ℕ)) → last_bytes_field 1 (bytes_field 1 s ∷ optional_fields 2 o) ≡ Some s
 signed_message-there s None = refl
 signed_message-there s (Some t) = refl
 

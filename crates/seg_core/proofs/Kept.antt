@@ -5,7 +5,7 @@ use Rattle.pw_wire.specs.Decoding.{IsBytes}
 use Rattle.seg_core.specs.declared.entry.MarkedEntry.{MarkedEntry}
 use Rattle.seg_core.specs.declared.segment.Parts.{Parts}
 use Rattle.seg_core.specs.SegmentView.{SegmentView}
-use Rattle.seg_core.specs.Pieces.{piece_at, IsWithin}
+use Rattle.seg_core.specs.Pieces.{piece_at, IsSpanWithin}
 use Rattle.seg_core.specs.EntryView.{entry_views, marked_views, segment_view}
 use Rattle.seg_core.specs.Segment.{segment_decoding}
 use Rattle.seg_core.specs.Encoding.{bytes_encoding, entries_encoding, segment_encoding, IsSegment}
@@ -21,7 +21,7 @@ view_with parts info = record { timestamp = parts.timestamp; segment_id = parts.
 -- Parts whose encoding is what was put: first the information, then the entries.
 pub record WerePut (parts : Parts) (info headed : List ℕ) (marked : List MarkedEntry) : Type 0 where
   pub headed_is : headed ≡ bytes_encoding 1 info
-  pub within : IsWithin headed parts.info
+  pub within : IsSpanWithin headed parts.info
   pub there : piece_at headed parts.info ≡ info
   pub put : (arc_value parts.encoding).items ≡ headed ++ entries_encoding (marked_views (arc_value parts.encoding).items marked)
   pub entries : entry_views parts.entries.items ≡ marked_views (arc_value parts.encoding).items marked
@@ -50,6 +50,6 @@ read-IsKept message parts info headed marked are reading were digest =
       encoded = encoding_is parts info headed marked were ∙ ap segment_encoding (sym view);
       info =
           let bytes = (arc_value parts.encoding).items in
-          subst (λ bs. IsWithin bs parts.info) (sym were.put) (IsWithin-kept headed (entries_encoding (marked_views bytes marked)) parts.info were.within);
+          subst (λ bs. IsSpanWithin bs parts.info) (sym were.put) (IsWithin-kept headed (entries_encoding (marked_views bytes marked)) parts.info were.within);
       digest = digest ∙ ap segment_digest (sym view);
     }

@@ -9,7 +9,7 @@ use Rattle.pw_wire.specs.Varint.{EncodesNumber}
 use Rattle.pw_wire.specs.Field.{FieldValue, Varint, Fixed64, Bytes, Fixed32, FieldView, IsValue, bytes_field_encoding}
 use Rattle.pw_wire.specs.Fields.{AreFields, fields}
 use Rattle.pw_wire.proofs.Exports.{varint_encoding_shortest}
-use Rattle.seg_slots.specs.Message.{bytes_in, bytes_fields}
+use Rattle.seg_slots.specs.Message.{bytes_of_value, bytes_fields}
 use Rattle.seg_core.proofs.EncodedLengths.{field-length}
 use Rattle.seg_core.proofs.Sizes.{encoded_len, HasRoom}
 
@@ -19,7 +19,7 @@ some_byte [] n encodes = absurd encodes
 some_byte (b ∷ bytes) n encodes = omega arith
 
 -- the shortest encoding of a field has at most one byte more than its value
-value_adds : (k : ℕ) (content : List ℕ) (value : FieldValue) → k < 15 → IsValue content value → encoded_len k (bytes_in value) ≤ 1 + length content
+value_adds : (k : ℕ) (content : List ℕ) (value : FieldValue) → k < 15 → IsValue content value → encoded_len k (bytes_of_value value) ≤ 1 + length content
 value_adds k content (Varint n) lt is = omega arith
 value_adds k content (Fixed64 n) lt is = omega arith
 value_adds k content (Fixed32 n) lt is = omega arith
@@ -29,7 +29,7 @@ value_adds k content (Bytes bytes) lt is =
 
 -- a field adds a value under one of the two numbers, or under neither
 field_adds : (f : FieldView) (content : List ℕ) → IsValue content f.value
-    → encoded_len 1 (if f.number == 1 then bytes_in f.value else []) + encoded_len 2 (if f.number == 2 then bytes_in f.value else []) ≤ 1 + length content
+    → encoded_len 1 (if f.number == 1 then bytes_of_value f.value else []) + encoded_len 2 (if f.number == 2 then bytes_of_value f.value else []) ≤ 1 + length content
 field_adds f content is = elim (cases_Bool (f.number == 1)) [
   | inl one ↦ elim (cases_Bool (f.number == 2)) [
     | inl two ↦ let a : f.number ≡ 1 = eqb-true f.number 1 one in let b : f.number ≡ 2 = eqb-true f.number 2 two in absurd (omega arith)
@@ -48,8 +48,8 @@ message-size (f ∷ fs) bytes are =
     let parts : length bytes ≡ length is.tag + length (is.content ++ is.rest) = ap length is.parts ∙ length-append is.tag (is.content ++ is.rest) in
     let tag = some_byte is.tag _ is.tag_is.encoded in
     let others = message-size fs (drop are.len bytes) are.others in
-    rw (sum_by-append (λ bytes. length (bytes_field_encoding 1 bytes)) (if f.number == 1 then bytes_in f.value else []) (bytes_fields 1 fs))
-    (rw (sum_by-append (λ bytes. length (bytes_field_encoding 2 bytes)) (if f.number == 2 then bytes_in f.value else []) (bytes_fields 2 fs))
+    rw (sum_by-append (λ bytes. length (bytes_field_encoding 1 bytes)) (if f.number == 1 then bytes_of_value f.value else []) (bytes_fields 1 fs))
+    (rw (sum_by-append (λ bytes. length (bytes_field_encoding 2 bytes)) (if f.number == 2 then bytes_of_value f.value else []) (bytes_fields 2 fs))
     (omega (arith, parts, is.len_is, tag, others, length-append is.content is.rest, length-drop are.len bytes, field_adds f is.content is.content_is)))
 
 pub message-HasRoom : (message : List ℕ) → AreFields message (fields message) → HasRoom message

@@ -6,7 +6,7 @@ use Rattle.std.proofs.lemmas.Bool.{false≢true}
 use Rattle.seg_slots.specs.declared.error.SegError.{SegError}
 use Rattle.seg_slots.specs.declared.error.SegError.TheVariants.{Chain, Loop}
 use Rattle.seg_slots.specs.Steps.{◌>>=◌}
-use Rattle.seg_core.specs.Steps.{check, each}
+use Rattle.seg_core.specs.Steps.{must_hold, each}
 use Rattle.seg_core.specs.SegmentView.{EntryView, SegmentView}
 use Rattle.seg_core.specs.Entry.{as_entry_decoding}
 use Rattle.seg_core.specs.Segment.{segment_outline, segment_decoding}
@@ -23,7 +23,7 @@ later_err (Err d) f e plain isnt is = absurd (false≢true (sym isnt ∙ plain.p
 
 -- the tests of the path, and the segment that is the result after them
 abbrev path : List EntryView → SegmentView → Result SegmentView SegError
-path es s = check (is_chain es) Chain >>= λ _. check (has_no_loop es) Loop >>= λ _. Ok s
+path es s = must_hold (is_chain es) Chain >>= λ _. must_hold (has_no_loop es) Loop >>= λ _. Ok s
 
 -- what was read of a segment that is refused for its path
 record WasRead (message : List ℕ) (e : SegError) : Type 0 where
@@ -44,12 +44,12 @@ was_read message e isnt is =
       refused = entries.2;
     }
 
-no_chain : (a b : Bool) (s : SegmentView) → (check a Chain >>= λ _. check b Loop >>= λ _. Ok s) ≡ Err Chain → a ≡ false
+no_chain : (a b : Bool) (s : SegmentView) → (must_hold a Chain >>= λ _. must_hold b Loop >>= λ _. Ok s) ≡ Err Chain → a ≡ false
 no_chain false b s is = refl
 no_chain true true s is = absurd cc
 no_chain true false s is = absurd cc
 
-loop : (a b : Bool) (s : SegmentView) → (check a Chain >>= λ _. check b Loop >>= λ _. Ok s) ≡ Err Loop → (a ≡ true) × (b ≡ false)
+loop : (a b : Bool) (s : SegmentView) → (must_hold a Chain >>= λ _. must_hold b Loop >>= λ _. Ok s) ≡ Err Loop → (a ≡ true) × (b ≡ false)
 loop false b s is = absurd cc
 loop true true s is = absurd cc
 loop true false s is = (refl, refl)

@@ -6,7 +6,7 @@ use Rattle.std.proofs.lemmas.Bool.{cases_Bool, eqb-true, eq-eqb, leb-true, le-le
 use Rattle.std.proofs.lemmas.List.Elements.{All-from_recursion, recursion_from_All}
 use Rattle.std.proofs.lemmas.List.Kept.{AllPairs-cons}
 use Rattle.seg_core.specs.SegmentView.{EntryView}
-use Rattle.seg_core.specs.WellFormed.{LeadsTo, EndsAt, IsChain, HasEntryCount, HasNoLoop, is_entry_count, is_linked, is_chain, has_no_loop}
+use Rattle.seg_core.specs.WellFormed.{LeadsTo, EndsAt, IsEntryChain, HasEntryCount, HasNoLoop, is_entry_count, is_linked, is_chain, has_no_loop}
 
 -- ---- tests
 
@@ -77,7 +77,7 @@ chain_linked (e ∷ es) h = (both (e.ingress == 0) (is_linked (e ∷ es)) h).1
 chain_first : (e : EntryView) (es : List EntryView) → is_chain (e ∷ es) ≡ true → e.ingress ≡ 0
 chain_first e es h = eqb-true e.ingress 0 (both (e.ingress == 0) (is_linked (e ∷ es)) h).0
 
-pub chain-IsChain : (es : List EntryView) → is_chain es ≡ true → IsChain es
+pub chain-IsChain : (es : List EntryView) → is_chain es ≡ true → IsEntryChain es
 chain-IsChain es h = record {
   first = λ e after is. chain_first e after (subst (λ es. is_chain es ≡ true) is h);
   joined = λ before after e f is. linked_joined before after e f (subst (λ es. is_linked es ≡ true) is (chain_linked es h));
@@ -102,7 +102,7 @@ linked_from (e ∷ f ∷ es) is =
     from_both (e.next == f.ia && (not (e.egress == 0) && not (f.ingress == 0))) (is_linked (f ∷ es)) (from_leads e f (is.joined [] es e f refl))
     (linked_from (f ∷ es) (tail_linked e (f ∷ es) is))
 
-pub chain-from : (es : List EntryView) → IsChain es → is_chain es ≡ true
+pub chain-from : (es : List EntryView) → IsEntryChain es → is_chain es ≡ true
 chain-from [] is = refl
 chain-from (e ∷ es) is =
     from_both (e.ingress == 0) (is_linked (e ∷ es)) (eq-eqb e.ingress 0 (is.first e es refl))
@@ -153,7 +153,7 @@ no_loop-from (e ∷ es) none =
 pub count-iff : (es : List EntryView) → (IsTrue (is_entry_count (length es))) ↔ HasEntryCount es
 count-iff es = (count-HasEntryCount es, count-from es)
 
-pub chain-iff : (es : List EntryView) → (IsTrue (is_chain es)) ↔ IsChain es
+pub chain-iff : (es : List EntryView) → (IsTrue (is_chain es)) ↔ IsEntryChain es
 chain-iff es = (chain-IsChain es, chain-from es)
 
 pub no_loop-iff : (es : List EntryView) → (IsTrue (has_no_loop es)) ↔ HasNoLoop es

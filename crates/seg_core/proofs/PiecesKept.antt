@@ -15,7 +15,7 @@ use Rattle.seg_core.specs.declared.pieces.Spans.{Spans}
 use Rattle.seg_slots.specs.Steps.{◌>>=◌}
 use Rattle.seg_core.specs.Steps.{each}
 use Rattle.seg_core.specs.SegmentView.{EntryView}
-use Rattle.seg_core.specs.Pieces.{piece_at, pieces_at, IsWithin, AreWithin}
+use Rattle.seg_core.specs.Pieces.{piece_at, pieces_at, IsSpanWithin, AreWithin}
 use Rattle.seg_core.specs.Entry.{as_entry_decoding}
 use Rattle.seg_core.specs.EntryView.{entry_of, marked_view, marked_views}
 use Rattle.seg_core.specs.Encoding.{as_entry_encoding, entries_encoding}
@@ -23,10 +23,10 @@ use Rattle.seg_core.proofs.Sizes.{encoded_len}
 
 -- ---- a piece
 
-pub IsWithin-kept : (bytes more : List ℕ) (span : Span) → IsWithin bytes span → IsWithin (bytes ++ more) span
+pub IsWithin-kept : (bytes more : List ℕ) (span : Span) → IsSpanWithin bytes span → IsSpanWithin (bytes ++ more) span
 IsWithin-kept bytes more span is = record { ordered = is.ordered; within = omega (arith, length-append bytes more) }
 
-pub piece-kept : (bytes more : List ℕ) (span : Span) → IsWithin bytes span → piece_at (bytes ++ more) span ≡ piece_at bytes span
+pub piece-kept : (bytes more : List ℕ) (span : Span) → IsSpanWithin bytes span → piece_at (bytes ++ more) span ≡ piece_at bytes span
 piece-kept bytes more span is =
     let from : span.start ≤ length bytes = omega arith in
     let ordered = is.ordered in
@@ -36,7 +36,7 @@ piece-kept bytes more span is =
 
 -- ---- the pieces of an entry
 
-unsigned-kept : (bytes more : List ℕ) (span : Option Span) → ForSome span (λ s. IsWithin bytes s) → option_map (λ s. piece_at (bytes ++ more) s) span ≡ option_map (λ s. piece_at bytes s) span
+unsigned-kept : (bytes more : List ℕ) (span : Option Span) → ForSome span (λ s. IsSpanWithin bytes s) → option_map (λ s. piece_at (bytes ++ more) s) span ≡ option_map (λ s. piece_at bytes s) span
 unsigned-kept bytes more None are = refl
 unsigned-kept bytes more (Some span) are = ap (λ s. Some s) (piece-kept bytes more span (are span refl))
 

@@ -16,7 +16,7 @@ use Rattle.pw_wire.specs.Fields.{fields}
 use Rattle.seg_core.specs.SegmentView.{EntryView, SegmentView}
 use Rattle.seg_core.specs.Entry.{hop_field_decoding, hop_entry_decoding, peer_entry_decoding, body_decoding, header_and_body_decoding}
 use Rattle.seg_core.specs.Segment.{info_decoding}
-use Rattle.seg_core.specs.Encoding.{body_of, IsEntry, IsSegment}
+use Rattle.seg_core.specs.Encoding.{entry_body, IsEntry, IsSegment}
 use Rattle.seg_core.specs.WellFormed.{IsEntryInRange, IsWellFormed}
 use Rattle.seg_core.proofs.Bytes.{message_fields-fit, number_field-fits, bytes_field_or_empty-IsBytes}
 use Rattle.seg_core.proofs.Readings.{step_ok, ok_is, after_message_fields, after_check, after_required, after_at_most}
@@ -104,7 +104,7 @@ header_and_body-fits message body are reading =
 entry_in_range : (e : EntryView) → IsEntry e → IsEntryInRange e
 unfolding header_and_body_decoding
 entry_in_range e is =
-    let body = body_in_range (bytes_field_or_empty 2 (fields e.signed)) (body_of e) (after_message_fields header_and_body_shape e.signed _ (body_of e) is.says) in
+    let body = body_in_range (bytes_field_or_empty 2 (fields e.signed)) (entry_body e) (after_message_fields header_and_body_shape e.signed _ (entry_body e) is.says) in
     record { ia = is.ia; isd = body.isd; asn = body.asn; next = is.next; ingress = body.hop.ingress; egress = body.hop.egress; exp_time = body.hop.exp_time }
 
 entries_in_range : (es : List EntryView) → AllByRecursion IsEntry es → All IsEntryInRange es

@@ -10,9 +10,9 @@ use Rattle.pw_wire.specs.Fields.{fields, fault}
 use Rattle.seg_slots.specs.declared.error.SegError.{SegError}
 use Rattle.seg_slots.specs.declared.error.SegError.TheVariants.{NoMemory, Wire, KindOfField, RepeatedMessage, MissingField, Range, Chain, Loop, Entries, BadType, TooLarge}
 use Rattle.seg_slots.specs.declared.shape.FieldKind.{FieldKind}
-use Rattle.seg_slots.specs.Steps.{◌>>=◌, unless}
-use Rattle.seg_core.specs.Steps.{check, at_most, each, result_map}
-use Rattle.seg_slots.specs.Message.{message_fields, kind_at, suits, is_single, misfit_at, misfit_after, required_message, bytes_field}
+use Rattle.seg_slots.specs.Steps.{◌>>=◌, unless_refused}
+use Rattle.seg_core.specs.Steps.{must_hold, at_most, each, result_map}
+use Rattle.seg_slots.specs.Message.{message_fields, field_kind, suits, is_single, misfit_at, misfit_after, required_message, last_bytes_field}
 use Rattle.seg_core.specs.Segment.{info_decoding, segment_outline, segment_decoding}
 use Rattle.seg_core.specs.Registration.{type_of, MapEntry, entry_rows, segments_decoding, new_type, map_entry_decoding, map_decoding, registration_outline, registration_decoding}
 use Rattle.seg_core.specs.Request.{request_decoding}
@@ -61,7 +61,7 @@ pub each_within : {A B : Type 0} (p : SegError → Bool) (read : A → Result B 
 each_within p read [] within = given p []
 each_within p read (x ∷ xs) within = step p _ _ (within x) (λ first. step p _ _ (each_within p read xs within) (λ others. given p (first ∷ others)))
 
-plain_check : (b : Bool) (reason : SegError) → is_plain reason ≡ true → FailsWithin is_plain (check b reason)
+plain_check : (b : Bool) (reason : SegError) → is_plain reason ≡ true → FailsWithin is_plain (must_hold b reason)
 plain_check b reason fine = tested is_plain b tt reason fine
 
 plain_at_most : (limit n : ℕ) → FailsWithin is_plain (at_most limit n)
@@ -90,25 +90,25 @@ only_plain_misfit : (shape : List FieldKind) (before fs : List FieldView) → On
 only_plain_misfit shape before [] = λ e is. absurd cc
 only_plain_misfit shape before (f ∷ fs) =
     only_plain_or (misfit_at shape before f) (misfit_after shape (before ++ f ∷ []) fs)
-    (only_plain_tests (suits (kind_at shape f.number) f.value) (is_single (kind_at shape f.number) && is_some (bytes_field f.number before)))
+    (only_plain_tests (suits (field_kind shape f.number) f.value) (is_single (field_kind shape f.number) && is_some (last_bytes_field f.number before)))
     (only_plain_misfit shape (before ++ f ∷ []) fs)
 
-plain_unless : (o : Option SegError) → OnlyPlain o → FailsWithin is_plain (unless o)
+plain_unless : (o : Option SegError) → OnlyPlain o → FailsWithin is_plain (unless_refused o)
 plain_unless None only = given is_plain tt
 plain_unless (Some d) only = record { passes = λ e is. only e (let same : d ≡ e = cc in ap (λ x. Some x) same) }
 
 pub plain_message_fields : (shape : List FieldKind) (bytes : List ℕ) → FailsWithin is_plain (message_fields shape bytes)
 unfolding message_fields
 plain_message_fields shape bytes =
-    step is_plain (unless (option_map Wire (fault bytes))) _ (plain_unless _ (only_plain_wire (fault bytes)))
-    (λ _. step is_plain (unless (misfit_after shape [] (fields bytes))) _ (plain_unless _ (only_plain_misfit shape [] (fields bytes))) (λ _. given is_plain (fields bytes)))
+    step is_plain (unless_refused (option_map Wire (fault bytes))) _ (plain_unless _ (only_plain_wire (fault bytes)))
+    (λ _. step is_plain (unless_refused (misfit_after shape [] (fields bytes))) _ (plain_unless _ (only_plain_misfit shape [] (fields bytes))) (λ _. given is_plain (fields bytes)))
 
 plain_there : (o : Option (List ℕ)) → FailsWithin is_plain (ok_or o MissingField)
 plain_there None = record { passes = λ e is. let same : MissingField ≡ e = cc in ap is_plain (sym same) }
 plain_there (Some t) = given is_plain t
 
 plain_required_message : (k : ℕ) (fs : List FieldView) → FailsWithin is_plain (required_message k fs)
-plain_required_message k fs = plain_there (bytes_field k fs)
+plain_required_message k fs = plain_there (last_bytes_field k fs)
 
 -- ---- the parts of a segment
 
@@ -167,7 +167,7 @@ plain_not_memory e plain = lt-ltb 0 (rank e) (omega (arith, ltb-true 1 (rank e) 
 weaker : {A : Type 0} (r : Result A SegError) → FailsWithin is_plain r → FailsWithin is_not_memory r
 weaker r within = record { passes = λ e is. plain_not_memory e (within.passes e is) }
 
-within_check : (b : Bool) (reason : SegError) → is_not_memory reason ≡ true → FailsWithin is_not_memory (check b reason)
+within_check : (b : Bool) (reason : SegError) → is_not_memory reason ≡ true → FailsWithin is_not_memory (must_hold b reason)
 within_check b reason fine = tested is_not_memory b tt reason fine
 
 within_entries : (messages : List (List ℕ)) → FailsWithin is_not_memory (each as_entry_decoding messages)
@@ -185,7 +185,7 @@ unfolding segments_decoding
 within_segments count [] = given is_not_memory []
 within_segments count (m ∷ ms) =
     let others = within_segments (count + 1) ms in
-    step is_not_memory (check (nat_lt count 16) TooLarge) _ (within_check (nat_lt count 16) TooLarge refl)
+    step is_not_memory (must_hold (nat_lt count 16) TooLarge) _ (within_check (nat_lt count 16) TooLarge refl)
     (λ _. step is_not_memory (segment_decoding m) _ (within_segment m) (λ first. step is_not_memory (segments_decoding (count + 1) ms) _ others (λ others. given is_not_memory (first ∷ others))))
 
 within_type : (n : ℕ) → FailsWithin is_not_memory (type_of n)

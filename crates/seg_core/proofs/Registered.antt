@@ -12,10 +12,10 @@ use Rattle.seg_slots.specs.declared.error.SegError.TheVariants.{TooLarge}
 use Rattle.seg_core.specs.declared.seg_type.SegType.{SegType}
 use Rattle.seg_core.specs.Shapes.{map_shape, map_entry_shape, segments_shape}
 use Rattle.seg_core.specs.Steps.{result_map}
-use Rattle.seg_slots.specs.Message.{number_field, bytes_fields, bytes_field, bytes_field_or_empty}
+use Rattle.seg_slots.specs.Message.{number_field, bytes_fields, last_bytes_field, bytes_field_or_empty}
 use Rattle.seg_core.specs.SegmentView.{SegmentView}
 use Rattle.seg_core.specs.Segment.{segment_decoding}
-use Rattle.seg_core.specs.Registration.{MapEntry, rows_of, entry_rows, new_type, segments_decoding, map_entry_decoding, map_decoding, registration_outline, registration_decoding}
+use Rattle.seg_core.specs.Registration.{MapEntry, typed_segments, entry_rows, new_type, segments_decoding, map_entry_decoding, map_decoding, registration_outline, registration_decoding}
 use Rattle.seg_core.specs.Encoding.{IsSegment, segment_encoding}
 use Rattle.seg_core.proofs.Bytes.{message_fields-are, message_fields-fit, bytes_fields-IsBytes, bytes_field_or_empty-IsBytes}
 use Rattle.seg_core.proofs.MessageSizes.{message-HasRoom}
@@ -69,9 +69,9 @@ both_registered first second some others one two =
 
 -- the segments of one type
 segments_read : (kind : SegType) (count : ℕ) (messages : List (List ℕ)) (segments : List SegmentView) → count ≤ 16 → AllByRecursion IsBytes messages
-    → segments_decoding count messages ≡ Ok segments → AreRegistered count (encoded_len 1 messages) (rows_of kind segments)
+    → segments_decoding count messages ≡ Ok segments → AreRegistered count (encoded_len 1 messages) (typed_segments kind segments)
 unfolding segments_decoding
-segments_read kind count [] segments le are reading = subst (λ ss. AreRegistered count (encoded_len 1 []) (rows_of kind ss)) (ok_is [] segments reading) (no_rows count (encoded_len 1 []) le)
+segments_read kind count [] segments le are reading = subst (λ ss. AreRegistered count (encoded_len 1 []) (typed_segments kind ss)) (ok_is [] segments reading) (no_rows count (encoded_len 1 []) le)
 segments_read kind count (message ∷ messages) segments le are reading =
     let room = after_check (nat_lt count 16) TooLarge _ segments reading in
     let below = ltb-true count 16 room.0 in
@@ -80,16 +80,16 @@ segments_read kind count (message ∷ messages) segments le are reading =
     let whole = decoding-IsSegment message first.0 are.0 first.1 in
     let short = decoding-length message first.0 are.0 first.1 in
     let rest = segments_read kind (count + 1) messages others.0 (omega arith) are.1 others.1 in
-    subst (λ ss. AreRegistered count (encoded_len 1 (message ∷ messages)) (rows_of kind ss)) (ok_is (first.0 ∷ others.0) segments others.2)
+    subst (λ ss. AreRegistered count (encoded_len 1 (message ∷ messages)) (typed_segments kind ss)) (ok_is (first.0 ∷ others.0) segments others.2)
     (rw (sum_by-cons (λ bytes. length (bytes_field_encoding 1 bytes)) message messages)
-    (one_more count (encoded_len 1 messages) (length (bytes_field_encoding 1 message)) (kind, first.0) (rows_of kind others.0) whole (omega (arith, short, bytes_field-within 1 message)) rest))
+    (one_more count (encoded_len 1 messages) (length (bytes_field_encoding 1 message)) (kind, first.0) (typed_segments kind others.0) whole (omega (arith, short, bytes_field-within 1 message)) rest))
 
 fewer : (count less more : ℕ) (rows : List Row) → less ≤ more → AreRegistered count less rows → AreRegistered count more rows
 fewer count less more rows le are = let short = are.short in record { few = are.few; whole = are.whole; short = omega arith }
 
 -- an entry of the map
 entry_read : (earlier : List MapEntry) (message : List ℕ) (entry : MapEntry) → length (entry_rows earlier) ≤ 16 → IsBytes message
-    → map_entry_decoding earlier message ≡ Ok entry → AreRegistered (length (entry_rows earlier)) (length message) (rows_of entry.0 entry.1)
+    → map_entry_decoding earlier message ≡ Ok entry → AreRegistered (length (entry_rows earlier)) (length message) (typed_segments entry.0 entry.1)
 unfolding map_entry_decoding
 entry_read earlier message entry le are reading =
     let fs = fields message in
@@ -107,9 +107,9 @@ entry_read earlier message entry le are reading =
     let segments = step_ok (segments_decoding count messages) _ entry in_value in
     let rows = segments_read kind.0 count messages segments.0 le (bytes_fields-IsBytes 1 (fields value) value_fits) segments.1 in
     let within : encoded_len 1 messages ≤ length message =
-    omega (arith, room.both, value_room.both, bytes-within 2 value, or_empty-length 2 (bytes_field 2 fs), last-length 2 (bytes_fields 2 fs)) in
-    subst (λ entry. AreRegistered count (length message) (rows_of entry.0 entry.1)) (ok_is (kind.0, segments.0) entry segments.2)
-    (fewer count (encoded_len 1 messages) (length message) (rows_of kind.0 segments.0) within rows)
+    omega (arith, room.both, value_room.both, bytes-within 2 value, or_empty-length 2 (last_bytes_field 2 fs), last-length 2 (bytes_fields 2 fs)) in
+    subst (λ entry. AreRegistered count (length message) (typed_segments entry.0 entry.1)) (ok_is (kind.0, segments.0) entry segments.2)
+    (fewer count (encoded_len 1 messages) (length message) (typed_segments kind.0 segments.0) within rows)
 
 -- the entries of the map, after earlier entries of at most this number of bytes
 map_read : (earlier : List MapEntry) (bytes : ℕ) (messages : List (List ℕ)) (entries : List MapEntry) → AreRegistered 0 bytes (entry_rows earlier) → AllByRecursion IsBytes messages
@@ -120,7 +120,7 @@ map_read earlier bytes [] entries registered are reading =
     (fewer 0 bytes (bytes + encoded_len 1 []) (entry_rows earlier) (omega arith) registered)
 map_read earlier bytes (message ∷ messages) entries registered are reading =
     let first = step_ok (map_entry_decoding earlier message) _ entries reading in
-    let rows = rows_of first.0.0 first.0.1 in
+    let rows = typed_segments first.0.0 first.0.1 in
     let few = registered.few in
     let read = entry_read earlier message first.0 (omega arith) are.0 first.1 in
     let more = length (bytes_field_encoding 1 message) in

@@ -15,7 +15,7 @@ use Rattle.seg_core.specs.Shapes.{map_shape, map_entry_shape, segments_shape}
 use Rattle.seg_slots.specs.Message.{misfit_after, bytes_fields}
 use Rattle.seg_core.specs.SegmentView.{SegmentView}
 use Rattle.seg_core.specs.Steps.{result_map}
-use Rattle.seg_core.specs.Registration.{type_number, rows_of, MapEntry, entry_rows, has_type, new_type, segments_decoding, map_entry_decoding, map_decoding, registration_outline, registration_decoding}
+use Rattle.seg_core.specs.Registration.{type_number, typed_segments, MapEntry, entry_rows, has_type, new_type, segments_decoding, map_entry_decoding, map_decoding, registration_outline, registration_decoding}
 use Rattle.seg_core.specs.Encoding.{IsSegment, segment_encoding, segments_encoding, of_type, map_entry_encoding, response_encoding, by_type}
 use Rattle.seg_core.proofs.Sizes.{bytes_field-within}
 use Rattle.seg_core.proofs.EncodedFields.{HasFields, nothing, field_before, message_fields-is}
@@ -115,13 +115,13 @@ abbrev later : SegType → List SegmentView → List MapEntry → List MapEntry
 later kind [] earlier = earlier
 later kind (s ∷ ss) earlier = earlier ++ (kind, s ∷ ss) ∷ []
 
-later_rows : (kind : SegType) (ss : List SegmentView) (earlier : List MapEntry) → entry_rows (later kind ss earlier) ≡ entry_rows earlier ++ rows_of kind ss
+later_rows : (kind : SegType) (ss : List SegmentView) (earlier : List MapEntry) → entry_rows (later kind ss earlier) ≡ entry_rows earlier ++ typed_segments kind ss
 later_rows kind [] earlier = sym (append-nil (entry_rows earlier))
 later_rows kind (s ∷ ss) earlier = entry_rows-push earlier (kind, s ∷ ss)
 
 later_count : (kind : SegType) (ss : List SegmentView) (earlier : List MapEntry) → length (entry_rows (later kind ss earlier)) ≡ length (entry_rows earlier) + length ss
 later_count kind ss earlier =
-    ap length (later_rows kind ss earlier) ∙ length-append (entry_rows earlier) (rows_of kind ss) ∙ ap (λ n. length (entry_rows earlier) + n) (length-map ss (λ s. (kind, s)))
+    ap length (later_rows kind ss earlier) ∙ length-append (entry_rows earlier) (typed_segments kind ss) ∙ ap (λ n. length (entry_rows earlier) + n) (length-map ss (λ s. (kind, s)))
 
 type_read : (kind : SegType) (ss : List SegmentView) (earlier all : List MapEntry) (rest : List (List ℕ))
     → has_type earlier kind ≡ false → AllByRecursion IsSegment ss → length (entry_rows earlier) + length ss ≤ 16 → length (segments_encoding ss) < 2 ^ 64
@@ -207,8 +207,8 @@ all_rows rows =
     let d = of_type Down rows in
     let c = of_type Core rows in
     later_rows Core c (later Down d (later Up u []))
-    ∙ ap (λ xs. xs ++ rows_of Core c) (later_rows Down d (later Up u []) ∙ ap (λ xs. xs ++ rows_of Down d) (later_rows Up u []))
-    ∙ append_assoc (rows_of Up u) (rows_of Down d) (rows_of Core c)
+    ∙ ap (λ xs. xs ++ typed_segments Core c) (later_rows Down d (later Up u []) ∙ ap (λ xs. xs ++ typed_segments Down d) (later_rows Up u []))
+    ∙ append_assoc (typed_segments Up u) (typed_segments Down d) (typed_segments Core c)
 
 contents_read : (rows : List (SegType × SegmentView)) → AllByRecursion (λ row. IsSegment row.1) rows → length rows ≤ 16 → length (response_encoding rows) ≤ 131072
     → map_decoding [] (contents rows) ≡ Ok (all_entries rows)

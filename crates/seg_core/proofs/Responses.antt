@@ -11,7 +11,7 @@ use Rattle.seg_core.specs.declared.seg_type.SegType.{SegType}
 use Rattle.seg_core.specs.declared.seg_type.SegType.TheVariants.{Up, Down, Core}
 use Rattle.seg_core.specs.Registration.{type_number}
 use Rattle.seg_core.specs.SegmentView.{SegmentView}
-use Rattle.seg_core.specs.Encoding.{head_encoding, segment_encoding, segments_encoding, of_type, map_entry_encoding, referred_rows}
+use Rattle.seg_core.specs.Encoding.{field_head_encoding, segment_encoding, segments_encoding, of_type, map_entry_encoding, referred_rows}
 use Rattle.seg_core.proofs.EncodedLengths.{field-length}
 use Rattle.seg_core.proofs.Written.{field-put, both-put}
 
@@ -48,7 +48,7 @@ not_of_type kind row rows other = rw other refl
 -- the next row is of the type
 pub segment-next : (kind : SegType) (rows : List Referring) (i : ℕ) (row : Referring) (len : ℕ) (whole out headed done : List ℕ)
     → i < length rows → row ≡ get_or rows i row → sameb the_type row.0 kind ≡ true → out ++ segments_encoding (of_type kind (referred_rows (drop i rows))) ≡ whole
-    → len ≡ length (segment_encoding row.1.now) → headed ≡ out ++ head_encoding 1 len → done ≡ headed ++ segment_encoding row.1.now
+    → len ≡ length (segment_encoding row.1.now) → headed ≡ out ++ field_head_encoding 1 len → done ≡ headed ++ segment_encoding row.1.now
     → done ++ segments_encoding (of_type kind (referred_rows (drop (i + 1) rows))) ≡ whole
 segment-next kind rows i row len whole out headed done lt is same so_far long head one =
     let others = of_type kind (referred_rows (drop (i + 1) rows)) in
@@ -105,7 +105,7 @@ content-length kind ss =
 
 pub type-put : (kind : SegType) (ss : List SegmentView) (value content : ℕ) (out headed keyed opened done : List ℕ)
     → (length (segments_encoding ss) ≡ 0 → ⊥) → value ≡ length (segments_encoding ss) → content ≡ 2 + length (bytes_field_encoding 2 (segments_encoding ss))
-    → headed ≡ out ++ head_encoding 1 content → keyed ≡ headed ++ varint_field_encoding 1 (type_number kind) → opened ≡ keyed ++ head_encoding 2 value
+    → headed ≡ out ++ field_head_encoding 1 content → keyed ≡ headed ++ varint_field_encoding 1 (type_number kind) → opened ≡ keyed ++ field_head_encoding 2 value
     → done ≡ opened ++ segments_encoding ss → done ≡ out ++ map_entry_encoding kind ss
 type-put kind ss value content out headed keyed opened done some same long head key inside rest =
     let inner : done ≡ keyed ++ bytes_field_encoding 2 (segments_encoding ss) = field-put 2 value (segments_encoding ss) keyed opened done same inside rest in

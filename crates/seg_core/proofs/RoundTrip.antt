@@ -12,13 +12,13 @@ use Rattle.seg_slots.specs.declared.error.SegError.{SegError}
 use Rattle.seg_slots.specs.declared.error.SegError.TheVariants.{Chain, Loop, Entries, MissingField, TooLarge}
 use Rattle.seg_core.specs.Shapes.{path_segment_shape, as_entry_shape, signed_message_shape}
 use Rattle.seg_slots.specs.Steps.{◌>>=◌}
-use Rattle.seg_core.specs.Steps.{check, each}
+use Rattle.seg_core.specs.Steps.{must_hold, each}
 use Rattle.seg_slots.specs.Message.{required_message, bytes_fields}
 use Rattle.seg_core.specs.SegmentView.{EntryView, SegmentView}
 use Rattle.seg_core.specs.Entry.{header_and_body_decoding, as_entry_decoding}
 use Rattle.seg_core.specs.WellFormed.{is_entry_count, is_chain, has_no_loop}
 use Rattle.seg_core.specs.Segment.{SegmentOutline, info_decoding, segment_outline, segment_decoding}
-use Rattle.seg_core.specs.Encoding.{bytes_encoding, optional_encoding, signed_encoding, as_entry_encoding, entries_encoding, segment_encoding, body_of, IsEntry, IsSegment}
+use Rattle.seg_core.specs.Encoding.{bytes_encoding, optional_encoding, signed_encoding, as_entry_encoding, entries_encoding, segment_encoding, entry_body, IsEntry, IsSegment}
 use Rattle.seg_core.proofs.Bytes.{bytes-nil, bytes-append, field-bytes}
 use Rattle.seg_core.proofs.Paths.{count-from, chain-from, no_loop-from}
 use Rattle.seg_core.proofs.Readings.{ok_is}
@@ -29,7 +29,7 @@ use Rattle.seg_core.proofs.EncodedFields.{fields_of_bytes, optional_fields, entr
 pub goes_on : {A B : Type 0} (r : Result A SegError) (f : A → Result B SegError) (x : A) (z : Result B SegError) → r ≡ Ok x → f x ≡ z → (r >>= f) ≡ z
 goes_on r f x z was next = ap (λ r. r >>= f) was ∙ next
 
-pub holds : (b : Bool) (reason : SegError) → b ≡ true → check b reason ≡ Ok tt
+pub holds : (b : Bool) (reason : SegError) → b ≡ true → must_hold b reason ≡ Ok tt
 holds b reason was = rw was refl
 
 entry_again : (e : EntryView) → IsEntry e → length (as_entry_encoding e) < 2 ^ 64 → as_entry_decoding (as_entry_encoding e) ≡ Ok e
@@ -42,7 +42,7 @@ entry_again e is fits =
     goes_on _ _ fs (Ok e) (message_fields-is as_entry_shape (as_entry_encoding e) fs (entry-fields e fits) (entry-fit (signed_encoding e) e.unsigned))
     (goes_on (required_message 1 fs) _ (signed_encoding e) (Ok e) (ap (λ o. ok_or o MissingField) (signed_message-there (signed_encoding e) e.unsigned))
     (goes_on _ _ parts (Ok e) (message_fields-is signed_message_shape (signed_encoding e) parts (signed-fields e within) (signed-fit e.signed e.signature))
-    (goes_on _ _ (body_of e) (Ok e) (ap header_and_body_decoding (signed-there e.signed e.signature) ∙ is.says)
+    (goes_on _ _ (entry_body e) (Ok e) (ap header_and_body_decoding (signed-there e.signed e.signature) ∙ is.says)
     (rw (signed-there e.signed e.signature, signature-there e.signed e.signature, unsigned-there (signed_encoding e) e.unsigned) refl))))
 
 entries_again : (es : List EntryView) → AllByRecursion IsEntry es → length (entries_encoding es) < 2 ^ 64 → each as_entry_decoding (map as_entry_encoding es) ≡ Ok es

@@ -9,7 +9,7 @@ use Rattle.seg_core.specs.declared.seg_type.SegType.{SegType}
 use Rattle.seg_core.specs.SegmentView.{SegmentView}
 use Rattle.seg_slots.specs.Steps.{◌>>=◌}
 use Rattle.seg_core.specs.Steps.{result_map}
-use Rattle.seg_core.specs.Registration.{rows_of, MapEntry, entry_rows, map_entry_decoding, map_decoding}
+use Rattle.seg_core.specs.Registration.{typed_segments, MapEntry, entry_rows, map_entry_decoding, map_decoding}
 use Rattle.seg_core.specs.Earlier.{with_type, AreIn}
 use Rattle.seg_core.proofs.Types.{AreIn-with}
 
@@ -18,7 +18,7 @@ Rows = List (SegType × SegmentView)
 
 -- the type of an entry, and its rows after the rows found before
 abbrev behind : Rows → MapEntry → SegType × Rows
-behind found entry = (entry.0, found ++ rows_of entry.0 entry.1)
+behind found entry = (entry.0, found ++ typed_segments entry.0 entry.1)
 
 -- What was found are the rows of entries, and with these the messages that are left give the rows of all entries.
 pub record Found (all left : List (List ℕ)) (found : Rows) (seen : Earlier) : Type 0 where
@@ -33,16 +33,16 @@ Found-end all left found seen f none =
     ap (result_map entry_rows) (f.gives ∙ ap (map_decoding f.entries) none) ∙ ap Ok f.rows
 
 -- one more entry
-pub entry_rows-push : (entries : List MapEntry) (entry : MapEntry) → entry_rows (entries ++ entry ∷ []) ≡ entry_rows entries ++ rows_of entry.0 entry.1
+pub entry_rows-push : (entries : List MapEntry) (entry : MapEntry) → entry_rows (entries ++ entry ∷ []) ≡ entry_rows entries ++ typed_segments entry.0 entry.1
 entry_rows-push entries entry =
-    flat_map-append (λ entry. rows_of entry.0 entry.1) entries (entry ∷ []) ∙ ap (λ rows. entry_rows entries ++ rows) (append-nil (rows_of entry.0 entry.1))
+    flat_map-append (λ entry. typed_segments entry.0 entry.1) entries (entry ∷ []) ∙ ap (λ rows. entry_rows entries ++ rows) (append-nil (typed_segments entry.0 entry.1))
 
 -- the entry that was read
 record WasRead (found found' : Rows) (kind : SegType) (r : Result MapEntry SegError) : Type 0 where
   entry : MapEntry
   is : r ≡ Ok entry
   kind_is : entry.0 ≡ kind
-  found_is : found ++ rows_of entry.0 entry.1 ≡ found'
+  found_is : found ++ typed_segments entry.0 entry.1 ≡ found'
 
 was_read : (found found' : Rows) (kind : SegType) (r : Result MapEntry SegError) → result_map (behind found) r ≡ Ok (kind, found') → WasRead found found' kind r
 was_read found found' kind (Ok entry) e =
@@ -61,7 +61,7 @@ Found-step all left found found' seen seen' kind m ms f is read insert =
     record {
       entries = f.entries ++ was.entry ∷ [];
       are_in = subst (AreIn (f.entries ++ was.entry ∷ [])) (ap (with_type seen) was.kind_is ∙ sym insert) (AreIn-with f.entries seen was.entry.0 was.entry.1 f.are_in);
-      rows = entry_rows-push f.entries was.entry ∙ ap (λ rows. rows ++ rows_of was.entry.0 was.entry.1) f.rows ∙ was.found_is;
+      rows = entry_rows-push f.entries was.entry ∙ ap (λ rows. rows ++ typed_segments was.entry.0 was.entry.1) f.rows ∙ was.found_is;
       gives = f.gives ∙ ap (map_decoding f.entries) is ∙ ap (λ r. r >>= λ entry. map_decoding (f.entries ++ entry ∷ []) ms) was.is;
     }
 

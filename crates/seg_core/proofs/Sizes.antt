@@ -6,7 +6,7 @@ use Rattle.std.specs.Option.{option_or}
 use Rattle.std.proofs.lemmas.List.Sums.{sum_by-cons}
 use Rattle.pw_wire.specs.Field.{bytes_field_encoding}
 use Rattle.pw_wire.specs.Fields.{fields}
-use Rattle.seg_slots.specs.Message.{last_of, bytes_field, bytes_fields, bytes_field_or_empty}
+use Rattle.seg_slots.specs.Message.{last_of, last_bytes_field, bytes_fields, bytes_field_or_empty}
 use Rattle.seg_core.specs.Encoding.{bytes_encoding, optional_encoding}
 use Rattle.pw_wire.proofs.Exports.{varint_encoding-mono}
 
@@ -56,13 +56,13 @@ pub parts-length : (message : List ℕ) → HasRoom message
 parts-length message room =
     let fs = fields message in
     rw (length-append (bytes_encoding 1 (bytes_field_or_empty 1 fs)) (bytes_encoding 2 (bytes_field_or_empty 2 fs)))
-    (omega (arith, room.both, or_empty-length 1 (bytes_field 1 fs), or_empty-length 2 (bytes_field 2 fs), last-length 1 (bytes_fields 1 fs), last-length 2 (bytes_fields 2 fs)))
+    (omega (arith, room.both, or_empty-length 1 (last_bytes_field 1 fs), or_empty-length 2 (last_bytes_field 2 fs), last-length 1 (bytes_fields 1 fs), last-length 2 (bytes_fields 2 fs)))
 
 -- the first field with a part that did not grow, and the second unchanged
-pub entry-length : (message signed encoded : List ℕ) → HasRoom message → bytes_field 1 (fields message) ≡ Some signed → length encoded ≤ length signed
-    → length (bytes_field_encoding 1 encoded ++ optional_encoding 2 (bytes_field 2 (fields message))) ≤ length message
+pub entry-length : (message signed encoded : List ℕ) → HasRoom message → last_bytes_field 1 (fields message) ≡ Some signed → length encoded ≤ length signed
+    → length (bytes_field_encoding 1 encoded ++ optional_encoding 2 (last_bytes_field 2 (fields message))) ≤ length message
 entry-length message signed encoded room is shorter =
     let fs = fields message in
     let first : length (bytes_field_encoding 1 signed) ≤ encoded_len 1 (bytes_fields 1 fs) = rw is at (last-length 1 (bytes_fields 1 fs)) in
-    rw (length-append (bytes_field_encoding 1 encoded) (optional_encoding 2 (bytes_field 2 fs)))
+    rw (length-append (bytes_field_encoding 1 encoded) (optional_encoding 2 (last_bytes_field 2 fs)))
     (omega (arith, room.both, bytes_field-mono 1 encoded signed shorter, first, last-length 2 (bytes_fields 2 fs)))

@@ -10,7 +10,7 @@ use Rattle.seg_core.specs.SegmentView.{SegmentView}
 use Rattle.seg_core.specs.Registration.{type_number, type_of, MapEntry, has_type, new_type}
 use Rattle.seg_slots.specs.declared.error.SegError.TheVariants.{RepeatedMessage}
 use Rattle.seg_slots.specs.Steps.{◌>>=◌}
-use Rattle.seg_core.specs.Steps.{check}
+use Rattle.seg_core.specs.Steps.{must_hold}
 use Rattle.seg_core.specs.Earlier.{is_in, with_type, AreIn}
 
 -- ---- numbers
@@ -38,11 +38,11 @@ type_of-number Core = refl
 -- ---- entries
 
 -- A type that has had an entry is refused, and another one is given.
-pub new_type-is : (entries : List MapEntry) (seen : Earlier) (n : ℕ) (kind : SegType) → AreIn entries seen → type_of n ≡ Ok kind → new_type entries n ≡ (check (not (is_in seen kind)) RepeatedMessage >>= λ _. Ok kind)
+pub new_type-is : (entries : List MapEntry) (seen : Earlier) (n : ℕ) (kind : SegType) → AreIn entries seen → type_of n ≡ Ok kind → new_type entries n ≡ (must_hold (not (is_in seen kind)) RepeatedMessage >>= λ _. Ok kind)
 unfolding new_type
 new_type-is entries seen n kind noted e =
-    ap (λ r. r >>= λ kind. check (not (has_type entries kind)) RepeatedMessage >>= λ _. Ok kind) e
-    ∙ ap (λ b. check (not b) RepeatedMessage >>= λ _. Ok kind) (sym (noted kind))
+    ap (λ r. r >>= λ kind. must_hold (not (has_type entries kind)) RepeatedMessage >>= λ _. Ok kind) e
+    ∙ ap (λ b. must_hold (not b) RepeatedMessage >>= λ _. Ok kind) (sym (noted kind))
 
 or_true : (b : Bool) → (b || true) ≡ true
 or_true true = refl

@@ -12,7 +12,7 @@ use Rattle.seg_slots.specs.declared.error.SegError.TheVariants.{Chain, Loop, Ent
 use Rattle.seg_core.specs.Shapes.{path_segment_shape, as_entry_shape, signed_message_shape}
 use Rattle.seg_slots.specs.Steps.{◌>>=◌}
 use Rattle.seg_core.specs.Steps.{each}
-use Rattle.seg_slots.specs.Message.{bytes_field, bytes_fields, bytes_field_or_empty}
+use Rattle.seg_slots.specs.Message.{last_bytes_field, bytes_fields, bytes_field_or_empty}
 use Rattle.seg_core.specs.SegmentView.{EntryView, SegmentView}
 use Rattle.seg_core.specs.EntryView.{entry_of}
 use Rattle.seg_core.specs.Entry.{header_and_body_decoding, as_entry_decoding}
@@ -48,7 +48,7 @@ entry_read message e are reading =
     let parts_room = message-HasRoom signed (message_fields-are signed_message_shape signed _ e signed_bytes in_signed.2) in
     let in_parts = after_message_fields signed_message_shape signed _ e in_signed.2 in
     let in_body = step_ok (header_and_body_decoding (bytes_field_or_empty 1 parts)) _ e in_parts in
-    subst (WasRead message) (ok_is (entry_of in_body.0 (record { signed = bytes_field_or_empty 1 parts; signature = bytes_field_or_empty 2 parts; unsigned = bytes_field 2 fs })) e in_body.2) (record {
+    subst (WasRead message) (ok_is (entry_of in_body.0 (record { signed = bytes_field_or_empty 1 parts; signature = bytes_field_or_empty 2 parts; unsigned = last_bytes_field 2 fs })) e in_body.2) (record {
       is_entry =
           let widths = header_and_body-fits (bytes_field_or_empty 1 parts) in_body.0 (bytes_field_or_empty-IsBytes 1 parts parts_fit) in_body.1 in
           record {
@@ -98,7 +98,7 @@ unfolding segment_encoding
 segment_short message s room info entries =
     let fs = fields message in
     rw (info, length-append (bytes_encoding 1 (bytes_field_or_empty 1 fs)) (entries_encoding s.entries))
-    (omega (arith, room.both, or_empty-length 1 (bytes_field 1 fs), last-length 1 (bytes_fields 1 fs)))
+    (omega (arith, room.both, or_empty-length 1 (last_bytes_field 1 fs), last-length 1 (bytes_fields 1 fs)))
 
 -- the checks that the outline of a segment has passed
 record IsOutlined (message : List ℕ) (outline : SegmentOutline) : Type 0 where
@@ -139,7 +139,7 @@ outline-room message outline are reading =
     let outlined = outline_read message outline are reading in
     let le = outlined.le in
     rw (outlined.info_is, outlined.entries_are)
-    (omega (arith, outlined.room.both, or_empty-length 1 (bytes_field 1 fs), last-length 1 (bytes_fields 1 fs)))
+    (omega (arith, outlined.room.both, or_empty-length 1 (last_bytes_field 1 fs), last-length 1 (bytes_fields 1 fs)))
 
 -- what a decoded segment satisfies
 record IsRead (message : List ℕ) (s : SegmentView) : Type 0 where

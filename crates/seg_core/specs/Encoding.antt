@@ -14,12 +14,12 @@ use Rattle.seg_core.specs.declared.seg_type.SegType.TheVariants.{Up, Down, Core}
 use Rattle.seg_core.specs.SegmentView.{EntryView, SegmentView}
 use Rattle.seg_core.specs.Entry.{header_and_body_decoding}
 use Rattle.seg_core.specs.Segment.{info_decoding}
-use Rattle.seg_core.specs.Registration.{type_number, rows_of}
-use Rattle.seg_core.specs.WellFormed.{HasEntryCount, IsChain, HasNoLoop}
+use Rattle.seg_core.specs.Registration.{type_number, typed_segments}
+use Rattle.seg_core.specs.WellFormed.{HasEntryCount, IsEntryChain, HasNoLoop}
 
 -- the bytes before the content of a bytes field: its tag and its length
-unfoldable pub head_encoding : ℕ → ℕ → List ℕ
-head_encoding k len = varint_encoding (k * 8 + 2) ++ varint_encoding len
+unfoldable pub field_head_encoding : ℕ → ℕ → List ℕ
+field_head_encoding k len = varint_encoding (k * 8 + 2) ++ varint_encoding len
 
 -- bytes, left out where they are empty
 abbrev pub bytes_encoding : ℕ → List ℕ → List ℕ
@@ -50,13 +50,13 @@ unfoldable pub segment_encoding : SegmentView → List ℕ
 segment_encoding s = bytes_encoding 1 s.info ++ entries_encoding s.entries
 
 -- the numbers in the body of an entry
-abbrev pub body_of : EntryView → Body
-body_of e = record { ia = e.ia; next = e.next; hop = record { ingress = e.ingress; egress = e.egress; exp_time = e.exp_time } }
+abbrev pub entry_body : EntryView → Body
+entry_body e = record { ia = e.ia; next = e.next; hop = record { ingress = e.ingress; egress = e.egress; exp_time = e.exp_time } }
 
 -- What holds for every entry: its numbers are those of its signed body, its two ISD-AS numbers are below 2^64, and the pieces
 -- that are kept unchanged are bytes.
 pub record IsEntry (e : EntryView) : Type 0 where
-  pub says : header_and_body_decoding e.signed ≡ Ok (body_of e)
+  pub says : header_and_body_decoding e.signed ≡ Ok (entry_body e)
   pub ia : e.ia < 2 ^ 64
   pub next : e.next < 2 ^ 64
   pub signed : IsBytes e.signed
@@ -70,7 +70,7 @@ pub record IsSegment (s : SegmentView) : Type 0 where
   pub info_bytes : IsBytes s.info
   pub entries : AllByRecursion IsEntry s.entries
   pub counted : HasEntryCount s.entries
-  pub chain : IsChain s.entries
+  pub chain : IsEntryChain s.entries
   pub no_loop : HasNoLoop s.entries
   pub short : length (segment_encoding s) ≤ MOST_SEGMENT_BYTES
 
@@ -101,4 +101,4 @@ response_encoding rows =
 
 -- all segments, by type number, and of one type in their order
 abbrev pub by_type : List (SegType × SegmentView) → List (SegType × SegmentView)
-by_type rows = rows_of Up (of_type Up rows) ++ (rows_of Down (of_type Down rows) ++ rows_of Core (of_type Core rows))
+by_type rows = typed_segments Up (of_type Up rows) ++ (typed_segments Down (of_type Down rows) ++ typed_segments Core (of_type Core rows))

@@ -7,8 +7,8 @@ use Rattle.seg_core.specs.declared.hop.Hop.{Hop}
 use Rattle.seg_core.specs.declared.body.Body.{Body}
 use Rattle.seg_core.specs.Shapes.{hop_field_shape, hop_entry_shape, peer_entry_shape, body_shape, header_and_body_shape, signed_message_shape, as_entry_shape}
 use Rattle.seg_slots.specs.Steps.{◌>>=◌}
-use Rattle.seg_core.specs.Steps.{check, at_most, each}
-use Rattle.seg_slots.specs.Message.{message_fields, required_message, number_field, bytes_field, bytes_fields, bytes_field_or_empty}
+use Rattle.seg_core.specs.Steps.{must_hold, at_most, each}
+use Rattle.seg_slots.specs.Message.{message_fields, required_message, number_field, last_bytes_field, bytes_fields, bytes_field_or_empty}
 use Rattle.seg_core.specs.SegmentView.{EntryView}
 
 -- where a segment enters and leaves an AS, and how long the hop field is valid
@@ -18,7 +18,7 @@ hop_field_decoding message = do
   ingress ← at_most (2 ^ 16 - 1) (number_field 1 fs)
   egress ← at_most (2 ^ 16 - 1) (number_field 2 fs)
   exp_time ← at_most (2 ^ 8 - 1) (number_field 3 fs)
-  _ ← check (length (bytes_field_or_empty 4 fs) == 6) Range
+  _ ← must_hold (length (bytes_field_or_empty 4 fs) == 6) Range
   Ok (record { ingress = ingress; egress = egress; exp_time = exp_time })
 
 unfoldable pub hop_entry_decoding : List ℕ → Result Hop SegError
@@ -40,7 +40,7 @@ unfoldable pub body_decoding : List ℕ → Result Body SegError
 body_decoding message = do
   fs ← message_fields body_shape message
   hop_entry ← required_message 3 fs
-  _ ← check (not (has_zero_part (number_field 1 fs))) Range
+  _ ← must_hold (not (has_zero_part (number_field 1 fs))) Range
   _ ← at_most (2 ^ 32 - 1) (number_field 5 fs)
   hop ← hop_entry_decoding hop_entry
   _ ← each peer_entry_decoding (bytes_fields 4 fs)
@@ -67,5 +67,5 @@ as_entry_decoding message = do
     exp_time = body.hop.exp_time;
     signed = bytes_field_or_empty 1 parts;
     signature = bytes_field_or_empty 2 parts;
-    unsigned = bytes_field 2 fs;
+    unsigned = last_bytes_field 2 fs;
   })

@@ -2,7 +2,7 @@
 use Rattle.std.specs.Prelude.{ℕ, List, map}
 use Rattle.std.specs.Arc.{arc_value}
 use Rattle.std.specs.Option.{option_map}
-use Rattle.isd_as.specs.IsdAs.{number_of}
+use Rattle.isd_as.specs.IsdAs.{isd_as_number}
 use Rattle.seg_core.specs.declared.body.Body.{Body}
 use Rattle.seg_core.specs.declared.entry.Entry.{Entry}
 use Rattle.seg_core.specs.declared.entry.BorrowedEntry.{BorrowedEntry}
@@ -13,8 +13,8 @@ use Rattle.seg_core.specs.Pieces.{piece_at, pieces_at}
 
 abbrev pub entry_view : Entry → EntryView
 entry_view e = record {
-  ia = number_of e.ia;
-  next = number_of e.next;
+  ia = isd_as_number e.ia;
+  next = isd_as_number e.next;
   ingress = e.ingress;
   egress = e.egress;
   exp_time = e.exp_time;

@@ -2,7 +2,7 @@
 use Rattle.std.specs.Prelude.{◌≡◌}
 use Rattle.std.specs.Arc.{arc_value}
 use Rattle.seg_core.specs.declared.segment.Parts.{Parts}
-use Rattle.seg_core.specs.Pieces.{IsWithin}
+use Rattle.seg_core.specs.Pieces.{IsSpanWithin}
 use Rattle.seg_core.specs.EntryView.{segment_view}
 use Rattle.seg_core.specs.Digest.{segment_digest}
 use Rattle.seg_core.specs.Encoding.{segment_encoding, IsSegment}
@@ -11,5 +11,5 @@ use Rattle.seg_core.specs.Encoding.{segment_encoding, IsSegment}
 pub record IsKept (parts : Parts) : Type 0 where
   pub whole : IsSegment (segment_view parts)
   pub encoded : (arc_value parts.encoding).items ≡ segment_encoding (segment_view parts)
-  pub info : IsWithin (arc_value parts.encoding).items parts.info
+  pub info : IsSpanWithin (arc_value parts.encoding).items parts.info
   pub digest : parts.digest ≡ segment_digest (segment_view parts)

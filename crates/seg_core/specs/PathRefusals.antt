@@ -4,7 +4,7 @@ use Rattle.seg_core.specs.Steps.{each}
 use Rattle.seg_core.specs.SegmentView.{EntryView}
 use Rattle.seg_core.specs.Entry.{as_entry_decoding}
 use Rattle.seg_core.specs.Segment.{SegmentOutline, segment_outline}
-use Rattle.seg_core.specs.WellFormed.{IsChain, HasNoLoop}
+use Rattle.seg_core.specs.WellFormed.{IsEntryChain, HasNoLoop}
 
 -- a message whose outline is valid, and whose entries are read as these
 pub record HasEntries (message : List ℕ) (entries : List EntryView) : Type 0 where
@@ -16,11 +16,11 @@ pub record HasEntries (message : List ℕ) (entries : List EntryView) : Type 0 w
 pub record HasNoChain (message : List ℕ) : Type 0 where
   pub entries : List EntryView
   pub read : HasEntries message entries
-  pub no_chain : ¬ IsChain entries
+  pub no_chain : ¬ IsEntryChain entries
 
 -- The entries are a chain, and an AS occurs twice in it.
 pub record HasLoop (message : List ℕ) : Type 0 where
   pub entries : List EntryView
   pub read : HasEntries message entries
-  pub chain : IsChain entries
+  pub chain : IsEntryChain entries
   pub loop : ¬ HasNoLoop entries

@@ -14,7 +14,7 @@ abbrev pub piece_at : List ℕ → Span → List ℕ
 piece_at bytes span = between span.start span.end bytes
 
 -- the range is within the bytes
-pub record IsWithin (bytes : List ℕ) (span : Span) : Type 0 where
+pub record IsSpanWithin (bytes : List ℕ) (span : Span) : Type 0 where
   pub ordered : span.start ≤ span.end
   pub within : span.end ≤ length bytes
 
@@ -28,9 +28,9 @@ pieces_at bytes spans = record {
 
 -- all of these ranges are within the bytes
 pub record AreWithin (bytes : List ℕ) (spans : Spans) : Type 0 where
-  pub signed : IsWithin bytes spans.signed
-  pub signature : IsWithin bytes spans.signature
-  pub unsigned : ForSome spans.unsigned (λ span. IsWithin bytes span)
+  pub signed : IsSpanWithin bytes spans.signed
+  pub signature : IsSpanWithin bytes spans.signature
+  pub unsigned : ForSome spans.unsigned (λ span. IsSpanWithin bytes span)
 
 -- the encoding that contains the pieces
 abbrev encoding_of : Inside → List ℕ

@@ -8,7 +8,7 @@ use Rattle.seg_core.specs.declared.seg_type.SegType.{SegType}
 use Rattle.seg_core.specs.declared.seg_type.SegType.TheVariants.{Up, Down, Core}
 use Rattle.seg_core.specs.Shapes.{map_shape, map_entry_shape, segments_shape}
 use Rattle.seg_slots.specs.Steps.{◌>>=◌}
-use Rattle.seg_core.specs.Steps.{check, result_map}
+use Rattle.seg_core.specs.Steps.{must_hold, result_map}
 use Rattle.seg_slots.specs.Message.{message_fields, number_field, bytes_fields, bytes_field_or_empty}
 use Rattle.seg_core.specs.SegmentView.{SegmentView}
 use Rattle.seg_core.specs.Segment.{segment_decoding}
@@ -28,8 +28,8 @@ type_of (suc (suc (suc zero))) = Ok Core
 type_of (suc (suc (suc (suc n)))) = Err BadType
 
 -- each of the segments with its type
-abbrev pub rows_of : SegType → List SegmentView → List (SegType × SegmentView)
-rows_of kind segments = map (λ s. (kind, s)) segments
+abbrev pub typed_segments : SegType → List SegmentView → List (SegType × SegmentView)
+typed_segments kind segments = map (λ s. (kind, s)) segments
 
 -- an entry of the map: a type, and its segments
 abbrev pub MapEntry : Type 0
@@ -37,7 +37,7 @@ MapEntry = SegType × List SegmentView
 
 -- the segments of all entries, each with its type
 abbrev pub entry_rows : List MapEntry → List (SegType × SegmentView)
-entry_rows entries = flat_map (λ entry. rows_of entry.0 entry.1) entries
+entry_rows entries = flat_map (λ entry. typed_segments entry.0 entry.1) entries
 
 -- one of the entries is of this type
 abbrev pub has_type : List MapEntry → SegType → Bool
@@ -47,7 +47,7 @@ has_type entries kind = list_any (λ entry. type_number entry.0 == type_number k
 unfoldable pub segments_decoding : ℕ → List (List ℕ) → Result (List SegmentView) SegError
 segments_decoding count [] = Ok []
 segments_decoding count (message ∷ messages) = do
-  _ ← check (nat_lt count MOST_REGISTERED) TooLarge
+  _ ← must_hold (nat_lt count MOST_REGISTERED) TooLarge
   first ← segment_decoding message
   others ← segments_decoding (count + 1) messages
   Ok (first ∷ others)
@@ -56,7 +56,7 @@ segments_decoding count (message ∷ messages) = do
 unfoldable pub new_type : List MapEntry → ℕ → Result SegType SegError
 new_type earlier n = do
   kind ← type_of n
-  _ ← check (not (has_type earlier kind)) RepeatedMessage
+  _ ← must_hold (not (has_type earlier kind)) RepeatedMessage
   Ok kind
 
 -- One entry of the map, after earlier entries. An entry without a value has no segments.
@@ -78,7 +78,7 @@ map_decoding earlier (message ∷ messages) = do
 -- The messages of the map's entries. Its size, its wire format and the kinds of its fields are checked without taking memory.
 unfoldable pub registration_outline : List ℕ → Result (List (List ℕ)) SegError
 registration_outline message = do
-  _ ← check (nat_le (length message) MOST_REGISTERED_BYTES) TooLarge
+  _ ← must_hold (nat_le (length message) MOST_REGISTERED_BYTES) TooLarge
   fs ← message_fields map_shape message
   Ok (bytes_fields 1 fs)
 

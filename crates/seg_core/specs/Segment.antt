@@ -6,7 +6,7 @@ use Rattle.seg_core.specs.declared.info.Info.{Info}
 use Rattle.seg_core.specs.declared.format.TheConstants.{MOST_SEGMENT_BYTES}
 use Rattle.seg_core.specs.Shapes.{path_segment_shape, segment_information_shape}
 use Rattle.seg_slots.specs.Steps.{◌>>=◌}
-use Rattle.seg_core.specs.Steps.{check, at_most, each}
+use Rattle.seg_core.specs.Steps.{must_hold, at_most, each}
 use Rattle.seg_slots.specs.Message.{message_fields, number_field, bytes_fields, bytes_field_or_empty}
 use Rattle.seg_core.specs.SegmentView.{SegmentView}
 use Rattle.seg_core.specs.Entry.{as_entry_decoding}
@@ -31,9 +31,9 @@ pub record SegmentOutline : Type 0 where
 -- information. These are checked without taking memory.
 unfoldable pub segment_outline : List ℕ → Result SegmentOutline SegError
 segment_outline message = do
-  _ ← check (nat_le (length message) MOST_SEGMENT_BYTES) TooLarge
+  _ ← must_hold (nat_le (length message) MOST_SEGMENT_BYTES) TooLarge
   fs ← message_fields path_segment_shape message
-  _ ← check (is_entry_count (length (bytes_fields 2 fs))) Entries
+  _ ← must_hold (is_entry_count (length (bytes_fields 2 fs))) Entries
   info ← info_decoding (bytes_field_or_empty 1 fs)
   Ok (record { timestamp = info.timestamp; segment_id = info.segment_id; info = bytes_field_or_empty 1 fs; entries = bytes_fields 2 fs })
 
@@ -42,6 +42,6 @@ unfoldable pub segment_decoding : List ℕ → Result SegmentView SegError
 segment_decoding message = do
   outline ← segment_outline message
   entries ← each as_entry_decoding outline.entries
-  _ ← check (is_chain entries) Chain
-  _ ← check (has_no_loop entries) Loop
+  _ ← must_hold (is_chain entries) Chain
+  _ ← must_hold (has_no_loop entries) Loop
   Ok (record { timestamp = outline.timestamp; segment_id = outline.segment_id; info = outline.info; entries = entries })

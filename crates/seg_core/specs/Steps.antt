@@ -5,8 +5,8 @@ use Rattle.seg_slots.specs.declared.error.SegError.TheVariants.{NoMemory, Range}
 use Rattle.seg_slots.specs.Steps.{◌>>=◌}
 
 -- continues where the test holds, and is refused for this reason where the test fails
-abbrev pub check : Bool → SegError → Result (Unit {0}) SegError
-check holds reason = if holds then Ok tt else Err reason
+abbrev pub must_hold : Bool → SegError → Result (Unit {0}) SegError
+must_hold holds reason = if holds then Ok tt else Err reason
 
 -- a number that is at most the limit
 abbrev pub at_most : ℕ → ℕ → Result ℕ SegError
@@ -26,6 +26,6 @@ result_map view (Ok x) = Ok (view x)
 result_map view (Err e) = Err e
 
 -- A call that takes memory returns what the reading gives, unless memory was refused.
-abbrev pub Gives : {X Y : Type 0} → (X → Y) → Result X SegError → Result Y SegError → Type 0
-Gives view (Ok x) reading = reading ≡ Ok (view x)
-Gives view (Err e) reading = e ≢ NoMemory → reading ≡ Err e
+abbrev pub GivesSegment : {X Y : Type 0} → (X → Y) → Result X SegError → Result Y SegError → Type 0
+GivesSegment view (Ok x) reading = reading ≡ Ok (view x)
+GivesSegment view (Err e) reading = e ≢ NoMemory → reading ≡ Err e

@@ -18,7 +18,7 @@ abbrev pub EndsAt : EntryView → Type 0
 EndsAt e = (e.next ≡ 0) × (e.egress ≡ 0)
 
 -- The first entry has no ingress, each leads to the one after it, and the last one ends the path.
-pub record IsChain (entries : List EntryView) : Type 0 where
+pub record IsEntryChain (entries : List EntryView) : Type 0 where
   pub first : (e : EntryView) (after : List EntryView) → entries ≡ e ∷ after → e.ingress ≡ 0
   pub joined : (before after : List EntryView) (e f : EntryView) → entries ≡ before ++ e ∷ f ∷ after → LeadsTo e f
   pub last : (before : List EntryView) (e : EntryView) → entries ≡ before ++ e ∷ [] → EndsAt e
@@ -54,7 +54,7 @@ pub record IsInRange (s : SegmentView) : Type 0 where
 -- A segment is 1 to 64 entries that are one path without a loop, and its numbers are in their ranges.
 pub record IsWellFormed (s : SegmentView) : Type 0 where
   pub counted : HasEntryCount s.entries
-  pub chain : IsChain s.entries
+  pub chain : IsEntryChain s.entries
   pub no_loop : HasNoLoop s.entries
   pub in_range : IsInRange s
 

@@ -1,6 +1,6 @@
 //! The signed body of an AS entry.
 
-ghost use Rattle.seg_slots.specs.Steps.{Reads};
+ghost use Rattle.seg_slots.specs.Steps.{ReadsFields};
 ghost use Rattle.seg_core.specs.Steps.{each, result_map};
 ghost use Rattle.seg_slots.specs.Message.{bytes_fields};
 ghost use Rattle.pw_wire.specs.Fields.{fields};
@@ -22,7 +22,7 @@ pub(crate) struct Body {
 
 /// Reads peer entries. Nothing of them is kept.
 fn check_peer_entries(peers: BytesFields<'_>) -> Result<(), SegError>
-    ensures { Reads (λ u. u) result
+    ensures { ReadsFields (λ u. u) result
         (result_map (λ _. tt) (each peer_entry_decoding (bytes_fields peers.entry.field_number (fields peers.entry.rest.now)))) }
 {
     for peer in peers {
@@ -33,7 +33,7 @@ fn check_peer_entries(peers: BytesFields<'_>) -> Result<(), SegError>
 
 /// Reads the peer entries of a body. Most bodies have none.
 fn check_peers(slots: &Slots<'_>) -> Result<(), SegError>
-    ensures { Reads (λ u. u) result
+    ensures { ReadsFields (λ u. u) result
         (result_map (λ _. tt) (each peer_entry_decoding (bytes_fields 4 (fields slots.now.message.now)))) }
 {
     if slots.bytes_field(4).is_none() {
@@ -44,7 +44,7 @@ fn check_peers(slots: &Slots<'_>) -> Result<(), SegError>
 
 #[tactic(auto, unfolding(crate::specs::Entry::body_decoding))]
 fn read_body(message: &[u8]) -> Result<Body, SegError>
-    ensures { Reads (λ body. body) result (body_decoding message.now) }
+    ensures { ReadsFields (λ body. body) result (body_decoding message.now) }
 {
     let slots = slots_of::<9>(&BODY, message)?;
     let hop_entry = slots.required_message(3)?;
@@ -63,7 +63,7 @@ fn read_body(message: &[u8]) -> Result<Body, SegError>
 /// Reads a header, which is not kept here, and a body.
 #[tactic(auto, unfolding(crate::specs::Entry::header_and_body_decoding))]
 pub(crate) fn read_header_and_body(message: &[u8]) -> Result<Body, SegError>
-    ensures { Reads (λ body. body) result (header_and_body_decoding message.now) }
+    ensures { ReadsFields (λ body. body) result (header_and_body_decoding message.now) }
 {
     let slots = slots_of::<10>(&HEADER_AND_BODY, message)?;
     read_body(slots.bytes_field_or_empty(2))

@@ -3,7 +3,7 @@
 ghost use Rattle.std.specs.Prelude.{◌≡◌, List, []};
 ghost use Rattle.seg_core.specs.Earlier.{is_in, with_type, AreIn};
 ghost use Rattle.seg_core.specs.Registration.{MapEntry, new_type};
-ghost use Rattle.seg_slots.specs.Steps.{Reads};
+ghost use Rattle.seg_slots.specs.Steps.{ReadsFields};
 
 use crate::limits::check;
 use crate::seg_type::SegType;
@@ -43,7 +43,7 @@ impl Earlier {
     /// The type of a number, or an error where the type has had an entry already.
     #[tactic(auto, unfolding(crate::specs::Registration::new_type))]
     pub(crate) fn new_type(self, number: u64) -> Result<SegType, SegError>
-        ensures { (entries : List MapEntry) → AreIn entries self → Reads (λ kind. kind) result (new_type entries number) }
+        ensures { (entries : List MapEntry) → AreIn entries self → ReadsFields (λ kind. kind) result (new_type entries number) }
     {
         let kind = SegType::from_number(number)?;
         check(!self.contains(kind), SegError::RepeatedMessage)?;

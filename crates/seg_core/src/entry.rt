@@ -3,7 +3,7 @@
 ghost use Rattle.std.specs.Prelude.{◌≡◌, IfOk};
 ghost use Rattle.std.specs.Arc.{arc_value};
 ghost use Rattle.std.specs.Option.{option_map};
-ghost use Rattle.seg_slots.specs.Steps.{Reads};
+ghost use Rattle.seg_slots.specs.Steps.{ReadsFields};
 ghost use Rattle.seg_core.specs.Pieces.{AreWithin};
 ghost use Rattle.seg_core.specs.Entry.{as_entry_decoding};
 ghost use Rattle.seg_core.specs.EntryView.{entry_view, borrowed_view, marked_view};
@@ -99,7 +99,7 @@ pub(crate) struct MarkedEntry {
 
 #[tactic(auto, unfolding(crate::specs::Entry::as_entry_decoding))]
 pub(crate) fn read_as_entry(message: &[u8]) -> Result<BorrowedEntry<'_>, SegError>
-    ensures { Reads borrowed_view result (as_entry_decoding message.now) }
+    ensures { ReadsFields borrowed_view result (as_entry_decoding message.now) }
 {
     let slots = slots_of::<7>(&AS_ENTRY, message)?;
     let signed_message = slots.required_message(1)?;

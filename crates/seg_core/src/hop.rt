@@ -1,6 +1,6 @@
 //! Hop entries and peer entries, down to their hop fields.
 
-ghost use Rattle.seg_slots.specs.Steps.{Reads};
+ghost use Rattle.seg_slots.specs.Steps.{ReadsFields};
 ghost use Rattle.seg_core.specs.Entry.{hop_field_decoding, hop_entry_decoding, peer_entry_decoding};
 
 use crate::limits::{check, u8_of, u16_of, u32_of};
@@ -20,7 +20,7 @@ pub(crate) struct Hop {
 
 #[tactic(auto, unfolding(crate::specs::Entry::hop_field_decoding))]
 fn read_hop_field(message: &[u8]) -> Result<Hop, SegError>
-    ensures { Reads (λ hop. hop) result (hop_field_decoding message.now) }
+    ensures { ReadsFields (λ hop. hop) result (hop_field_decoding message.now) }
 {
     let slots = slots_of::<11>(&HOP_FIELD, message)?;
     let ingress = u16_of(slots.number_field(1))?;
@@ -39,7 +39,7 @@ fn read_hop_field(message: &[u8]) -> Result<Hop, SegError>
 
 #[tactic(auto, unfolding(crate::specs::Entry::hop_entry_decoding))]
 pub(crate) fn read_hop_entry(message: &[u8]) -> Result<Hop, SegError>
-    ensures { Reads (λ hop. hop) result (hop_entry_decoding message.now) }
+    ensures { ReadsFields (λ hop. hop) result (hop_entry_decoding message.now) }
 {
     let slots = slots_of::<12>(&HOP_ENTRY, message)?;
     let hop_field = slots.required_message(1)?;
@@ -49,7 +49,7 @@ pub(crate) fn read_hop_entry(message: &[u8]) -> Result<Hop, SegError>
 
 #[tactic(auto, unfolding(crate::specs::Entry::peer_entry_decoding))]
 pub(crate) fn read_peer_entry(message: &[u8]) -> Result<Hop, SegError>
-    ensures { Reads (λ hop. hop) result (peer_entry_decoding message.now) }
+    ensures { ReadsFields (λ hop. hop) result (peer_entry_decoding message.now) }
 {
     let slots = slots_of::<13>(&PEER_ENTRY, message)?;
     let hop_field = slots.required_message(4)?;

@@ -1,6 +1,6 @@
 //! When a segment was made, and its id.
 
-ghost use Rattle.seg_slots.specs.Steps.{Reads};
+ghost use Rattle.seg_slots.specs.Steps.{ReadsFields};
 ghost use Rattle.seg_core.specs.Segment.{info_decoding};
 
 use crate::limits::{u16_of, u32_of};
@@ -16,7 +16,7 @@ pub(crate) struct Info {
 
 #[tactic(auto, unfolding(crate::specs::Segment::info_decoding))]
 pub(crate) fn read_info(message: &[u8]) -> Result<Info, SegError>
-    ensures { Reads (λ info. info) result (info_decoding message.now) }
+    ensures { ReadsFields (λ info. info) result (info_decoding message.now) }
 {
     let slots = slots_of::<6>(&SEGMENT_INFORMATION, message)?;
     let timestamp = u32_of(slots.number_field(1))?;

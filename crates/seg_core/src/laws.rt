@@ -4,7 +4,7 @@
 ghost use Rattle.std.specs.Prelude.{◌≡◌, ◌↔◌, ◌≤◌, ◌+◌, ◌*◌, ℕ, List, length, Ok, IsTrue};
 ghost use Rattle.pw_wire.specs.Decoding.{IsBytes};
 ghost use Rattle.seg_core.specs.SegmentView.{EntryView, SegmentView};
-ghost use Rattle.seg_core.specs.WellFormed.{is_entry_count, is_chain, has_no_loop, HasEntryCount, IsChain, HasNoLoop, IsWellFormed};
+ghost use Rattle.seg_core.specs.WellFormed.{is_entry_count, is_chain, has_no_loop, HasEntryCount, IsEntryChain, HasNoLoop, IsWellFormed};
 ghost use Rattle.seg_core.specs.Segment.{segment_decoding};
 ghost use Rattle.seg_core.specs.Registration.{registration_decoding};
 ghost use Rattle.seg_core.specs.Encoding.{segment_encoding, IsSegment, response_encoding, by_type};
@@ -53,7 +53,7 @@ pub fn whole_segments_are_well_formed()
 /// The tests of a path decide their definitions, in both directions.
 pub fn path_tests_are_exact()
     ensures counted { (entries : List EntryView) → (IsTrue (is_entry_count (length entries))) ↔ HasEntryCount entries }
-    ensures chain { (entries : List EntryView) → (IsTrue (is_chain entries)) ↔ IsChain entries }
+    ensures chain { (entries : List EntryView) → (IsTrue (is_chain entries)) ↔ IsEntryChain entries }
     ensures no_loop { (entries : List EntryView) → (IsTrue (has_no_loop entries)) ↔ HasNoLoop entries }
 {}
 

@@ -1,14 +1,14 @@
 //! Tests of one number or condition, each with its refusal.
 
 ghost use Rattle.std.specs.Prelude.{◌-◌, ◌^◌};
-ghost use Rattle.seg_slots.specs.Steps.{Reads};
-ghost use Rattle.seg_core.specs.Steps.{at_most, check};
+ghost use Rattle.seg_slots.specs.Steps.{ReadsFields};
+ghost use Rattle.seg_core.specs.Steps.{at_most, must_hold};
 
 use seg_slots::SegError;
 
 /// The number, where it has at most 8 bits.
 pub(crate) fn u8_of(n: u64) -> Result<u8, SegError>
-    ensures { Reads (λ n. n) result (at_most (2 ^ 8 - 1) n) }
+    ensures { ReadsFields (λ n. n) result (at_most (2 ^ 8 - 1) n) }
 {
     if n > 0xff {
         return Err(SegError::Range);
@@ -18,7 +18,7 @@ pub(crate) fn u8_of(n: u64) -> Result<u8, SegError>
 
 /// The number, where it has at most 16 bits.
 pub(crate) fn u16_of(n: u64) -> Result<u16, SegError>
-    ensures { Reads (λ n. n) result (at_most (2 ^ 16 - 1) n) }
+    ensures { ReadsFields (λ n. n) result (at_most (2 ^ 16 - 1) n) }
 {
     if n > 0xffff {
         return Err(SegError::Range);
@@ -28,7 +28,7 @@ pub(crate) fn u16_of(n: u64) -> Result<u16, SegError>
 
 /// The number, where it has at most 32 bits.
 pub(crate) fn u32_of(n: u64) -> Result<u32, SegError>
-    ensures { Reads (λ n. n) result (at_most (2 ^ 32 - 1) n) }
+    ensures { ReadsFields (λ n. n) result (at_most (2 ^ 32 - 1) n) }
 {
     if n > 0xffff_ffff {
         return Err(SegError::Range);
@@ -38,7 +38,7 @@ pub(crate) fn u32_of(n: u64) -> Result<u32, SegError>
 
 /// An error with this reason, unless the condition holds.
 pub(crate) fn check(holds: bool, reason: SegError) -> Result<(), SegError>
-    ensures { Reads (λ u. u) result (check holds reason) }
+    ensures { ReadsFields (λ u. u) result (must_hold holds reason) }
 {
     if holds { Ok(()) } else { Err(reason) }
 }

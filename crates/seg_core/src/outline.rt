@@ -3,7 +3,7 @@
 ghost use Rattle.std.specs.Prelude.{◌≡◌, ◌≢◌, length, IfErr};
 ghost use Rattle.pw_wire.specs.Fields.{fields};
 ghost use Rattle.seg_slots.specs.declared.error.SegError.TheVariants.{NoMemory};
-ghost use Rattle.seg_slots.specs.Steps.{Reads};
+ghost use Rattle.seg_slots.specs.Steps.{ReadsFields};
 ghost use Rattle.seg_slots.specs.Message.{bytes_fields};
 ghost use Rattle.seg_core.specs.Outline.{outline_view};
 ghost use Rattle.seg_core.specs.Segment.{segment_outline};
@@ -42,7 +42,7 @@ fn is_entry_count(messages: BytesFields<'_>) -> bool
 /// Reads a `PathSegment` up to its entries. Its length is checked before anything in it is read.
 #[tactic(auto, unfolding(crate::specs::Segment::segment_outline))]
 pub(crate) fn read_outline(message: &[u8]) -> Result<Outline<'_>, SegError>
-    ensures outline { Reads outline_view result (segment_outline message.now) }
+    ensures outline { ReadsFields outline_view result (segment_outline message.now) }
     ensures memory { IfErr result (λ e. e ≢ NoMemory) }
 {
     check(message.len() <= MOST_SEGMENT_BYTES, SegError::TooLarge)?;

@@ -2,7 +2,7 @@
 
 ghost use Rattle.std.specs.Prelude.{◌≡◌, ◌==◌};
 ghost use Rattle.std.specs.List.{list_any};
-ghost use Rattle.isd_as.specs.IsdAs.{number_of};
+ghost use Rattle.isd_as.specs.IsdAs.{isd_as_number};
 ghost use Rattle.seg_core.specs.EntryView.{entry_views};
 ghost use Rattle.seg_core.specs.WellFormed.{is_linked, is_chain, has_no_loop};
 
@@ -37,14 +37,14 @@ pub(crate) fn is_chain(entries: &[Entry]) -> bool
 
 /// Whether two ISD-AS numbers are the same.
 pub(crate) fn is_same(one: IsdAs, other: IsdAs) -> bool
-    ensures { result ≡ (number_of one == number_of other) }
+    ensures { result ≡ (isd_as_number one == isd_as_number other) }
 {
     one == other
 }
 
 /// Whether one of the entries has this AS.
 fn stands_in(ia: IsdAs, entries: &[Entry]) -> bool
-    ensures { result ≡ list_any (λ f. f.ia == number_of ia) (entry_views entries.now) }
+    ensures { result ≡ list_any (λ f. f.ia == isd_as_number ia) (entry_views entries.now) }
 {
     entries.iter().any(|e| is_same(e.ia, ia))
 }

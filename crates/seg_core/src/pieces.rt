@@ -3,7 +3,7 @@
 ghost use Rattle.std.specs.Prelude.{◌≡◌, ◌≤◌, length, IfOk};
 ghost use Rattle.std.specs.Arc.{arc_value};
 ghost use Rattle.std.specs.Option.{option_map};
-ghost use Rattle.seg_core.specs.Pieces.{IsWithin, AreWithin, piece_at, pieces_at};
+ghost use Rattle.seg_core.specs.Pieces.{IsSpanWithin, AreWithin, piece_at, pieces_at};
 
 use std::alloc::AllocError;
 use std::marker::Model;
@@ -19,7 +19,7 @@ pub(crate) struct Span {
 impl Span {
     /// The bytes of this range.
     pub(crate) fn of(self, bytes: &[u8]) -> &[u8]
-        requires { IsWithin bytes.now self }
+        requires { IsSpanWithin bytes.now self }
         ensures { result.now ≡ piece_at bytes.now self }
     {
         &bytes[usize::from(self.start)..usize::from(self.end)]

@@ -4,9 +4,9 @@ ghost use Rattle.std.specs.Prelude.{◌≡◌, ◌+◌, ◌<◌, ◌≤◌, ◌+
 ghost use Rattle.std.specs.Option.{option_map, ForSome};
 ghost use Rattle.pw_wire.specs.Field.{bytes_field_encoding};
 ghost use Rattle.seg_core.specs.declared.format.TheConstants.{MOST_SEGMENT_BYTES};
-ghost use Rattle.seg_core.specs.Pieces.{IsWithin, AreWithin, piece_at, pieces_at};
+ghost use Rattle.seg_core.specs.Pieces.{IsSpanWithin, AreWithin, piece_at, pieces_at};
 ghost use Rattle.seg_core.specs.EntryView.{borrowed_pieces, borrowed_view};
-ghost use Rattle.seg_core.specs.Encoding.{head_encoding, bytes_encoding, optional_encoding, pieces_encoding, as_entry_encoding};
+ghost use Rattle.seg_core.specs.Encoding.{field_head_encoding, bytes_encoding, optional_encoding, pieces_encoding, as_entry_encoding};
 
 use crate::entry::BorrowedEntry;
 use crate::format::MOST_SEGMENT_BYTES;
@@ -22,7 +22,7 @@ const ONE_BYTE: usize = 128;
 #[tactic(auto, unfolding(crate::specs::Encoding::head_encoding))]
 pub(crate) fn put_head(out: &mut Vec<u8>, number: u32, len: usize) -> Result<(), AllocError>
     requires { number < 15 }
-    ensures { OnOk result (out.new.items ≡ out.old.items ++ head_encoding number len) }
+    ensures { OnOk result (out.new.items ≡ out.old.items ++ field_head_encoding number len) }
 {
     if len < ONE_BYTE {
         return out.extend_from_slice(&[number as u8 * 8 + 2, len as u8]);
@@ -35,7 +35,7 @@ pub(crate) fn put_head(out: &mut Vec<u8>, number: u32, len: usize) -> Result<(),
 fn put_piece(out: &mut Vec<u8>, bytes: &[u8]) -> Result<Span, AllocError>
     requires { length out.old.items + length bytes.now ≤ MOST_SEGMENT_BYTES }
     ensures put { IfOk result (λ _. out.new.items ≡ out.old.items ++ bytes.now) }
-    ensures within { IfOk result (λ span. IsWithin out.new.items span) }
+    ensures within { IfOk result (λ span. IsSpanWithin out.new.items span) }
     ensures there { IfOk result (λ span. piece_at out.new.items span ≡ bytes.now) }
 {
     let start = out.len() as u16;
@@ -51,7 +51,7 @@ fn put_field(out: &mut Vec<u8>, number: u32, bytes: &[u8]) -> Result<Span, Alloc
     requires number { number < 15 }
     requires short { length out.old.items + length (bytes_field_encoding number bytes.now) ≤ MOST_SEGMENT_BYTES }
     ensures put { IfOk result (λ _. out.new.items ≡ out.old.items ++ bytes_field_encoding number bytes.now) }
-    ensures within { IfOk result (λ span. IsWithin out.new.items span) }
+    ensures within { IfOk result (λ span. IsSpanWithin out.new.items span) }
     ensures there { IfOk result (λ span. piece_at out.new.items span ≡ bytes.now) }
 {
     put_head(out, number, bytes.len())?;
@@ -63,7 +63,7 @@ pub(crate) fn put_bytes(out: &mut Vec<u8>, number: u32, bytes: &[u8]) -> Result<
     requires number { number < 15 }
     requires short { length out.old.items + length (bytes_encoding number bytes.now) ≤ MOST_SEGMENT_BYTES }
     ensures put { IfOk result (λ _. out.new.items ≡ out.old.items ++ bytes_encoding number bytes.now) }
-    ensures within { IfOk result (λ span. IsWithin out.new.items span) }
+    ensures within { IfOk result (λ span. IsSpanWithin out.new.items span) }
     ensures there { IfOk result (λ span. piece_at out.new.items span ≡ bytes.now) }
 {
     if bytes.is_empty() {
@@ -76,7 +76,7 @@ pub(crate) fn put_bytes(out: &mut Vec<u8>, number: u32, bytes: &[u8]) -> Result<
 fn put_unsigned(out: &mut Vec<u8>, bytes: Option<&[u8]>) -> Result<Option<Span>, AllocError>
     requires { length out.old.items + length (optional_encoding 2 (option_map (λ s. s.now) bytes)) ≤ MOST_SEGMENT_BYTES }
     ensures put { IfOk result (λ _. out.new.items ≡ out.old.items ++ optional_encoding 2 (option_map (λ s. s.now) bytes.entry)) }
-    ensures within { IfOk result (λ span. ForSome span (λ s. IsWithin out.new.items s)) }
+    ensures within { IfOk result (λ span. ForSome span (λ s. IsSpanWithin out.new.items s)) }
     ensures there { IfOk result (λ span. option_map (λ s. piece_at out.new.items s) span ≡ option_map (λ s. s.now) bytes.entry) }
 {
     match bytes {

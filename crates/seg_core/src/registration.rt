@@ -3,14 +3,14 @@
 ghost use Rattle.std.specs.Prelude.{◌≡◌, ◌≢◌, List, [], ◌++◌, length, IfOk, IfErr, IsOk};
 ghost use Rattle.std.specs.List.{AllByRecursion};
 ghost use Rattle.pw_wire.specs.Fields.{fields};
-ghost use Rattle.seg_slots.specs.Steps.{Reads};
-ghost use Rattle.seg_core.specs.Steps.{Gives, result_map};
+ghost use Rattle.seg_slots.specs.Steps.{ReadsFields};
+ghost use Rattle.seg_core.specs.Steps.{GivesSegment, result_map};
 ghost use Rattle.seg_slots.specs.Message.{bytes_fields};
 ghost use Rattle.seg_core.specs.SegmentView.{SegmentView};
 ghost use Rattle.seg_slots.specs.declared.error.SegError.TheVariants.{NoMemory};
 ghost use Rattle.seg_core.specs.declared.seg_type.SegType.{SegType};
 ghost use Rattle.seg_core.specs.Earlier.{AreIn};
-ghost use Rattle.seg_core.specs.Registration.{MapEntry, entry_rows, map_decoding, map_entry_decoding, segments_decoding, registration_outline, registration_decoding, rows_of};
+ghost use Rattle.seg_core.specs.Registration.{MapEntry, entry_rows, map_decoding, map_entry_decoding, segments_decoding, registration_outline, registration_decoding, typed_segments};
 ghost use Rattle.seg_core.specs.Encoding.{IsSegment};
 
 use crate::earlier::Earlier;
@@ -30,8 +30,8 @@ fn read_segments(
     messages: BytesFields<'_>,
     found: &mut Vec<(SegType, Segment)>,
 ) -> Result<(), SegError>
-    ensures { Gives (λ _. found.new.items) result
-        (result_map (λ segments. found.old.items ++ rows_of kind segments)
+    ensures { GivesSegment (λ _. found.new.items) result
+        (result_map (λ segments. found.old.items ++ typed_segments kind segments)
         (segments_decoding (length found.old.items) (bytes_fields messages.entry.field_number (fields messages.entry.rest.now)))) }
 {
     for message in messages {
@@ -50,8 +50,8 @@ fn read_map_entry(
     found: &mut Vec<(SegType, Segment)>,
 ) -> Result<SegType, SegError>
     ensures { (entries : List MapEntry) → AreIn entries earlier → entry_rows entries ≡ found.old.items
-        → Gives {Y = SegType × List (SegType × SegmentView)} (λ kind. (kind, found.new.items)) result
-        (result_map (λ entry. (entry.0, found.old.items ++ rows_of entry.0 entry.1)) (map_entry_decoding entries message.now)) }
+        → GivesSegment {Y = SegType × List (SegType × SegmentView)} (λ kind. (kind, found.new.items)) result
+        (result_map (λ entry. (entry.0, found.old.items ++ typed_segments entry.0 entry.1)) (map_entry_decoding entries message.now)) }
 {
     let slots = slots_of::<2>(&MAP_ENTRY, message)?;
     let kind = earlier.new_type(slots.number_field(1))?;
@@ -62,7 +62,7 @@ fn read_map_entry(
 
 /// Reads the entries of a map.
 fn read_map(alloc: Global, messages: BytesFields<'_>) -> Result<Vec<(SegType, Segment)>, SegError>
-    ensures { Gives (λ v. v.items) result
+    ensures { GivesSegment (λ v. v.items) result
         (result_map entry_rows (map_decoding [] (bytes_fields messages.entry.field_number (fields messages.entry.rest.now)))) }
 {
     let mut earlier = Earlier::none();
@@ -77,7 +77,7 @@ fn read_map(alloc: Global, messages: BytesFields<'_>) -> Result<Vec<(SegType, Se
 /// The messages of the entries of a map.
 #[tactic(auto, unfolding(crate::specs::Registration::registration_outline))]
 fn read_outline(message: &[u8]) -> Result<BytesFields<'_>, SegError>
-    ensures outline { Reads (λ entries. bytes_fields entries.field_number (fields entries.rest.now)) result (registration_outline message.now) }
+    ensures outline { ReadsFields (λ entries. bytes_fields entries.field_number (fields entries.rest.now)) result (registration_outline message.now) }
     ensures memory { IfErr result (λ e. e ≢ NoMemory) }
 {
     check(message.len() <= MOST_REGISTERED_BYTES, SegError::TooLarge)?;
@@ -90,7 +90,7 @@ fn read_outline(message: &[u8]) -> Result<BytesFields<'_>, SegError>
 /// The outline is checked before memory is taken.
 #[tactic(auto, unfolding(crate::specs::Registration::registration_decoding))]
 pub fn read_registration(alloc: Global, message: &[u8]) -> Result<Vec<(SegType, Segment)>, SegError>
-    ensures decoding { Gives (λ v. v.items) result (registration_decoding message.now) }
+    ensures decoding { GivesSegment (λ v. v.items) result (registration_decoding message.now) }
     ensures whole { IfOk result (λ v. AllByRecursion (λ row. IsSegment row.1) v.items) }
     ensures memory { IfErr result (λ e. e ≡ NoMemory → IsOk (registration_outline message.now)) }
 {

@@ -1,7 +1,7 @@
 //! Requests for segments.
 
-ghost use Rattle.isd_as.specs.IsdAs.{number_of};
-ghost use Rattle.seg_slots.specs.Steps.{Reads};
+ghost use Rattle.isd_as.specs.IsdAs.{isd_as_number};
+ghost use Rattle.seg_slots.specs.Steps.{ReadsFields};
 ghost use Rattle.seg_core.specs.Request.{request_decoding};
 
 use crate::shape::REQUEST;
@@ -11,7 +11,7 @@ use seg_slots::{SegError, slots_of};
 /// The source and the destination of a `SegmentsRequest`, 0-0 where the message has none. The call takes no memory.
 #[tactic(auto, unfolding(crate::specs::Request::request_decoding))]
 pub fn read_request(message: &[u8]) -> Result<(IsdAs, IsdAs), SegError>
-    ensures { Reads (λ ends. (number_of ends.0, number_of ends.1)) result (request_decoding message.now) }
+    ensures { ReadsFields (λ ends. (isd_as_number ends.0, isd_as_number ends.1)) result (request_decoding message.now) }
 {
     let slots = slots_of::<1>(&REQUEST, message)?;
     let source = IsdAs::from_u64(slots.number_field(1));

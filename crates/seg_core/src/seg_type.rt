@@ -1,7 +1,7 @@
 //! The types of segments.
 
 ghost use Rattle.std.specs.Prelude.{◌≡◌};
-ghost use Rattle.seg_slots.specs.Steps.{Reads};
+ghost use Rattle.seg_slots.specs.Steps.{ReadsFields};
 
 use seg_slots::SegError;
 
@@ -30,7 +30,7 @@ impl SegType {
 
     /// The type with this number. The whole number is checked, not its low bits; any number but 1, 2 and 3 is `BadType`.
     pub fn from_number(number: u64) -> Result<SegType, SegError>
-        ensures { Reads (λ kind. kind) result (type_of number) }
+        ensures { ReadsFields (λ kind. kind) result (type_of number) }
     {
         match number {
             1 => Ok(SegType::Up),

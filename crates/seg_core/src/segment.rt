@@ -7,7 +7,7 @@ ghost use Rattle.pw_wire.specs.Field.{bytes_field_encoding};
 ghost use Rattle.pw_wire.specs.Fields.{fields};
 ghost use Rattle.seg_slots.specs.declared.error.SegError.TheVariants.{NoMemory};
 ghost use Rattle.seg_core.specs.declared.format.TheConstants.{MOST_SEGMENT_BYTES};
-ghost use Rattle.seg_core.specs.Steps.{Gives, each};
+ghost use Rattle.seg_core.specs.Steps.{GivesSegment, each};
 ghost use Rattle.seg_slots.specs.Message.{bytes_fields};
 ghost use Rattle.seg_core.specs.Pieces.{AreWithin};
 ghost use Rattle.seg_core.specs.Entry.{as_entry_decoding};
@@ -129,7 +129,7 @@ impl fmt::Debug for Segment {
 /// Reads an entry, and appends its encoding.
 fn read_entry(message: &[u8], out: &mut Vec<u8>) -> Result<MarkedEntry, SegError>
     requires { length out.old.items + length (bytes_field_encoding 2 message.now) ≤ MOST_SEGMENT_BYTES }
-    ensures decoding { Gives (λ e. marked_view out.new.items e) result (as_entry_decoding message.now) }
+    ensures decoding { GivesSegment (λ e. marked_view out.new.items e) result (as_entry_decoding message.now) }
     ensures put { IfOk result (λ e. out.new.items ≡ out.old.items ++ bytes_field_encoding 2 (as_entry_encoding (marked_view out.new.items e))) }
     ensures within { IfOk result (λ e. AreWithin out.new.items e.spans) }
     ensures short { IfOk result (λ _. length out.new.items ≤ length out.old.items + length (bytes_field_encoding 2 message.now)) }
@@ -149,7 +149,7 @@ fn read_entries(
     out: &mut Vec<u8>,
 ) -> Result<Vec<MarkedEntry>, SegError>
     requires { length out.old.items + sum_by (λ t. length (bytes_field_encoding 2 t)) (bytes_fields messages.field_number (fields messages.rest.now)) ≤ MOST_SEGMENT_BYTES }
-    ensures decoding { Gives (λ v. marked_views out.new.items v.items) result
+    ensures decoding { GivesSegment (λ v. marked_views out.new.items v.items) result
         (each as_entry_decoding (bytes_fields messages.entry.field_number (fields messages.entry.rest.now))) }
     ensures put { IfOk result (λ v. out.new.items ≡ out.old.items ++ entries_encoding (marked_views out.new.items v.items)) }
     ensures within { IfOk result (λ v. All (λ e. AreWithin out.new.items e.spans) v.items) }
@@ -180,7 +180,7 @@ fn entries_in(
 /// Reads a `PathSegment` from all of the bytes. Its outline is checked before memory is taken.
 #[tactic(auto, unfolding(crate::specs::Segment::segment_decoding))]
 pub fn read_segment(alloc: Global, message: &[u8]) -> Result<Segment, SegError>
-    ensures decoding { Gives (λ s. s) result (segment_decoding message.now) }
+    ensures decoding { GivesSegment (λ s. s) result (segment_decoding message.now) }
     ensures whole { IfOk result IsSegment }
     ensures memory { IfErr result (λ e. e ≡ NoMemory → IsOk (segment_outline message.now)) }
 {

@@ -15,7 +15,7 @@ use Rattle.std.proofs.lemmas.Bool.Decides.{nat_tests}
 use Rattle.std.proofs.lemmas.List.Folds.{list_any_at, list_any_none}
 use Rattle.std.proofs.lemmas.List.Sorted.{list_any-IsPermutation}
 use Rattle.isd_as.specs.declared.number.IsdAs.{IsdAs}
-use Rattle.isd_as.specs.IsdAs.{number_of}
+use Rattle.isd_as.specs.IsdAs.{isd_as_number}
 use Rattle.seg_lookup.specs.Roster.{roster_of}
 use Rattle.seg_lookup.specs.ClassificationLaws.{RostersHaveTheirCores}
 
@@ -25,17 +25,17 @@ list_any-map p f (x ∷ xs) = ap (λ b. p (f x) || b) (list_any-map p f xs)
 
 -- whether one of them has the number
 abbrev is_among : ℕ → List IsdAs → Bool
-is_among n cores = list_any (λ core. is_eq (nat_cmp n (number_of core))) cores
+is_among n cores = list_any (λ core. is_eq (nat_cmp n (isd_as_number core))) cores
 
 contains-roster_of : (cores : List IsdAs) (n : ℕ) → set.contains (roster_of cores) n ≡ is_among n cores
-contains-roster_of cores n = contains-from_list nat_cmp_total (map number_of cores) n ∙ list_any-map (λ k. is_eq (nat_cmp n k)) number_of cores
+contains-roster_of cores n = contains-from_list nat_cmp_total (map isd_as_number cores) n ∙ list_any-map (λ k. is_eq (nat_cmp n k)) isd_as_number cores
 
 -- a list and its permutation are the same set
 pub same_roster : (cores sorted : List IsdAs) → IsPermutation cores sorted → roster_of sorted ≡ roster_of cores
 same_roster cores sorted moved =
     same_set nat_cmp_total nat_cmp-IsAntisymmetric (roster_of sorted) (roster_of cores) (λ n.
     contains-roster_of sorted n
-    ∙ sym (list_any-IsPermutation (λ core. is_eq (nat_cmp n (number_of core))) cores sorted moved)
+    ∙ sym (list_any-IsPermutation (λ core. is_eq (nat_cmp n (isd_as_number core))) cores sorted moved)
     ∙ sym (contains-roster_of cores n))
 
 comparison_rises : (a b n : ℕ) → a ≤ b → ordering_index (nat_cmp a n) ≤ ordering_index (nat_cmp b n)
@@ -46,28 +46,28 @@ turned : (a n : ℕ) (o : Ordering) → nat_cmp a n ≡ o → is_eq (nat_cmp n a
 turned a n o e = ap is_eq (nat_cmp_total.antisymm n a ∙ ap ordering_reverse e)
 
 -- numbers that are all below or above are not among them
-none_among : (cores : List IsdAs) (n i : ℕ) → IsPartitionPoint (λ core. nat_cmp (number_of core) n ≡ Less) (λ core. nat_cmp (number_of core) n ≡ Greater) cores i → is_among n cores ≡ false
+none_among : (cores : List IsdAs) (n i : ℕ) → IsPartitionPoint (λ core. nat_cmp (isd_as_number core) n ≡ Less) (λ core. nat_cmp (isd_as_number core) n ≡ Greater) cores i → is_among n cores ≡ false
 none_among cores n i parted =
-    list_any_none (λ core. is_eq (nat_cmp n (number_of core))) cores (λ k d lt.
+    list_any_none (λ core. is_eq (nat_cmp n (isd_as_number core))) cores (λ k d lt.
     elim (cases_lt k i) [
-      | inl before ↦ turned (number_of (get_or cores k d)) n Less (parted.0 k d (omega arith) before)
-      | inr behind ↦ turned (number_of (get_or cores k d)) n Greater (parted.1 k d behind lt)
+      | inl before ↦ turned (isd_as_number (get_or cores k d)) n Less (parted.0 k d (omega arith) before)
+      | inr behind ↦ turned (isd_as_number (get_or cores k d)) n Greater (parted.1 k d behind lt)
     ])
 
 -- a binary search by number among numbers that do not fall finds a number exactly when it is among them
-search_tells : (cores : List IsdAs) (n : ℕ) (r : Result ℕ ℕ) → IsNonDecreasingBy number_of cores → IsSearchInRange r (length cores) → IsBinarySearchResult (λ core. nat_cmp (number_of core) n) cores r → is_ok r ≡ is_among n cores
+search_tells : (cores : List IsdAs) (n : ℕ) (r : Result ℕ ℕ) → IsNonDecreasingBy isd_as_number cores → IsSearchInRange r (length cores) → IsBinarySearchResult (λ core. nat_cmp (isd_as_number core) n) cores r → is_ok r ≡ is_among n cores
 search_tells [] n (Ok at) rising in_range equal = absurd (omega arith)
 search_tells (core ∷ cores) n (Ok at) rising in_range equal =
-    sym (list_any_at (λ core. is_eq (nat_cmp n (number_of core))) (core ∷ cores) at core in_range (turned (number_of (get_or (core ∷ cores) at core)) n Equal (equal core)))
+    sym (list_any_at (λ core. is_eq (nat_cmp n (isd_as_number core))) (core ∷ cores) at core in_range (turned (isd_as_number (get_or (core ∷ cores) at core)) n Equal (equal core)))
 search_tells cores n (Err at) rising in_range parted =
-    sym (none_among cores n at (parted (λ i j d le lt. comparison_rises (number_of (get_or cores i d)) (number_of (get_or cores j d)) n (rising i j d le lt))))
+    sym (none_among cores n at (parted (λ i j d le lt. comparison_rises (isd_as_number (get_or cores i d)) (isd_as_number (get_or cores j d)) n (rising i j d le lt))))
 
-pub found_in_roster : (cores : List IsdAs) (n : ℕ) (r : Result ℕ ℕ) → IsNonDecreasingBy number_of cores → IsSearchInRange r (length cores) → IsBinarySearchResult (λ core. nat_cmp (number_of core) n) cores r → is_ok r ≡ set.contains (roster_of cores) n
+pub found_in_roster : (cores : List IsdAs) (n : ℕ) (r : Result ℕ ℕ) → IsNonDecreasingBy isd_as_number cores → IsSearchInRange r (length cores) → IsBinarySearchResult (λ core. nat_cmp (isd_as_number core) n) cores r → is_ok r ≡ set.contains (roster_of cores) n
 found_in_roster cores n r rising in_range found = search_tells cores n r rising in_range found ∙ sym (contains-roster_of cores n)
 
 pub rosters_have_their_cores : RostersHaveTheirCores
 rosters_have_their_cores cores number =
-    let numbers = map number_of cores in
+    let numbers = map isd_as_number cores in
     let same = contains-from_list nat_cmp_total numbers number in (
       (λ has. Contains-from_any exact number numbers (sym same ∙ has)),
       (λ there. same ∙ list_any-from_Contains (eq_by_cmp_equiv nat_cmp_total) number numbers there),

@@ -3,7 +3,7 @@ use Rattle.std.specs.Prelude.{◌≡◌, ℕ, ◌⊎◌, ◌↔◌, List, IsTrue
 use Rattle.std.specs.List.{Contains}
 use Rattle.std.specs.FinSet as set
 use Rattle.isd_as.specs.declared.number.IsdAs.{IsdAs}
-use Rattle.isd_as.specs.IsdAs.{number_of}
+use Rattle.isd_as.specs.IsdAs.{isd_as_number}
 use Rattle.seg_lookup.specs.Roster.{RosterView, roster_of, is_core}
 use Rattle.seg_lookup.specs.Query.{QueryView}
 use Rattle.seg_lookup.specs.Classification.{query_of}
@@ -11,7 +11,7 @@ use Rattle.seg_lookup.specs.Classification.{query_of}
 -- A roster has just the ASes that it was made of.
 abbrev pub RostersHaveTheirCores : Type 0
 RostersHaveTheirCores =
-    (cores : List IsdAs) (number : ℕ) → IsTrue (set.contains (roster_of cores) number) ↔ Contains (map number_of cores) number
+    (cores : List IsdAs) (number : ℕ) → IsTrue (set.contains (roster_of cores) number) ↔ Contains (map isd_as_number cores) number
 
 -- one side and the other, in either order
 abbrev pub AreSides : QueryView → ℕ → ℕ → Type 0

@@ -1,6 +1,6 @@
 -- What a lookup asks for.
 use Rattle.std.specs.Prelude.{ℕ, Result, Ok, Err}
-use Rattle.isd_as.specs.IsdAs.{number_of}
+use Rattle.isd_as.specs.IsdAs.{isd_as_number}
 use Rattle.seg_core.specs.declared.seg_type.SegType.{SegType}
 use Rattle.seg_lookup.specs.declared.error.LookupError.{LookupError}
 use Rattle.seg_lookup.specs.declared.query.Query.{Query}
@@ -12,7 +12,7 @@ pub record QueryView : Type 0 where
   pub end : ℕ
 
 abbrev pub query_view : Query → QueryView
-query_view query = record { kind = query.kind; start = number_of query.start; end = number_of query.end }
+query_view query = record { kind = query.kind; start = isd_as_number query.start; end = isd_as_number query.end }
 
 -- what a classification represents
 abbrev pub query_result : Result Query LookupError → Result QueryView LookupError

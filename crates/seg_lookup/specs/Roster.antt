@@ -4,7 +4,7 @@ use Rattle.std.specs.Ordering.{nat_cmp}
 use Rattle.std.specs.Coded.{Coded, coded_ℕ}
 use Rattle.std.specs.FinSet as set
 use Rattle.isd_as.specs.declared.number.IsdAs.{IsdAs}
-use Rattle.isd_as.specs.IsdAs.{number_of}
+use Rattle.isd_as.specs.IsdAs.{isd_as_number}
 
 -- a finite set of ISD-ASes, by their numbers
 abbrev pub RosterView : Type 0
@@ -16,7 +16,7 @@ roster_code = set.code coded_ℕ
 
 -- the set of these
 abbrev pub roster_of : List IsdAs → RosterView
-roster_of cores = set.from_list (map number_of cores)
+roster_of cores = set.from_list (map isd_as_number cores)
 
 -- A side is core where its AS is 0, or it is on the roster.
 abbrev pub is_core : RosterView → ℕ → Bool

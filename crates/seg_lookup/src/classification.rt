@@ -1,7 +1,7 @@
 //! What a source and a destination ask for.
 
 ghost use Rattle.std.specs.Prelude.{◌≡◌};
-ghost use Rattle.isd_as.specs.IsdAs.{number_of};
+ghost use Rattle.isd_as.specs.IsdAs.{isd_as_number};
 ghost use Rattle.seg_lookup.specs.Query.{query_view, query_result};
 ghost use Rattle.seg_lookup.specs.Classification.{is_isd_only_wildcard, query_of};
 
@@ -16,7 +16,7 @@ use seg_core::SegType;
 /// no memory.
 #[tactic(auto, unfolding(crate::specs::Classification::query_of))]
 pub fn classify(roster: &Roster, source: IsdAs, destination: IsdAs) -> Result<Query, LookupError>
-    ensures { query_result result ≡ query_of roster.now (number_of source) (number_of destination) }
+    ensures { query_result result ≡ query_of roster.now (isd_as_number source) (isd_as_number destination) }
 {
     if source.to_u64() == 0 && destination.to_u64() == 0 {
         return Err(LookupError::NullDestination);
@@ -34,14 +34,14 @@ pub fn classify(roster: &Roster, source: IsdAs, destination: IsdAs) -> Result<Qu
 
 /// Segments of a type that one side has built up to the other.
 fn built(kind: SegType, start: IsdAs, end: IsdAs) -> Query
-    ensures { query_view result ≡ record { kind = kind; start = number_of start; end = number_of end } }
+    ensures { query_view result ≡ record { kind = kind; start = isd_as_number start; end = isd_as_number end } }
 {
     Query { kind, start, end }
 }
 
 /// Whether the ISD is 0, and the AS is not.
 fn is_isd_only_wildcard(side: IsdAs) -> bool
-    ensures { result ≡ is_isd_only_wildcard (number_of side) }
+    ensures { result ≡ is_isd_only_wildcard (isd_as_number side) }
 {
     side.isd == 0 && side.asn != 0
 }

@@ -2,7 +2,7 @@
 
 ghost use Rattle.std.specs.Prelude.{◌≡◌};
 ghost use Rattle.std.specs.FinSet as set;
-ghost use Rattle.isd_as.specs.IsdAs.{number_of};
+ghost use Rattle.isd_as.specs.IsdAs.{isd_as_number};
 ghost use Rattle.seg_lookup.specs.Roster.{is_core, roster_of};
 
 use isd_as::IsdAs;
@@ -17,7 +17,7 @@ pub struct Roster {
 
 impl Model for Roster {
     ghost use Rattle.std.specs.List.Sorted.{IsNonDecreasingBy};
-    ghost use Rattle.isd_as.specs.IsdAs.{number_of};
+    ghost use Rattle.isd_as.specs.IsdAs.{isd_as_number};
     ghost use Rattle.seg_lookup.specs.Roster.{RosterView, roster_code, roster_of};
 
     ghost Value = { RosterView };
@@ -26,7 +26,7 @@ impl Model for Roster {
 
     ghost view = { λ s. roster_of s.cores.items };
 
-    ghost invariant = { λ s. IsNonDecreasingBy number_of s.cores.items };
+    ghost invariant = { λ s. IsNonDecreasingBy isd_as_number s.cores.items };
 }
 
 impl Roster {
@@ -40,7 +40,7 @@ impl Roster {
 
     /// Whether the AS is one of them, in logarithmic time.
     pub fn contains(&self, ia: IsdAs) -> bool
-        ensures { result ≡ set.contains self.now (number_of ia) }
+        ensures { result ≡ set.contains self.now (isd_as_number ia) }
     {
         let number = ia.to_u64();
         let found = self
@@ -51,7 +51,7 @@ impl Roster {
 
     /// Whether a side of a lookup is core: its AS is 0, or it is one of them.
     pub(crate) fn is_core(&self, side: IsdAs) -> bool
-        ensures { result ≡ is_core self.now (number_of side) }
+        ensures { result ≡ is_core self.now (isd_as_number side) }
     {
         side.asn == 0 || self.contains(side)
     }

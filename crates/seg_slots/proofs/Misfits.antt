@@ -5,34 +5,34 @@ use Rattle.std.proofs.lemmas.Bool.{cases_lt, false≢true}
 use Rattle.std.proofs.lemmas.List.{get_or_past}
 use Rattle.pw_wire.specs.Field as wire
 use Rattle.pw_wire.specs.Field.{FieldView}
-use Rattle.pw_wire.specs.View.{IsStep}
+use Rattle.pw_wire.specs.View.{HasFirstField}
 use Rattle.pw_wire.specs.Fields.{fields, fault}
 use Rattle.seg_slots.specs.declared.error.SegError.{SegError}
 use Rattle.seg_slots.specs.declared.error.SegError.TheVariants as error
 use Rattle.seg_slots.specs.declared.shape.FieldKind.{FieldKind}
 use Rattle.seg_slots.specs.declared.shape.FieldKind.TheVariants as kind
 use Rattle.pw_wire.proofs.Exports.{fields-nil, fault-nil}
-use Rattle.seg_slots.specs.Message.{kind_at, suits, is_single, bytes_field, misfit_at, misfit_after, message_fields}
+use Rattle.seg_slots.specs.Message.{field_kind, suits, is_single, last_bytes_field, misfit_at, misfit_after, message_fields}
 use Rattle.seg_slots.specs.Slots.{AreNoted, IsMidway, TakesBytes}
 use Rattle.seg_slots.proofs.Noting.{AreNoted-varint, AreNoted-bytes}
 
 -- A number that a shape knows as a single message is one of its numbers.
-pub single-known : (shape : List FieldKind) (n : ℕ) → length shape ≤ 7 → is_single (kind_at shape n) ≡ true → n < 7
+pub single-known : (shape : List FieldKind) (n : ℕ) → length shape ≤ 7 → is_single (field_kind shape n) ≡ true → n < 7
 single-known shape n short single = ⊎_elim
     (λ lt. omega arith)
     (λ past. absurd (false≢true (sym (ap is_single (get_or_past shape n kind.Unknown past)) ∙ single)))
     (cases_lt n (length shape))
 
-pub misfit-unsuited : (shape : List FieldKind) (before : List FieldView) (f : FieldView) → suits (kind_at shape f.number) f.value ≡ false → Some error.KindOfField ≡ misfit_at shape before f
+pub misfit-unsuited : (shape : List FieldKind) (before : List FieldView) (f : FieldView) → suits (field_kind shape f.number) f.value ≡ false → Some error.KindOfField ≡ misfit_at shape before f
 misfit-unsuited shape before f unsuited = rw unsuited refl
 
-pub misfit-repeated : (shape : List FieldKind) (before : List FieldView) (f : FieldView) → suits (kind_at shape f.number) f.value ≡ true → is_single (kind_at shape f.number) ≡ true → is_some (bytes_field f.number before) ≡ true → Some error.RepeatedMessage ≡ misfit_at shape before f
+pub misfit-repeated : (shape : List FieldKind) (before : List FieldView) (f : FieldView) → suits (field_kind shape f.number) f.value ≡ true → is_single (field_kind shape f.number) ≡ true → is_some (last_bytes_field f.number before) ≡ true → Some error.RepeatedMessage ≡ misfit_at shape before f
 misfit-repeated shape before f suited single there = rw (suited, single, there) refl
 
-pub misfit-first : (shape : List FieldKind) (before : List FieldView) (f : FieldView) → suits (kind_at shape f.number) f.value ≡ true → is_single (kind_at shape f.number) ≡ true → is_some (bytes_field f.number before) ≡ false → None ≡ misfit_at shape before f
+pub misfit-first : (shape : List FieldKind) (before : List FieldView) (f : FieldView) → suits (field_kind shape f.number) f.value ≡ true → is_single (field_kind shape f.number) ≡ true → is_some (last_bytes_field f.number before) ≡ false → None ≡ misfit_at shape before f
 misfit-first shape before f suited single there = rw (suited, single, there) refl
 
-pub misfit-many : (shape : List FieldKind) (before : List FieldView) (f : FieldView) → suits (kind_at shape f.number) f.value ≡ true → is_single (kind_at shape f.number) ≡ false → None ≡ misfit_at shape before f
+pub misfit-many : (shape : List FieldKind) (before : List FieldView) (f : FieldView) → suits (field_kind shape f.number) f.value ≡ true → is_single (field_kind shape f.number) ≡ false → None ≡ misfit_at shape before f
 misfit-many shape before f suited single = rw (suited, single) refl
 
 -- ---- the pass
@@ -62,8 +62,8 @@ IsMidway-step shape message rest misfit found ns ns' ts ts' f used m these same 
 -- ---- a pass that has met no misfit
 
 -- One more number, which fits.
-pub IsMidway-number : (shape : List FieldKind) (message rest ns : List ℕ) (ts : List (Option (Bor (List ℕ)))) (k n used : ℕ) → kind_at shape k ≡ kind.Number → k < 7 → length ns ≡ 7
-    → IsStep rest (wire.varint_field k n) used
+pub IsMidway-number : (shape : List FieldKind) (message rest ns : List ℕ) (ts : List (Option (Bor (List ℕ)))) (k n used : ℕ) → field_kind shape k ≡ kind.Number → k < 7 → length ns ≡ 7
+    → HasFirstField rest (wire.varint_field k n) used
     → IsMidway shape message rest None ns ts → IsMidway shape message (drop used rest) None (slice_set ns k n) ts
 IsMidway-number shape message rest ns ts k n used number small width step m =
     IsMidway-step shape message rest None None ns (slice_set ns k n) ts ts (wire.varint_field k n) used m step.fields_are step.fault_is
@@ -72,7 +72,7 @@ IsMidway-number shape message rest ns ts k n used number small width step m =
 
 -- One more byte string, which fits.
 pub IsMidway-bytes : (shape : List FieldKind) (message rest ns : List ℕ) (ts : List (Option (Bor (List ℕ)))) (k used : ℕ) (s : Bor (List ℕ)) → TakesBytes shape k ns ts → k < 7
-    → IsStep rest (wire.bytes_field k s.now) used
+    → HasFirstField rest (wire.bytes_field k s.now) used
     → IsMidway shape message rest None ns ts → IsMidway shape message (drop used rest) None ns (slice_set ts k (Some s))
 IsMidway-bytes shape message rest ns ts k used s fit small step m =
     IsMidway-step shape message rest None None ns ns ts (slice_set ts k (Some s)) (wire.bytes_field k s.now) used m step.fields_are step.fault_is

@@ -3,7 +3,7 @@ use Rattle.std.proofs.Common.{◌≡◌, ◌≢◌, ℕ, ◌<◌, ◌≤◌, Boo
 use Rattle.std.specs.Option.{option_or, option_map}
 use Rattle.std.proofs.lemmas.Bool.{cases_eq}
 use Rattle.pw_wire.specs.Field.{Varint, Bytes, FieldView}
-use Rattle.seg_slots.specs.Message.{varint_in, bytes_in, number_fields, bytes_fields, last_of, number_field, bytes_field}
+use Rattle.seg_slots.specs.Message.{varint_in, bytes_of_value, number_fields, bytes_fields, last_of, number_field, last_bytes_field}
 use Rattle.seg_slots.specs.Slots.{AreNoted}
 
 -- ---- the lists under a number
@@ -14,11 +14,11 @@ number_fields-push k (g ∷ fs) f =
     ap (λ ns. cond (eqb g.number k) (varint_in g.value) [] ++ ns) (number_fields-push k fs f)
     ∙ sym (append_assoc (cond (eqb g.number k) (varint_in g.value) []) (number_fields k fs) (cond (eqb f.number k) (varint_in f.value) []))
 
-pub bytes_fields-push : (k : ℕ) (fs : List FieldView) (f : FieldView) → bytes_fields k (fs ++ f ∷ []) ≡ bytes_fields k fs ++ cond (eqb f.number k) (bytes_in f.value) []
+pub bytes_fields-push : (k : ℕ) (fs : List FieldView) (f : FieldView) → bytes_fields k (fs ++ f ∷ []) ≡ bytes_fields k fs ++ cond (eqb f.number k) (bytes_of_value f.value) []
 bytes_fields-push k [] f = append-nil _
 bytes_fields-push k (g ∷ fs) f =
-    ap (λ ts. cond (eqb g.number k) (bytes_in g.value) [] ++ ts) (bytes_fields-push k fs f)
-    ∙ sym (append_assoc (cond (eqb g.number k) (bytes_in g.value) []) (bytes_fields k fs) (cond (eqb f.number k) (bytes_in f.value) []))
+    ap (λ ts. cond (eqb g.number k) (bytes_of_value g.value) [] ++ ts) (bytes_fields-push k fs f)
+    ∙ sym (append_assoc (cond (eqb g.number k) (bytes_of_value g.value) []) (bytes_fields k fs) (cond (eqb f.number k) (bytes_of_value f.value) []))
 
 -- the byte strings of a message whose first field is bytes
 pub bytes_fields-first : (k : ℕ) (fs others : List FieldView) (bytes : List ℕ) → fs ≡ (record { number = k; value = Bytes bytes }) ∷ others → bytes_fields k fs ≡ bytes ∷ bytes_fields k others
@@ -35,7 +35,7 @@ number_field-keeps : (k : ℕ) (fs : List FieldView) (f : FieldView) → cond (e
 number_field-keeps k fs f none =
     ap (λ ns. unwrap_or (last_of ns) 0) (number_fields-push k fs f ∙ ap (λ ns. number_fields k fs ++ ns) none ∙ append-nil (number_fields k fs))
 
-bytes_field-keeps : (k : ℕ) (fs : List FieldView) (f : FieldView) → cond (eqb f.number k) (bytes_in f.value) [] ≡ [] → bytes_field k (fs ++ f ∷ []) ≡ bytes_field k fs
+bytes_field-keeps : (k : ℕ) (fs : List FieldView) (f : FieldView) → cond (eqb f.number k) (bytes_of_value f.value) [] ≡ [] → last_bytes_field k (fs ++ f ∷ []) ≡ last_bytes_field k fs
 bytes_field-keeps k fs f none =
     ap last_of (bytes_fields-push k fs f ∙ ap (λ ts. bytes_fields k fs ++ ts) none ∙ append-nil (bytes_fields k fs))
 
@@ -44,7 +44,7 @@ number_field-takes k fs f n one =
     ap (λ ns. unwrap_or (last_of ns) 0) (number_fields-push k fs f ∙ ap (λ ns. number_fields k fs ++ ns) one)
     ∙ ap (λ o. unwrap_or o 0) (last_of-push (number_fields k fs) n)
 
-bytes_field-takes : (k : ℕ) (fs : List FieldView) (f : FieldView) (t : List ℕ) → cond (eqb f.number k) (bytes_in f.value) [] ≡ t ∷ [] → bytes_field k (fs ++ f ∷ []) ≡ Some t
+bytes_field-takes : (k : ℕ) (fs : List FieldView) (f : FieldView) (t : List ℕ) → cond (eqb f.number k) (bytes_of_value f.value) [] ≡ t ∷ [] → last_bytes_field k (fs ++ f ∷ []) ≡ Some t
 bytes_field-takes k fs f t one =
     ap last_of (bytes_fields-push k fs f ∙ ap (λ ts. bytes_fields k fs ++ ts) one) ∙ last_of-push (bytes_fields k fs) t
 
@@ -69,7 +69,7 @@ AreNoted-past before f ns ts past noted = record {
   width = noted.width;
 }
 
-pub AreNoted-fixed : (before : List FieldView) (f : FieldView) (ns : List ℕ) (ts : List (Option (Bor (List ℕ)))) → varint_in f.value ≡ [] → bytes_in f.value ≡ [] → AreNoted before ns ts → AreNoted (before ++ f ∷ []) ns ts
+pub AreNoted-fixed : (before : List FieldView) (f : FieldView) (ns : List ℕ) (ts : List (Option (Bor (List ℕ)))) → varint_in f.value ≡ [] → bytes_of_value f.value ≡ [] → AreNoted before ns ts → AreNoted (before ++ f ∷ []) ns ts
 AreNoted-fixed before f ns ts no_number no_bytes noted = record {
   number_is = λ k lt. noted.number_is k lt ∙ sym (number_field-keeps k before f (none-empty _ _ no_number));
   bytes_are = λ k lt. noted.bytes_are k lt ∙ sym (bytes_field-keeps k before f (none-empty _ _ no_bytes));
@@ -84,7 +84,7 @@ AreNoted-varint before f ns ts n is small len noted = record {
       (λ other. get_or-set_other ns f.number k n 0 (λ e. other (sym e)) ∙ noted.number_is k lt
       ∙ sym (number_field-keeps k before f (none-other f.number k _ other)))
       (cases_eq f.number k);
-  bytes_are = λ k lt. noted.bytes_are k lt ∙ sym (bytes_field-keeps k before f (none-empty _ _ (ap bytes_in is)));
+  bytes_are = λ k lt. noted.bytes_are k lt ∙ sym (bytes_field-keeps k before f (none-empty _ _ (ap bytes_of_value is)));
   width = noted.width;
 }
 
@@ -93,7 +93,7 @@ AreNoted-bytes before f ns ts s is small noted = record {
   number_is = λ k lt. noted.number_is k lt ∙ sym (number_field-keeps k before f (none-empty _ _ (ap varint_in is)));
   bytes_are = λ k lt. ⊎_elim
       (λ e. ap (λ o. option_map (λ s. s.now) o) (ap (λ j. slice_index_or (slice_set ts f.number (Some s)) j None) (sym e) ∙ get_or-set_same ts f.number (Some s) None (omega (arith, noted.width)))
-      ∙ sym (bytes_field-takes k before f s.now (one-same f.number k _ e ∙ ap bytes_in is)))
+      ∙ sym (bytes_field-takes k before f s.now (one-same f.number k _ e ∙ ap bytes_of_value is)))
       (λ other. ap (λ o. option_map (λ s. s.now) o) (get_or-set_other ts f.number k (Some s) None (λ e. other (sym e))) ∙ noted.bytes_are k lt
       ∙ sym (bytes_field-keeps k before f (none-other f.number k _ other)))
       (cases_eq f.number k);

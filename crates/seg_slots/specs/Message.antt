@@ -7,7 +7,7 @@ use Rattle.seg_slots.specs.declared.error.SegError.{SegError}
 use Rattle.seg_slots.specs.declared.error.SegError.TheVariants as error
 use Rattle.seg_slots.specs.declared.shape.FieldKind.{FieldKind}
 use Rattle.seg_slots.specs.declared.shape.FieldKind.TheVariants as kind
-use Rattle.seg_slots.specs.Steps.{◌>>=◌, unless}
+use Rattle.seg_slots.specs.Steps.{◌>>=◌, unless_refused}
 
 -- ---- the values under a field number
 
@@ -19,11 +19,11 @@ varint_in (Bytes bytes) = []
 varint_in (Fixed32 n) = []
 
 -- the bytes that a value is, if it is bytes
-abbrev pub bytes_in : FieldValue → List (List ℕ)
-bytes_in (Varint n) = []
-bytes_in (Fixed64 n) = []
-bytes_in (Bytes bytes) = bytes ∷ []
-bytes_in (Fixed32 n) = []
+abbrev pub bytes_of_value : FieldValue → List (List ℕ)
+bytes_of_value (Varint n) = []
+bytes_of_value (Fixed64 n) = []
+bytes_of_value (Bytes bytes) = bytes ∷ []
+bytes_of_value (Fixed32 n) = []
 
 -- the numbers under a field number, in the order of the message
 abbrev pub number_fields : ℕ → List FieldView → List ℕ
@@ -33,7 +33,7 @@ number_fields k (f ∷ fs) = (if f.number == k then varint_in f.value else []) +
 -- the byte strings under a field number, in the order of the message
 abbrev pub bytes_fields : ℕ → List FieldView → List (List ℕ)
 bytes_fields k [] = []
-bytes_fields k (f ∷ fs) = (if f.number == k then bytes_in f.value else []) ++ bytes_fields k fs
+bytes_fields k (f ∷ fs) = (if f.number == k then bytes_of_value f.value else []) ++ bytes_fields k fs
 
 -- the last of a list
 abbrev pub last_of : {A : Type 0} → List A → Option A
@@ -45,22 +45,22 @@ abbrev pub number_field : ℕ → List FieldView → ℕ
 number_field k fs = unwrap_or (last_of (number_fields k fs)) 0
 
 -- The value of bytes is their last occurrence.
-abbrev pub bytes_field : ℕ → List FieldView → Option (List ℕ)
-bytes_field k fs = last_of (bytes_fields k fs)
+abbrev pub last_bytes_field : ℕ → List FieldView → Option (List ℕ)
+last_bytes_field k fs = last_of (bytes_fields k fs)
 
 -- the last occurrence of bytes, and empty bytes where there is none
 abbrev pub bytes_field_or_empty : ℕ → List FieldView → List ℕ
-bytes_field_or_empty k fs = unwrap_or (bytes_field k fs) []
+bytes_field_or_empty k fs = unwrap_or (last_bytes_field k fs) []
 
 -- A required message has to be present.
 abbrev pub required_message : ℕ → List FieldView → Result (List ℕ) SegError
-required_message k fs = ok_or (bytes_field k fs) error.MissingField
+required_message k fs = ok_or (last_bytes_field k fs) error.MissingField
 
 -- ---- whether a field fits
 
 -- A shape lists the kinds of a message's fields by their numbers; every other number is unknown.
-abbrev pub kind_at : List FieldKind → ℕ → FieldKind
-kind_at shape k = slice_index_or shape k kind.Unknown
+abbrev pub field_kind : List FieldKind → ℕ → FieldKind
+field_kind shape k = slice_index_or shape k kind.Unknown
 
 abbrev pub is_bytes : FieldValue → Bool
 is_bytes (Varint n) = false
@@ -91,8 +91,8 @@ suits kind.Messages value = is_bytes value
 -- message that may occur once occurs a second time.
 abbrev pub misfit_at : List FieldKind → List FieldView → FieldView → Option SegError
 misfit_at shape before f =
-    if not (suits (kind_at shape f.number) f.value) then Some error.KindOfField
-    else if is_single (kind_at shape f.number) && is_some (bytes_field f.number before) then Some error.RepeatedMessage
+    if not (suits (field_kind shape f.number) f.value) then Some error.KindOfField
+    else if is_single (field_kind shape f.number) && is_some (last_bytes_field f.number before) then Some error.RepeatedMessage
     else None
 
 -- nothing is wrong with any of these fields, each after the fields before it
@@ -122,6 +122,6 @@ first_misfit shape fs = misfit_after shape [] fs
 -- The fields of a message. It is refused where its wire format has a fault anywhere, and then where a field doesn't fit.
 unfoldable pub message_fields : List FieldKind → List ℕ → Result (List FieldView) SegError
 message_fields shape bytes = do
-  _ ← unless (option_map error.Wire (fault bytes))
-  _ ← unless (first_misfit shape (fields bytes))
+  _ ← unless_refused (option_map error.Wire (fault bytes))
+  _ ← unless_refused (first_misfit shape (fields bytes))
   Ok (fields bytes)

@@ -6,12 +6,12 @@ use Rattle.pw_wire.specs.Field.{Bytes, FieldView}
 use Rattle.pw_wire.specs.Fields.{fields, fault}
 use Rattle.seg_slots.specs.declared.error.SegError.{SegError}
 use Rattle.seg_slots.specs.declared.shape.FieldKind.{FieldKind}
-use Rattle.seg_slots.specs.Message.{number_field, bytes_field, misfit_at, misfit_after}
+use Rattle.seg_slots.specs.Message.{number_field, last_bytes_field, misfit_at, misfit_after}
 
 -- the last number and the last bytes under each field number that a message may know
 pub record AreNoted (fs : List FieldView) (last_numbers : List ℕ) (last_bytes : List (Option (Bor (List ℕ)))) : Type 0 where
   pub number_is : (k : ℕ) → k < 7 → slice_index last_numbers k ≡ number_field k fs
-  pub bytes_are : (k : ℕ) → k < 7 → option_map (λ s. s.now) (slice_index_or last_bytes k None) ≡ bytes_field k fs
+  pub bytes_are : (k : ℕ) → k < 7 → option_map (λ s. s.now) (slice_index_or last_bytes k None) ≡ last_bytes_field k fs
   pub width : length last_bytes ≡ 7
 
 -- After some fields of a message, their values are noted, and so is the first misfit among them.

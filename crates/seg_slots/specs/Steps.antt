@@ -9,11 +9,11 @@ abbrev pub ◌>>=◌ : {A B : Type 0} → Result A SegError → (A → Result B 
 (Err e) >>= rest = Err e
 
 -- continues where there is no refusal
-abbrev pub unless : Option SegError → Result (Unit {0}) SegError
-unless None = Ok tt
-unless (Some refusal) = Err refusal
+abbrev pub unless_refused : Option SegError → Result (Unit {0}) SegError
+unless_refused None = Ok tt
+unless_refused (Some refusal) = Err refusal
 
 -- A call that takes no memory returns exactly what the reading gives, seen by `view`.
-abbrev pub Reads : {X Y : Type 0} → (X → Y) → Result X SegError → Result Y SegError → Type 0
-Reads view (Ok x) reading = reading ≡ Ok (view x)
-Reads view (Err e) reading = reading ≡ Err e
+abbrev pub ReadsFields : {X Y : Type 0} → (X → Y) → Result X SegError → Result Y SegError → Type 0
+ReadsFields view (Ok x) reading = reading ≡ Ok (view x)
+ReadsFields view (Err e) reading = reading ≡ Err e

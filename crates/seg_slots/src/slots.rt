@@ -5,8 +5,8 @@ ghost use Rattle.std.specs.Option.{option_map, ForSome};
 ghost use Rattle.pw_wire.specs.Field.{FieldView};
 ghost use Rattle.pw_wire.specs.Fields.{fields};
 ghost use Rattle.pw_wire.specs.View.{field_view, value_view};
-ghost use Rattle.seg_slots.specs.Steps.{Reads};
-ghost use Rattle.seg_slots.specs.Message.{bytes_field, bytes_field_or_empty, is_single, kind_at, message_fields, misfit_at, number_field, required_message, suits};
+ghost use Rattle.seg_slots.specs.Steps.{ReadsFields};
+ghost use Rattle.seg_slots.specs.Message.{last_bytes_field, bytes_field_or_empty, is_single, field_kind, message_fields, misfit_at, number_field, required_message, suits};
 ghost use Rattle.seg_slots.specs.declared.shape.FieldKind.{FieldKind};
 ghost use Rattle.seg_slots.specs.declared.shape.FieldKind.TheVariants.{Number, Messages};
 ghost use Rattle.seg_slots.specs.Slots.{AreNoted, IsMidway, TakesBytes};
@@ -55,7 +55,7 @@ impl<'a> Noted<'a> {
     fn has_bytes(&self, field_number: u32) -> bool
         requires { field_number < 7 }
         ensures { (before : List FieldView) → AreNoted before self.now.numbers self.now.bytes
-            → result ≡ is_some (bytes_field field_number before) }
+            → result ≡ is_some (last_bytes_field field_number before) }
     {
         self.bytes[field_number as usize].is_some()
     }
@@ -64,7 +64,7 @@ impl<'a> Noted<'a> {
 /// The kind of the fields with this number.
 #[inline(always)]
 fn kind_at(shape: &[FieldKind], field_number: u32) -> FieldKind
-    ensures { result ≡ kind_at shape.now field_number }
+    ensures { result ≡ field_kind shape.now field_number }
 {
     shape
         .get(field_number as usize)
@@ -123,7 +123,7 @@ pub struct Slots<'a> {
 #[tactic(auto, unfolding(crate::specs::Message::message_fields))]
 fn slots_in_any_order<'a>(shape: &[FieldKind], message: &'a [u8]) -> Result<Slots<'a>, SegError>
     requires { length shape.now ≤ 7 }
-    ensures exact { Reads (λ slots. fields slots.message.now) result (message_fields shape.now message.entry.now) }
+    ensures exact { ReadsFields (λ slots. fields slots.message.now) result (message_fields shape.now message.entry.now) }
     ensures kept { IfOk result (λ slots. slots.message ≡ message.entry) }
 {
     let mut noted = Noted::new();
@@ -145,7 +145,7 @@ fn slots_in_any_order<'a>(shape: &[FieldKind], message: &'a [u8]) -> Result<Slot
 fn take_number<'a>(field_number: u8, noted: &mut Noted<'a>, rest: &'a [u8]) -> &'a [u8]
     requires positive { 1 ≤ field_number }
     requires known { field_number < 7 }
-    ensures { (shape : List FieldKind) (message : List ℕ) → kind_at shape field_number ≡ Number
+    ensures { (shape : List FieldKind) (message : List ℕ) → field_kind shape field_number ≡ Number
         → IsMidway shape message rest.entry.now None noted.old.numbers noted.old.bytes
         → IsMidway shape message result.now None noted.new.numbers noted.new.bytes }
 {
@@ -182,7 +182,7 @@ fn take_bytes<'a>(field_number: u8, noted: &mut Noted<'a>, rest: &'a [u8]) -> &'
 fn take_messages<'a>(field_number: u8, noted: &mut Noted<'a>, rest: &'a [u8]) -> &'a [u8]
     requires positive { 1 ≤ field_number }
     requires known { field_number < 7 }
-    ensures { (shape : List FieldKind) (message : List ℕ) → kind_at shape field_number ≡ Messages
+    ensures { (shape : List FieldKind) (message : List ℕ) → field_kind shape field_number ≡ Messages
         → IsMidway shape message rest.entry.now None noted.old.numbers noted.old.bytes
         → IsMidway shape message result.now None noted.new.numbers noted.new.bytes }
 {
@@ -248,7 +248,7 @@ fn slots_in_order<'a, const SHAPE: u8>(shape: &[FieldKind], message: &'a [u8]) -
 #[inline(always)]
 fn slots_by_scan<'a>(shape: &[FieldKind], message: &'a [u8]) -> Result<Slots<'a>, SegError>
     requires { length shape.now ≤ 7 }
-    ensures exact { Reads (λ slots. fields slots.message.now) result (message_fields shape.now message.entry.now) }
+    ensures exact { ReadsFields (λ slots. fields slots.message.now) result (message_fields shape.now message.entry.now) }
     ensures kept { IfOk result (λ slots. slots.message ≡ message.entry) }
 {
     match slots_in_any_order(shape, message) {
@@ -266,7 +266,7 @@ pub fn slots_of<'a, const SHAPE: u8>(
     message: &'a [u8],
 ) -> Result<Slots<'a>, SegError>
     requires { length shape.now ≤ 7 }
-    ensures exact { Reads (λ slots. fields slots.message.now) result (message_fields shape.now message.entry.now) }
+    ensures exact { ReadsFields (λ slots. fields slots.message.now) result (message_fields shape.now message.entry.now) }
     ensures kept { IfOk result (λ slots. slots.message ≡ message.entry) }
 {
     match slots_in_order::<SHAPE>(shape, message) {
@@ -287,7 +287,7 @@ impl<'a> Slots<'a> {
     /// The last bytes under a field number.
     pub fn bytes_field(&self, field_number: usize) -> Option<&'a [u8]>
         requires { field_number < 7 }
-        ensures { option_map (λ s. s.now) result ≡ bytes_field field_number (fields self.now.message.now) }
+        ensures { option_map (λ s. s.now) result ≡ last_bytes_field field_number (fields self.now.message.now) }
     {
         self.noted.bytes[field_number]
     }
@@ -303,7 +303,7 @@ impl<'a> Slots<'a> {
     /// The message under a field number. An error means that the message is missing.
     pub fn required_message(&self, field_number: usize) -> Result<&'a [u8], SegError>
         requires { field_number < 7 }
-        ensures { Reads (λ s. s.now) result (required_message field_number (fields self.now.message.now)) }
+        ensures { ReadsFields (λ s. s.now) result (required_message field_number (fields self.now.message.now)) }
     {
         self.bytes_field(field_number).ok_or(SegError::MissingField)
     }

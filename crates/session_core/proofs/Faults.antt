@@ -2,18 +2,18 @@
 use Rattle.std.proofs.Common.{◌≡◌, ℕ, ◌≤◌, List, ◌++◌, length, sym, ap, subst, ◌∙◌, arith}
 use Rattle.std.proofs.lemmas.List.{length-append, take-append-le, get_or_append_left}
 use Rattle.std.specs.Int.{w32, from_be_bytes}
-use Rattle.session_core.specs.Frames.{MessageView, length_at, kind_at, IsFrameLength, IsMessageKind, IsLengthOf, HasRightLength, HasBadLength, HasBadKind, BadLength, BadKind, AreFrames}
+use Rattle.session_core.specs.Frames.{MessageView, length_at, frame_kind_at, IsFrameLength, IsMessageKind, IsLengthOf, HasRightLength, HasBadLength, HasBadKind, BadLength, BadKind, AreFrames}
 use Rattle.session_core.proofs.Streams.{AreWholeFrames-more}
 
 length_at-more : (bytes more : List ℕ) → 4 ≤ length bytes → length_at (bytes ++ more) ≡ length_at bytes
 length_at-more bytes more long = ap (from_be_bytes w32) (take-append-le 4 bytes more long)
 
-kind_at-more : (bytes more : List ℕ) → 5 ≤ length bytes → kind_at (bytes ++ more) ≡ kind_at bytes
+kind_at-more : (bytes more : List ℕ) → 5 ≤ length bytes → frame_kind_at (bytes ++ more) ≡ frame_kind_at bytes
 kind_at-more bytes more long = get_or_append_left bytes more 0 4 (omega arith)
 
-length_of-more : (bytes more : List ℕ) → 5 ≤ length bytes → IsLengthOf (kind_at (bytes ++ more)) (length_at (bytes ++ more)) ≡ IsLengthOf (kind_at bytes) (length_at bytes)
+length_of-more : (bytes more : List ℕ) → 5 ≤ length bytes → IsLengthOf (frame_kind_at (bytes ++ more)) (length_at (bytes ++ more)) ≡ IsLengthOf (frame_kind_at bytes) (length_at bytes)
 length_of-more bytes more long =
-    ap (λ (k : ℕ). IsLengthOf k (length_at (bytes ++ more))) (kind_at-more bytes more long) ∙ ap (IsLengthOf (kind_at bytes)) (length_at-more bytes more (omega arith))
+    ap (λ (k : ℕ). IsLengthOf k (length_at (bytes ++ more))) (kind_at-more bytes more long) ∙ ap (IsLengthOf (frame_kind_at bytes)) (length_at-more bytes more (omega arith))
 
 -- a wrong length stays wrong, whatever bytes come after
 HasRightLength-front : (bytes more : List ℕ) → 4 ≤ length bytes → HasRightLength (bytes ++ more) → HasRightLength bytes

@@ -4,7 +4,7 @@ use Rattle.std.proofs.lemmas.List.{get_or-take, length-take-le, length-drop, dro
 use Rattle.std.proofs.lemmas.Nat.{be_bytes_4, be_bytes_8}
 use Rattle.std.specs.Int.{w32, w64, to_be_bytes, from_be_bytes}
 use Rattle.session_core.specs.declared.message.Message.TheVariants.{Register, Lookup, Purge, Remove}
-use Rattle.session_core.specs.Frames.{MessageView, kind_of, body_of, frame_encoding, length_at, kind_at, IsFrameLength, IsMessageKind, IsLengthOf, FitsFrame}
+use Rattle.session_core.specs.Frames.{MessageView, message_kind, message_body, frame_encoding, length_at, frame_kind_at, IsFrameLength, IsMessageKind, IsLengthOf, FitsFrame}
 use Rattle.session_core.specs.Front.{BeginsWithFrame}
 
 abbrev pub AreBytes : List ℕ → Type 0
@@ -58,11 +58,11 @@ frame_at bytes len b is whole =
 
 -- a message at the front
 pub begins : (bytes : List ℕ) (len : ℕ) (m : MessageView) → AreBytes bytes → len ≡ length_at bytes → 1 ≤ len → 4 + len ≤ length bytes
-    → kind_of m ≡ kind_at bytes → body_of m ≡ slice_range bytes 5 (4 + len) → FitsFrame m → BeginsWithFrame bytes m (4 + len)
+    → message_kind m ≡ frame_kind_at bytes → message_body m ≡ slice_range bytes 5 (4 + len) → FitsFrame m → BeginsWithFrame bytes m (4 + len)
 begins bytes len m b is some whole kind body fits =
-    let content : (kind_of m ∷ body_of m) ≡ take len (drop 4 bytes) =
-    ap (λ k. k ∷ body_of m) kind ∙ ap (λ (t : List ℕ). get_or bytes 4 0 ∷ t) body ∙ content_at bytes len some whole in
-    let size : length (kind_of m ∷ body_of m) ≡ len = ap length content ∙ length-content_at bytes len whole in
+    let content : (message_kind m ∷ message_body m) ≡ take len (drop 4 bytes) =
+    ap (λ k. k ∷ message_body m) kind ∙ ap (λ (t : List ℕ). get_or bytes 4 0 ∷ t) body ∙ content_at bytes len some whole in
+    let size : length (message_kind m ∷ message_body m) ≡ len = ap length content ∙ length-content_at bytes len whole in
     record {
       frame = frame_at bytes len b is whole ∙ ap (λ (t : List ℕ). frame_encoding t ++ drop (4 + len) bytes) (sym content);
       sized = fits;
@@ -87,8 +87,8 @@ message_with (suc (suc (suc zero))) body = Purge (from_be_bytes w64 body)
 message_with _ body = Remove (get_or body 0 0) (drop 1 body)
 
 pub record IsMessageWith (kind : ℕ) (body : List ℕ) (m : MessageView) : Type 0 where
-  pub kind_is : kind_of m ≡ kind
-  pub body_is : body_of m ≡ body
+  pub kind_is : message_kind m ≡ kind
+  pub body_is : message_body m ≡ body
   pub fits : FitsFrame m
 
 moment_fits : (body : List ℕ) → AreBytes body → from_be_bytes w64 body < 2 ^ 64

@@ -4,9 +4,9 @@ use Rattle.std.proofs.lemmas.List.{append-nil, length-drop, drop-drop, map-appen
 use Rattle.session_core.specs.declared.error.FrameError.{FrameError}
 use Rattle.session_core.specs.declared.error.FrameError.TheVariants as error
 use Rattle.session_core.specs.declared.message.Message.{Message}
-use Rattle.session_core.specs.Frames.{MessageView, Ending, Rest, EndsAs, AreWholeFrames, AreFrames}
+use Rattle.session_core.specs.Frames.{MessageView, Ending, Rest, FramesEndAs, AreWholeFrames, AreFrames}
 use Rattle.session_core.specs.Front.{BeginsWithFrame}
-use Rattle.session_core.specs.Framer.{message_view, message_views, fault_of, IsFaulty, Continues, IsFaultOf, ending_of}
+use Rattle.session_core.specs.Framer.{message_view, message_views, ending_error, IsFaulty, Continues, IsFaultOf, ending_of}
 use Rattle.session_core.proofs.Streams.{AreWholeFrames-none, AreWholeFrames-append, AreWholeFrames-more, AreWholeFrames-next, BeginsWithFrame-within}
 use Rattle.session_core.proofs.Faults.{AreFrames-bad_length, AreFrames-bad_kind}
 
@@ -30,7 +30,7 @@ so_far-next old new message m bytes back used len so_far is f same pushed =
 
 -- ---- one more piece
 
-ends_as : (bytes : List ℕ) (fault : Option FrameError) → IsFaultOf bytes fault → EndsAs bytes (ending_of bytes fault)
+ends_as : (bytes : List ℕ) (fault : Option FrameError) → IsFaultOf bytes fault → FramesEndAs bytes (ending_of bytes fault)
 ends_as bytes None h = (refl, h)
 ends_as bytes (Some error.Length) h = h
 ends_as bytes (Some error.Kind) h = h
@@ -39,7 +39,7 @@ ends_as bytes (Some error.Read) h = absurd h
 ends_as bytes (Some error.Write) h = absurd h
 ends_as bytes (Some error.Turns) h = absurd h
 
-pub fault-ending : (bytes : List ℕ) (fault : Option FrameError) → IsFaultOf bytes fault → fault ≡ fault_of (ending_of bytes fault)
+pub fault-ending : (bytes : List ℕ) (fault : Option FrameError) → IsFaultOf bytes fault → fault ≡ ending_error (ending_of bytes fault)
 fault-ending bytes None h = refl
 fault-ending bytes (Some error.Length) h = refl
 fault-ending bytes (Some error.Kind) h = refl
@@ -87,12 +87,12 @@ feeds kept piece both rest bytes used messages fault old is joined same left who
     subst (λ (e : Ending). Continues e piece messages (ending_of rest fault)) (sym is) done
 
 pub stays_faulty : (kept piece : List ℕ) (messages : List MessageView) (found : Option FrameError) (fault : FrameError) (old : Ending) → ending_of kept found ≡ old → IsFaultOf kept found → found ≡ Some fault → messages ≡ []
-    → Continues old piece messages old × (Some fault ≡ fault_of old)
+    → Continues old piece messages old × (Some fault ≡ ending_error old)
 stays_faulty kept piece messages found fault old view h is none =
     let now : ending_of kept (Some fault) ≡ old = ap (ending_of kept) (sym is) ∙ view in
     let k : IsFaultOf kept (Some fault) = subst (IsFaultOf kept) is h in
     let same : Continues old piece [] old = subst (λ (e : Ending). Continues e piece [] e) now (continues-faulty kept piece fault k) in
-    (subst (λ (ms : List MessageView). Continues old piece ms old) (sym none) same, fault-ending kept (Some fault) k ∙ ap fault_of now)
+    (subst (λ (ms : List MessageView). Continues old piece ms old) (sym none) same, fault-ending kept (Some fault) k ∙ ap ending_error now)
 
 -- ---- pieces one after the other
 

@@ -15,7 +15,7 @@ use Rattle.session_core.specs.Service.{Exchange, messages_of, replies_of, all_to
 use Rattle.session_core.specs.declared.reply.Form.{Form}
 use Rattle.session_core.specs.declared.reply.Form.TheVariants.{Frames}
 use Rattle.session_core.specs.Source.{AreReads}
-use Rattle.session_core.specs.Session.{Tells, TellsFrontOfLast, IsPrompt, EndsFor, IsServed}
+use Rattle.session_core.specs.Session.{WritesReplies, TellsFrontOfLast, IsPrompt, EndsFor, IsServed}
 use Rattle.session_core.specs.Answered.{AreFrontsAnswered}
 use Rattle.session_core.proofs.Streams.{AreWholeFrames-none, AreWholeFrames-append, AreWholeFrames-more}
 use Rattle.session_core.proofs.Exchanges.{HasAnswered, answered_none, sized-append, folds-append, messages-append, replies-append, told-append}
@@ -35,7 +35,7 @@ all_of form written es told = record {
 }
 
 -- for any result, all replies but the last one were written, and a front of the last one
-front_of : (form : Form) (r : Result ℕ FrameError) (written : List ℕ) (es : List Exchange) → Tells form r written es → TellsFrontOfLast form written es
+front_of : (form : Form) (r : Result ℕ FrameError) (written : List ℕ) (es : List Exchange) → WritesReplies form r written es → TellsFrontOfLast form written es
 front_of form (Ok n) written es told = all_of form written es told
 front_of form (Err error.Length) written es told = all_of form written es told
 front_of form (Err error.Kind) written es told = all_of form written es told
@@ -182,7 +182,7 @@ module _ {S R : Type 0} (answers : S → MessageView → ReplyView → S → Typ
       closed_framed : AreWholeFrames (concat (h.pieces ++ last)) (messages_of h.done.exchanges) inbox
       closed_framed = subst (λ (bytes : List ℕ). AreWholeFrames bytes (messages_of h.done.exchanges) inbox) (sym nothing) h.done.framed
 
-      ends_here : (result : Result ℕ FrameError) → Tells Frames result (reply_frames h.done.exchanges) h.done.exchanges → EndsFor i turns (h.pieces ++ last) h.done.exchanges inbox result
+      ends_here : (result : Result ℕ FrameError) → WritesReplies Frames result (reply_frames h.done.exchanges) h.done.exchanges → EndsFor i turns (h.pieces ++ last) h.done.exchanges inbox result
           → IsServed answers gives turns a b r t i o p result
       ends_here result told ended = record {
         pieces = h.pieces ++ last;
@@ -269,7 +269,7 @@ module _ {S R : Type 0} (answers : S → MessageView → ReplyView → S → Typ
     }
 
     -- what was written for two lists of exchanges is what was written for the last ones after all of the first
-    both_told : (result : Result ℕ FrameError) (written : List ℕ) (es fs : List Exchange) → Tells Frames result written fs → Tells Frames result (reply_frames es ++ written) (es ++ fs)
+    both_told : (result : Result ℕ FrameError) (written : List ℕ) (es fs : List Exchange) → WritesReplies Frames result written fs → WritesReplies Frames result (reply_frames es ++ written) (es ++ fs)
     both_told (Ok n) written es fs told = ap (λ (w : List ℕ). reply_frames es ++ w) told ∙ sym (told-append Frames es fs)
     both_told (Err error.Length) written es fs told = ap (λ (w : List ℕ). reply_frames es ++ w) told ∙ sym (told-append Frames es fs)
     both_told (Err error.Kind) written es fs told = ap (λ (w : List ℕ). reply_frames es ++ w) told ∙ sym (told-append Frames es fs)

@@ -2,7 +2,7 @@
 use Rattle.std.proofs.Common.{◌≡◌, ℕ, zero, suc, ◌+◌, ◌<◌, ◌≤◌, ◌⊎◌, inl, inr, List, [], ◌∷◌, ◌-◌, length, drop, slice_range, refl, sym, subst, arith}
 use Rattle.std.proofs.lemmas.List.{length-drop}
 use Rattle.std.proofs.lemmas.Bool.{cases_lt, cases_eq}
-use Rattle.session_core.specs.Frames.{MessageView, length_at, kind_at, IsFrameLength, IsMessageKind, IsLengthOf, HasRightLength, Ending, Rest, BadLength, BadKind, EndsAs, AreFrames}
+use Rattle.session_core.specs.Frames.{MessageView, length_at, frame_kind_at, IsFrameLength, IsMessageKind, IsLengthOf, HasRightLength, Ending, Rest, BadLength, BadKind, FramesEndAs, AreFrames}
 use Rattle.session_core.specs.Front.{BeginsWithFrame}
 use Rattle.session_core.proofs.FrameLemmas.{AreBytes, take_below, drop_below, length-body_at, begins, message_with, message_with_is}
 use Rattle.session_core.proofs.Streams.{AreWholeFrames-none, AreWholeFrames-one, AreFrames-behind}
@@ -13,7 +13,7 @@ pub record Decoding (bytes : List ℕ) : Type 0 where
   pub ending : Ending
   pub framed : AreFrames bytes messages ending
 
-decoding_none : (bytes : List ℕ) (ending : Ending) → EndsAs bytes ending → Decoding bytes
+decoding_none : (bytes : List ℕ) (ending : Ending) → FramesEndAs bytes ending → Decoding bytes
 decoding_none bytes ending ends = record { messages = []; ending = ending; framed = record { rest = bytes; whole = AreWholeFrames-none bytes; ends = ends } }
 
 decoding_short : (bytes : List ℕ) → length bytes < 4 → Decoding bytes
@@ -23,10 +23,10 @@ decoding_short bytes short = decoding_none bytes (Rest bytes)
 decoding_bad_length : (bytes : List ℕ) → 4 ≤ length bytes → ¬ HasRightLength bytes → Decoding bytes
 decoding_bad_length bytes long bad = decoding_none bytes BadLength (record { long = long; bad = bad })
 
-decoding_bad_kind : (bytes : List ℕ) → 5 ≤ length bytes → HasRightLength bytes → ¬ IsMessageKind (kind_at bytes) → Decoding bytes
+decoding_bad_kind : (bytes : List ℕ) → 5 ≤ length bytes → HasRightLength bytes → ¬ IsMessageKind (frame_kind_at bytes) → Decoding bytes
 decoding_bad_kind bytes long sized bad = decoding_none bytes BadKind (record { long = long; length_is_right = sized; bad = bad })
 
-decoding_partial : (bytes : List ℕ) → 4 ≤ length bytes → HasRightLength bytes → (5 ≤ length bytes → IsMessageKind (kind_at bytes)) → length bytes < 4 + length_at bytes → Decoding bytes
+decoding_partial : (bytes : List ℕ) → 4 ≤ length bytes → HasRightLength bytes → (5 ≤ length bytes → IsMessageKind (frame_kind_at bytes)) → length bytes < 4 + length_at bytes → Decoding bytes
 decoding_partial bytes long sized kind short = decoding_none bytes (Rest bytes)
     (refl, record { length_is_right = λ _. sized; kind_is_right = kind; incomplete = λ _. short })
 
@@ -38,14 +38,14 @@ decoding_more bytes m len f rest = record {
 }
 
 -- a whole frame of a known kind
-frame_of_kind : (bytes : List ℕ) → AreBytes bytes → HasRightLength bytes → 5 ≤ length bytes → 4 + length_at bytes ≤ length bytes → IsMessageKind (kind_at bytes)
+frame_of_kind : (bytes : List ℕ) → AreBytes bytes → HasRightLength bytes → 5 ≤ length bytes → 4 + length_at bytes ≤ length bytes → IsMessageKind (frame_kind_at bytes)
     → (m : MessageView) × BeginsWithFrame bytes m (4 + length_at bytes)
 frame_of_kind bytes b right long whole known =
     let body = slice_range bytes 5 (4 + length_at bytes) in
     let size : 1 + length body ≡ length_at bytes = length-body_at bytes (length_at bytes) right.in_range.0 whole in
     let below : AreBytes body = take_below (4 + length_at bytes - 5) (drop 5 bytes) (drop_below 5 bytes b) in
-    let is = message_with_is (kind_at bytes) body below known (subst IsFrameLength (sym size) right.in_range) (subst (IsLengthOf (kind_at bytes)) (sym size) (right.of_kind long)) in
-    (message_with (kind_at bytes) body, begins bytes (length_at bytes) (message_with (kind_at bytes) body) b refl right.in_range.0 whole is.kind_is is.body_is is.fits)
+    let is = message_with_is (frame_kind_at bytes) body below known (subst IsFrameLength (sym size) right.in_range) (subst (IsLengthOf (frame_kind_at bytes)) (sym size) (right.of_kind long)) in
+    (message_with (frame_kind_at bytes) body, begins bytes (length_at bytes) (message_with (frame_kind_at bytes) body) b refl right.in_range.0 whole is.kind_is is.body_is is.fits)
 
 frame_length_cases : (n : ℕ) → IsFrameLength n ⊎ (¬ IsFrameLength n)
 frame_length_cases n =
@@ -70,7 +70,7 @@ right_length_cases bytes =
       | inr bad ↦ inr (λ h. bad h.in_range)
       | inl fits ↦ elim (cases_lt (length bytes) 5) [
         | inl short ↦ inl (record { in_range = fits; of_kind = λ h. absurd (omega (arith, h, short)) })
-        | inr long ↦ elim (length_of_cases (kind_at bytes) (length_at bytes)) [
+        | inr long ↦ elim (length_of_cases (frame_kind_at bytes) (length_at bytes)) [
           | inr bad ↦ inr (λ h. bad (h.of_kind long))
           | inl right ↦ inl (record { in_range = fits; of_kind = λ _. right })
         ]
@@ -92,7 +92,7 @@ decoding_whole fuel bytes enough b again =
         | inr bad ↦ decoding_bad_length bytes long bad
         | inl sized ↦ elim (cases_lt (length bytes) 5) [
           | inl four ↦ decoding_partial bytes long sized (λ h. absurd (omega arith)) (omega (arith, sized.in_range.0))
-          | inr five ↦ elim (kind_cases (kind_at bytes)) [
+          | inr five ↦ elim (kind_cases (frame_kind_at bytes)) [
             | inr bad ↦ decoding_bad_kind bytes five sized bad
             | inl kind ↦ elim (cases_lt (length bytes) (4 + length_at bytes)) [
               | inl short ↦ decoding_partial bytes long sized (λ _. kind) short

@@ -3,7 +3,7 @@ use Rattle.std.proofs.Common.{◌≡◌, ℕ, ◌+◌, ◌≤◌, List, [], ◌�
 use Rattle.std.proofs.lemmas.List.{append-nil, length-append}
 use Rattle.std.proofs.lemmas.List.Concat.{flat_map-append}
 use Rattle.std.specs.List.{flat_map, AllByRecursion}
-use Rattle.session_core.specs.Frames.{MessageView, body_of, message_frame, FitsFrame, Ending, AreWholeFrames, AreFrames}
+use Rattle.session_core.specs.Frames.{MessageView, message_body, message_frame, FitsFrame, Ending, AreWholeFrames, AreFrames}
 use Rattle.session_core.specs.Front.{BeginsWithFrame}
 
 pub sized-append : (ms ns : List MessageView) → AllByRecursion FitsFrame ms → AllByRecursion FitsFrame ns → AllByRecursion FitsFrame (ms ++ ns)
@@ -45,7 +45,7 @@ AreWholeFrames-next ms m bytes mid len p f = AreWholeFrames-append ms (m ∷ [])
 pub BeginsWithFrame-within : (bytes : List ℕ) (m : MessageView) (len : ℕ) → BeginsWithFrame bytes m len → len ≤ length bytes
 BeginsWithFrame-within bytes m len f =
     let whole : length bytes ≡ length (message_frame m) + length (drop len bytes) = ap length f.frame ∙ length-append (message_frame m) (drop len bytes) in
-    let parts : length (message_frame m) ≡ 5 + length (body_of m) = omega arith in
+    let parts : length (message_frame m) ≡ 5 + length (message_body m) = omega arith in
     omega (arith, whole, parts, f.len_is)
 
 -- whole frames, and then frames with this ending

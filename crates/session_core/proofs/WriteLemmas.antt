@@ -3,9 +3,9 @@ use Rattle.std.proofs.Common.{◌≡◌, ℕ, List, ◌++◌, take, drop, Option
 use Rattle.std.specs.Io.KnownBytes.{Appends}
 use Rattle.std.proofs.KnownBytes.{Appends-trans}
 use Rattle.session_core.specs.declared.error.FrameError.{FrameError}
-use Rattle.session_core.specs.Answered.{FailsWithin}
+use Rattle.session_core.specs.Answered.{ReplyWriteFails}
 
-pub fails_first : (a b : Option (List ℕ)) (head body : List ℕ) (e : FrameError) → FailsWithin a b head e → FailsWithin a b (head ++ body) e
+pub fails_first : (a b : Option (List ℕ)) (head body : List ℕ) (e : FrameError) → ReplyWriteFails a b head e → ReplyWriteFails a b (head ++ body) e
 fails_first a b head body e f = record {
   part = record {
     front = f.part.front;
@@ -16,7 +16,7 @@ fails_first a b head body e f = record {
   fault = f.fault;
 }
 
-pub fails_second : (a b c : Option (List ℕ)) (head body : List ℕ) (e : FrameError) → Appends a b head → FailsWithin b c body e → FailsWithin a c (head ++ body) e
+pub fails_second : (a b c : Option (List ℕ)) (head body : List ℕ) (e : FrameError) → Appends a b head → ReplyWriteFails b c body e → ReplyWriteFails a c (head ++ body) e
 fails_second a b c head body e w f = record {
   part = record {
     front = head ++ f.part.front;
@@ -27,6 +27,6 @@ fails_second a b c head body e w f = record {
   fault = f.fault;
 }
 
-pub fails_second_of : {T : Type 0} (r : Result T FrameError) (a b c : Option (List ℕ)) (head body : List ℕ) → Appends a b head → IfErr r (FailsWithin b c body) → IfErr r (FailsWithin a c (head ++ body))
+pub fails_second_of : {T : Type 0} (r : Result T FrameError) (a b c : Option (List ℕ)) (head body : List ℕ) → Appends a b head → IfErr r (ReplyWriteFails b c body) → IfErr r (ReplyWriteFails a c (head ++ body))
 fails_second_of (Ok x) a b c head body w f = f
 fails_second_of (Err e) a b c head body w f = fails_second a b c head body e w f

@@ -12,7 +12,7 @@ use Rattle.session_core.specs.Reply.{ReplyView, HasReplySize}
 use Rattle.session_core.specs.ReplyViews.{reply_view}
 use Rattle.session_core.specs.Service.{Exchange, messages_of, replies_of, AreAnswered}
 use Rattle.session_core.specs.declared.reply.Form.{Form}
-use Rattle.session_core.specs.Session.{Tells, EndsEarly}
+use Rattle.session_core.specs.Session.{WritesReplies, SessionEndsEarly}
 
 -- The message at the front was answered, and its frame was removed.
 pub record IsFirstAnswered {S : Type 0} (answers : S → MessageView → ReplyView → S → Type 0) (old : S) (bytes : List ℕ) (reply : ReplyView) (new : S) (rest : List ℕ) : Type 0 where
@@ -28,21 +28,21 @@ pub record IsUnanswered {S : Type 0} (old : S) (bytes : List ℕ) (new : S) (res
   pub left : rest ≡ bytes
 
 -- The first message was answered; or the bytes begin with less than a frame, or a faulty one, and nothing changed.
-abbrev pub IsNext : {S : Type 0} → (S → MessageView → ReplyView → S → Type 0) → S → List ℕ → S → List ℕ → Result (Option Reply) FrameError → Type 0
-IsNext answers old bytes new rest (Ok (Some reply)) = IsFirstAnswered answers old bytes (reply_view reply) new rest
-IsNext answers old bytes new rest (Ok None) = IsPartial bytes × IsUnanswered old bytes new rest
-IsNext answers old bytes new rest (Err e) = IsFaultAt bytes e × IsUnanswered old bytes new rest
+abbrev pub IsNextReply : {S : Type 0} → (S → MessageView → ReplyView → S → Type 0) → S → List ℕ → S → List ℕ → Result (Option Reply) FrameError → Type 0
+IsNextReply answers old bytes new rest (Ok (Some reply)) = IsFirstAnswered answers old bytes (reply_view reply) new rest
+IsNextReply answers old bytes new rest (Ok None) = IsPartial bytes × IsUnanswered old bytes new rest
+IsNextReply answers old bytes new rest (Err e) = IsFaultAt bytes e × IsUnanswered old bytes new rest
 
 -- Less than a frame is left over.
-pub record GoesOn (count : ℕ) (exchanges : List Exchange) (rest left : List ℕ) (sum : ℕ) : Type 0 where
+pub record LeavesPartialFrame (count : ℕ) (exchanges : List Exchange) (rest left : List ℕ) (sum : ℕ) : Type 0 where
   pub partial : IsPartial rest
   pub left_is : left ≡ rest
   pub counted : sum ≡ min (count + length exchanges) (2 ^ 64 - 1)
 
 -- Why no more messages were answered: less than a frame is left, or a faulty one, or a write failed, or memory was refused.
 abbrev pub StopsFor : ℕ → List Exchange → List ℕ → List ℕ → Result ℕ FrameError → Type 0
-StopsFor count exchanges rest left (Ok sum) = GoesOn count exchanges rest left sum
-StopsFor count exchanges rest left (Err e) = EndsEarly ⊥ ⊥ rest e
+StopsFor count exchanges rest left (Ok sum) = LeavesPartialFrame count exchanges rest left sum
+StopsFor count exchanges rest left (Err e) = SessionEndsEarly ⊥ ⊥ rest e
 
 -- Messages at the front of the bytes were answered, and this was written of their replies. The rest comes after their frames, and is
 -- what is left unless there is an error.
@@ -55,11 +55,11 @@ pub record AreFrontsAnswered {S : Type 0} (form : Form) (answers : S → Message
   pub answered : AreAnswered answers old exchanges new
   pub sized : AllByRecursion HasReplySize (replies_of exchanges)
   pub appended : Appends output output_left written
-  pub told : Tells form result written exchanges
+  pub told : WritesReplies form result written exchanges
   pub stops : StopsFor count exchanges rest left result
 
 -- A write failed after a front of the bytes.
-pub record FailsWithin (output output_left : Option (List ℕ)) (bytes : List ℕ) (e : FrameError) : Type 0 where
+pub record ReplyWriteFails (output output_left : Option (List ℕ)) (bytes : List ℕ) (e : FrameError) : Type 0 where
   pub part : IsWrittenInPart output output_left bytes
   pub fault : e ≡ error.Write
 

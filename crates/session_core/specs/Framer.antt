@@ -18,10 +18,10 @@ abbrev pub message_views : {A : Type 0} → List (Message (Vec ℕ A)) → List 
 message_views messages = map message_view messages
 
 -- the error of a fault
-abbrev pub fault_of : Ending → Option FrameError
-fault_of (Rest bytes) = None
-fault_of BadLength = Some error.Length
-fault_of BadKind = Some error.Kind
+abbrev pub ending_error : Ending → Option FrameError
+ending_error (Rest bytes) = None
+ending_error BadLength = Some error.Length
+ending_error BadKind = Some error.Kind
 
 abbrev pub IsFaulty : Ending → Type 0
 IsFaulty (Rest bytes) = ⊥

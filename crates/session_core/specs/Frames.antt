@@ -10,32 +10,32 @@ use Rattle.session_core.specs.declared.format.TheConstants.{MOST_LENGTH}
 abbrev pub MessageView : Type 0
 MessageView = Message (List ℕ)
 
-abbrev pub kind_of : MessageView → ℕ
-kind_of (Register body) = 1
-kind_of (Lookup body) = 2
-kind_of (Purge moment) = 3
-kind_of (Remove kind id) = 4
+abbrev pub message_kind : MessageView → ℕ
+message_kind (Register body) = 1
+message_kind (Lookup body) = 2
+message_kind (Purge moment) = 3
+message_kind (Remove kind id) = 4
 
-abbrev pub body_of : MessageView → List ℕ
-body_of (Register body) = body
-body_of (Lookup body) = body
-body_of (Purge moment) = to_be_bytes w64 moment
-body_of (Remove kind id) = kind ∷ id
+abbrev pub message_body : MessageView → List ℕ
+message_body (Register body) = body
+message_body (Lookup body) = body
+message_body (Purge moment) = to_be_bytes w64 moment
+message_body (Remove kind id) = kind ∷ id
 
 -- a length of four bytes, big-endian, and the content
 abbrev pub frame_encoding : List ℕ → List ℕ
 frame_encoding content = to_be_bytes w32 (length content) ++ content
 
 abbrev pub message_frame : MessageView → List ℕ
-message_frame message = frame_encoding (kind_of message ∷ body_of message)
+message_frame message = frame_encoding (message_kind message ∷ message_body message)
 
 -- the length at the front of four bytes or more
 abbrev pub length_at : List ℕ → ℕ
 length_at bytes = from_be_bytes w32 (take 4 bytes)
 
 -- the kind at the front of five bytes or more
-abbrev pub kind_at : List ℕ → ℕ
-kind_at bytes = slice_index bytes 4
+abbrev pub frame_kind_at : List ℕ → ℕ
+frame_kind_at bytes = slice_index bytes 4
 
 abbrev pub IsFrameLength : ℕ → Type 0
 IsFrameLength len = (1 ≤ len) × (len ≤ MOST_LENGTH)
@@ -62,13 +62,13 @@ pub record AreWholeFrames (bytes : List ℕ) (messages : List MessageView) (rest
 -- Four bytes or more begin with the length of a frame, and, where the kind is there, of a frame of that kind.
 pub record HasRightLength (bytes : List ℕ) : Type 0 where
   pub in_range : IsFrameLength (length_at bytes)
-  pub of_kind : 5 ≤ length bytes → IsLengthOf (kind_at bytes) (length_at bytes)
+  pub of_kind : 5 ≤ length bytes → IsLengthOf (frame_kind_at bytes) (length_at bytes)
 
 -- Less than a whole frame, without a fault: the length is checked once four bytes are there, and again
 -- with the kind once five bytes are there.
 pub record IsPartial (bytes : List ℕ) : Type 0 where
   pub length_is_right : 4 ≤ length bytes → HasRightLength bytes
-  pub kind_is_right : 5 ≤ length bytes → IsMessageKind (kind_at bytes)
+  pub kind_is_right : 5 ≤ length bytes → IsMessageKind (frame_kind_at bytes)
   pub incomplete : 4 ≤ length bytes → length bytes < 4 + length_at bytes
 
 -- Bytes that begin with a length that no frame has, or no frame of the kind after it.
@@ -80,7 +80,7 @@ pub record HasBadLength (bytes : List ℕ) : Type 0 where
 pub record HasBadKind (bytes : List ℕ) : Type 0 where
   pub long : 5 ≤ length bytes
   pub length_is_right : HasRightLength bytes
-  pub bad : ¬ IsMessageKind (kind_at bytes)
+  pub bad : ¬ IsMessageKind (frame_kind_at bytes)
 
 -- how a stream ends after its last whole frame: with less than a frame, or with a fault
 pub data Ending : Type 0 where
@@ -88,13 +88,13 @@ pub data Ending : Type 0 where
   BadLength : Ending
   BadKind : Ending
 
-abbrev pub EndsAs : List ℕ → Ending → Type 0
-EndsAs bytes (Rest rest) = (bytes ≡ rest) × IsPartial bytes
-EndsAs bytes BadLength = HasBadLength bytes
-EndsAs bytes BadKind = HasBadKind bytes
+abbrev pub FramesEndAs : List ℕ → Ending → Type 0
+FramesEndAs bytes (Rest rest) = (bytes ≡ rest) × IsPartial bytes
+FramesEndAs bytes BadLength = HasBadLength bytes
+FramesEndAs bytes BadKind = HasBadKind bytes
 
 -- The stream is the frames of these messages, one after the other, followed by this ending.
 pub record AreFrames (bytes : List ℕ) (messages : List MessageView) (ending : Ending) : Type 0 where
   pub rest : List ℕ
   pub whole : AreWholeFrames bytes messages rest
-  pub ends : EndsAs rest ending
+  pub ends : FramesEndAs rest ending

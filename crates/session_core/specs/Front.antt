@@ -5,7 +5,7 @@ use Rattle.session_core.specs.declared.error.FrameError.{FrameError}
 use Rattle.session_core.specs.declared.error.FrameError.TheVariants as error
 use Rattle.session_core.specs.declared.message.Message.{Message}
 use Rattle.session_core.specs.declared.message.Message.TheVariants.{Register, Lookup, Purge, Remove}
-use Rattle.session_core.specs.Frames.{MessageView, body_of, message_frame, FitsFrame, IsPartial, HasBadLength, HasBadKind}
+use Rattle.session_core.specs.Frames.{MessageView, message_body, message_frame, FitsFrame, IsPartial, HasBadLength, HasBadKind}
 
 -- a message by the bytes of its body, wherever the body is in memory
 abbrev pub message_at : Message (Bor (List ℕ)) → MessageView
@@ -18,7 +18,7 @@ message_at (Remove kind id) = Remove kind id
 pub record BeginsWithFrame (bytes : List ℕ) (message : MessageView) (len : ℕ) : Type 0 where
   pub frame : bytes ≡ message_frame message ++ drop len bytes
   pub sized : FitsFrame message
-  pub len_is : len ≡ 5 + length (body_of message)
+  pub len_is : len ≡ 5 + length (message_body message)
 
 -- what is wrong with the frame at the front
 abbrev pub IsFaultAt : List ℕ → FrameError → Type 0
@@ -30,7 +30,7 @@ IsFaultAt bytes error.Write = ⊥
 IsFaultAt bytes error.Turns = ⊥
 
 -- The result of reading the front: a whole frame with its message, less than a frame, or the fault of the frame.
-abbrev pub IsFront : List ℕ → Result (Option (Message (Bor (List ℕ)) × ℕ)) FrameError → Type 0
-IsFront bytes (Ok None) = IsPartial bytes
-IsFront bytes (Ok (Some next)) = BeginsWithFrame bytes (message_at next.0) next.1
-IsFront bytes (Err e) = IsFaultAt bytes e
+abbrev pub IsFrontReading : List ℕ → Result (Option (Message (Bor (List ℕ)) × ℕ)) FrameError → Type 0
+IsFrontReading bytes (Ok None) = IsPartial bytes
+IsFrontReading bytes (Ok (Some next)) = BeginsWithFrame bytes (message_at next.0) next.1
+IsFrontReading bytes (Err e) = IsFaultAt bytes e

@@ -7,7 +7,7 @@ use Rattle.session_core.specs.declared.reply.Form.TheVariants.{Lines}
 use Rattle.session_core.specs.Frames.{MessageView, IsPartial, AreWholeFrames}
 use Rattle.session_core.specs.Reply.{ReplyView, HasReplySize}
 use Rattle.session_core.specs.Service.{Exchange, messages_of, replies_of, AreAnswered}
-use Rattle.session_core.specs.Session.{Tells, EndsEarly}
+use Rattle.session_core.specs.Session.{WritesReplies, SessionEndsEarly}
 
 -- nothing is left over, and the count of replies is capped at 2^64 - 1
 pub record IsWholeCount (exchanges : List Exchange) (rest : List ℕ) (count : ℕ) : Type 0 where
@@ -17,7 +17,7 @@ pub record IsWholeCount (exchanges : List Exchange) (rest : List ℕ) (count : �
 -- The session ends at the end of the bytes, or early: within a frame.
 abbrev pub EndsInLines : List Exchange → List ℕ → Result ℕ FrameError → Type 0
 EndsInLines exchanges rest (Ok count) = IsWholeCount exchanges rest count
-EndsInLines exchanges rest (Err e) = EndsEarly (IsPartial rest) ⊥ rest e
+EndsInLines exchanges rest (Err e) = SessionEndsEarly (IsPartial rest) ⊥ rest e
 
 -- The bytes are the frames of the messages that were answered, and a rest; the service answered them in order; and the lines of
 -- those replies were written.
@@ -30,5 +30,5 @@ pub record IsServedInLines {S : Type 0} (answers : S → MessageView → ReplyVi
   pub answered : AreAnswered answers service exchanges service_left
   pub sized : AllByRecursion HasReplySize (replies_of exchanges)
   pub appended : Appends output output_left written
-  pub told : Tells Lines result written exchanges
+  pub told : WritesReplies Lines result written exchanges
   pub ended : EndsInLines exchanges rest result

@@ -3,7 +3,7 @@ use Rattle.std.specs.Prelude.{ℕ, List, [], ◌∷◌, ◌++◌, ◌≤◌, len
 use Rattle.std.specs.Int.{w32, w64, to_be_bytes}
 use Rattle.seg_core.specs.declared.seg_type.SegType.{SegType}
 use Rattle.seg_core.specs.SegmentView.{SegmentView}
-use Rattle.seg_core.specs.Registration.{rows_of}
+use Rattle.seg_core.specs.Registration.{typed_segments}
 use Rattle.seg_core.specs.Encoding.{response_encoding}
 use Rattle.session_core.specs.declared.service.Ack.{Ack}
 use Rattle.hex.specs.Hex.{encode_lower}
@@ -31,7 +31,7 @@ ack_encoding ack =
 -- the kind, and the bytes that belong to it
 abbrev pub reply_content : ReplyView → List ℕ
 reply_content (Registered ack) = 0x81 ∷ ack_encoding ack
-reply_content (Found kind segments) = 0x82 ∷ response_encoding (rows_of kind segments)
+reply_content (Found kind segments) = 0x82 ∷ response_encoding (typed_segments kind segments)
 reply_content (Purged ack) = 0x83 ∷ ack_encoding ack
 reply_content (Removed ack) = 0x84 ∷ ack_encoding ack
 reply_content (Refused code) = 0xff ∷ code ∷ []

@@ -13,9 +13,9 @@ reply_view (reply.Removed ack) = Removed ack
 reply_view (reply.Refused code) = Refused code.0
 
 -- a reply has at most 64 segments
-abbrev pub IsShort : Reply → Type 0
-IsShort (reply.Registered ack) = Unit {0}
-IsShort (reply.Found kind segments) = length segments.items ≤ MOST_SEGMENTS
-IsShort (reply.Purged ack) = Unit {0}
-IsShort (reply.Removed ack) = Unit {0}
-IsShort (reply.Refused code) = Unit {0}
+abbrev pub HasFewSegments : Reply → Type 0
+HasFewSegments (reply.Registered ack) = Unit {0}
+HasFewSegments (reply.Found kind segments) = length segments.items ≤ MOST_SEGMENTS
+HasFewSegments (reply.Purged ack) = Unit {0}
+HasFewSegments (reply.Removed ack) = Unit {0}
+HasFewSegments (reply.Refused code) = Unit {0}

@@ -14,8 +14,8 @@ use Rattle.session_core.specs.Source.{AreReads}
 -- ---- what was written
 
 -- the front is the beginning of these bytes
-abbrev pub Begins : List ℕ → List ℕ → Type 0
-Begins front bytes = (rest : List ℕ) × (bytes ≡ front ++ rest)
+abbrev pub IsBeginningOf : List ℕ → List ℕ → Type 0
+IsBeginningOf front bytes = (rest : List ℕ) × (bytes ≡ front ++ rest)
 
 -- The replies to all messages but the last one, or to all.
 pub record TellsAllBefore (form : Form) (written : List ℕ) (exchanges : List Exchange) : Type 0 where
@@ -32,19 +32,19 @@ pub record TellsFrontOfLast (form : Form) (written : List ℕ) (exchanges : List
   pub parts : exchanges ≡ before ++ last
   pub one : length last ≤ 1
   pub front : List ℕ
-  pub begins : Begins front (all_told form last)
+  pub begins : IsBeginningOf front (all_told form last)
   pub written_is : written ≡ all_told form before ++ front
 
 -- What was written of the replies to the messages that were answered: all of them, except that after a failed write the last
 -- one may be missing or cut, and where memory was refused the last one may be missing.
-abbrev pub Tells : Form → Result ℕ FrameError → List ℕ → List Exchange → Type 0
-Tells form (Ok count) written exchanges = written ≡ all_told form exchanges
-Tells form (Err error.NoMemory) written exchanges = TellsAllBefore form written exchanges
-Tells form (Err error.Length) written exchanges = written ≡ all_told form exchanges
-Tells form (Err error.Kind) written exchanges = written ≡ all_told form exchanges
-Tells form (Err error.Read) written exchanges = written ≡ all_told form exchanges
-Tells form (Err error.Write) written exchanges = TellsFrontOfLast form written exchanges
-Tells form (Err error.Turns) written exchanges = written ≡ all_told form exchanges
+abbrev pub WritesReplies : Form → Result ℕ FrameError → List ℕ → List Exchange → Type 0
+WritesReplies form (Ok count) written exchanges = written ≡ all_told form exchanges
+WritesReplies form (Err error.NoMemory) written exchanges = TellsAllBefore form written exchanges
+WritesReplies form (Err error.Length) written exchanges = written ≡ all_told form exchanges
+WritesReplies form (Err error.Kind) written exchanges = written ≡ all_told form exchanges
+WritesReplies form (Err error.Read) written exchanges = written ≡ all_told form exchanges
+WritesReplies form (Err error.Write) written exchanges = TellsFrontOfLast form written exchanges
+WritesReplies form (Err error.Turns) written exchanges = written ≡ all_told form exchanges
 
 -- All whole frames of the pieces before the last one were answered, these pieces have no fault, and
 -- their replies were written.
@@ -58,7 +58,7 @@ pub record IsPrompt (pieces : List (List ℕ)) (exchanges : List Exchange) (writ
   pub exchanges_are : exchanges ≡ told ++ others
   pub rest : List ℕ
   pub framed : AreFrames (concat earlier) (messages_of told) (Rest rest)
-  pub kept : Begins (reply_frames told) written
+  pub kept : IsBeginningOf (reply_frames told) written
 
 -- ---- why a session ends
 
@@ -70,18 +70,18 @@ pub record EndsWell (input_left : Option (List ℕ)) (exchanges : List Exchange)
 
 -- The frame at the front of the rest has a fault; or a write failed or memory was refused, anywhere; or the input or
 -- the reads came to their end, under these conditions.
-abbrev pub EndsEarly : Type 0 → Type 0 → List ℕ → FrameError → Type 0
-EndsEarly cut out_of_turns rest error.NoMemory = Unit {0}
-EndsEarly cut out_of_turns rest error.Length = HasBadLength rest
-EndsEarly cut out_of_turns rest error.Kind = HasBadKind rest
-EndsEarly cut out_of_turns rest error.Read = cut
-EndsEarly cut out_of_turns rest error.Write = Unit {0}
-EndsEarly cut out_of_turns rest error.Turns = out_of_turns
+abbrev pub SessionEndsEarly : Type 0 → Type 0 → List ℕ → FrameError → Type 0
+SessionEndsEarly cut out_of_turns rest error.NoMemory = Unit {0}
+SessionEndsEarly cut out_of_turns rest error.Length = HasBadLength rest
+SessionEndsEarly cut out_of_turns rest error.Kind = HasBadKind rest
+SessionEndsEarly cut out_of_turns rest error.Read = cut
+SessionEndsEarly cut out_of_turns rest error.Write = Unit {0}
+SessionEndsEarly cut out_of_turns rest error.Turns = out_of_turns
 
 -- The session ends at the end of the input, or early: at a failed read or within a frame, or when the allowed reads are made.
 abbrev pub EndsFor : Option (List ℕ) → ℕ → List (List ℕ) → List Exchange → List ℕ → Result ℕ FrameError → Type 0
 EndsFor input_left turns pieces exchanges rest (Ok count) = EndsWell input_left exchanges rest count
-EndsFor input_left turns pieces exchanges rest (Err e) = EndsEarly (IsPartial rest) (IsPartial rest × (length pieces ≡ turns)) rest e
+EndsFor input_left turns pieces exchanges rest (Err e) = SessionEndsEarly (IsPartial rest) (IsPartial rest × (length pieces ≡ turns)) rest e
 
 -- ---- a session
 
@@ -98,6 +98,6 @@ pub record IsServed {S R : Type 0} (answers : S → MessageView → ReplyView �
   pub answered : AreAnswered answers service exchanges service_left
   pub sized : AllByRecursion HasReplySize (replies_of exchanges)
   pub appended : Appends output output_left written
-  pub told : Tells Frames result written exchanges
+  pub told : WritesReplies Frames result written exchanges
   pub prompt : IsPrompt pieces exchanges written
   pub ended : EndsFor input_left turns pieces exchanges rest result

@@ -3,7 +3,7 @@
 ghost use Rattle.std.specs.Prelude.{◌≡◌, ◌≤◌, [], length, drop, IsOk, IfOk, OnErr};
 ghost use Rattle.session_core.specs.Frames.{Rest, AreWholeFrames};
 ghost use Rattle.session_core.specs.Front.{message_at};
-ghost use Rattle.session_core.specs.Framer.{message_view, message_views, fault_of, IsFaulty, Continues, IsFaultOf};
+ghost use Rattle.session_core.specs.Framer.{message_view, message_views, ending_error, IsFaulty, Continues, IsFaultOf};
 
 use crate::error::FrameError;
 use crate::frames::next_frame;
@@ -59,7 +59,7 @@ impl Framer {
     /// Takes the next piece of the stream. Where memory is refused, nothing changes, and the piece can be fed again.
     pub fn feed(&mut self, piece: &[u8]) -> Result<Fed, AllocError>
         ensures stream { IfOk result (λ fed. Continues self.old piece.now (message_views fed.messages.items) self.new) }
-        ensures fault { IfOk result (λ fed. fed.fault ≡ fault_of self.new) }
+        ensures fault { IfOk result (λ fed. fed.fault ≡ ending_error self.new) }
         ensures silent { IsFaulty self.old → IfOk result (λ fed. fed.messages.items ≡ []) }
         ensures stopped { IsFaulty self.old → self.new ≡ self.old }
         ensures ready { IsFaulty self.old → IsOk result }

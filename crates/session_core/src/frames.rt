@@ -1,8 +1,8 @@
 //! Frames: a length of four bytes, big-endian, and this number of bytes, which are a kind and a body.
 
 ghost use Rattle.std.specs.Prelude.{◌≡◌, ◌+◌, length, IsTrue, ◌↔◌};
-ghost use Rattle.session_core.specs.Frames.{kind_of, body_of, IsFrameLength, IsMessageKind, IsLengthOf, FitsFrame};
-ghost use Rattle.session_core.specs.Front.{message_at, IsFront};
+ghost use Rattle.session_core.specs.Frames.{message_kind, message_body, IsFrameLength, IsMessageKind, IsLengthOf, FitsFrame};
+ghost use Rattle.session_core.specs.Front.{message_at, IsFrontReading};
 
 use crate::error::FrameError;
 use crate::format::{
@@ -16,7 +16,7 @@ use byteorder::{BigEndian, ByteOrder};
 /// The length is checked once four bytes are there. Once five bytes are there, the kind is checked, and the length of a purge or a
 /// removal.
 pub(crate) fn next_frame(bytes: &[u8]) -> Result<Option<(Message<&[u8]>, usize)>, FrameError>
-    ensures { IsFront bytes.now result }
+    ensures { IsFrontReading bytes.now result }
 {
     if bytes.len() < LENGTH_SIZE {
         return Ok(None);
@@ -58,8 +58,8 @@ fn message_of(kind: u8, body: &[u8]) -> Message<&[u8]>
     requires known { IsMessageKind kind }
     requires in_range { IsFrameLength (1 + length body.now) }
     requires of_kind { IsLengthOf kind (1 + length body.now) }
-    ensures kind { kind_of (message_at result) ≡ kind }
-    ensures body { body_of (message_at result) ≡ body.now }
+    ensures kind { message_kind (message_at result) ≡ kind }
+    ensures body { message_body (message_at result) ≡ body.now }
     ensures fits { FitsFrame (message_at result) }
 {
     match kind {

@@ -1,7 +1,7 @@
 //! The bytes that were read but are not answered yet.
 
 ghost use Rattle.std.specs.Prelude.{◌≡◌, ◌≤◌, ◌++◌, [], length, drop, OnOk, OnErr, IsTrue, ◌↔◌};
-ghost use Rattle.session_core.specs.Front.{IsFront};
+ghost use Rattle.session_core.specs.Front.{IsFrontReading};
 
 use crate::error::FrameError;
 use crate::frames::next_frame;
@@ -64,7 +64,7 @@ impl Inbox {
 
     /// The message whose frame is at the front, and how many bytes the frame has. `None` means that the bytes are less than a frame.
     pub(crate) fn front(&self) -> Result<Option<(Message<&[u8]>, usize)>, FrameError>
-        ensures { IsFront self.now result }
+        ensures { IsFrontReading self.now result }
     {
         next_frame(self.bytes.split_at(self.used).1)
     }

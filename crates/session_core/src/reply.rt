@@ -1,7 +1,7 @@
 //! Replies, and their frames.
 
 ghost use Rattle.std.specs.Prelude.{◌≡◌, ◌≤◌, ◌<◌, ◌++◌, ◌∷◌, ℕ, List, length, IfOk};
-ghost use Rattle.seg_core.specs.Registration.{rows_of};
+ghost use Rattle.seg_core.specs.Registration.{typed_segments};
 ghost use Rattle.seg_core.specs.Encoding.{response_encoding};
 ghost use Rattle.session_core.specs.Frames.{frame_encoding};
 ghost use Rattle.session_core.specs.Reply.{ack_encoding, reply_frame, HasReplySize, Found, Refused};
@@ -84,7 +84,7 @@ pub(crate) fn response_of(
     kind: SegType,
     segments: &[Segment],
 ) -> Result<Vec<u8>, AllocError>
-    ensures { IfOk result (λ response. response.items ≡ response_encoding (rows_of kind segments.now)) }
+    ensures { IfOk result (λ response. response.items ≡ response_encoding (typed_segments kind segments.now)) }
 {
     let mut rows = Vec::with_capacity(alloc, segments.len())?;
     for segment in segments {

@@ -1,7 +1,7 @@
 //! The core of a session, which neither reads nor writes: it takes pieces of input, and returns replies.
 
 ghost use Rattle.std.specs.Prelude.{◌≡◌, ◌++◌, [], OnOk, OnErr, IsTrue, ◌↔◌};
-ghost use Rattle.session_core.specs.Answered.{IsNext};
+ghost use Rattle.session_core.specs.Answered.{IsNextReply};
 ghost use Rattle.session_core.specs.Front.{message_at};
 ghost use Rattle.session_core.specs.Reply.{HasReplySize};
 ghost use Rattle.session_core.specs.ReplyViews.{reply_view};
@@ -54,7 +54,7 @@ impl<S: Service> Session<S> {
     /// Lets the service answer the message whose frame is whole at the front. `None` means that the input is less than a frame, an error
     /// that the frame is faulty; in both cases nothing changes.
     pub(crate) fn next_reply(&mut self, alloc: Global) -> Result<Option<Reply>, FrameError>
-        ensures { IsNext S.answers self.old.service self.old.inbox self.new.service self.new.inbox result }
+        ensures { IsNextReply S.answers self.old.service self.old.inbox self.new.service self.new.inbox result }
     {
         let Some((message, len)) = self.inbox.front()? else {
             return Ok(None);

@@ -4,7 +4,7 @@ ghost use Rattle.std.specs.Prelude.{◌≡◌, ◌++◌, OnOk, IfOk, IfErr, stri
 ghost use Rattle.std.specs.Io.KnownBytes.{Appends};
 ghost use Rattle.session_core.specs.Reply.{HasReplySize, Found, reply_frame, told_as};
 ghost use Rattle.session_core.specs.ReplyViews.{reply_view};
-ghost use Rattle.session_core.specs.Answered.{FailsToWrite, FailsWithin};
+ghost use Rattle.session_core.specs.Answered.{FailsToWrite, ReplyWriteFails};
 
 use crate::error::FrameError;
 use crate::format::{PURGED, REGISTERED, REMOVED};
@@ -91,7 +91,7 @@ fn write_found<W: Write>(
 /// Writes all bytes of two byte strings.
 fn write_both<W: Write>(writer: &mut W, head: &[u8], body: &[u8]) -> Result<(), FrameError>
     ensures ok { OnOk result (Appends (W.contents writer.old) (W.contents writer.new) (head.now ++ body.now)) }
-    ensures err { IfErr result (FailsWithin (W.contents writer.old) (W.contents writer.new) (head.now ++ body.now)) }
+    ensures err { IfErr result (ReplyWriteFails (W.contents writer.old) (W.contents writer.new) (head.now ++ body.now)) }
 {
     write_all(writer, head)?;
     write_all(writer, body)
@@ -100,7 +100,7 @@ fn write_both<W: Write>(writer: &mut W, head: &[u8], body: &[u8]) -> Result<(), 
 /// Writes all of the bytes. A write that takes no byte is an error, and no failed write is repeated.
 pub(crate) fn write_all<W: Write>(writer: &mut W, bytes: &[u8]) -> Result<(), FrameError>
     ensures ok { OnOk result (Appends (W.contents writer.old) (W.contents writer.new) bytes.now) }
-    ensures err { IfErr result (FailsWithin (W.contents writer.old) (W.contents writer.new) bytes.now) }
+    ensures err { IfErr result (ReplyWriteFails (W.contents writer.old) (W.contents writer.new) bytes.now) }
 {
     match whole_writes::write_all(writer, bytes) {
         Ok(()) => Ok(()),

@@ -27,8 +27,8 @@ version_lines numbers =
     ++ (gauge (codes "pathd_format_version") numbers.version ++ gauge (codes "pathd_journal_sealed") (flag numbers.sealed))
 
 -- what is known of the store
-unfoldable pub store_text : Numbers → List ℕ
-store_text numbers =
+unfoldable pub store_metrics : Numbers → List ℕ
+store_metrics numbers =
     row_lines numbers ++ (command_lines numbers ++ (version_lines numbers ++ actor_lines numbers.flush numbers.check))
 
 -- what both actors have done
@@ -80,4 +80,4 @@ refusals_text counted = type_line refusals (codes "counter") ++ flat_map refusal
 
 -- The page: the numbers of a state, what the server has done, and how many messages it refused with which codes.
 abbrev pub page_text : Numbers → Counts → List CodeCount → List ℕ
-page_text numbers counts refused = store_text numbers ++ (work_text counts ++ refusals_text refused)
+page_text numbers counts refused = store_metrics numbers ++ (work_text counts ++ refusals_text refused)

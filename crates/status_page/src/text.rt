@@ -1,7 +1,7 @@
 //! The text of the page.
 
 ghost use Rattle.std.specs.Prelude.{◌≡◌, IfOk, string_bytes};
-ghost use Rattle.status_page.specs.Page.{row_lines, command_lines, version_lines, commit_lines, session_lines, accepted_lines, reply_lines, refusal_label, refusal_line, refusals_text, store_text, work_text, page_text};
+ghost use Rattle.status_page.specs.Page.{row_lines, command_lines, version_lines, commit_lines, session_lines, accepted_lines, reply_lines, refusal_label, refusal_line, refusals_text, store_metrics, work_text, page_text};
 
 use crate::counts::{CodeCount, Counts};
 use crate::lines::{counter, flag, gauge, labelled, type_line};
@@ -34,7 +34,7 @@ pub fn page(
 /// What is known of the store.
 #[tactic(auto, unfolding(crate::specs::Page::store_text))]
 fn store_text(alloc: Global, numbers: &Numbers) -> Result<String, AllocError>
-    ensures { IfOk result (λ text. string_bytes text ≡ store_text numbers.now) }
+    ensures { IfOk result (λ text. string_bytes text ≡ store_metrics numbers.now) }
 {
     let rows = row_lines(alloc, numbers)?;
     let commands = command_lines(alloc, numbers)?;

@@ -5,9 +5,9 @@ use Rattle.status_server.specs.declared.reply_kind.ReplyKind.{ReplyKind}
 use Rattle.status_server.specs.declared.reply_kind.ReplyKind.TheVariants as kind
 
 -- the kind of a reply, by which it is counted
-abbrev pub kind_of : ReplyView → ReplyKind
-kind_of (reply.Registered ack) = kind.Registered
-kind_of (reply.Found type segments) = kind.Found
-kind_of (reply.Purged ack) = kind.Purged
-kind_of (reply.Removed ack) = kind.Removed
-kind_of (reply.Refused code) = kind.Refused code
+abbrev pub kind_of_reply : ReplyView → ReplyKind
+kind_of_reply (reply.Registered ack) = kind.Registered
+kind_of_reply (reply.Found type segments) = kind.Found
+kind_of_reply (reply.Purged ack) = kind.Purged
+kind_of_reply (reply.Removed ack) = kind.Removed
+kind_of_reply (reply.Refused code) = kind.Refused code

@@ -1,7 +1,7 @@
 //! The connection of a peer that asks for the numbers of a server.
 
 ghost use Rattle.std.specs.Prelude.{◌≡◌, ◌++◌, OnOk, IfOk, IfSome};
-ghost use Rattle.status_server.specs.Requests.{IsRead, IsTaken};
+ghost use Rattle.status_server.specs.Requests.{IsRead, IsPieceTaken};
 
 use crate::deadline::Deadline;
 use status_page::{Asked, read_head};
@@ -44,7 +44,7 @@ pub fn read_request(
 /// whole yet, and there may be more of it.
 fn take_piece(head: &mut Vec<u8>, piece: &[u8]) -> Result<Option<Asked>, AllocError>
     ensures taken { OnOk result (head.new.items ≡ head.old.items ++ piece.now) }
-    ensures asked { IfOk result (IsTaken MOST_HEAD head.old.items piece.now) }
+    ensures asked { IfOk result (IsPieceTaken MOST_HEAD head.old.items piece.now) }
 {
     head.extend_from_slice(piece)?;
     match read_head(head.as_slice()) {

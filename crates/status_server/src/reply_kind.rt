@@ -2,7 +2,7 @@
 
 ghost use Rattle.std.specs.Prelude.{◌≡◌};
 ghost use Rattle.session_core.specs.Service.{reply_to_register, reply_to_lookup, reply_to_purge, reply_to_remove};
-ghost use Rattle.status_server.specs.Kinds.{kind_of};
+ghost use Rattle.status_server.specs.Kinds.{kind_of_reply};
 
 use seg_core::{SegType, Segment};
 use session_core::{Ack, Code};
@@ -24,7 +24,7 @@ pub enum ReplyKind {
 
 /// The kind of the reply to a registration.
 pub(crate) fn kind_to_register(answered: &Result<Ack, Code>) -> ReplyKind
-    ensures { result ≡ kind_of (reply_to_register answered.now) }
+    ensures { result ≡ kind_of_reply (reply_to_register answered.now) }
 {
     match answered {
         Ok(_) => ReplyKind::Registered,
@@ -34,7 +34,7 @@ pub(crate) fn kind_to_register(answered: &Result<Ack, Code>) -> ReplyKind
 
 /// The kind of the reply to a lookup.
 pub(crate) fn kind_to_lookup(answered: &Result<(SegType, Vec<Segment>), Code>) -> ReplyKind
-    ensures { result ≡ kind_of (reply_to_lookup answered.now) }
+    ensures { result ≡ kind_of_reply (reply_to_lookup answered.now) }
 {
     match answered {
         Ok(_) => ReplyKind::Found,
@@ -44,7 +44,7 @@ pub(crate) fn kind_to_lookup(answered: &Result<(SegType, Vec<Segment>), Code>) -
 
 /// The kind of the reply to a purge.
 pub(crate) fn kind_to_purge(answered: &Result<Ack, Code>) -> ReplyKind
-    ensures { result ≡ kind_of (reply_to_purge answered.now) }
+    ensures { result ≡ kind_of_reply (reply_to_purge answered.now) }
 {
     match answered {
         Ok(_) => ReplyKind::Purged,
@@ -54,7 +54,7 @@ pub(crate) fn kind_to_purge(answered: &Result<Ack, Code>) -> ReplyKind
 
 /// The kind of the reply to a removal.
 pub(crate) fn kind_to_remove(answered: &Result<Ack, Code>) -> ReplyKind
-    ensures { result ≡ kind_of (reply_to_remove answered.now) }
+    ensures { result ≡ kind_of_reply (reply_to_remove answered.now) }
 {
     match answered {
         Ok(_) => ReplyKind::Removed,

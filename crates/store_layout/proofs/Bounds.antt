@@ -5,7 +5,7 @@ use Rattle.byte_lists.specs.Sectors.{whole_sectors}
 use Rattle.store_layout.specs.Limits.{Limits}
 use Rattle.store_layout.specs.CommandFormat.{CommandFormat, IsAllowed}
 use Rattle.store_layout.specs.Group.{last_place, group_sectors}
-use Rattle.store_layout.specs.Journal.{all_of, IsChain}
+use Rattle.store_layout.specs.Journal.{all_of, IsGroupChain}
 use Rattle.store_layout.specs.JournalLaws.{StaysWithinBounds}
 use Rattle.store_layout.proofs.Chains.{chain_room}
 
@@ -14,14 +14,14 @@ all_append P [] ys front behind = behind
 all_append P (x ∷ xs) ys front behind = (front.0, all_append P xs ys front.1 behind)
 
 module _ {C : Type 0} (format : CommandFormat C) (limits : Limits) where
-  pub chain_seal_room : (bytes : List ℕ) (gate place : ℕ) (groups : List (List C)) (tail : ℕ) → IsChain format limits bytes gate place groups tail → gate + 2 ≤ whole_sectors bytes
+  pub chain_seal_room : (bytes : List ℕ) (gate place : ℕ) (groups : List (List C)) (tail : ℕ) → IsGroupChain format limits bytes gate place groups tail → gate + 2 ≤ whole_sectors bytes
       → tail + 2 ≤ whole_sectors bytes
   chain_seal_room bytes gate place [] tail chain room = omega (arith, chain)
   chain_seal_room bytes gate place (commands ∷ more) tail chain room =
       let here = chain.1.room in
       chain_seal_room bytes (gate + 1 + group_sectors format commands) (place + length commands) more tail chain.2 (omega arith)
 
-  pub chain_places : (bytes : List ℕ) (gate place : ℕ) (groups : List (List C)) (tail : ℕ) → IsChain format limits bytes gate place groups tail → place ≤ last_place
+  pub chain_places : (bytes : List ℕ) (gate place : ℕ) (groups : List (List C)) (tail : ℕ) → IsGroupChain format limits bytes gate place groups tail → place ≤ last_place
       → place + length (all_of groups) ≤ last_place
   chain_places bytes gate place [] tail chain small = omega arith
   chain_places bytes gate place (commands ∷ more) tail chain small =
@@ -31,7 +31,7 @@ module _ {C : Type 0} (format : CommandFormat C) (limits : Limits) where
         length-append commands (all_of more),
       )
 
-  pub chain_allowed : (bytes : List ℕ) (gate place : ℕ) (groups : List (List C)) (tail : ℕ) → IsChain format limits bytes gate place groups tail
+  pub chain_allowed : (bytes : List ℕ) (gate place : ℕ) (groups : List (List C)) (tail : ℕ) → IsGroupChain format limits bytes gate place groups tail
       → AllByRecursion (IsAllowed format limits) (all_of groups)
   chain_allowed bytes gate place [] tail chain = tt
   chain_allowed bytes gate place (commands ∷ more) tail chain =

@@ -9,7 +9,7 @@ use Rattle.store_layout.specs.Limits.{Limits}
 use Rattle.store_layout.specs.CommandFormat.{CommandFormat}
 use Rattle.store_layout.specs.Group.{payload_sectors, group_sectors}
 use Rattle.store_layout.specs.GroupReading.{JournalRefusal, Payload, payload_at}
-use Rattle.store_layout.specs.Journal.{all_of, HasGroup, IsChain, EndsAs, Reading, IsJournal}
+use Rattle.store_layout.specs.Journal.{all_of, HasGroupAfterGate, IsGroupChain, JournalEndsAs, Reading, IsJournal}
 use Rattle.store_layout.specs.JournalReading.{with_front, ends, at_gate, scan_from, journal_scan}
 use Rattle.store_layout.proofs.Groups.{payload_group, payload_seal}
 
@@ -27,12 +27,12 @@ sector_agrees xs ys sector from size agree inside = same_part (512 * from) 512 x
 
 module _ {C : Type 0} (format : CommandFormat C) (limits : Limits) where
   -- a chain goes forward, and where it has groups the journal has room after it
-  pub chain_forward : (bytes : List ℕ) (gate place : ℕ) (groups : List (List C)) (tail : ℕ) → IsChain format limits bytes gate place groups tail → gate + length groups ≤ tail
+  pub chain_forward : (bytes : List ℕ) (gate place : ℕ) (groups : List (List C)) (tail : ℕ) → IsGroupChain format limits bytes gate place groups tail → gate + length groups ≤ tail
   chain_forward bytes gate place [] tail chain = omega (arith, chain)
   chain_forward bytes gate place (commands ∷ more) tail chain =
       omega (arith, chain_forward bytes (gate + 1 + group_sectors format commands) (place + length commands) more tail chain.2)
 
-  pub chain_room : (bytes : List ℕ) (gate place : ℕ) (groups : List (List C)) (tail : ℕ) → IsChain format limits bytes gate place groups tail → gate < whole_sectors bytes → tail < whole_sectors bytes
+  pub chain_room : (bytes : List ℕ) (gate place : ℕ) (groups : List (List C)) (tail : ℕ) → IsGroupChain format limits bytes gate place groups tail → gate < whole_sectors bytes → tail < whole_sectors bytes
   chain_room bytes gate place [] tail chain room = omega (arith, chain)
   chain_room bytes gate place (commands ∷ more) tail chain room =
       let here = chain.1.room in
@@ -40,7 +40,7 @@ module _ {C : Type 0} (format : CommandFormat C) (limits : Limits) where
 
   -- a chain depends on the bytes before its end
   pub chain_agrees : (xs ys : List ℕ) (gate place : ℕ) (groups : List (List C)) (tail : ℕ) → length xs ≡ length ys → AgreeBefore xs ys tail
-      → IsChain format limits xs gate place groups tail → IsChain format limits ys gate place groups tail
+      → IsGroupChain format limits xs gate place groups tail → IsGroupChain format limits ys gate place groups tail
   chain_agrees xs ys gate place [] tail size agree chain = chain
   chain_agrees xs ys gate place (commands ∷ more) tail size agree chain =
       let on : gate + 1 + group_sectors format commands + length more ≤ tail = chain_forward xs (gate + 1 + group_sectors format commands) (place + length commands) more tail chain.2 in
@@ -53,19 +53,19 @@ module _ {C : Type 0} (format : CommandFormat C) (limits : Limits) where
       )
 
   -- one group more
-  pub chain_more : (bytes : List ℕ) (gate place : ℕ) (groups : List (List C)) (tail : ℕ) (commands : List C) → IsChain format limits bytes gate place groups tail
-      → IsOpenGate (sector_at tail bytes) → HasGroup format limits bytes tail (place + length (all_of groups)) commands
-      → IsChain format limits bytes gate place (groups ++ commands ∷ []) (tail + 1 + group_sectors format commands)
+  pub chain_more : (bytes : List ℕ) (gate place : ℕ) (groups : List (List C)) (tail : ℕ) (commands : List C) → IsGroupChain format limits bytes gate place groups tail
+      → IsOpenGate (sector_at tail bytes) → HasGroupAfterGate format limits bytes tail (place + length (all_of groups)) commands
+      → IsGroupChain format limits bytes gate place (groups ++ commands ∷ []) (tail + 1 + group_sectors format commands)
   chain_more bytes gate place [] tail commands chain opened has =
       let here : place + 0 ≡ place = omega arith in
-      subst (λ (g : ℕ). IsChain format limits bytes g place (commands ∷ []) (tail + 1 + group_sectors format commands)) (sym chain)
-      (opened, subst (λ (n : ℕ). HasGroup format limits bytes tail n commands) here has, refl)
+      subst (λ (g : ℕ). IsGroupChain format limits bytes g place (commands ∷ []) (tail + 1 + group_sectors format commands)) (sym chain)
+      (opened, subst (λ (n : ℕ). HasGroupAfterGate format limits bytes tail n commands) here has, refl)
   chain_more bytes gate place (first ∷ more) tail commands chain opened has =
       let on : place + length (first ++ all_of more) ≡ place + length first + length (all_of more) = omega (arith, length-append first (all_of more)) in (
         chain.0,
         chain.1,
         chain_more bytes (gate + 1 + group_sectors format first) (place + length first) more tail commands chain.2 opened
-            (subst (λ (n : ℕ). HasGroup format limits bytes tail n commands) on has),
+            (subst (λ (n : ℕ). HasGroupAfterGate format limits bytes tail n commands) on has),
       )
 
   pub all_of_more : (groups : List (List C)) (commands : List C) → all_of (groups ++ commands ∷ []) ≡ all_of groups ++ commands
@@ -85,7 +85,7 @@ module _ {C : Type 0} (format : CommandFormat C) (limits : Limits) where
   behind steps bytes gate place commands size = scan_from steps format limits bytes (gate + 1 + payload_sectors size) (place + length commands)
 
   -- one group is read
-  scan_group : (bytes : List ℕ) (gate place : ℕ) (commands : List C) (steps : ℕ) → IsOpenGate (sector_at gate bytes) → HasGroup format limits bytes gate place commands
+  scan_group : (bytes : List ℕ) (gate place : ℕ) (commands : List C) (steps : ℕ) → IsOpenGate (sector_at gate bytes) → HasGroupAfterGate format limits bytes gate place commands
       → scan_from (suc steps) format limits bytes gate place ≡ with_front commands (scan_from steps format limits bytes (gate + 1 + group_sectors format commands) (place + length commands))
   unfolding behind
   scan_group bytes gate place commands steps opened has =
@@ -93,7 +93,7 @@ module _ {C : Type 0} (format : CommandFormat C) (limits : Limits) where
       ∙ ap (λ (p : Result (Payload C) JournalRefusal). at_gate true p (behind steps bytes gate place) gate place) (payload_group format limits bytes gate place commands has)
 
   -- reading continues after a chain
-  pub chain_scan : (bytes : List ℕ) (gate place : ℕ) (groups : List (List C)) (tail rest : ℕ) → IsChain format limits bytes gate place groups tail
+  pub chain_scan : (bytes : List ℕ) (gate place : ℕ) (groups : List (List C)) (tail rest : ℕ) → IsGroupChain format limits bytes gate place groups tail
       → scan_from (length groups + rest) format limits bytes gate place ≡ with_front (all_of groups) (scan_from rest format limits bytes tail (place + length (all_of groups)))
   chain_scan bytes gate place [] tail rest chain =
       let none : 0 + rest ≡ rest = omega arith in
@@ -112,7 +112,7 @@ module _ {C : Type 0} (format : CommandFormat C) (limits : Limits) where
       ∙ sym (with_both first (all_of more) (scan_from rest format limits bytes tail (place + length (first ++ all_of more))))
 
   -- the end of a journal is read
-  pub end_scan : (bytes : List ℕ) (gate place steps : ℕ) (sealed : Bool) → EndsAs sealed bytes gate place → scan_from (suc steps) format limits bytes gate place ≡ ends gate place sealed
+  pub end_scan : (bytes : List ℕ) (gate place steps : ℕ) (sealed : Bool) → JournalEndsAs sealed bytes gate place → scan_from (suc steps) format limits bytes gate place ≡ ends gate place sealed
   unfolding behind
   end_scan bytes gate place steps false closed =
       ap (λ (b : Bool). at_gate b (payload_at format limits bytes gate place) (behind steps bytes gate place) gate place) (open_false (sector_at gate bytes) closed)

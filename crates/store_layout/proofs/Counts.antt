@@ -14,7 +14,7 @@ use Rattle.store_layout.specs.FirstSector.{IsStore}
 use Rattle.store_layout.specs.StoreFormat.{RowsFormat, StoreFormat}
 use Rattle.store_layout.specs.Checkpoint.{Head, Checkpoint, IsHead, checkpoint_size, IsCheckpoint}
 use Rattle.store_layout.specs.Opening.{Opening, limits_in, HasOlderHead, IsTail, IsChosen, IsOpening}
-use Rattle.store_layout.specs.WhatCounts.{Span, span, chosen_spans, head_spans, tail_spans, spans_in, IsSameSpan, IsApart}
+use Rattle.store_layout.specs.WhatCounts.{CountedSpan, span, chosen_spans, head_spans, tail_spans, spans_in, IsSameSpan, IsApart}
 use Rattle.store_layout.specs.WhatCountsLaws.{GoesByWhatCounts, IsKeptByWritesElsewhere, GoesByTheChosenHalf}
 use Rattle.store_layout.proofs.Bounds.{stays_within_bounds}
 use Rattle.store_layout.proofs.Growth.{goes_by_its_front}
@@ -37,7 +37,7 @@ read_inside false tail sectors room = omega arith
 read_inside true tail sectors room = omega arith
 
 -- the head that counts, and the other bytes that count
-head_counts : (P : Span → Type 0) (geometry : Geometry) (half : Half) (opened : Bool) (more : List Span) → AllByRecursion P (head_spans geometry half opened more)
+head_counts : (P : CountedSpan → Type 0) (geometry : Geometry) (half : Half) (opened : Bool) (more : List CountedSpan) → AllByRecursion P (head_spans geometry half opened more)
     → (opened ≡ true → P (span (512 * area_at geometry half) 24)) × AllByRecursion P more
 head_counts P geometry half false more all = (λ opened. cc, all)
 head_counts P geometry half true more all = (λ opened. all.0, all.1)
@@ -83,7 +83,7 @@ module _ (geometry : Geometry) (one two : List ℕ) (size : length two ≡ lengt
         inside = omega (arith, read_inside reading.sealed reading.tail geometry.journal bounds)
 
 -- the bytes of the chosen half that count
-chosen_same : {Db C : Type 0} (format : StoreFormat Db C) (latest : ℕ) (one two : List ℕ) (opening : Opening Db C) (more : List Span) → length two ≡ length one
+chosen_same : {Db C : Type 0} (format : StoreFormat Db C) (latest : ℕ) (one two : List ℕ) (opening : Opening Db C) (more : List CountedSpan) → length two ≡ length one
     → AllByRecursion (IsSameSpan one two) (chosen_spans format opening more)
     → (IsOpenGate (gate_of opening.geometry (other opening.chosen) two) → HasOlderHead latest (area_of opening.geometry (other opening.chosen) two) opening.checkpoint.head.epoch)
     → IsOpening format latest one opening → IsChosen format latest two opening.geometry opening.chosen opening.checkpoint
@@ -147,7 +147,7 @@ goes_by_what_counts Db C format latest one two opening size same is = record {
     )
 
 -- a write outside of these spans
-pub spans_kept : (at : ℕ) (bytes image : List ℕ) → at + length bytes ≤ length image → (spans : List Span) → AllByRecursion (IsApart at (length bytes)) spans
+pub spans_kept : (at : ℕ) (bytes image : List ℕ) → at + length bytes ≤ length image → (spans : List CountedSpan) → AllByRecursion (IsApart at (length bytes)) spans
     → AllByRecursion (IsSameSpan image (overwrite at bytes image)) spans
 spans_kept at bytes image inside [] all = tt
 spans_kept at bytes image inside (place ∷ more) all = (one all.0, spans_kept at bytes image inside more all.1)

@@ -10,9 +10,9 @@ use Rattle.byte_lists.specs.Sectors.{sectors_of, whole_sectors}
 use Rattle.byte_lists.proofs.BigEndian.{four_at-encoded}
 use Rattle.store_layout.specs.Limits.{Limits}
 use Rattle.store_layout.specs.CommandFormat.{CommandFormat, IsAllowed}
-use Rattle.store_layout.specs.Group.{most_record_bytes, records_of, with_header, group_encoding, seal_encoding, payload_sectors, group_sectors, HasRoom, CanBeGroup}
-use Rattle.store_layout.specs.GroupReading.{BadRecord, Gap, PastEnd, check, size_in, place_in, IsHeader, is_header, IsGroupHeader, IsSealHeader, is_group_header, is_seal_header, record_size, with_first, commands_in, are_zeros, Group, Seal, group_of, Kind, OfGroup, OfSeal, OfNone, kind_of, group_in, seal_in, by_kind, payload_at}
-use Rattle.store_layout.specs.Journal.{HasGroup, HasSeal}
+use Rattle.store_layout.specs.Group.{most_record_bytes, records_of, with_header, group_encoding, seal_encoding, payload_sectors, group_sectors, JournalHasRoom, CanBeGroup}
+use Rattle.store_layout.specs.GroupReading.{BadRecord, Gap, PastEnd, refuse_unless, size_in, place_in, IsHeader, is_header, IsGroupHeader, IsSealHeader, is_group_header, is_seal_header, record_size, with_first, commands_in, are_zeros, Group, Seal, group_of, Kind, OfGroup, OfSeal, OfNone, header_kind, group_in, seal_in, by_kind, payload_at}
+use Rattle.store_layout.specs.Journal.{HasGroupAfterGate, HasSeal}
 
 -- the test of a header
 pub header_true : (wanted few many longest : ℕ) (payload : List ℕ) → IsHeader wanted few many longest payload → is_header wanted few many longest payload ≡ true
@@ -110,7 +110,7 @@ module _ {C : Type 0} (format : CommandFormat C) (limits : Limits) (place : ℕ)
   unfolding spelled
   place_is = place_read 1 (length commands) (length (records_of format commands)) place ((records_of format commands ++ replicate k 0) ++ behind) (omega (arith, can.last))
 
-  kind_is : kind_of limits spelled ≡ OfGroup
+  kind_is : header_kind limits spelled ≡ OfGroup
   unfolding spelled
   kind_is = ap (λ (b : Bool). cond b OfGroup (cond (is_seal_header spelled) OfSeal OfNone)) (group_header_true limits spelled header)
     where
@@ -128,9 +128,9 @@ module _ {C : Type 0} (format : CommandFormat C) (limits : Limits) (place : ℕ)
   group_is : group_in format limits spelled ≡ Ok (Group commands (length (records_of format commands)))
   unfolding spelled
   group_is =
-      ap (λ (n : ℕ). check (are_zeros (part (16 + n) (512 * payload_sectors n - (16 + n)) spelled)) BadRecord (group_of (commands_in format limits (length commands) (part 16 n spelled)) n)) size_is
-      ∙ ap (λ (list : List ℕ). check (are_zeros list) BadRecord (group_of (commands_in format limits (length commands) (part 16 len spelled)) len)) padding
-      ∙ ap (λ (b : Bool). check b BadRecord (group_of (commands_in format limits (length commands) (part 16 len spelled)) len)) (zeros_true k)
+      ap (λ (n : ℕ). refuse_unless (are_zeros (part (16 + n) (512 * payload_sectors n - (16 + n)) spelled)) BadRecord (group_of (commands_in format limits (length commands) (part 16 n spelled)) n)) size_is
+      ∙ ap (λ (list : List ℕ). refuse_unless (are_zeros list) BadRecord (group_of (commands_in format limits (length commands) (part 16 len spelled)) len)) padding
+      ∙ ap (λ (b : Bool). refuse_unless b BadRecord (group_of (commands_in format limits (length commands) (part 16 len spelled)) len)) (zeros_true k)
       ∙ ap (λ (list : List ℕ). group_of (commands_in format limits (length commands) list) len) (ap (take len) inner ∙ take_at records (replicate k 0 ++ behind) len refl)
       ∙ ap (λ (found : Option (List C)). group_of found len) (records_read format limits commands can.allowed (omega (arith, can.short)))
     where
@@ -148,13 +148,13 @@ module _ {C : Type 0} (format : CommandFormat C) (limits : Limits) (place : ℕ)
           ap (take (512 * payload_sectors len - (16 + len))) (sym (drop-drop len 16 spelled) ∙ ap (drop len) inner ∙ drop_at records (replicate k 0 ++ behind) len refl)
           ∙ take_at (replicate k 0) behind (512 * payload_sectors len - (16 + len)) (length-replicate k 0 ∙ fits)
 
-  by_group : (gate journal : ℕ) → HasRoom gate (group_sectors format commands) journal
-      → by_kind (kind_of limits spelled) format limits spelled gate place journal ≡ Ok (Group commands (length (records_of format commands)))
+  by_group : (gate journal : ℕ) → JournalHasRoom gate (group_sectors format commands) journal
+      → by_kind (header_kind limits spelled) format limits spelled gate place journal ≡ Ok (Group commands (length (records_of format commands)))
   by_group gate journal room =
       ap (λ (kind : Kind). by_kind kind format limits spelled gate place journal) kind_is
-      ∙ ap (λ (b : Bool). check b (Gap place) (check (leb (gate + 1 + payload_sectors (size_in spelled) + 2) journal) PastEnd (group_in format limits spelled))) (eq-eqb _ _ place_is)
-      ∙ ap (λ (n : ℕ). check (leb (gate + 1 + payload_sectors n + 2) journal) PastEnd (group_in format limits spelled)) size_is
-      ∙ ap (λ (b : Bool). check b PastEnd (group_in format limits spelled)) (le-leb _ _ room)
+      ∙ ap (λ (b : Bool). refuse_unless b (Gap place) (refuse_unless (leb (gate + 1 + payload_sectors (size_in spelled) + 2) journal) PastEnd (group_in format limits spelled))) (eq-eqb _ _ place_is)
+      ∙ ap (λ (n : ℕ). refuse_unless (leb (gate + 1 + payload_sectors n + 2) journal) PastEnd (group_in format limits spelled)) size_is
+      ∙ ap (λ (b : Bool). refuse_unless b PastEnd (group_in format limits spelled)) (le-leb _ _ room)
       ∙ group_is
 
 -- a list that begins with a part
@@ -162,12 +162,12 @@ begins_with : (n : ℕ) (xs start : List ℕ) → take n xs ≡ start → xs ≡
 begins_with n xs start is = sym (take-append-drop n xs) ∙ ap (λ (list : List ℕ). list ++ drop n xs) is
 
 -- a group after a gate is read
-pub payload_group : {C : Type 0} (format : CommandFormat C) (limits : Limits) (bytes : List ℕ) (gate place : ℕ) (commands : List C) → HasGroup format limits bytes gate place commands
+pub payload_group : {C : Type 0} (format : CommandFormat C) (limits : Limits) (bytes : List ℕ) (gate place : ℕ) (commands : List C) → HasGroupAfterGate format limits bytes gate place commands
     → payload_at format limits bytes gate place ≡ Ok (Group commands (length (records_of format commands)))
 unfolding spelled
 payload_group format limits bytes gate place commands has =
-    ap (λ (b : Bool). check b PastEnd (by_kind (kind_of limits payload) format limits payload gate place (whole_sectors bytes))) (le-leb _ _ inside)
-    ∙ ap (λ (list : List ℕ). by_kind (kind_of limits list) format limits list gate place (whole_sectors bytes))
+    ap (λ (b : Bool). refuse_unless b PastEnd (by_kind (header_kind limits payload) format limits payload gate place (whole_sectors bytes))) (le-leb _ _ inside)
+    ∙ ap (λ (list : List ℕ). by_kind (header_kind limits list) format limits list gate place (whole_sectors bytes))
     (begins_with (512 * group_sectors format commands) payload (group_encoding format place commands) has.group.spelled)
     ∙ by_group format limits place commands has.group.can (drop (512 * group_sectors format commands) payload) zeros (omega arith) gate (whole_sectors bytes) has.room
   where
@@ -184,10 +184,10 @@ payload_group format limits bytes gate place commands has =
 -- a seal after a gate is read
 pub payload_seal : {C : Type 0} (format : CommandFormat C) (limits : Limits) (bytes : List ℕ) (gate place : ℕ) → HasSeal bytes gate place → payload_at format limits bytes gate place ≡ Ok Seal
 payload_seal {C} format limits bytes gate place has =
-    ap (λ (b : Bool). check b PastEnd (by_kind (kind_of limits payload) format limits payload gate place (whole_sectors bytes))) (le-leb _ _ has.room)
-    ∙ ap (λ (list : List ℕ). by_kind (kind_of limits list) format limits list gate place (whole_sectors bytes)) (begins_with 512 payload (seal_encoding place) has.seal.spelled)
+    ap (λ (b : Bool). refuse_unless b PastEnd (by_kind (header_kind limits payload) format limits payload gate place (whole_sectors bytes))) (le-leb _ _ has.room)
+    ∙ ap (λ (list : List ℕ). by_kind (header_kind limits list) format limits list gate place (whole_sectors bytes)) (begins_with 512 payload (seal_encoding place) has.seal.spelled)
     ∙ ap (λ (kind : Kind). by_kind kind format limits sealed gate place (whole_sectors bytes)) kind
-    ∙ ap (λ (b : Bool). check b (Gap place) (seal_in sealed)) (eq-eqb _ _ there)
+    ∙ ap (λ (b : Bool). refuse_unless b (Gap place) (seal_in sealed)) (eq-eqb _ _ there)
   where
     payload : List ℕ
     payload = drop (512 * (gate + 1)) bytes
@@ -198,5 +198,5 @@ payload_seal {C} format limits bytes gate place has =
     there : place_in sealed ≡ place
     there = place_read 2 0 0 place (replicate 496 0 ++ drop 512 payload) (omega (arith, has.seal.last))
 
-    kind : kind_of limits sealed ≡ OfSeal
+    kind : header_kind limits sealed ≡ OfSeal
     kind = ap (λ (b : Bool). cond b OfSeal OfNone) (seal_header_true sealed (record { kind = refl; some = omega arith; most = omega arith; third = refl; fourth = refl; short = omega arith; last = omega (arith, there, has.seal.last) }))

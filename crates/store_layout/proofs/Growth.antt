@@ -7,7 +7,7 @@ use Rattle.byte_lists.proofs.Contents.{length-overwrite, overwrite_before, part_
 use Rattle.store_layout.specs.Limits.{Limits, AreAsLarge}
 use Rattle.store_layout.specs.CommandFormat.{CommandFormat, IsAllowed}
 use Rattle.store_layout.specs.Group.{group_sectors, IsSeal}
-use Rattle.store_layout.specs.Journal.{all_of, HasGroup, IsChain, EndsAs, Reading, IsJournal, sectors_to, sectors_read, gate_behind, with_group, with_seal}
+use Rattle.store_layout.specs.Journal.{all_of, HasGroupAfterGate, IsGroupChain, JournalEndsAs, Reading, IsJournal, sectors_to, sectors_read, gate_behind, reading_with_group, reading_with_seal}
 use Rattle.store_layout.specs.JournalLaws.{GoesByItsFront, GrowsByItsGate, IsSealedByItsGate, IsReadUnderLargerLimits}
 use Rattle.store_layout.proofs.Chains.{AgreeBefore, sector_agrees, chain_agrees, chain_more, all_of_more}
 
@@ -20,7 +20,7 @@ pub agree_fewer : (xs ys : List ℕ) (few many : ℕ) → few ≤ many → Agree
 agree_fewer xs ys few many less agree i below = agree i (omega arith)
 
 -- the end of a journal depends on its last gate, and on the seal after that gate
-pub ends_agree : (xs ys : List ℕ) (gate place : ℕ) (sealed : Bool) → length xs ≡ length ys → AgreeBefore xs ys (sectors_to sealed gate) → EndsAs sealed xs gate place → EndsAs sealed ys gate place
+pub ends_agree : (xs ys : List ℕ) (gate place : ℕ) (sealed : Bool) → length xs ≡ length ys → AgreeBefore xs ys (sectors_to sealed gate) → JournalEndsAs sealed xs gate place → JournalEndsAs sealed ys gate place
 ends_agree xs ys gate place false size agree closed = λ opened. closed (subst IsOpenGate (sym (sector_agrees xs ys (gate + 1) gate size agree (omega arith))) opened)
 ends_agree xs ys gate place true size agree end =
     let room = end.1.room in (
@@ -79,7 +79,7 @@ closed_so format limits bytes start reading gate inside is unsealed size closed 
       (written_before bytes gate reading.tail inside size) is.chain;
   commands = is.commands;
   place = is.place;
-  ends = subst (λ (b : Bool). EndsAs b (overwrite (512 * reading.tail) gate bytes) reading.tail reading.place) (sym unsealed) (written_closed bytes gate reading.tail inside size closed);
+  ends = subst (λ (b : Bool). JournalEndsAs b (overwrite (512 * reading.tail) gate bytes) reading.tail reading.place) (sym unsealed) (written_closed bytes gate reading.tail inside size closed);
 }
 
 pub grows_by_its_gate : (C : Type 0) → GrowsByItsGate C
@@ -91,8 +91,8 @@ grows_by_its_gate C format limits bytes start reading group gate is ready size =
     place : reading.place ≡ start + length (all_of is.groups)
     place = is.place ∙ ap (λ (list : List C). start + length list) is.commands
 
-    has : HasGroup format limits (overwrite (512 * reading.tail) gate bytes) reading.tail (start + length (all_of is.groups)) group
-    has = subst (λ (n : ℕ). HasGroup format limits (overwrite (512 * reading.tail) gate bytes) reading.tail n group) place (record {
+    has : HasGroupAfterGate format limits (overwrite (512 * reading.tail) gate bytes) reading.tail (start + length (all_of is.groups)) group
+    has = subst (λ (n : ℕ). HasGroupAfterGate format limits (overwrite (512 * reading.tail) gate bytes) reading.tail n group) place (record {
       group = record {
         can = ready.has.group.can;
         spelled = written_behind bytes gate reading.tail inside size (reading.tail + 1) (512 * group_sectors format group) (omega arith) ∙ ready.has.group.spelled;
@@ -106,7 +106,7 @@ grows_by_its_gate C format limits bytes start reading group gate is ready size =
     still : sector_at next (overwrite (512 * reading.tail) gate bytes) ≡ sector_at next bytes
     still = written_behind bytes gate reading.tail inside size next 512 (omega arith)
 
-    grown : IsOpenGate gate → IsJournal format limits (overwrite (512 * reading.tail) gate bytes) start (with_group format reading group)
+    grown : IsOpenGate gate → IsJournal format limits (overwrite (512 * reading.tail) gate bytes) start (reading_with_group format reading group)
     grown opened = record {
       groups = is.groups ++ group ∷ [];
       chain = chain_more format limits (overwrite (512 * reading.tail) gate bytes) 0 start is.groups reading.tail group
@@ -124,7 +124,7 @@ sealed_by_its_gate C format limits bytes start reading gate is unsealed has size
     inside : reading.tail < whole_sectors bytes
     inside = omega (arith, has.room)
 
-    sealed : IsOpenGate gate → IsJournal format limits (overwrite (512 * reading.tail) gate bytes) start (with_seal reading)
+    sealed : IsOpenGate gate → IsJournal format limits (overwrite (512 * reading.tail) gate bytes) start (reading_with_seal reading)
     sealed opened = record {
       groups = is.groups;
       chain = chain_agrees format limits bytes (overwrite (512 * reading.tail) gate bytes) 0 start is.groups reading.tail (written_long bytes gate reading.tail inside size)
@@ -146,7 +146,7 @@ module _ {C : Type 0} (format : CommandFormat C) (small large : Limits) (larger 
   allowed_larger [] all = all
   allowed_larger (command ∷ more) all = (format.grows small large (format.encoding command) command larger all.0, allowed_larger more all.1)
 
-  pub group_larger : (bytes : List ℕ) (gate place : ℕ) (commands : List C) → HasGroup format small bytes gate place commands → HasGroup format large bytes gate place commands
+  pub group_larger : (bytes : List ℕ) (gate place : ℕ) (commands : List C) → HasGroupAfterGate format small bytes gate place commands → HasGroupAfterGate format large bytes gate place commands
   group_larger bytes gate place commands has =
       let can = has.group.can in
       record {
@@ -157,7 +157,7 @@ module _ {C : Type 0} (format : CommandFormat C) (small large : Limits) (larger 
         room = has.room;
       }
 
-  pub chain_larger : (bytes : List ℕ) (gate place : ℕ) (groups : List (List C)) (tail : ℕ) → IsChain format small bytes gate place groups tail → IsChain format large bytes gate place groups tail
+  pub chain_larger : (bytes : List ℕ) (gate place : ℕ) (groups : List (List C)) (tail : ℕ) → IsGroupChain format small bytes gate place groups tail → IsGroupChain format large bytes gate place groups tail
   chain_larger bytes gate place [] tail chain = chain
   chain_larger bytes gate place (commands ∷ more) tail chain =
       (chain.0, group_larger bytes gate place commands chain.1, chain_larger bytes (gate + 1 + group_sectors format commands) (place + length commands) more tail chain.2)

@@ -7,30 +7,30 @@ use Rattle.byte_lists.specs.Content.{AreBytes, part}
 use Rattle.byte_lists.specs.Numbers.{four_at, eight_at}
 use Rattle.byte_lists.proofs.Contents.{bytes-part}
 use Rattle.byte_lists.proofs.BigEndian.{encoded-four_at, encoded-eight_at}
-use Rattle.store_layout.specs.GroupReading.{check}
-use Rattle.store_layout.specs.Checkpoint.{Head, checkpoint_magic, head_encoding, CanBeHead, IsHead}
+use Rattle.store_layout.specs.GroupReading.{refuse_unless}
+use Rattle.store_layout.specs.Checkpoint.{Head, checkpoint_magic, checkpoint_head_encoding, CanBeHead, IsHead}
 use Rattle.store_layout.specs.CheckpointReading.{PairRefusal, NoHalf, SameEpoch, BadCheckpoint, SealedNewer, NewerFormat, version_in, numbers_in, head_in, IsHeadRefusal}
 use Rattle.store_layout.specs.CheckpointLaws.{IsHeadReadSo, IsHeadRefusedSo, HeadGoesByItsFront}
 use Rattle.store_layout.proofs.Titles.{begins_with, split_part}
 
 -- the numbers of a head, whatever bytes come after it
 module _ (head : Head) (can : CanBeHead head) (rest : List ℕ) where
-  magic_read : four_at 0 (head_encoding head ++ rest) ≡ checkpoint_magic
+  magic_read : four_at 0 (checkpoint_head_encoding head ++ rest) ≡ checkpoint_magic
   magic_read = from_be_bytes-to_be_bytes_4 checkpoint_magic (omega arith)
 
-  version_read : four_at 4 (head_encoding head ++ rest) ≡ head.version
+  version_read : four_at 4 (checkpoint_head_encoding head ++ rest) ≡ head.version
   version_read = from_be_bytes-to_be_bytes_4 head.version can.version
 
-  epoch_read : eight_at 8 (head_encoding head ++ rest) ≡ head.epoch
+  epoch_read : eight_at 8 (checkpoint_head_encoding head ++ rest) ≡ head.epoch
   epoch_read = from_be_bytes-to_be_bytes_8 head.epoch can.epoch
 
-  place_read : eight_at 16 (head_encoding head ++ rest) ≡ head.place
+  place_read : eight_at 16 (checkpoint_head_encoding head ++ rest) ≡ head.place
   place_read = from_be_bytes-to_be_bytes_8 head.place (omega (arith, can.place))
 
 -- how an area that begins with a head is read
 module _ (area : List ℕ) (head : Head) (is : IsHead area head) where
-  area_begins : area ≡ head_encoding head ++ drop 24 area
-  area_begins = begins_with 24 area (head_encoding head) is.spelled
+  area_begins : area ≡ checkpoint_head_encoding head ++ drop 24 area
+  area_begins = begins_with 24 area (checkpoint_head_encoding head) is.spelled
 
   pub magic_is : four_at 0 area ≡ checkpoint_magic
   magic_is = ap (four_at 0) area_begins ∙ magic_read head is.can (drop 24 area)
@@ -47,13 +47,13 @@ module _ (area : List ℕ) (head : Head) (is : IsHead area head) where
 
   pub head_read : (latest : ℕ) → head.version ≤ latest → head_in latest area ≡ Ok head
   head_read latest known =
-      ap (λ (b : Bool). check b BadCheckpoint (check (leb 1 (version_in area)) BadCheckpoint (check (leb (version_in area) latest) (NewerFormat (version_in area)) (Ok (numbers_in area)))))
+      ap (λ (b : Bool). refuse_unless b BadCheckpoint (refuse_unless (leb 1 (version_in area)) BadCheckpoint (refuse_unless (leb (version_in area) latest) (NewerFormat (version_in area)) (Ok (numbers_in area)))))
       (eq-eqb _ _ magic_is)
-      ∙ ap (λ (b : Bool). check b BadCheckpoint (check (leb (version_in area) latest) (NewerFormat (version_in area)) (Ok (numbers_in area)))) (le-leb _ _ (omega (arith, version_is, is.can.some)))
-      ∙ ap (λ (b : Bool). check b (NewerFormat (version_in area)) (Ok (numbers_in area))) (le-leb _ _ (omega (arith, version_is)))
+      ∙ ap (λ (b : Bool). refuse_unless b BadCheckpoint (refuse_unless (leb (version_in area) latest) (NewerFormat (version_in area)) (Ok (numbers_in area)))) (le-leb _ _ (omega (arith, version_is, is.can.some)))
+      ∙ ap (λ (b : Bool). refuse_unless b (NewerFormat (version_in area)) (Ok (numbers_in area))) (le-leb _ _ (omega (arith, version_is)))
       ∙ ap (λ (h : Head). let r : Result Head PairRefusal = Ok h in r) numbers_are
 
-pub passed : {X E : Type 0} (b : Bool) (refusal : E) (behind : Result X E) (x : X) → check b refusal behind ≡ Ok x → (b ≡ true) × (behind ≡ Ok x)
+pub passed : {X E : Type 0} (b : Bool) (refusal : E) (behind : Result X E) (x : X) → refuse_unless b refusal behind ≡ Ok x → (b ≡ true) × (behind ≡ Ok x)
 passed true refusal behind x is = (refl, is)
 passed false refusal behind x is = cc
 
@@ -67,8 +67,8 @@ record HeadTests (latest : ℕ) (area : List ℕ) (head : Head) : Type 0 where
 tests_from : (latest : ℕ) (area : List ℕ) (head : Head) → head_in latest area ≡ Ok head → HeadTests latest area head
 tests_from latest area head is =
     let one = passed (eqb (four_at 0 area) checkpoint_magic) BadCheckpoint
-    (check (leb 1 (version_in area)) BadCheckpoint (check (leb (version_in area) latest) (NewerFormat (version_in area)) (Ok (numbers_in area)))) head is in
-    let two = passed (leb 1 (version_in area)) BadCheckpoint (check (leb (version_in area) latest) (NewerFormat (version_in area)) (Ok (numbers_in area))) head one.1 in
+    (refuse_unless (leb 1 (version_in area)) BadCheckpoint (refuse_unless (leb (version_in area) latest) (NewerFormat (version_in area)) (Ok (numbers_in area)))) head is in
+    let two = passed (leb 1 (version_in area)) BadCheckpoint (refuse_unless (leb (version_in area) latest) (NewerFormat (version_in area)) (Ok (numbers_in area))) head one.1 in
     let three = passed (leb (version_in area) latest) (NewerFormat (version_in area)) (Ok (numbers_in area)) head two.1 in
     let same : Ok (numbers_in area) ≡ Ok head = three.1 in
     record { magic = eqb-true _ _ one.0; some = leb-true _ _ two.0; known = leb-true _ _ three.0; numbers = cc }
@@ -103,7 +103,7 @@ head_from latest area head each long is = (record { can = can; spelled = spelled
       place = omega (arith, eight_small 16 area each (omega arith), place);
     }
 
-    spelled : take 24 area ≡ head_encoding head
+    spelled : take 24 area ≡ checkpoint_head_encoding head
     spelled =
         split_part 0 4 20 area ∙ ap (λ (list : List ℕ). part 0 4 area ++ list) (split_part 4 4 16 area ∙ ap (λ (list : List ℕ). part 4 4 area ++ list) (split_part 8 8 8 area))
         ∙ (λ i. one i ++ (two i ++ (three i ++ four i)))
@@ -126,13 +126,13 @@ is_head_read_so latest area head each long = (head_from latest area head each lo
 -- a head that is refused: by the magic, the version, and whether it is known
 module _ (latest : ℕ) (area : List ℕ) where
   abbrev by_known : Bool → Result Head PairRefusal
-  by_known known = check known (NewerFormat (version_in area)) (Ok (numbers_in area))
+  by_known known = refuse_unless known (NewerFormat (version_in area)) (Ok (numbers_in area))
 
   abbrev by_some : Bool → Result Head PairRefusal
-  by_some some = check some BadCheckpoint (by_known (leb (version_in area) latest))
+  by_some some = refuse_unless some BadCheckpoint (by_known (leb (version_in area) latest))
 
   abbrev by_magic : Bool → Result Head PairRefusal
-  by_magic magic = check magic BadCheckpoint (by_some (leb 1 (version_in area)))
+  by_magic magic = refuse_unless magic BadCheckpoint (by_some (leb 1 (version_in area)))
 
   refused_from_known : (magic : four_at 0 area ≡ checkpoint_magic) → (version_in area ≡ 0 → ⊥) → (b : Bool) → leb (version_in area) latest ≡ b → (refusal : PairRefusal) → by_known b ≡ Err refusal → IsHeadRefusal refusal latest area
   refused_from_known magic some true known refusal is = cc
@@ -197,9 +197,9 @@ part_take (suc at) n (suc m) (x ∷ xs) few = part_take at n m xs (omega arith)
 
 pub head_goes_by_its_front : HeadGoesByItsFront
 head_goes_by_its_front latest area n enough = λ i.
-    check (eqb (magic i) checkpoint_magic) BadCheckpoint
-    (check (leb 1 (version i)) BadCheckpoint
-    (check (leb (version i) latest) (NewerFormat (version i)) (Ok (record { version = version i; epoch = epoch i; place = place i }))))
+    refuse_unless (eqb (magic i) checkpoint_magic) BadCheckpoint
+    (refuse_unless (leb 1 (version i)) BadCheckpoint
+    (refuse_unless (leb (version i) latest) (NewerFormat (version i)) (Ok (record { version = version i; epoch = epoch i; place = place i }))))
   where
     magic : four_at 0 (take n area) ≡ four_at 0 area
     magic = ap (from_be_bytes w32) (part_take 0 4 n area (omega arith))

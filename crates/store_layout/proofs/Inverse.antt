@@ -12,8 +12,8 @@ use Rattle.byte_lists.proofs.Padding.{length-padded}
 use Rattle.store_layout.specs.Limits.{Limits}
 use Rattle.store_layout.specs.CommandFormat.{CommandFormat, IsAllowed}
 use Rattle.store_layout.specs.Group.{records_of, with_header, group_encoding, seal_encoding, payload_sectors, group_sectors, CanBeGroup, IsGroup, IsSeal}
-use Rattle.store_layout.specs.GroupReading.{JournalRefusal, BadRecord, Gap, PastEnd, check, count_in, size_in, place_in, IsGroupHeader, IsSealHeader, is_group_header, is_seal_header, record_size, first_command, with_first, none_left, commands_in, are_zeros, Payload, Group, Seal, group_of, Kind, OfGroup, OfSeal, OfNone, kind_of, group_in, seal_in, by_kind, payload_at}
-use Rattle.store_layout.specs.Journal.{HasGroup, HasSeal}
+use Rattle.store_layout.specs.GroupReading.{JournalRefusal, BadRecord, Gap, PastEnd, refuse_unless, count_in, size_in, place_in, IsGroupHeader, IsSealHeader, is_group_header, is_seal_header, record_size, first_command, with_first, none_left, commands_in, are_zeros, Payload, Group, Seal, group_of, Kind, OfGroup, OfSeal, OfNone, header_kind, group_in, seal_in, by_kind, payload_at}
+use Rattle.store_layout.specs.Journal.{HasGroupAfterGate, HasSeal}
 use Rattle.store_layout.proofs.Groups.{group_header_from, seal_header_from}
 
 bytes-drop : (n : ℕ) (bytes : List ℕ) → AreBytes bytes → AreBytes (drop n bytes)
@@ -24,7 +24,7 @@ some_if : {X : Type 0} (b : Bool) (found : Option X) (x : X) → cond b found No
 some_if true found x is = (refl, is)
 some_if false found x is = cc
 
-pub check_passed : {X : Type 0} (b : Bool) (refusal : JournalRefusal) (behind : Result X JournalRefusal) (x : X) → check b refusal behind ≡ Ok x → (b ≡ true) × (behind ≡ Ok x)
+pub check_passed : {X : Type 0} (b : Bool) (refusal : JournalRefusal) (behind : Result X JournalRefusal) (x : X) → refuse_unless b refusal behind ≡ Ok x → (b ≡ true) × (behind ≡ Ok x)
 check_passed true refusal behind x is = (refl, is)
 check_passed false refusal behind x is = cc
 
@@ -251,12 +251,12 @@ of_seal false false is = cc
 
 -- the meaning of a payload
 abbrev pub StandsBehind : {C : Type 0} → Payload C → CommandFormat C → Limits → List ℕ → ℕ → ℕ → Type 0
-StandsBehind (Group commands size) format limits bytes gate place = HasGroup format limits bytes gate place commands × (size ≡ length (records_of format commands))
+StandsBehind (Group commands size) format limits bytes gate place = HasGroupAfterGate format limits bytes gate place commands × (size ≡ length (records_of format commands))
 StandsBehind Seal format limits bytes gate place = HasSeal bytes gate place
 
 module _ {C : Type 0} (format : CommandFormat C) (limits : Limits) (bytes : List ℕ) (gate place : ℕ) (each : AreBytes bytes) where
   -- a payload that was read
-  by_kind_from : (kind : Kind) (v : Payload C) → gate + 2 ≤ whole_sectors bytes → kind_of limits (drop (512 * (gate + 1)) bytes) ≡ kind
+  by_kind_from : (kind : Kind) (v : Payload C) → gate + 2 ≤ whole_sectors bytes → header_kind limits (drop (512 * (gate + 1)) bytes) ≡ kind
       → by_kind kind format limits (drop (512 * (gate + 1)) bytes) gate place (whole_sectors bytes) ≡ Ok v → StandsBehind v format limits bytes gate place
   by_kind_from OfNone v room kind is = cc
   by_kind_from OfSeal (Group commands n) room kind is =
@@ -280,8 +280,8 @@ module _ {C : Type 0} (format : CommandFormat C) (limits : Limits) (bytes : List
       p : List ℕ
       p = drop (512 * (gate + 1)) bytes
 
-      one : (eqb (place_in p) place ≡ true) × (check (leb (gate + 1 + payload_sectors (size_in p) + 2) (whole_sectors bytes)) PastEnd (group_in format limits p) ≡ Ok v)
-      one = check_passed (eqb (place_in p) place) (Gap place) (check (leb (gate + 1 + payload_sectors (size_in p) + 2) (whole_sectors bytes)) PastEnd (group_in format limits p)) v is
+      one : (eqb (place_in p) place ≡ true) × (refuse_unless (leb (gate + 1 + payload_sectors (size_in p) + 2) (whole_sectors bytes)) PastEnd (group_in format limits p) ≡ Ok v)
+      one = check_passed (eqb (place_in p) place) (Gap place) (refuse_unless (leb (gate + 1 + payload_sectors (size_in p) + 2) (whole_sectors bytes)) PastEnd (group_in format limits p)) v is
 
       by_group : (w : Payload C) → (leb (gate + 1 + payload_sectors (size_in p) + 2) (whole_sectors bytes) ≡ true) × (group_in format limits p ≡ Ok w) → StandsBehind w format limits bytes gate place
       by_group Seal two =
@@ -302,5 +302,5 @@ module _ {C : Type 0} (format : CommandFormat C) (limits : Limits) (bytes : List
   pub payload_from : (v : Payload C) → payload_at format limits bytes gate place ≡ Ok v → StandsBehind v format limits bytes gate place
   payload_from v is =
       let p = drop (512 * (gate + 1)) bytes in
-      let one = check_passed (leb (gate + 2) (whole_sectors bytes)) PastEnd (by_kind (kind_of limits p) format limits p gate place (whole_sectors bytes)) v is in
-      by_kind_from (kind_of limits p) v (leb-true _ _ one.0) refl one.1
+      let one = check_passed (leb (gate + 2) (whole_sectors bytes)) PastEnd (by_kind (header_kind limits p) format limits p gate place (whole_sectors bytes)) v is in
+      by_kind_from (header_kind limits p) v (leb-true _ _ one.0) refl one.1

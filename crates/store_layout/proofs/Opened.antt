@@ -14,7 +14,7 @@ use Rattle.store_layout.specs.StoreFormat.{StoreFormat}
 use Rattle.store_layout.specs.Checkpoint.{Head, Checkpoint, IsCheckpoint}
 use Rattle.store_layout.specs.CheckpointReading.{PairRefusal, head_in, checkpoint_in}
 use Rattle.store_layout.specs.Opening.{Opening, limits_in, HasOlderHead, IsTail, IsChosen, IsOpening, StoreValue, OpensTo}
-use Rattle.store_layout.specs.OpeningReading.{OpenRefusal, head_behind, head_of, by_epochs, choice_of, behind_journal, read_tail, with_tail, by_journal, journal_from, by_checkpoint, by_choice, by_geometry, opening_of, value_in, store_value}
+use Rattle.store_layout.specs.OpeningReading.{OpenRefusal, head_behind, head_of, by_epochs, choice_of, behind_journal, read_tail, with_tail, by_journal, journal_from, by_checkpoint, by_choice, by_geometry, opening_of, value_of_reading, store_value}
 use Rattle.store_layout.specs.OpeningLaws.{IsOpenedSo, HasValueJustWhere, HasOneValue, OpensUnderLaterVersions}
 use Rattle.store_layout.proofs.Scans.{read_journal}
 use Rattle.store_layout.proofs.Titles.{store_from}
@@ -228,10 +228,10 @@ is_opened_so Db C format latest image opening each = (opening_from format latest
 module _ {Db C : Type 0} (format : StoreFormat Db C) (latest : ℕ) (image : List ℕ) (value : StoreValue Db) where
   pub value_read : OpensTo format latest image value → store_value format latest image ≡ Ok value
   value_read is =
-      ap (value_in format) (opening_read format latest image is.opening is.is)
+      ap (value_of_reading format) (opening_read format latest image is.opening is.is)
       ∙ ap (λ (v : StoreValue Db). let r : Result (StoreValue Db) OpenRefusal = Ok v in r) is.stands_for
 
-  value_found : AreBytes image → (found : Result (Opening Db C) OpenRefusal) → opening_of format latest image ≡ found → value_in format found ≡ Ok value → OpensTo format latest image value
+  value_found : AreBytes image → (found : Result (Opening Db C) OpenRefusal) → opening_of format latest image ≡ found → value_of_reading format found ≡ Ok value → OpensTo format latest image value
   value_found each (Err e) found_is is = cc
   value_found each (Ok opening) found_is is = record { opening = opening; is = opening_from format latest image opening each found_is; stands_for = cc }
 

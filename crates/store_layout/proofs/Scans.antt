@@ -7,9 +7,9 @@ use Rattle.store_layout.specs.Limits.{Limits}
 use Rattle.store_layout.specs.CommandFormat.{CommandFormat}
 use Rattle.store_layout.specs.Group.{records_of, payload_sectors, group_sectors}
 use Rattle.store_layout.specs.GroupReading.{JournalRefusal, Payload, Group, Seal, payload_at}
-use Rattle.store_layout.specs.Journal.{all_of, HasGroup, IsChain, EndsAs, Reading, IsJournal}
+use Rattle.store_layout.specs.Journal.{all_of, HasGroupAfterGate, IsGroupChain, JournalEndsAs, Reading, IsJournal}
 use Rattle.store_layout.specs.JournalReading.{with_front, at_gate, scan_from, journal_scan}
-use Rattle.store_layout.specs.JournalRefusals.{IsRefusedAt, IsRefused}
+use Rattle.store_layout.specs.JournalRefusals.{IsRefusedAt, IsJournalRefused}
 use Rattle.store_layout.specs.JournalLaws.{IsReadSo, IsRefusedSo, HasOneReading}
 use Rattle.store_layout.proofs.Chains.{chain_forward, chain_room, chain_scan, journal_read}
 use Rattle.store_layout.proofs.Inverse.{payload_from}
@@ -18,15 +18,15 @@ use Rattle.store_layout.proofs.Refused.{payload_refused, refused_payload}
 -- a journal, or a refusal, from a gate on
 record JournalFrom {C : Type 0} (format : CommandFormat C) (limits : Limits) (bytes : List ℕ) (gate start : ℕ) (reading : Reading C) : Type 0 where
   groups : List (List C)
-  chain : IsChain format limits bytes gate start groups reading.tail
+  chain : IsGroupChain format limits bytes gate start groups reading.tail
   commands : reading.commands ≡ all_of groups
   place : reading.place ≡ start + length reading.commands
-  ends_so : EndsAs reading.sealed bytes reading.tail reading.place
+  ends_so : JournalEndsAs reading.sealed bytes reading.tail reading.place
 
 record RefusedFrom {C : Type 0} (format : CommandFormat C) (limits : Limits) (bytes : List ℕ) (gate start : ℕ) (refusal : JournalRefusal) : Type 0 where
   groups : List (List C)
   last : ℕ
-  chain : IsChain format limits bytes gate start groups last
+  chain : IsGroupChain format limits bytes gate start groups last
   opened : IsOpenGate (sector_at last bytes)
   wrong : IsRefusedAt refusal format limits bytes last (start + length (all_of groups))
 
@@ -37,7 +37,7 @@ Means (Err refusal) format limits bytes gate start = RefusedFrom format limits b
 
 module _ {C : Type 0} (format : CommandFormat C) (limits : Limits) (bytes : List ℕ) (each : AreBytes bytes) where
   -- a group in front
-  means_more : (gate start : ℕ) (commands : List C) (answer : Result (Reading C) JournalRefusal) → IsOpenGate (sector_at gate bytes) → HasGroup format limits bytes gate start commands
+  means_more : (gate start : ℕ) (commands : List C) (answer : Result (Reading C) JournalRefusal) → IsOpenGate (sector_at gate bytes) → HasGroupAfterGate format limits bytes gate start commands
       → Means answer format limits bytes (gate + 1 + group_sectors format commands) (start + length commands) → Means (with_front commands answer) format limits bytes gate start
   means_more gate start commands (Ok reading) opened has is = record {
     groups = commands ∷ is.groups;
@@ -84,7 +84,7 @@ module _ {C : Type 0} (format : CommandFormat C) (limits : Limits) (bytes : List
       }
   gate_means steps gate start inside enough behind true (Ok (Group commands size)) is_so read_so =
       let stands = payload_from format limits bytes gate start each (Group commands size) read_so in
-      let has : HasGroup format limits bytes gate start commands = stands.0 in
+      let has : HasGroupAfterGate format limits bytes gate start commands = stands.0 in
       let sized : size ≡ length (records_of format commands) = stands.1 in
       let room = has.room in
       means_more gate start commands (scan_from steps format limits bytes (gate + 1 + payload_sectors size) (start + length commands)) (true_open (sector_at gate bytes) is_so) has
@@ -107,12 +107,12 @@ module _ {C : Type 0} (format : CommandFormat C) (limits : Limits) (bytes : List
       let so = scanned start (Ok reading) some is in
       record { groups = so.groups; chain = so.chain; commands = so.commands; place = so.place; ends = so.ends_so }
 
-  pub refused_journal : (start : ℕ) (refusal : JournalRefusal) → 1 ≤ whole_sectors bytes → journal_scan format limits bytes start ≡ Err refusal → IsRefused format limits bytes start refusal
+  pub refused_journal : (start : ℕ) (refusal : JournalRefusal) → 1 ≤ whole_sectors bytes → journal_scan format limits bytes start ≡ Err refusal → IsJournalRefused format limits bytes start refusal
   refused_journal start refusal some is =
       let so = scanned start (Err refusal) some is in
       record { groups = so.groups; gate = so.last; chain = so.chain; opened = so.opened; wrong = so.wrong }
 
-  pub journal_refused : (start : ℕ) (refusal : JournalRefusal) → 1 ≤ whole_sectors bytes → IsRefused format limits bytes start refusal → journal_scan format limits bytes start ≡ Err refusal
+  pub journal_refused : (start : ℕ) (refusal : JournalRefusal) → 1 ≤ whole_sectors bytes → IsJournalRefused format limits bytes start refusal → journal_scan format limits bytes start ≡ Err refusal
   journal_refused start refusal some is =
       ap (λ (n : ℕ). scan_from n format limits bytes 0 start) steps
       ∙ chain_scan format limits bytes 0 start is.groups is.gate (suc rest) is.chain

@@ -3,13 +3,13 @@ use Rattle.std.proofs.Common.{◌≡◌, ℕ, ◌+◌, ◌*◌, ◌≤◌, false
 use Rattle.byte_lists.specs.Content.{overwrite}
 use Rattle.byte_lists.specs.Sectors.{whole_sectors, sector_at, IsOpenGate}
 use Rattle.store_layout.specs.Group.{seal_encoding}
-use Rattle.store_layout.specs.Journal.{Reading, HasSeal, IsJournal, with_seal}
+use Rattle.store_layout.specs.Journal.{Reading, HasSeal, IsJournal, reading_with_seal}
 use Rattle.store_layout.specs.JournalLaws.{IsWithinBounds}
 use Rattle.store_layout.specs.Layout.{other, journal_at, journal_of}
 use Rattle.store_layout.specs.StoreFormat.{StoreFormat, db_after}
 use Rattle.store_layout.specs.Opening.{Opening, limits_in, IsTail, IsChosen, IsOpening, tail_commands, last_journal}
 use Rattle.store_layout.specs.TakeOver.{empty_journal}
-use Rattle.store_layout.specs.StoreGrowth.{IsOtherReady, StoreIsMadeReadyForSeal, StoreIsSealedByItsGate}
+use Rattle.store_layout.specs.StoreGrowth.{IsOtherHalfClosed, StoreIsMadeReadyForSeal, StoreIsSealedByItsGate}
 use Rattle.store_layout.proofs.Bounds.{stays_within_bounds}
 use Rattle.store_layout.proofs.Growth.{sealed_by_its_gate}
 use Rattle.store_layout.proofs.Staged.{made_ready_for_seal}
@@ -17,7 +17,7 @@ use Rattle.store_layout.proofs.Places.{journal_long, store_journal}
 use Rattle.store_layout.proofs.TakeOver.{empty_read}
 use Rattle.store_layout.proofs.StoreGrowth.{halves_differ, gates_kept, journal_written, journal_kept, still_chosen, in_image, in_sectors, behind_gate}
 
-module _ {Db C : Type 0} (format : StoreFormat Db C) (latest : ℕ) (image : List ℕ) (opening : Opening Db C) (is : IsOpening format latest image opening) (ready : IsOtherReady opening image) where
+module _ {Db C : Type 0} (format : StoreFormat Db C) (latest : ℕ) (image : List ℕ) (opening : Opening Db C) (is : IsOpening format latest image opening) (ready : IsOtherHalfClosed opening image) where
   abbrev bytes_of : List ℕ
   bytes_of = journal_of opening.geometry opening.chosen image
 
@@ -48,7 +48,7 @@ module _ {Db C : Type 0} (format : StoreFormat Db C) (latest : ℕ) (image : Lis
       in_image format latest image opening.geometry opening.chosen opening.checkpoint is.half opening.journal is.journal opening.chosen at bytes inside opening.checkpoint.head.place reading read
 
   -- a write to one half's journal leaves the other half unchanged
-  other_still : (at : ℕ) (bytes : List ℕ) → at + length bytes ≤ 512 * opening.geometry.journal → IsOtherReady opening (image_with at bytes)
+  other_still : (at : ℕ) (bytes : List ℕ) → at + length bytes ≤ 512 * opening.geometry.journal → IsOtherHalfClosed opening (image_with at bytes)
   other_still at bytes inside = record {
     alone = ready.alone;
     gate = λ opened. ready.gate (subst IsOpenGate (gates_kept opening.geometry image is.half.store.room opening.chosen at bytes inside (other opening.chosen)) opened);
@@ -75,7 +75,7 @@ module _ {Db C : Type 0} (format : StoreFormat Db C) (latest : ℕ) (image : Lis
       (bounds.place is.half.begins.can.head.place) seal_room
 
   pub seal_placed : IsOpening format latest (image_with (512 * (opening.journal.tail + 1)) (seal_encoding opening.journal.place)) opening
-      × IsOtherReady opening (image_with (512 * (opening.journal.tail + 1)) (seal_encoding opening.journal.place))
+      × IsOtherHalfClosed opening (image_with (512 * (opening.journal.tail + 1)) (seal_encoding opening.journal.place))
       × HasSeal (journal_of opening.geometry opening.chosen (image_with (512 * (opening.journal.tail + 1)) (seal_encoding opening.journal.place))) opening.journal.tail opening.journal.place
   seal_placed = (
     kept_with (512 * (opening.journal.tail + 1)) (seal_encoding opening.journal.place) seal_inside placed.0,
@@ -89,7 +89,7 @@ module _ {Db C : Type 0} (format : StoreFormat Db C) (latest : ℕ) (image : Lis
     gate_inside : 512 * opening.journal.tail + length gate ≤ 512 * opening.geometry.journal
     gate_inside = omega (arith, has.room, sectors_are)
 
-    both : (IsOpenGate gate → IsJournal format.commands (limits_in opening.checkpoint) (overwrite (512 * opening.journal.tail) gate bytes_of) opening.checkpoint.head.place (with_seal opening.journal))
+    both : (IsOpenGate gate → IsJournal format.commands (limits_in opening.checkpoint) (overwrite (512 * opening.journal.tail) gate bytes_of) opening.checkpoint.head.place (reading_with_seal opening.journal))
         × ((IsOpenGate gate → ⊥) → IsJournal format.commands (limits_in opening.checkpoint) (overwrite (512 * opening.journal.tail) gate bytes_of) opening.checkpoint.head.place opening.journal)
     both = sealed_by_its_gate C format.commands (limits_in opening.checkpoint) bytes_of opening.checkpoint.head.place opening.journal gate is.journal unsealed has long
 
@@ -97,12 +97,12 @@ module _ {Db C : Type 0} (format : StoreFormat Db C) (latest : ℕ) (image : Lis
     seal_closed closed = kept_with (512 * opening.journal.tail) gate gate_inside (both.1 closed)
 
     pub seal_opened : IsOpenGate gate
-        → IsOpening format latest (image_with (512 * opening.journal.tail) gate) (record opening { journal = with_seal opening.journal; tail = Some (empty_journal opening.journal.place) })
+        → IsOpening format latest (image_with (512 * opening.journal.tail) gate) (record opening { journal = reading_with_seal opening.journal; tail = Some (empty_journal opening.journal.place) })
     seal_opened opened =
         let still = other_still (512 * opening.journal.tail) gate gate_inside in
         record {
           half = chosen_with (512 * opening.journal.tail) gate gate_inside;
-          journal = read_with (512 * opening.journal.tail) gate gate_inside (with_seal opening.journal) (both.0 opened);
+          journal = read_with (512 * opening.journal.tail) gate gate_inside (reading_with_seal opening.journal) (both.0 opened);
           tail = (
             still.gate,
             record {
@@ -116,12 +116,12 @@ module _ {Db C : Type 0} (format : StoreFormat Db C) (latest : ℕ) (image : Lis
 pub store_is_made_ready_for_seal : (Db C : Type 0) → StoreIsMadeReadyForSeal Db C
 store_is_made_ready_for_seal Db C format latest image opening is ready =
     subst (λ (at : ℕ). let written = overwrite at (seal_encoding opening.journal.place) image in
-    IsOpening format latest written opening × IsOtherReady opening written × HasSeal (journal_of opening.geometry opening.chosen written) opening.journal.tail opening.journal.place)
+    IsOpening format latest written opening × IsOtherHalfClosed opening written × HasSeal (journal_of opening.geometry opening.chosen written) opening.journal.tail opening.journal.place)
     (behind_gate (journal_at opening.geometry opening.chosen) opening.journal.tail) (seal_placed format latest image opening is ready)
 
 pub store_is_sealed_by_its_gate : (Db C : Type 0) → StoreIsSealedByItsGate Db C
 store_is_sealed_by_its_gate Db C format latest image opening gate is ready has long = (
-  λ opened. subst (λ (at : ℕ). IsOpening format latest (overwrite at gate image) (record opening { journal = with_seal opening.journal; tail = Some (empty_journal opening.journal.place) })) there
+  λ opened. subst (λ (at : ℕ). IsOpening format latest (overwrite at gate image) (record opening { journal = reading_with_seal opening.journal; tail = Some (empty_journal opening.journal.place) })) there
       (seal_opened format latest image opening is ready gate has long opened),
   λ closed. subst (λ (at : ℕ). IsOpening format latest (overwrite at gate image) opening) there (seal_closed format latest image opening is ready gate has long closed),
   λ i. record {

@@ -6,7 +6,7 @@ use Rattle.byte_lists.specs.Sectors.{whole_sectors, sector_at, IsOpenGate}
 use Rattle.byte_lists.proofs.Contents.{length-overwrite, overwrite_before, part_within, part_new}
 use Rattle.byte_lists.proofs.Padding.{length-padded}
 use Rattle.store_layout.specs.Limits.{Limits, limits_of, AreAsLarge}
-use Rattle.store_layout.specs.Group.{records_of, with_header, group_encoding, seal_encoding, group_sectors, HasRoom}
+use Rattle.store_layout.specs.Group.{records_of, with_header, group_encoding, seal_encoding, group_sectors, JournalHasRoom}
 use Rattle.store_layout.specs.Journal.{Reading, sectors_to, sectors_read, gate_behind}
 use Rattle.store_layout.specs.JournalLaws.{IsKeptByWritesBehind, IsMadeReady, IsMadeReadyForSeal, FillsSectors}
 use Rattle.store_layout.proofs.Chains.{AgreeBefore, chain_agrees}
@@ -66,7 +66,7 @@ made_ready C format limits bytes start reading group gate is unsealed can room s
     inside : at + length both ≤ length bytes
     inside = omega (arith, all, room)
 
-    room_still : HasRoom reading.tail sectors (whole_sectors written)
+    room_still : JournalHasRoom reading.tail sectors (whole_sectors written)
     room_still = omega (arith, room, length-overwrite at both bytes inside)
 
     here : at - at ≡ 0

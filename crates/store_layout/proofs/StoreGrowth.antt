@@ -5,13 +5,13 @@ use Rattle.byte_lists.specs.Sectors.{whole_sectors, IsOpenGate}
 use Rattle.byte_lists.proofs.Contents.{length-overwrite}
 use Rattle.store_layout.specs.declared.half.Half.{Half}
 use Rattle.store_layout.specs.declared.half.Half.TheVariants.{First, Second}
-use Rattle.store_layout.specs.Group.{group_encoding, group_sectors, HasRoom, CanBeGroup}
-use Rattle.store_layout.specs.Journal.{Reading, IsJournal, with_group}
+use Rattle.store_layout.specs.Group.{group_encoding, group_sectors, JournalHasRoom, CanBeGroup}
+use Rattle.store_layout.specs.Journal.{Reading, IsJournal, reading_with_group}
 use Rattle.store_layout.specs.JournalLaws.{IsReadyFor}
 use Rattle.store_layout.specs.Layout.{Geometry, other, journal_at, area_of, gate_of, journal_of, image_sectors, Area, Gate, Journal, Region, FirstSector, InHalf, region_of}
 use Rattle.store_layout.specs.StoreFormat.{StoreFormat, db_after}
 use Rattle.store_layout.specs.Checkpoint.{Checkpoint, IsCheckpoint}
-use Rattle.store_layout.specs.Opening.{Opening, limits_in, HasOlderHead, IsTail, IsChosen, IsOpening, tail_half, last_journal, value_of}
+use Rattle.store_layout.specs.Opening.{Opening, limits_in, HasOlderHead, IsTail, IsChosen, IsOpening, tail_half, last_journal, opening_value}
 use Rattle.store_layout.specs.StoreGrowth.{FoldsInParts, last_half, last_reading, start_of, last_start, last_gate, with_last, StoreGoesByItsLastJournal, StoreIsMadeReady, StoreGrowsByItsGate}
 use Rattle.store_layout.specs.StoreValues.{value_after}
 use Rattle.store_layout.proofs.Growth.{grows_by_its_gate}
@@ -131,7 +131,7 @@ module _ {Db C : Type 0} (format : StoreFormat Db C) (latest : ℕ) (image : Lis
 
   -- the value of an image with one more group
   pub grown_value : (tail : Option (Reading C)) (group : List C)
-      → value_of format (with_last tail (opening_with journal tail) (with_group format.commands (last_journal journal tail) group)) ≡ value_after format (value_of format (opening_with journal tail)) group
+      → opening_value format (with_last tail (opening_with journal tail) (reading_with_group format.commands (last_journal journal tail) group)) ≡ value_after format (opening_value format (opening_with journal tail)) group
   grown_value None group = λ i. record { db = folds_in_parts Db C format checkpoint.db journal.commands group i; place = journal.place + length group }
   grown_value (Some behind) group = λ i. record { db = folds_in_parts Db C format (db_after format checkpoint.db journal.commands) behind.commands group i; place = behind.place + length group }
 
@@ -171,7 +171,7 @@ module _ {Db C : Type 0} (format : StoreFormat Db C) (latest : ℕ) (image : Lis
 
   -- a group is written after the last gate
   pub made_ready_so : (group : List C) (gate : List ℕ) → CanBeGroup format.commands (limits_in opening.checkpoint) (last_reading opening).place group
-      → HasRoom (last_reading opening).tail (group_sectors format.commands group) opening.geometry.journal → length gate ≡ 512 → (IsOpenGate gate → ⊥)
+      → JournalHasRoom (last_reading opening).tail (group_sectors format.commands group) opening.geometry.journal → length gate ≡ 512 → (IsOpenGate gate → ⊥)
       → let bytes = group_encoding format.commands (last_reading opening).place group ++ gate in
       IsOpening format latest (image_with (512 * ((last_reading opening).tail + 1)) bytes) opening
       × IsReadyFor format.commands (limits_in opening.checkpoint) (journal_of opening.geometry (last_half opening) (image_with (512 * ((last_reading opening).tail + 1)) bytes)) (last_reading opening) group
@@ -189,7 +189,7 @@ module _ {Db C : Type 0} (format : StoreFormat Db C) (latest : ℕ) (image : Lis
       inside : at + length bytes ≤ 512 * opening.geometry.journal
       inside = omega (arith, room, length-append (group_encoding format.commands (last_reading opening).place group) gate, length-group_encoding C format.commands (last_reading opening).place group)
 
-      enough : HasRoom (last_reading opening).tail (group_sectors format.commands group) (whole_sectors last_bytes)
+      enough : JournalHasRoom (last_reading opening).tail (group_sectors format.commands group) (whole_sectors last_bytes)
       enough = omega (arith, room, sectors_are)
 
       ready : IsJournal format.commands (limits_in opening.checkpoint) (overwrite at bytes last_bytes) (last_start opening) (last_reading opening)
@@ -202,12 +202,12 @@ module _ {Db C : Type 0} (format : StoreFormat Db C) (latest : ℕ) (image : Lis
     gate_inside = omega (arith, ready.has.room, sectors_are)
 
     both : (IsOpenGate gate → IsJournal format.commands (limits_in opening.checkpoint) (overwrite (512 * (last_reading opening).tail) gate last_bytes) (last_start opening)
-        (with_group format.commands (last_reading opening) group))
+        (reading_with_group format.commands (last_reading opening) group))
         × ((IsOpenGate gate → ⊥) → IsJournal format.commands (limits_in opening.checkpoint) (overwrite (512 * (last_reading opening).tail) gate last_bytes) (last_start opening) (last_reading opening))
     both = grows_by_its_gate C format.commands (limits_in opening.checkpoint) last_bytes (last_start opening) (last_reading opening) group gate last_so ready long
 
-    pub opened_so : IsOpenGate gate → IsOpening format latest (image_with (512 * (last_reading opening).tail) gate) (with_last opening.tail opening (with_group format.commands (last_reading opening) group))
-    opened_so opened = goes_by_its_last (512 * (last_reading opening).tail) gate (with_group format.commands (last_reading opening) group) gate_inside (both.0 opened) refl
+    pub opened_so : IsOpenGate gate → IsOpening format latest (image_with (512 * (last_reading opening).tail) gate) (with_last opening.tail opening (reading_with_group format.commands (last_reading opening) group))
+    opened_so opened = goes_by_its_last (512 * (last_reading opening).tail) gate (reading_with_group format.commands (last_reading opening) group) gate_inside (both.0 opened) refl
 
     pub closed_so : (IsOpenGate gate → ⊥) → IsOpening format latest (image_with (512 * (last_reading opening).tail) gate) opening
     closed_so closed = kept_so (512 * (last_reading opening).tail) gate gate_inside (both.1 closed)
@@ -233,7 +233,7 @@ store_is_made_ready Db C format latest image opening group gate is can room long
 
 pub store_grows_by_its_gate : (Db C : Type 0) → StoreGrowsByItsGate Db C
 store_grows_by_its_gate Db C format latest image opening group gate is ready long = (
-  λ opened. subst (λ (at : ℕ). IsOpening format latest (overwrite at gate image) (with_last opening.tail opening (with_group format.commands (last_reading opening) group))) there
+  λ opened. subst (λ (at : ℕ). IsOpening format latest (overwrite at gate image) (with_last opening.tail opening (reading_with_group format.commands (last_reading opening) group))) there
       (opened_so format latest image opening is group gate ready long opened),
   λ closed. subst (λ (at : ℕ). IsOpening format latest (overwrite at gate image) opening) there (closed_so format latest image opening is group gate ready long closed),
   grown_value format latest image opening.geometry opening.chosen opening.checkpoint is.half opening.journal is.journal opening.tail group,

@@ -8,7 +8,7 @@ use Rattle.store_layout.specs.Journal.{Reading, IsJournal}
 use Rattle.store_layout.specs.Layout.{other, journal_of}
 use Rattle.store_layout.specs.StoreFormat.{StoreFormat, db_after}
 use Rattle.store_layout.specs.Checkpoint.{Checkpoint, first_checkpoint}
-use Rattle.store_layout.specs.Opening.{Opening, limits_in, IsTail, IsOpening, value_of, tail_commands, last_journal}
+use Rattle.store_layout.specs.Opening.{Opening, limits_in, IsTail, IsOpening, opening_value, tail_commands, last_journal}
 use Rattle.store_layout.specs.TakeOver.{FoldsJournal, taken_over, TakesOverTheSame, empty_journal, TakesOverTheSameAtRest, OpensEmpty}
 use Rattle.store_layout.proofs.Growth.{read_under_larger_limits}
 use Rattle.store_layout.proofs.Staged.{later_allow_more}
@@ -21,13 +21,13 @@ empty_read format limits bytes place closed =
 
 -- with a tail, both openings have the same value
 pub same_value : {Db C : Type 0} (format : StoreFormat Db C) (opening : Opening Db C) (next : Checkpoint Db) (behind : Reading C) → opening.tail ≡ Some behind → FoldsJournal format opening next
-    → value_of format (taken_over opening next behind) ≡ value_of format opening
+    → opening_value format (taken_over opening next behind) ≡ opening_value format opening
 same_value format opening next behind tail_is folds =
     λ i. record { db = db_after format (folds.db i) (tail_commands (sym tail_is i)); place = (last_journal opening.journal (sym tail_is i)).place }
 
 -- without a tail, both openings have the same value
 pub same_value_at_rest : {Db C : Type 0} (format : StoreFormat Db C) (opening : Opening Db C) (next : Checkpoint Db) → opening.tail ≡ None → FoldsJournal format opening next
-    → value_of format (taken_over opening next (empty_journal next.head.place)) ≡ value_of format opening
+    → opening_value format (taken_over opening next (empty_journal next.head.place)) ≡ opening_value format opening
 same_value_at_rest {Db} {C} format opening next none folds = (λ i. record { db = folds.db i; place = folds.place i }) ∙ (λ i. record {
   db = db_after format (db_after format opening.checkpoint.db opening.journal.commands) (tail_commands (sym none i));
   place = (last_journal opening.journal (sym none i)).place;

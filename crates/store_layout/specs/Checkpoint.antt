@@ -21,14 +21,14 @@ abbrev pub checkpoint_magic : ℕ
 checkpoint_magic = 0x50434b50
 
 -- the 24 bytes of a head: magic (4), version (4), epoch (8), place (8), big-endian
-abbrev pub head_encoding : Head → List ℕ
-head_encoding head =
+abbrev pub checkpoint_head_encoding : Head → List ℕ
+checkpoint_head_encoding head =
     to_be_bytes w32 checkpoint_magic ++ (to_be_bytes w32 head.version ++ (to_be_bytes w64 head.epoch ++ to_be_bytes w64 head.place))
 
 -- the bytes of a checkpoint: its head, the length of its rows in bytes (4), their number (4), and the rows
 abbrev pub checkpoint_bytes : {Db : Type 0} → RowsFormat Db → Checkpoint Db → List ℕ
 checkpoint_bytes rows checkpoint =
-    head_encoding checkpoint.head
+    checkpoint_head_encoding checkpoint.head
     ++ (to_be_bytes w32 (length (rows.encoding checkpoint.db))
     ++ (to_be_bytes w32 (rows.count checkpoint.db) ++ rows.encoding checkpoint.db))
 
@@ -53,7 +53,7 @@ pub record CanBeCheckpoint {Db : Type 0} (rows : RowsFormat Db) (checkpoint : Ch
 -- an area begins with this head
 pub record IsHead (area : List ℕ) (head : Head) : Type 0 where
   pub can : CanBeHead head
-  pub spelled : take 24 area ≡ head_encoding head
+  pub spelled : take 24 area ≡ checkpoint_head_encoding head
 
 -- the length of a checkpoint in bytes
 abbrev pub checkpoint_size : {Db : Type 0} → RowsFormat Db → Checkpoint Db → ℕ

@@ -3,7 +3,7 @@
 use Rattle.std.specs.Prelude.{◌≡◌, ◌≢◌, ℕ, ◌+◌, ◌<◌, List, length, Result, Ok, Err, Option, Some, None, if◌then◌else◌, ◌==◌, nat_le}
 use Rattle.byte_lists.specs.Content.{part}
 use Rattle.byte_lists.specs.Numbers.{four_at, eight_at}
-use Rattle.store_layout.specs.GroupReading.{check}
+use Rattle.store_layout.specs.GroupReading.{refuse_unless}
 use Rattle.store_layout.specs.StoreFormat.{RowsFormat}
 use Rattle.store_layout.specs.Checkpoint.{Head, Checkpoint, checkpoint_magic}
 
@@ -25,9 +25,9 @@ numbers_in area = record { version = version_in area; epoch = eight_at 8 area; p
 -- the head that an area begins with
 abbrev pub head_in : ℕ → List ℕ → Result Head PairRefusal
 head_in latest area =
-    check (four_at 0 area == checkpoint_magic) BadCheckpoint
-    (check (nat_le 1 (version_in area)) BadCheckpoint
-    (check (nat_le (version_in area) latest) (NewerFormat (version_in area)) (Ok (numbers_in area))))
+    refuse_unless (four_at 0 area == checkpoint_magic) BadCheckpoint
+    (refuse_unless (nat_le 1 (version_in area)) BadCheckpoint
+    (refuse_unless (nat_le (version_in area) latest) (NewerFormat (version_in area)) (Ok (numbers_in area))))
 
 -- the length of the rows of an area in bytes, and their number, as the area has them
 abbrev pub rows_size : List ℕ → ℕ

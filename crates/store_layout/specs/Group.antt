@@ -43,8 +43,8 @@ abbrev pub group_sectors : {C : Type 0} → CommandFormat C → List C → ℕ
 group_sectors format commands = payload_sectors (length (records_of format commands))
 
 -- a journal has room for this number of sectors after the gate, and for two more: the gate after them, and a seal's
-abbrev pub HasRoom : ℕ → ℕ → ℕ → Type 0
-HasRoom gate payload journal = gate + 1 + payload + 2 ≤ journal
+abbrev pub JournalHasRoom : ℕ → ℕ → ℕ → Type 0
+JournalHasRoom gate payload journal = gate + 1 + payload + 2 ≤ journal
 
 -- the commands can be one group at this place
 pub record CanBeGroup {C : Type 0} (format : CommandFormat C) (limits : Limits) (place : ℕ) (commands : List C) : Type 0 where

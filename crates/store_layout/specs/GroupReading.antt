@@ -16,9 +16,9 @@ pub data JournalRefusal : Type 0 where
   PastEnd : JournalRefusal
 
 -- one check: where it fails the result is the refusal, else the rest
-abbrev pub check : {X E : Type 0} → Bool → E → Result X E → Result X E
-check true refusal behind = behind
-check false refusal behind = Err refusal
+abbrev pub refuse_unless : {X E : Type 0} → Bool → E → Result X E → Result X E
+refuse_unless true refusal behind = behind
+refuse_unless false refusal behind = Err refusal
 
 -- the numbers in the header of a payload
 abbrev pub count_in : List ℕ → ℕ
@@ -104,29 +104,29 @@ pub data Kind : Type 0 where
   OfSeal : Kind
   OfNone : Kind
 
-abbrev pub kind_of : Limits → List ℕ → Kind
-kind_of limits payload = if is_group_header limits payload then OfGroup else if is_seal_header payload then OfSeal else OfNone
+abbrev pub header_kind : Limits → List ℕ → Kind
+header_kind limits payload = if is_group_header limits payload then OfGroup else if is_seal_header payload then OfSeal else OfNone
 
 -- the records and the padding of a group, and the padding of a seal
 abbrev pub group_in : {C : Type 0} → CommandFormat C → Limits → List ℕ → Result (Payload C) JournalRefusal
 group_in format limits payload =
-    check (are_zeros (part (16 + size_in payload) (512 * payload_sectors (size_in payload) - (16 + size_in payload)) payload)) BadRecord
+    refuse_unless (are_zeros (part (16 + size_in payload) (512 * payload_sectors (size_in payload) - (16 + size_in payload)) payload)) BadRecord
     (group_of (commands_in format limits (count_in payload) (part 16 (size_in payload) payload)) (size_in payload))
 
 abbrev pub seal_in : {C : Type 0} → List ℕ → Result (Payload C) JournalRefusal
-seal_in payload = check (are_zeros (part 16 496 payload)) BadRecord (Ok Seal)
+seal_in payload = refuse_unless (are_zeros (part 16 496 payload)) BadRecord (Ok Seal)
 
 -- the checks after the header, in their order
 abbrev pub by_kind : {C : Type 0} → Kind → CommandFormat C → Limits → List ℕ → ℕ → ℕ → ℕ → Result (Payload C) JournalRefusal
 by_kind OfNone format limits payload gate place journal = Err BadHeader
-by_kind OfSeal format limits payload gate place journal = check (place_in payload == place) (Gap place) (seal_in payload)
+by_kind OfSeal format limits payload gate place journal = refuse_unless (place_in payload == place) (Gap place) (seal_in payload)
 by_kind OfGroup format limits payload gate place journal =
-    check (place_in payload == place) (Gap place)
-    (check (nat_le (gate + 1 + payload_sectors (size_in payload) + 2) journal) PastEnd (group_in format limits payload))
+    refuse_unless (place_in payload == place) (Gap place)
+    (refuse_unless (nat_le (gate + 1 + payload_sectors (size_in payload) + 2) journal) PastEnd (group_in format limits payload))
 
 -- the payload after an open gate, where this place is expected
 abbrev pub payload_at : {C : Type 0} → CommandFormat C → Limits → List ℕ → ℕ → ℕ → Result (Payload C) JournalRefusal
 payload_at format limits bytes gate place =
     let payload = drop (512 * (gate + 1)) bytes in
-    check (nat_le (gate + 2) (whole_sectors bytes)) PastEnd
-    (by_kind (kind_of limits payload) format limits payload gate place (whole_sectors bytes))
+    refuse_unless (nat_le (gate + 2) (whole_sectors bytes)) PastEnd
+    (by_kind (header_kind limits payload) format limits payload gate place (whole_sectors bytes))

@@ -4,7 +4,7 @@ use Rattle.byte_lists.specs.Content.{part}
 use Rattle.byte_lists.specs.Sectors.{whole_sectors, sector_at, IsOpenGate}
 use Rattle.store_layout.specs.Limits.{Limits}
 use Rattle.store_layout.specs.CommandFormat.{CommandFormat}
-use Rattle.store_layout.specs.Group.{group_sectors, HasRoom, IsGroup, IsSeal}
+use Rattle.store_layout.specs.Group.{group_sectors, JournalHasRoom, IsGroup, IsSeal}
 
 -- the commands of groups, one group after the other
 abbrev pub all_of : {C : Type 0} → List (List C) → List C
@@ -12,9 +12,9 @@ all_of [] = []
 all_of (commands ∷ more) = commands ++ all_of more
 
 -- after a gate there is a group of these commands, and the journal has room for it
-pub record HasGroup {C : Type 0} (format : CommandFormat C) (limits : Limits) (bytes : List ℕ) (gate place : ℕ) (commands : List C) : Type 0 where
+pub record HasGroupAfterGate {C : Type 0} (format : CommandFormat C) (limits : Limits) (bytes : List ℕ) (gate place : ℕ) (commands : List C) : Type 0 where
   pub group : IsGroup format limits place commands (part (512 * (gate + 1)) (512 * group_sectors format commands) bytes)
-  pub room : HasRoom gate (group_sectors format commands) (whole_sectors bytes)
+  pub room : JournalHasRoom gate (group_sectors format commands) (whole_sectors bytes)
 
 -- after a gate there is a seal
 pub record HasSeal (bytes : List ℕ) (gate place : ℕ) : Type 0 where
@@ -26,17 +26,17 @@ abbrev pub gate_behind : {C : Type 0} → CommandFormat C → ℕ → List C →
 gate_behind format gate commands = gate + 1 + group_sectors format commands
 
 -- from a gate to a later one: open gates, each followed by its group at the place reached
-abbrev pub IsChain : {C : Type 0} → CommandFormat C → Limits → List ℕ → ℕ → ℕ → List (List C) → ℕ → Type 0
-IsChain format limits bytes gate place [] tail = gate ≡ tail
-IsChain format limits bytes gate place (commands ∷ more) tail =
+abbrev pub IsGroupChain : {C : Type 0} → CommandFormat C → Limits → List ℕ → ℕ → ℕ → List (List C) → ℕ → Type 0
+IsGroupChain format limits bytes gate place [] tail = gate ≡ tail
+IsGroupChain format limits bytes gate place (commands ∷ more) tail =
     IsOpenGate (sector_at gate bytes)
-    × HasGroup format limits bytes gate place commands
-    × IsChain format limits bytes (gate_behind format gate commands) (place + length commands) more tail
+    × HasGroupAfterGate format limits bytes gate place commands
+    × IsGroupChain format limits bytes (gate_behind format gate commands) (place + length commands) more tail
 
 -- how a journal ends: at a closed gate, or at an open one with a seal
-abbrev pub EndsAs : Bool → List ℕ → ℕ → ℕ → Type 0
-EndsAs false bytes gate place = ¬ IsOpenGate (sector_at gate bytes)
-EndsAs true bytes gate place = IsOpenGate (sector_at gate bytes) × HasSeal bytes gate place
+abbrev pub JournalEndsAs : Bool → List ℕ → ℕ → ℕ → Type 0
+JournalEndsAs false bytes gate place = ¬ IsOpenGate (sector_at gate bytes)
+JournalEndsAs true bytes gate place = IsOpenGate (sector_at gate bytes) × HasSeal bytes gate place
 
 -- the reading of a journal: its commands, the gate at which it ends, whether it is sealed, and the place reached
 pub record Reading (C : Type 0) : Type 0 where
@@ -48,10 +48,10 @@ pub record Reading (C : Type 0) : Type 0 where
 -- the bytes are a journal from this place on, with this reading
 pub record IsJournal {C : Type 0} (format : CommandFormat C) (limits : Limits) (bytes : List ℕ) (start : ℕ) (reading : Reading C) : Type 0 where
   pub groups : List (List C)
-  pub chain : IsChain format limits bytes 0 start groups reading.tail
+  pub chain : IsGroupChain format limits bytes 0 start groups reading.tail
   pub commands : reading.commands ≡ all_of groups
   pub place : reading.place ≡ start + length reading.commands
-  pub ends : EndsAs reading.sealed bytes reading.tail reading.place
+  pub ends : JournalEndsAs reading.sealed bytes reading.tail reading.place
 
 -- the number of sectors that count for a reading: those up to its last gate, and after a seal those of the seal
 abbrev pub sectors_to : Bool → ℕ → ℕ
@@ -62,13 +62,13 @@ abbrev pub sectors_read : {C : Type 0} → Reading C → ℕ
 sectors_read reading = sectors_to reading.sealed reading.tail
 
 -- a reading with one more group, and a reading that a seal ends
-abbrev pub with_group : {C : Type 0} → CommandFormat C → Reading C → List C → Reading C
-with_group format reading commands = record {
+abbrev pub reading_with_group : {C : Type 0} → CommandFormat C → Reading C → List C → Reading C
+reading_with_group format reading commands = record {
   commands = reading.commands ++ commands;
   tail = gate_behind format reading.tail commands;
   sealed = false;
   place = reading.place + length commands;
 }
 
-abbrev pub with_seal : {C : Type 0} → Reading C → Reading C
-with_seal reading = record reading { sealed = true }
+abbrev pub reading_with_seal : {C : Type 0} → Reading C → Reading C
+reading_with_seal reading = record reading { sealed = true }

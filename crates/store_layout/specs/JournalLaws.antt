@@ -5,11 +5,11 @@ use Rattle.byte_lists.specs.Content.{AreBytes, overwrite}
 use Rattle.byte_lists.specs.Sectors.{whole_sectors, sector_at, IsOpenGate}
 use Rattle.store_layout.specs.Limits.{Limits, AreAsLarge}
 use Rattle.store_layout.specs.CommandFormat.{CommandFormat, IsAllowed}
-use Rattle.store_layout.specs.Group.{last_place, group_encoding, seal_encoding, group_sectors, HasRoom, CanBeGroup}
-use Rattle.store_layout.specs.Journal.{HasGroup, HasSeal, Reading, IsJournal, sectors_read, gate_behind, with_group, with_seal}
+use Rattle.store_layout.specs.Group.{last_place, group_encoding, seal_encoding, group_sectors, JournalHasRoom, CanBeGroup}
+use Rattle.store_layout.specs.Journal.{HasGroupAfterGate, HasSeal, Reading, IsJournal, sectors_read, gate_behind, reading_with_group, reading_with_seal}
 use Rattle.store_layout.specs.GroupReading.{JournalRefusal}
 use Rattle.store_layout.specs.JournalReading.{journal_scan}
-use Rattle.store_layout.specs.JournalRefusals.{IsRefused}
+use Rattle.store_layout.specs.JournalRefusals.{IsJournalRefused}
 
 -- bytes are read as a journal exactly where they are one
 abbrev pub IsReadSo : Type 0 → Type 0
@@ -23,7 +23,7 @@ abbrev pub IsRefusedSo : Type 0 → Type 0
 IsRefusedSo C =
     (format : CommandFormat C) (limits : Limits) (bytes : List ℕ) (start : ℕ) (refusal : JournalRefusal)
     → AreBytes bytes → 1 ≤ whole_sectors bytes
-    → (journal_scan format limits bytes start ≡ Err refusal) ↔ IsRefused format limits bytes start refusal
+    → (journal_scan format limits bytes start ≡ Err refusal) ↔ IsJournalRefused format limits bytes start refusal
 
 -- a journal has at most one reading
 abbrev pub HasOneReading : Type 0 → Type 0
@@ -67,7 +67,7 @@ FillsSectors C =
 -- a journal without a seal, whose tail's gate is followed by a group and then a closed gate
 pub record IsReadyFor {C : Type 0} (format : CommandFormat C) (limits : Limits) (bytes : List ℕ) (reading : Reading C) (group : List C) : Type 0 where
   pub unsealed : reading.sealed ≡ false
-  pub has : HasGroup format limits bytes reading.tail reading.place group
+  pub has : HasGroupAfterGate format limits bytes reading.tail reading.place group
   pub closed : ¬ IsOpenGate (sector_at (gate_behind format reading.tail group) bytes)
 
 -- a group, and a gate that isn't open, are written after the tail's gate: the journal is unchanged, and ready for the group
@@ -75,7 +75,7 @@ abbrev pub IsMadeReady : Type 0 → Type 0
 IsMadeReady C =
     (format : CommandFormat C) (limits : Limits) (bytes : List ℕ) (start : ℕ) (reading : Reading C) (group : List C) (gate : List ℕ)
     → IsJournal format limits bytes start reading → reading.sealed ≡ false
-    → CanBeGroup format limits reading.place group → HasRoom reading.tail (group_sectors format group) (whole_sectors bytes)
+    → CanBeGroup format limits reading.place group → JournalHasRoom reading.tail (group_sectors format group) (whole_sectors bytes)
     → length gate ≡ 512 → ¬ IsOpenGate gate
     → let written = overwrite (512 * (reading.tail + 1)) (group_encoding format reading.place group ++ gate) bytes in
     IsJournal format limits written start reading × IsReadyFor format limits written reading group
@@ -96,7 +96,7 @@ GrowsByItsGate C =
     (format : CommandFormat C) (limits : Limits) (bytes : List ℕ) (start : ℕ) (reading : Reading C) (group : List C) (gate : List ℕ)
     → IsJournal format limits bytes start reading → IsReadyFor format limits bytes reading group → length gate ≡ 512
     → let written = overwrite (512 * reading.tail) gate bytes in
-    (IsOpenGate gate → IsJournal format limits written start (with_group format reading group))
+    (IsOpenGate gate → IsJournal format limits written start (reading_with_group format reading group))
     × (¬ IsOpenGate gate → IsJournal format limits written start reading)
 
 -- the same for a seal after the tail's gate
@@ -105,7 +105,7 @@ IsSealedByItsGate C =
     (format : CommandFormat C) (limits : Limits) (bytes : List ℕ) (start : ℕ) (reading : Reading C) (gate : List ℕ)
     → IsJournal format limits bytes start reading → reading.sealed ≡ false → HasSeal bytes reading.tail reading.place → length gate ≡ 512
     → let written = overwrite (512 * reading.tail) gate bytes in
-    (IsOpenGate gate → IsJournal format limits written start (with_seal reading))
+    (IsOpenGate gate → IsJournal format limits written start (reading_with_seal reading))
     × (¬ IsOpenGate gate → IsJournal format limits written start reading)
 
 -- commands that smaller limits allow are allowed by larger limits

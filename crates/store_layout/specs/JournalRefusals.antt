@@ -4,9 +4,9 @@ use Rattle.std.specs.Prelude.{◌≡◌, ◌≢◌, ◌⊎◌, ℕ, ◌+◌, ◌
 use Rattle.byte_lists.specs.Sectors.{whole_sectors, sector_at, IsOpenGate}
 use Rattle.store_layout.specs.Limits.{Limits}
 use Rattle.store_layout.specs.CommandFormat.{CommandFormat}
-use Rattle.store_layout.specs.Group.{payload_sectors, HasRoom}
+use Rattle.store_layout.specs.Group.{payload_sectors, JournalHasRoom}
 use Rattle.store_layout.specs.GroupReading.{JournalRefusal, BadHeader, BadRecord, Gap, PastEnd, IsGroupHeader, IsSealHeader, size_in, place_in}
-use Rattle.store_layout.specs.Journal.{HasGroup, HasSeal, IsChain, all_of}
+use Rattle.store_layout.specs.Journal.{HasGroupAfterGate, HasSeal, IsGroupChain, all_of}
 
 -- a payload begins after this gate, in the journal
 abbrev pub HasPayload : List ℕ → ℕ → Type 0
@@ -24,7 +24,7 @@ HasSealHeader bytes gate = HasPayload bytes gate × IsSealHeader (payload_behind
 
 -- the group that the header describes has room
 abbrev pub HasPromisedRoom : List ℕ → ℕ → Type 0
-HasPromisedRoom bytes gate = HasRoom gate (payload_sectors (size_in (payload_behind bytes gate))) (whole_sectors bytes)
+HasPromisedRoom bytes gate = JournalHasRoom gate (payload_sectors (size_in (payload_behind bytes gate))) (whole_sectors bytes)
 
 -- What is wrong after an open gate where this place is expected. `PastEnd` is a payload that would begin past the end, or
 -- has no room; a bad header is neither a group's nor a seal's; a gap is another place than the one
@@ -38,13 +38,13 @@ IsRefusedAt (Gap expected) format limits bytes gate place =
     (expected ≡ place) × (HasGroupHeader limits bytes gate ⊎ HasSealHeader bytes gate) × (place_in (payload_behind bytes gate) ≢ place)
 IsRefusedAt {C} BadRecord format limits bytes gate place =
     (place_in (payload_behind bytes gate) ≡ place)
-    × ((HasGroupHeader limits bytes gate × HasPromisedRoom bytes gate × ((commands : List C) → ¬ HasGroup format limits bytes gate place commands))
+    × ((HasGroupHeader limits bytes gate × HasPromisedRoom bytes gate × ((commands : List C) → ¬ HasGroupAfterGate format limits bytes gate place commands))
     ⊎ (HasSealHeader bytes gate × ¬ HasSeal bytes gate place))
 
 -- the journal is refused: it has groups up to an open gate, and this is wrong after that gate
-pub record IsRefused {C : Type 0} (format : CommandFormat C) (limits : Limits) (bytes : List ℕ) (start : ℕ) (refusal : JournalRefusal) : Type 0 where
+pub record IsJournalRefused {C : Type 0} (format : CommandFormat C) (limits : Limits) (bytes : List ℕ) (start : ℕ) (refusal : JournalRefusal) : Type 0 where
   pub groups : List (List C)
   pub gate : ℕ
-  pub chain : IsChain format limits bytes 0 start groups gate
+  pub chain : IsGroupChain format limits bytes 0 start groups gate
   pub opened : IsOpenGate (sector_at gate bytes)
   pub wrong : IsRefusedAt refusal format limits bytes gate (start + length (all_of groups))

@@ -32,7 +32,7 @@ pub record HasOlderHead (latest : ℕ) (area : List ℕ) (epoch : ℕ) : Type 0 
   pub older : head.epoch < epoch
 
 -- the other half's journal continues after a seal, and isn't sealed itself
-pub record GoesOn {C : Type 0} (format : CommandFormat C) (limits : Limits) (bytes : List ℕ) (front behind : Reading C) : Type 0 where
+pub record ContinuesAfterSeal {C : Type 0} (format : CommandFormat C) (limits : Limits) (bytes : List ℕ) (front behind : Reading C) : Type 0 where
   pub sealed : front.sealed ≡ true
   pub journal : IsJournal format limits bytes front.place behind
   pub unsealed : behind.sealed ≡ false
@@ -42,7 +42,7 @@ pub record GoesOn {C : Type 0} (format : CommandFormat C) (limits : Limits) (byt
 abbrev pub IsTail : {C : Type 0} → CommandFormat C → Limits → Geometry → Half → List ℕ → Reading C → Option (Reading C) → Type 0
 IsTail format limits geometry half image journal None = journal.sealed ≡ false
 IsTail format limits geometry half image journal (Some behind) =
-    (¬ IsOpenGate (gate_of geometry half image)) × GoesOn format limits (journal_of geometry half image) journal behind
+    (¬ IsOpenGate (gate_of geometry half image)) × ContinuesAfterSeal format limits (journal_of geometry half image) journal behind
 
 -- A half of a store's image is chosen, and begins with this checkpoint: it is open, of a known version, and the other half is
 -- closed or older.
@@ -84,8 +84,8 @@ pub record StoreValue (Db : Type 0) : Type 0 where
 abbrev pub db_at_seal : {Db C : Type 0} → StoreFormat Db C → Opening Db C → Db
 db_at_seal format opening = db_after format opening.checkpoint.db opening.journal.commands
 
-abbrev pub value_of : {Db C : Type 0} → StoreFormat Db C → Opening Db C → StoreValue Db
-value_of format opening = record {
+abbrev pub opening_value : {Db C : Type 0} → StoreFormat Db C → Opening Db C → StoreValue Db
+opening_value format opening = record {
   db = db_after format (db_at_seal format opening) (tail_commands opening.tail);
   place = (last_journal opening.journal opening.tail).place;
 }
@@ -94,4 +94,4 @@ value_of format opening = record {
 pub record OpensTo {Db C : Type 0} (format : StoreFormat Db C) (latest : ℕ) (image : List ℕ) (value : StoreValue Db) : Type 0 where
   pub opening : Opening Db C
   pub is : IsOpening format latest image opening
-  pub stands_for : value_of format opening ≡ value
+  pub stands_for : opening_value format opening ≡ value

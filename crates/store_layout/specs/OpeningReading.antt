@@ -11,7 +11,7 @@ use Rattle.store_layout.specs.FirstSector.{geometry_in}
 use Rattle.store_layout.specs.StoreFormat.{StoreFormat}
 use Rattle.store_layout.specs.Checkpoint.{Head, Checkpoint}
 use Rattle.store_layout.specs.CheckpointReading.{PairRefusal, NoHalf, SameEpoch, SealedNewer, head_in, checkpoint_in}
-use Rattle.store_layout.specs.Opening.{Opening, limits_in, StoreValue, value_of}
+use Rattle.store_layout.specs.Opening.{Opening, limits_in, StoreValue, opening_value}
 
 -- why an image doesn't open: it is no store's, its halves are refused, or a journal is refused
 pub data OpenRefusal : Type 0 where
@@ -96,9 +96,9 @@ abbrev pub opening_of : {Db C : Type 0} → StoreFormat Db C → ℕ → List �
 opening_of format latest image = by_geometry format latest image (geometry_in image)
 
 -- the value of an opening
-abbrev pub value_in : {Db C : Type 0} → StoreFormat Db C → Result (Opening Db C) OpenRefusal → Result (StoreValue Db) OpenRefusal
-value_in format (Err refusal) = Err refusal
-value_in format (Ok opening) = Ok (value_of format opening)
+abbrev pub value_of_reading : {Db C : Type 0} → StoreFormat Db C → Result (Opening Db C) OpenRefusal → Result (StoreValue Db) OpenRefusal
+value_of_reading format (Err refusal) = Err refusal
+value_of_reading format (Ok opening) = Ok (opening_value format opening)
 
 abbrev pub store_value : {Db C : Type 0} → StoreFormat Db C → ℕ → List ℕ → Result (StoreValue Db) OpenRefusal
-store_value format latest image = value_in format (opening_of format latest image)
+store_value format latest image = value_of_reading format (opening_of format latest image)

@@ -5,7 +5,7 @@ use Rattle.store_layout.specs.declared.half.Half.{Half}
 use Rattle.store_layout.specs.declared.half.Half.TheVariants.{First, Second}
 use Rattle.store_layout.specs.GroupReading.{JournalRefusal}
 use Rattle.store_layout.specs.Journal.{Reading, IsJournal}
-use Rattle.store_layout.specs.JournalRefusals.{IsRefused}
+use Rattle.store_layout.specs.JournalRefusals.{IsJournalRefused}
 use Rattle.store_layout.specs.Layout.{Geometry, other, area_of, gate_of, journal_of}
 use Rattle.store_layout.specs.FirstSector.{IsStore}
 use Rattle.store_layout.specs.StoreFormat.{StoreFormat}
@@ -60,7 +60,7 @@ pub record HasBadJournal {Db C : Type 0} (format : StoreFormat Db C) (latest : �
   pub half : Half
   pub checkpoint : Checkpoint Db
   pub chosen : IsChosen format latest image geometry half checkpoint
-  pub journal : IsRefused format.commands (limits_in checkpoint) (journal_of geometry half image) checkpoint.head.place refusal
+  pub journal : IsJournalRefused format.commands (limits_in checkpoint) (journal_of geometry half image) checkpoint.head.place refusal
 
 -- the chosen half's journal is sealed
 pub record HasSealedJournal {Db C : Type 0} (format : StoreFormat Db C) (latest : ℕ) (geometry : Geometry) (image : List ℕ) : Type 0 where
@@ -80,7 +80,7 @@ pub record IsSealedBesideOpen {Db C : Type 0} (format : StoreFormat Db C) (lates
 pub record HasBadTail {Db C : Type 0} (format : StoreFormat Db C) (latest : ℕ) (geometry : Geometry) (image : List ℕ) (refusal : JournalRefusal) : Type 0 where
   pub front : HasSealedJournal format latest geometry image
   pub closed : ¬ IsOpenGate (gate_of geometry (other front.half) image)
-  pub journal : IsRefused format.commands (limits_in front.checkpoint) (journal_of geometry (other front.half) image) front.front.place refusal
+  pub journal : IsJournalRefused format.commands (limits_in front.checkpoint) (journal_of geometry (other front.half) image) front.front.place refusal
 
 -- the chosen half's journal is sealed, and the journal that continues after the seal is sealed too
 pub record IsSealedTwice {Db C : Type 0} (format : StoreFormat Db C) (latest : ℕ) (geometry : Geometry) (image : List ℕ) : Type 0 where

@@ -4,12 +4,12 @@ use Rattle.std.specs.Prelude.{◌≡◌, ℕ, ◌+◌, ◌*◌, ◌≤◌, false
 use Rattle.byte_lists.specs.Content.{overwrite}
 use Rattle.byte_lists.specs.Sectors.{sector_at, IsOpenGate}
 use Rattle.store_layout.specs.declared.half.Half.{Half}
-use Rattle.store_layout.specs.Group.{group_encoding, seal_encoding, group_sectors, HasRoom, CanBeGroup}
-use Rattle.store_layout.specs.Journal.{Reading, HasSeal, IsJournal, with_group, with_seal}
+use Rattle.store_layout.specs.Group.{group_encoding, seal_encoding, group_sectors, JournalHasRoom, CanBeGroup}
+use Rattle.store_layout.specs.Journal.{Reading, HasSeal, IsJournal, reading_with_group, reading_with_seal}
 use Rattle.store_layout.specs.JournalLaws.{IsReadyFor}
 use Rattle.store_layout.specs.Layout.{other, journal_at, gate_of, journal_of}
 use Rattle.store_layout.specs.StoreFormat.{StoreFormat, db_after}
-use Rattle.store_layout.specs.Opening.{Opening, limits_in, IsOpening, tail_half, last_journal, value_of}
+use Rattle.store_layout.specs.Opening.{Opening, limits_in, IsOpening, tail_half, last_journal, opening_value}
 use Rattle.store_layout.specs.TakeOver.{empty_journal}
 use Rattle.store_layout.specs.StoreValues.{value_after}
 
@@ -58,7 +58,7 @@ StoreIsMadeReady Db C =
     (format : StoreFormat Db C) (latest : ℕ) (image : List ℕ) (opening : Opening Db C) (group : List C) (gate : List ℕ)
     → IsOpening format latest image opening
     → CanBeGroup format.commands (limits_in opening.checkpoint) (last_reading opening).place group
-    → HasRoom (last_reading opening).tail (group_sectors format.commands group) opening.geometry.journal
+    → JournalHasRoom (last_reading opening).tail (group_sectors format.commands group) opening.geometry.journal
     → length gate ≡ 512 → ¬ IsOpenGate gate
     → let written = overwrite (512 * (last_gate opening + 1)) (group_encoding format.commands (last_reading opening).place group ++ gate) image in
     IsOpening format latest written opening
@@ -72,14 +72,14 @@ StoreGrowsByItsGate Db C =
     → IsOpening format latest image opening
     → IsReadyFor format.commands (limits_in opening.checkpoint) (journal_of opening.geometry (last_half opening) image) (last_reading opening) group
     → length gate ≡ 512
-    → let grown = with_last opening.tail opening (with_group format.commands (last_reading opening) group) in
+    → let grown = with_last opening.tail opening (reading_with_group format.commands (last_reading opening) group) in
     let written = overwrite (512 * last_gate opening) gate image in
     (IsOpenGate gate → IsOpening format latest written grown)
     × (¬ IsOpenGate gate → IsOpening format latest written opening)
-    × (value_of format grown ≡ value_after format (value_of format opening) group)
+    × (opening_value format grown ≡ value_after format (opening_value format opening) group)
 
 -- the other half is closed, and so is the first gate of its journal
-pub record IsOtherReady {Db C : Type 0} (opening : Opening Db C) (image : List ℕ) : Type 0 where
+pub record IsOtherHalfClosed {Db C : Type 0} (opening : Opening Db C) (image : List ℕ) : Type 0 where
   pub alone : opening.tail ≡ None
   pub gate : ¬ IsOpenGate (gate_of opening.geometry (other opening.chosen) image)
   pub journal : ¬ IsOpenGate (sector_at 0 (journal_of opening.geometry (other opening.chosen) image))
@@ -88,9 +88,9 @@ pub record IsOtherReady {Db C : Type 0} (opening : Opening Db C) (image : List �
 abbrev pub StoreIsMadeReadyForSeal : Type 0 → Type 0 → Type 0
 StoreIsMadeReadyForSeal Db C =
     (format : StoreFormat Db C) (latest : ℕ) (image : List ℕ) (opening : Opening Db C)
-    → IsOpening format latest image opening → IsOtherReady opening image
+    → IsOpening format latest image opening → IsOtherHalfClosed opening image
     → let written = overwrite (512 * (journal_at opening.geometry opening.chosen + opening.journal.tail + 1)) (seal_encoding opening.journal.place) image in
-    IsOpening format latest written opening × IsOtherReady opening written
+    IsOpening format latest written opening × IsOtherHalfClosed opening written
     × HasSeal (journal_of opening.geometry opening.chosen written) opening.journal.tail opening.journal.place
 
 -- Then the last gate is written with any bytes: where these open it, the other half's journal continues, without a command
@@ -98,11 +98,11 @@ StoreIsMadeReadyForSeal Db C =
 abbrev pub StoreIsSealedByItsGate : Type 0 → Type 0 → Type 0
 StoreIsSealedByItsGate Db C =
     (format : StoreFormat Db C) (latest : ℕ) (image : List ℕ) (opening : Opening Db C) (gate : List ℕ)
-    → IsOpening format latest image opening → IsOtherReady opening image
+    → IsOpening format latest image opening → IsOtherHalfClosed opening image
     → HasSeal (journal_of opening.geometry opening.chosen image) opening.journal.tail opening.journal.place
     → length gate ≡ 512
-    → let sealed = record opening { journal = with_seal opening.journal; tail = Some (empty_journal opening.journal.place) } in
+    → let sealed = record opening { journal = reading_with_seal opening.journal; tail = Some (empty_journal opening.journal.place) } in
     let written = overwrite (512 * (journal_at opening.geometry opening.chosen + opening.journal.tail)) gate image in
     (IsOpenGate gate → IsOpening format latest written sealed)
     × (¬ IsOpenGate gate → IsOpening format latest written opening)
-    × (value_of format sealed ≡ value_of format opening)
+    × (opening_value format sealed ≡ opening_value format opening)

@@ -8,7 +8,7 @@ use Rattle.store_layout.specs.Journal.{Reading}
 use Rattle.store_layout.specs.Layout.{other, area_at, gate_at, area_of, gate_of, journal_of}
 use Rattle.store_layout.specs.StoreFormat.{StoreFormat}
 use Rattle.store_layout.specs.Checkpoint.{Checkpoint, IsCheckpoint}
-use Rattle.store_layout.specs.Opening.{Opening, HasOlderHead, IsOpening, value_of}
+use Rattle.store_layout.specs.Opening.{Opening, HasOlderHead, IsOpening, opening_value}
 use Rattle.store_layout.specs.WhatCounts.{span, chosen_spans, IsApart}
 use Rattle.store_layout.specs.TakeOver.{FoldsJournal, taken_over, empty_journal}
 
@@ -36,7 +36,7 @@ SwitchesByTheGate Db C =
     → let written = overwrite (512 * gate_at opening.geometry (other opening.chosen)) gate image in
     (IsOpenGate gate → IsOpening format latest written (taken_over opening next behind))
     × (¬ IsOpenGate gate → IsOpening format latest written opening)
-    × (value_of format (taken_over opening next behind) ≡ value_of format opening)
+    × (opening_value format (taken_over opening next behind) ≡ opening_value format opening)
 
 -- The same without a tail, where no journal is sealed, and the first gate of the other half's journal is closed.
 abbrev pub SwitchesByTheGateAtRest : Type 0 → Type 0 → Type 0
@@ -48,7 +48,7 @@ SwitchesByTheGateAtRest Db C =
     let fresh = taken_over opening next (empty_journal next.head.place) in
     (IsOpenGate gate → IsOpening format latest written fresh)
     × (¬ IsOpenGate gate → IsOpening format latest written opening)
-    × (value_of format fresh ≡ value_of format opening)
+    × (opening_value format fresh ≡ opening_value format opening)
 
 -- Then the other half's head is older, and no journal is sealed: any write outside of that head, and outside of the bytes of the
 -- chosen half that count, leaves the opening unchanged, such as a write over the gates of the other half.

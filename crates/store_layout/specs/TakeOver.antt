@@ -8,7 +8,7 @@ use Rattle.store_layout.specs.Layout.{Geometry, other, area_of, gate_of, journal
 use Rattle.store_layout.specs.FirstSector.{IsStore}
 use Rattle.store_layout.specs.StoreFormat.{StoreFormat}
 use Rattle.store_layout.specs.Checkpoint.{Checkpoint, IsCheckpoint, first_checkpoint}
-use Rattle.store_layout.specs.Opening.{Opening, limits_in, IsChosen, IsOpening, db_at_seal, value_of, OpensTo}
+use Rattle.store_layout.specs.Opening.{Opening, limits_in, IsChosen, IsOpening, db_at_seal, opening_value, OpensTo}
 
 -- A checkpoint for the other half with the value of the chosen half up to the end of its journal: this database, at the
 -- place reached there, in the same version or a later one.
@@ -37,7 +37,7 @@ TakesOverTheSame Db C =
     → IsChosen format latest new opening.geometry (other opening.chosen) next
     → IsJournal format.commands (limits_in opening.checkpoint) (journal_of opening.geometry (other opening.chosen) new) opening.journal.place behind
     → IsOpening format latest new (taken_over opening next behind)
-    × (value_of format (taken_over opening next behind) ≡ value_of format opening)
+    × (opening_value format (taken_over opening next behind) ≡ opening_value format opening)
 
 -- a journal without a command
 abbrev pub empty_journal : {C : Type 0} → ℕ → Reading C
@@ -51,7 +51,7 @@ TakesOverTheSameAtRest Db C =
     → IsChosen format latest new opening.geometry (other opening.chosen) next
     → ¬ IsOpenGate (sector_at 0 (journal_of opening.geometry (other opening.chosen) new))
     → IsOpening format latest new (taken_over opening next (empty_journal next.head.place))
-    × (value_of format (taken_over opening next (empty_journal next.head.place)) ≡ value_of format opening)
+    × (opening_value format (taken_over opening next (empty_journal next.head.place)) ≡ opening_value format opening)
 
 -- A store as it is formatted: the first half is open without a row, and its journal's first gate is closed; the second
 -- half is closed.

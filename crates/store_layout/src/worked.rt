@@ -1,7 +1,7 @@
 //! Worked values of the definitions. Each function does nothing, and the values are in its contract.
 
 ghost use Rattle.std.specs.Prelude.{◌≡◌, ◌++◌, ◌∷◌, [], true, false, Err, replicate};
-ghost use Rattle.store_layout.specs.Group.{HasRoom, group_encoding, payload_sectors, seal_encoding};
+ghost use Rattle.store_layout.specs.Group.{JournalHasRoom, group_encoding, payload_sectors, seal_encoding};
 ghost use Rattle.store_layout.specs.GroupReading.{BadHeader, BadRecord, Gap, PastEnd};
 ghost use Rattle.store_layout.specs.Worked.{raw_format, purge_command, purge_payload, seal_payload, marked_payload, nine_payload, open_sector, closed_sector, reads_as, reading};
 
@@ -17,9 +17,9 @@ pub fn worked_sizes()
     ensures full { payload_sectors 496 ≡ 1 }
     ensures one_more { payload_sectors 497 ≡ 2 }
     ensures most { payload_sectors 262144 ≡ 513 }
-    ensures room { HasRoom 512 1 516 }
-    ensures no_room { ¬ HasRoom 514 1 516 }
-    ensures largest { HasRoom 0 513 516 }
+    ensures room { JournalHasRoom 512 1 516 }
+    ensures no_room { ¬ JournalHasRoom 514 1 516 }
+    ensures largest { JournalHasRoom 0 513 516 }
 {}
 
 /// How journals of four sectors and fewer are read in version 1.

@@ -23,9 +23,9 @@ use Rattle.group_core.specs.Steps.{FlushStep, CheckStep, WritesChunk, SyncsChunk
 use Rattle.group_core.specs.Submitting.{Submits}
 use Rattle.group_core.specs.Redeeming.{Redeems}
 use Rattle.group_core.specs.Publishing.{PublishStep}
-use Rattle.store_loops.specs.Receipts.{IsTaken, IsShownAbove, IsReceiptOf, IsRedeemed, LeadsOn, LeadsOut, IsHandedIn}
+use Rattle.store_loops.specs.Receipts.{IsTicketOrCommand, IsShownAbove, IsReceiptOf, IsRedeemed, LeadsOn, LeadsOut, IsHandedIn}
 
-pub taken : (command : Command) (result : Result Ticket (Command × SubmitError)) (old new : StateView) → Submits command result old new → IsTaken command result
+pub taken : (command : Command) (result : Result Ticket (Command × SubmitError)) (old new : StateView) → Submits command result old new → IsTicketOrCommand command result
 taken command (Ok ticket) old new step = step.2.shows
 taken command (Err (back, refusal)) old new step = step.1
 

@@ -18,9 +18,9 @@ use Rattle.group_core.specs.declared.values.Commit.{Commit}
 use Rattle.group_core.specs.Values.{IsSame}
 
 -- a ticket that shows the command, or the command again
-abbrev pub IsTaken : Command → Result Ticket (Command × SubmitError) → Type 0
-IsTaken command (Ok ticket) = ticket.command.value ≡ command
-IsTaken command (Err (back, refusal)) = back ≡ command
+abbrev pub IsTicketOrCommand : Command → Result Ticket (Command × SubmitError) → Type 0
+IsTicketOrCommand command (Ok ticket) = ticket.command.value ≡ command
+IsTicketOrCommand command (Err (back, refusal)) = back ≡ command
 
 -- a note was given of a value that is shown, whose place is above this one
 pub record IsShownAbove {N : Type 0} (tells : StoreValue (List RowView) → N → Type 0) (place : ℕ) (note : N) : Type 0 where

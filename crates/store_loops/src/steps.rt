@@ -1,7 +1,7 @@
 //! The guarded calls of a state, one at a time, from any thread.
 
 ghost use Rattle.std.specs.Prelude.{◌≡◌, true, false};
-ghost use Rattle.store_loops.specs.Receipts.{IsTaken, IsRedeemed, LeadsOn, LeadsOut, IsHandedIn};
+ghost use Rattle.store_loops.specs.Receipts.{IsTicketOrCommand, IsRedeemed, LeadsOn, LeadsOut, IsHandedIn};
 
 use group_core::{
     AtClosing, AtLaid, AtLive, AtOpened, AtPlan, AtStable, AtStaged, AtSwitched, AtWritten,
@@ -36,7 +36,7 @@ pub trait Steps {
     ghost tells: { StoreValue (List RowView) → Self.Note → Type 0 };
 
     fn submit(&self, command: Command) -> Result<Ticket, (Command, SubmitError)>
-        ensures { IsTaken command result };
+        ensures { IsTicketOrCommand command result };
 
     fn redeem(&self, ticket: Ticket) -> Redeemed<Self::Note>
         ensures { IsRedeemed tells ticket result };

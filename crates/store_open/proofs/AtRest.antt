@@ -11,10 +11,10 @@ use Rattle.store_layout.specs.declared.half.Half.{Half}
 use Rattle.store_layout.specs.Journal.{Reading}
 use Rattle.store_layout.specs.Layout.{Geometry, other}
 use Rattle.store_layout.specs.Checkpoint.{Head, Checkpoint, CanBeCheckpoint, checkpoint_bytes, checkpoint_encoding}
-use Rattle.store_layout.specs.Opening.{Opening, limits_in, IsTail, IsOpening, StoreValue, value_of, db_at_seal}
+use Rattle.store_layout.specs.Opening.{Opening, limits_in, IsTail, IsOpening, StoreValue, opening_value, db_at_seal}
 use Rattle.store_layout.specs.TakeOver.{taken_over, empty_journal}
 use Rattle.store_open.specs.Closing.{HasClosedGates}
-use Rattle.store_open.specs.NewStore.{HasRoomFor}
+use Rattle.store_open.specs.NewStore.{DeviceHasRoomFor}
 use Rattle.store_open.specs.Behind.{SameBehind}
 use Rattle.path_rows.specs.Database.{RowView, rows_len}
 use Rattle.path_db.specs.RowRecord.{rows_encoding}
@@ -24,7 +24,7 @@ use Rattle.ckpt_pair.specs.Versions.{latest}
 use Rattle.ckpt_pair.specs.Rows.{rows_format}
 use Rattle.ckpt_pair.specs.Checkpoint.{written_checkpoint}
 use Rattle.store_open.specs.PathStores.{store_format}
-use Rattle.store_open.specs.Store.{StoreView, Tells, IsAtRest, OpensToStore, MayCheckpoint, counted_len, checkpointed, Checkpoints}
+use Rattle.store_open.specs.Store.{StoreView, HasOpening, IsAtRest, OpensToStore, MayCheckpoint, counted_len, checkpointed, Checkpoints}
 use Rattle.store_open.specs.StoreShape.{IsStoreWhole}
 use Rattle.store_open.specs.TakingOver.{IsTakingOver, taken}
 use Rattle.store_open.proofs.Switching.{MayTakeOver, same_value, taken_opens, taken_closed, opens_meanwhile}
@@ -53,7 +53,7 @@ no_tail opening image is unsealed = by_tail opening.tail is.tail
 
 -- the value of an opening without a tail
 value_by_tail : (opening : Opening (List RowView) Command) (tail : Option (Reading Command)) → tail ≡ None
-    → value_of store_format (record opening { tail = tail }) ≡ record { db = db_at_seal store_format opening; place = opening.journal.place }
+    → opening_value store_format (record opening { tail = tail }) ≡ record { db = db_at_seal store_format opening; place = opening.journal.place }
 value_by_tail opening None is = refl
 value_by_tail opening (Some behind) is = absurd (some_is_none is)
   where
@@ -92,7 +92,7 @@ module _ (old : StoreView) (whole : IsStoreWhole old) (device : IsHonest old.dis
     abbrev opening : Opening (List RowView) Command
     opening = (rest honest).opening
 
-    tells : Tells old opening
+    tells : HasOpening old opening
     tells = (rest honest).tells
 
     opens_so : IsOpening store_format latest (reads_of old.disk) opening
@@ -199,7 +199,7 @@ module _ (old : StoreView) (whole : IsStoreWhole old) (device : IsHonest old.dis
         subst (λ (v : StoreView). Stretch v.disk new (Behind v)) view_is
         (stretch_honest (IsTakingOver old.geometry old.chosen bytes (reads_of old.disk)) (Behind old) old.disk new beyond moments)
 
-    still_room : HasRoomFor old.geometry new
+    still_room : DeviceHasRoomFor old.geometry new
     still_room = record { allowed = whole.room.allowed; room = omega (arith, whole.room.room, moments.keeps.sectors) }
 
     every_later : IsHonest new → EveryImage new.history.now (OpensToStore old)

@@ -12,7 +12,7 @@ use Rattle.store_layout.specs.declared.half.Half.{Half}
 use Rattle.store_layout.specs.declared.half.Half.TheVariants.{First, Second}
 use Rattle.store_layout.specs.Layout.{Geometry, IsGeometry, image_sectors, other, area_at, gate_at, journal_at}
 use Rattle.store_layout.specs.FirstSector.{first_sector}
-use Rattle.store_open.specs.NewStore.{first_checkpoint_bytes, HasRoomFor}
+use Rattle.store_open.specs.NewStore.{first_checkpoint_bytes, DeviceHasRoomFor}
 use Rattle.store_open.specs.Behind.{SameBehind}
 use Rattle.store_open.specs.TakingOver.{IsTornAt, laid, switched, IsTakingOver}
 use Rattle.store_open.proofs.Gates.{gates_inside}
@@ -27,7 +27,7 @@ module _ (geometry : Geometry) (start : Disk) where
   pub kept_synced : {T E : Type 0} (mid new : Disk) (result : Result T E) → Stretch start mid Kept → SyncCall result mid new → Stretch start new Kept
   kept_synced mid new result so_far call = stretch_sync Kept start mid new result so_far call
 
-  module _ (has : HasRoomFor geometry start) where
+  module _ (has : DeviceHasRoomFor geometry start) where
     -- a sector of the store is written
     kept_written : {T E : Type 0} (mid new : Disk) (sector : ℕ) (bytes : List ℕ) (result : Result T E) → length bytes ≡ 512 → sector < image_sectors geometry → (IsHonest mid → IsWhole mid)
         → Stretch start mid Kept → WriteCall sector bytes result mid new → Stretch start new Kept

@@ -13,7 +13,7 @@ use Rattle.ckpt_pair.specs.Versions.{latest}
 use Rattle.store_open.specs.Open.{IsOpened}
 use Rattle.store_open.specs.PathStores.{store_format}
 use Rattle.store_open.specs.Store.{StoreView}
-use Rattle.store_open.specs.StoreShape.{IsWithin}
+use Rattle.store_open.specs.StoreShape.{IsSealWithin}
 use Rattle.store_open.proofs.Journals.{journal_sectors, journal_size}
 
 module _ (reads : List ℕ) (opening : Opening (List RowView) Command) (is : IsOpening store_format latest reads opening) (allowed : IsGeometry opening.geometry)
@@ -31,7 +31,7 @@ module _ (reads : List ℕ) (opening : Opening (List RowView) Command) (is : IsO
   last_within (Some behind) on = journal_within (other opening.chosen) opening.journal.place behind on.1.journal
 
 pub opened_within : (reads : List ℕ) (view : StoreView) → IsGeometry view.geometry → 512 * image_sectors view.geometry ≤ length reads → IsOpened reads view
-    → IsWithin view.geometry.journal view.gate view.head.version
+    → IsSealWithin view.geometry.journal view.gate view.head.version
 opened_within reads view allowed room opened =
     let opening = opened.rest.opening in
     let tells = opened.rest.tells in
@@ -44,7 +44,7 @@ opened_within reads view allowed room opened =
 
 -- so the test of the bounds never fails on an honest device
 pub never_outside : (reads : List ℕ) (view : StoreView) (inside : Bool) → IsGeometry view.geometry → 512 * image_sectors view.geometry ≤ length reads → IsOpened reads view
-    → (IsWithin view.geometry.journal view.gate view.head.version → inside ≡ true) → inside ≡ false → ⊥
+    → (IsSealWithin view.geometry.journal view.gate view.head.version → inside ≡ true) → inside ≡ false → ⊥
 never_outside reads view inside allowed room opened is_inside outside =
     let clash : true ≡ false = sym (is_inside (opened_within reads view allowed room opened)) ∙ outside in
     absurd (cc)

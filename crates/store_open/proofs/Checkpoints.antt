@@ -16,7 +16,7 @@ use Rattle.ckpt_pair.specs.declared.error.PairError.{PairError}
 use Rattle.ckpt_pair.specs.declared.error.PairError.TheVariants as pair
 use Rattle.ckpt_pair.specs.Versions.{latest}
 use Rattle.ckpt_pair.specs.Reading.{FrontView, front_in, with_room, or_bad, with_head, with_rows_behind, rows_behind, AreReadByTheirFronts}
-use Rattle.ckpt_pair.specs.Refusals.{Reads}
+use Rattle.ckpt_pair.specs.Refusals.{ReadsPair}
 use Rattle.ckpt_pair.specs.Rows.{rows_format, as_counted}
 use Rattle.store_open.specs.declared.error.OpenError.{OpenError}
 use Rattle.store_open.specs.declared.error.OpenError.TheVariants.{NotAStore, Device, Pair, Journal, NoMemory}
@@ -31,7 +31,7 @@ area_inside geometry Second = omega arith
 
 -- a front that is refused refuses the checkpoint
 behind_refused : {X Z : Type 0} (see : X → Checkpoint (List RowView)) (view : Z → FrontView) (e : PairError) (front : Result FrontView PairRefusal) (found : FrontView → Option (List RowView))
-    → Reads view (Err e) front → Reads see (Err e) (with_rows_behind front found)
+    → ReadsPair view (Err e) front → ReadsPair see (Err e) (with_rows_behind front found)
 behind_refused see view e (Ok y) found so = absurd so
 behind_refused see view e (Err refusal) found so = so
 
@@ -53,7 +53,7 @@ rows_refused see (Journal e) bytes head count so = so
 rows_refused see NoMemory bytes head count so = tt
 
 -- rows with another count
-count_refused : {X : Type 0} (see : X → Checkpoint (List RowView)) (e : PairError) (head : Head) (found : Option (List RowView)) → Reads {X = List RowView} (λ rows. rows) (Err e) (or_bad found) → Reads see (Err e) (with_head head found)
+count_refused : {X : Type 0} (see : X → Checkpoint (List RowView)) (e : PairError) (head : Head) (found : Option (List RowView)) → ReadsPair {X = List RowView} (λ rows. rows) (Err e) (or_bad found) → ReadsPair see (Err e) (with_head head found)
 count_refused see e head None so = so
 count_refused see e head (Some rows) so = absurd so
 
@@ -104,12 +104,12 @@ module _ (geometry : Geometry) (half : Half) (reads sector : List ℕ) (at : ℕ
       ap (λ (r : Result FrontView PairRefusal). is_ok r) there
 
   -- each way out
-  pub front_refused : {X Z : Type 0} (see : X → Checkpoint (List RowView)) (view : Z → FrontView) (e : PairError) (n : ℕ) → n ≡ geometry.checkpoint → Reads view (Err e) (front_in latest (512 * n) sector)
+  pub front_refused : {X Z : Type 0} (see : X → Checkpoint (List RowView)) (view : Z → FrontView) (e : PairError) (n : ℕ) → n ≡ geometry.checkpoint → ReadsPair view (Err e) (front_in latest (512 * n) sector)
       → PairSo see (Err (error_of_pair e)) (checkpoint_in rows_format latest Area)
   front_refused see view e n size so =
       subst (PairSo see (Err (error_of_pair e))) (sym read_so)
       (pair_refused see e (with_rows_behind (front_in latest (512 * geometry.checkpoint) sector) (rows_behind Area))
-      (behind_refused see view e (front_in latest (512 * geometry.checkpoint) sector) (rows_behind Area) (subst (λ (k : ℕ). Reads view (Err e) (front_in latest (512 * k) sector)) size so)))
+      (behind_refused see view e (front_in latest (512 * geometry.checkpoint) sector) (rows_behind Area) (subst (λ (k : ℕ). ReadsPair view (Err e) (front_in latest (512 * k) sector)) size so)))
 
   module _ (front : FrontView) (n : ℕ) (size : n ≡ geometry.checkpoint) (is_front : front_in latest (512 * n) sector ≡ Ok front) where
     pub fits : 32 + front.size ≤ 512 * geometry.checkpoint
@@ -129,13 +129,13 @@ module _ (geometry : Geometry) (half : Half) (reads sector : List ℕ) (at : ℕ
         subst (PairSo see (Err e)) (sym read_behind) (rows_refused see e (part (512 * at + 32) front.size reads) front.head front.count so)
 
     pub count_refused_so : {X : Type 0} (see : X → Checkpoint (List RowView)) (e : PairError) (fed : List ℕ) → fed ≡ part (512 * at + 32) front.size reads
-        → (e ≢ pair.NoMemory → Reads {X = List RowView} (λ rows. rows) (Err e) (or_bad (as_counted front.count (rows_decoding fed))))
+        → (e ≢ pair.NoMemory → ReadsPair {X = List RowView} (λ rows. rows) (Err e) (or_bad (as_counted front.count (rows_decoding fed))))
         → PairSo see (Err (error_of_pair e)) (checkpoint_in rows_format latest Area)
     count_refused_so see e fed same so =
         subst (PairSo see (Err (error_of_pair e))) (sym read_behind)
         (pair_given see e (with_head front.head (as_counted front.count (rows_decoding (part (512 * at + 32) front.size reads))))
         (λ other. count_refused see e front.head (as_counted front.count (rows_decoding (part (512 * at + 32) front.size reads)))
-        (subst (λ (bytes : List ℕ). Reads {X = List RowView} (λ rows. rows) (Err e) (or_bad (as_counted front.count (rows_decoding bytes)))) same (so other))))
+        (subst (λ (bytes : List ℕ). ReadsPair {X = List RowView} (λ rows. rows) (Err e) (or_bad (as_counted front.count (rows_decoding bytes)))) same (so other))))
 
     pub counted_so : (db : List RowView) (fed : List ℕ) → fed ≡ part (512 * at + 32) front.size reads → or_bad (as_counted front.count (rows_decoding fed)) ≡ Ok db
         → checkpoint_in rows_format latest Area ≡ Ok (record { head = front.head; db = db })

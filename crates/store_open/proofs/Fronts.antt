@@ -4,23 +4,23 @@ use Rattle.std.specs.Int.{w32, w64, from_be_bytes}
 use Rattle.byte_lists.specs.Numbers.{four_at, eight_at}
 use Rattle.byte_lists.specs.Sectors.{sector_at, is_open_gate}
 use Rattle.store_layout.specs.declared.half.Half.{Half}
-use Rattle.store_layout.specs.GroupReading.{check}
+use Rattle.store_layout.specs.GroupReading.{refuse_unless}
 use Rattle.store_layout.specs.Checkpoint.{checkpoint_magic}
 use Rattle.store_layout.specs.CheckpointReading.{PairRefusal, BadCheckpoint, NewerFormat, head_in}
 use Rattle.store_layout.specs.Layout.{Geometry, IsGeometry, area_at, gate_at, area_of, gate_of}
 use Rattle.store_layout.specs.OpeningReading.{head_behind, head_of}
 use Rattle.ckpt_pair.specs.declared.error.PairError.{PairError}
 use Rattle.ckpt_pair.specs.declared.error.PairError.TheVariants as pair
-use Rattle.ckpt_pair.specs.Refusals.{Reads}
+use Rattle.ckpt_pair.specs.Refusals.{ReadsPair}
 use Rattle.store_open.specs.Refusals.{error_of_pair, PairSo}
 use Rattle.store_open.proofs.FirstSectors.{part_in_front}
 
 -- a head is read from the first 24 bytes
 pub head_of_front : (latest size : ℕ) (xs : List ℕ) → 24 ≤ size → head_in latest (take size xs) ≡ head_in latest xs
 head_of_front latest size xs long = λ i.
-    check (eqb (magic i) checkpoint_magic) BadCheckpoint
-    (check (leb 1 (version i)) BadCheckpoint
-    (check (leb (version i) latest) (NewerFormat (version i)) (Ok (record { version = version i; epoch = epoch i; place = place i }))))
+    refuse_unless (eqb (magic i) checkpoint_magic) BadCheckpoint
+    (refuse_unless (leb 1 (version i)) BadCheckpoint
+    (refuse_unless (leb (version i) latest) (NewerFormat (version i)) (Ok (record { version = version i; epoch = epoch i; place = place i }))))
   where
     magic : four_at 0 (take size xs) ≡ four_at 0 xs
     magic = ap (from_be_bytes w32) (part_in_front 0 4 size xs (omega (arith, long)))
@@ -41,11 +41,11 @@ head_of_sector latest geometry half reads allowed =
     ∙ sym (head_of_front latest (512 * geometry.checkpoint) (drop (512 * area_at geometry half) reads) (omega (arith, allowed)))
 
 -- the result of a call that takes no memory is the reading
-pub pair_told : {X Y : Type 0} (view : X → Y) (x : X) (reading : Result Y PairRefusal) → Reads view (Ok x) reading → reading ≡ Ok (view x)
+pub pair_told : {X Y : Type 0} (view : X → Y) (x : X) (reading : Result Y PairRefusal) → ReadsPair view (Ok x) reading → reading ≡ Ok (view x)
 pair_told {X} {Y} view x (Ok y) so = ap (λ (z : Y). let r : Result Y PairRefusal = Ok z in r) so
 pair_told view x (Err refusal) so = absurd so
 
-pub pair_refused : {X Y : Type 0} (view : X → Y) (e : PairError) (reading : Result Y PairRefusal) → Reads view (Err e) reading → PairSo view (Err (error_of_pair e)) reading
+pub pair_refused : {X Y : Type 0} (view : X → Y) (e : PairError) (reading : Result Y PairRefusal) → ReadsPair view (Err e) reading → PairSo view (Err (error_of_pair e)) reading
 pair_refused view pair.NoMemory (Err refusal) so = tt
 pair_refused view pair.NoHalf (Err refusal) so = (λ same. cc, record { refusal = refusal; is = refl; told = so })
 pair_refused view pair.SameEpoch (Err refusal) so = (λ same. cc, record { refusal = refusal; is = refl; told = so })
@@ -55,7 +55,7 @@ pair_refused view (pair.NewerFormat version) (Err refusal) so = (λ same. cc, re
 pair_refused view e (Ok y) so = absurd so
 
 -- `NoMemory` from a call that takes memory does not depend on the reading, and any other result is the reading
-pub pair_given : {X Y : Type 0} (view : X → Y) (e : PairError) (reading : Result Y PairRefusal) → (e ≢ pair.NoMemory → Reads view (Err e) reading)
+pub pair_given : {X Y : Type 0} (view : X → Y) (e : PairError) (reading : Result Y PairRefusal) → (e ≢ pair.NoMemory → ReadsPair view (Err e) reading)
     → PairSo view (Err (error_of_pair e)) reading
 pair_given view pair.NoMemory reading so = tt
 pair_given view pair.NoHalf reading so = pair_refused view pair.NoHalf reading (so (λ same. cc))

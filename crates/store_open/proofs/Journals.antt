@@ -16,7 +16,7 @@ use Rattle.gate_journal.specs.declared.error.JournalError.TheVariants.{NoMemory,
 use Rattle.gate_journal.specs.declared.scanner.Progress.{Progress}
 use Rattle.gate_journal.specs.Commands.{command_format}
 use Rattle.gate_journal.specs.ScannerView.{ScannerView}
-use Rattle.gate_journal.specs.Scanning.{first_wanted, count_wanted, IsReadUpTo, HasPiece, TakesPiece, MeansError, LeadsTo}
+use Rattle.gate_journal.specs.Scanning.{first_wanted, count_wanted, IsReadUpTo, HasPiece, TakesPiece, MeansError, PieceLeadsTo}
 use Rattle.store_open.specs.Refusals.{error_of_journal, ScansSo}
 use Rattle.store_open.proofs.FirstSectors.{part_in_front}
 
@@ -51,9 +51,9 @@ piece_there reads piece place start sectors first count first_there count_there 
 
 -- the state after a piece that was taken
 pub lead : (scanner : ScannerView) (piece : List ℕ) (result : Result Progress JournalError) (version : ℕ) (bytes : List ℕ) (start : ℕ) → TakesPiece scanner piece result → scanner.version ≡ version
-    → AreBytes bytes → IsReadUpTo scanner bytes start → HasPiece scanner bytes piece → LeadsTo result (limits_of version) bytes start
+    → AreBytes bytes → IsReadUpTo scanner bytes start → HasPiece scanner bytes piece → PieceLeadsTo result (limits_of version) bytes start
 lead scanner piece result version bytes start takes is each read has =
-    subst (λ (v : ℕ). LeadsTo result (limits_of v) bytes start) is (takes.leads bytes start each read has)
+    subst (λ (v : ℕ). PieceLeadsTo result (limits_of v) bytes start) is (takes.leads bytes start each read has)
 
 -- the error of a piece is the error of the scan
 pub scans_refused : (e : JournalError) (limits : Limits) (bytes : List ℕ) (start : ℕ) → AreBytes bytes → 1 ≤ whole_sectors bytes → MeansError e limits bytes start
@@ -69,7 +69,7 @@ pub taken : (start mid : Disk) (geometry : Geometry) (half : Half) (scanner : Sc
     → IsWhole start → mid.history ≡ start.history → TakesPiece scanner piece result → scanner.version ≡ version → scanner.sectors ≡ geometry.journal
     → IsReadUpTo scanner (journal_of geometry half (reads_of start)) place
     → sector ≡ journal_at geometry half → first ≡ first_wanted scanner → count ≡ count_wanted scanner → first + count ≤ scanner.sectors
-    → piece ≡ items → items ≡ part (512 * (sector + first)) (512 * count) (reads_of mid) → LeadsTo result (limits_of version) (journal_of geometry half (reads_of start)) place
+    → piece ≡ items → items ≡ part (512 * (sector + first)) (512 * count) (reads_of mid) → PieceLeadsTo result (limits_of version) (journal_of geometry half (reads_of start)) place
 taken start mid geometry half scanner piece items result version place sector first count whole same takes is sectors read sector_is first_is count_is inside piece_is items_are =
     lead scanner piece result version (journal_of geometry half (reads_of start)) place takes is
     (bytes-part (512 * journal_at geometry half) (512 * geometry.journal) (reads_of start) whole.bytes) read

@@ -9,7 +9,7 @@ pub mod Fronts
 pub mod Feeds
 pub mod Checkpoints
 pub mod TakingOver
-pub mod Pouring
+pub mod RowWrites
 pub mod Switching
 pub mod AtRest
 pub mod Steps

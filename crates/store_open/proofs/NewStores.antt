@@ -6,7 +6,7 @@ use Rattle.byte_lists.specs.Content.{AreBytes}
 use Rattle.byte_lists.specs.Sectors.{IsOpenGate, closed_gate}
 use Rattle.store_layout.specs.declared.half.Half.TheVariants.{First}
 use Rattle.store_layout.specs.Layout.{Geometry, area_of}
-use Rattle.store_layout.specs.Checkpoint.{head_encoding, first_checkpoint, IsCheckpoint, CanBeCheckpoint}
+use Rattle.store_layout.specs.Checkpoint.{checkpoint_head_encoding, first_checkpoint, IsCheckpoint, CanBeCheckpoint}
 use Rattle.store_layout.specs.StoreFormat.{StoreFormat}
 use Rattle.store_open.specs.NewStore.{first_head, IsNewStore, IsEmptyStore, IsFormattedInAny}
 use Rattle.ckpt_pair.specs.Versions.{latest}
@@ -44,7 +44,7 @@ module _ {Db C : Type 0} (format : StoreFormat Db C) where
     spelled =
         ap (λ (bytes : List ℕ). take (32 + length bytes) (area_of geometry First image)) no_row_bytes
         ∙ sym (take-take 32 512 (area_of geometry First image) (omega arith)) ∙ ap (take 32) is.begins
-        ∙ sym (λ i. head_encoding first_head ++ (to_be_bytes w32 (length (no_row_bytes i)) ++ (to_be_bytes w32 (no_rows i) ++ no_row_bytes i)));
+        ∙ sym (λ i. checkpoint_head_encoding first_head ++ (to_be_bytes w32 (length (no_row_bytes i)) ++ (to_be_bytes w32 (no_rows i) ++ no_row_bytes i)));
   }
 
 pub formatted_in_any : (Db C : Type 0) → IsFormattedInAny Db C

@@ -25,9 +25,9 @@ use Rattle.ckpt_pair.specs.declared.error.PairError.{PairError}
 use Rattle.ckpt_pair.specs.declared.error.PairError.TheVariants as pair
 use Rattle.ckpt_pair.specs.declared.head.Head.{Head}
 use Rattle.ckpt_pair.specs.declared.head.Heads.{Heads}
-use Rattle.ckpt_pair.specs.Heads.{head_seen, head_at, tail_of}
+use Rattle.ckpt_pair.specs.Heads.{head_seen, head_at, half_with_tail}
 use Rattle.ckpt_pair.specs.Versions.{latest}
-use Rattle.ckpt_pair.specs.Refusals.{Reads}
+use Rattle.ckpt_pair.specs.Refusals.{ReadsPair}
 use Rattle.store_open.specs.declared.error.OpenError.{OpenError}
 use Rattle.store_open.specs.declared.error.OpenError.TheVariants.{NotAStore, Device, Pair, Journal, NoMemory}
 use Rattle.store_open.specs.Heads.{HasHeads}
@@ -35,7 +35,7 @@ use Rattle.store_open.specs.Open.{with_tail_seen, OpensSo, RefusesOpening}
 use Rattle.store_layout.specs.declared.geometry.Geometry.{Geometry}
 use Rattle.store_open.specs.declared.opening.Found.{Found}
 use Rattle.store_layout.specs.Geometry.{geometry_view}
-use Rattle.store_open.specs.NewStore.{HasRoomFor}
+use Rattle.store_open.specs.NewStore.{DeviceHasRoomFor}
 use Rattle.store_open.specs.PathStores.{store_format}
 use Rattle.store_open.specs.Refusals.{error_of_pair, faults_after, LooksFor, ScansSo, PairSo, OnOkOrNoMemory}
 use Rattle.sector_dev.specs.Disk.{Disk, IsHonest}
@@ -90,16 +90,16 @@ looks_then result old mid new keeps faults history looks = record {
 }
 
 -- a device keeps its number of sectors
-pub room_kept : (geometry : laws.Geometry) (old new : Disk) → new.sectors ≡ old.sectors → HasRoomFor geometry old → HasRoomFor geometry new
+pub room_kept : (geometry : laws.Geometry) (old new : Disk) → new.sectors ≡ old.sectors → DeviceHasRoomFor geometry old → DeviceHasRoomFor geometry new
 room_kept geometry old new same has = record { allowed = has.allowed; room = omega (arith, same, has.room) }
 
-pub room_found : (result : Result Found OpenError) (geometry : Geometry) (disk : Disk) → IfOk result (λ found. found.geometry ≡ geometry) → HasRoomFor (geometry_view geometry) disk
-    → IfOk result (λ found. HasRoomFor (geometry_view found.geometry) disk)
-room_found (Ok found) geometry disk same has = subst (λ (g : Geometry). HasRoomFor (geometry_view g) disk) (sym same) has
+pub room_found : (result : Result Found OpenError) (geometry : Geometry) (disk : Disk) → IfOk result (λ found. found.geometry ≡ geometry) → DeviceHasRoomFor (geometry_view geometry) disk
+    → IfOk result (λ found. DeviceHasRoomFor (geometry_view found.geometry) disk)
+room_found (Ok found) geometry disk same has = subst (λ (g : Geometry). DeviceHasRoomFor (geometry_view g) disk) (sym same) has
 room_found (Err e) geometry disk same has = tt
 
-pub room_before : (result : Result Found OpenError) (old mid : Disk) → mid.sectors ≡ old.sectors → IfOk result (λ found. HasRoomFor (geometry_view found.geometry) mid)
-    → IfOk result (λ found. HasRoomFor (geometry_view found.geometry) old)
+pub room_before : (result : Result Found OpenError) (old mid : Disk) → mid.sectors ≡ old.sectors → IfOk result (λ found. DeviceHasRoomFor (geometry_view found.geometry) mid)
+    → IfOk result (λ found. DeviceHasRoomFor (geometry_view found.geometry) old)
 room_before (Ok found) old mid same has = room_kept (geometry_view found.geometry) mid old (sym same) has
 room_before (Err e) old mid same has = tt
 
@@ -153,13 +153,13 @@ module _ (geometry : laws.Geometry) (half : Half) (checkpoint : Checkpoint (List
   abbrev alone : Opening (List RowView) Command
   alone = with_tail_seen geometry half checkpoint front None
 
-  by_half_refused : (e : PairError) (sealed opened : Bool) → Reads {X = Half} (λ h. h) (Err e) (tail_of half sealed opened) → RefusesOpening (error_of_pair e) (behind_journal sealed opened alone behind)
+  by_half_refused : (e : PairError) (sealed opened : Bool) → ReadsPair {X = Half} (λ h. h) (Err e) (half_with_tail half sealed opened) → RefusesOpening (error_of_pair e) (behind_journal sealed opened alone behind)
   by_half_refused e false opened so = absurd so
   by_half_refused e true false so = absurd so
   by_half_refused e true true so =
       subst (λ (p : PairError). RefusesOpening (error_of_pair p) (behind_journal true true alone behind)) (sym so) (record { refusal = BadPair SealedNewer; is = refl; told = refl })
 
-  pub tail_half_refused : (e : PairError) (sealed seen opened : Bool) → seen ≡ opened → Reads {X = Half} (λ h. h) (Err e) (tail_of half sealed seen)
+  pub tail_half_refused : (e : PairError) (sealed seen opened : Bool) → seen ≡ opened → ReadsPair {X = Half} (λ h. h) (Err e) (half_with_tail half sealed seen)
       → RefusesOpening (error_of_pair e) (behind_journal sealed opened alone behind)
   tail_half_refused e sealed seen opened same so =
       subst (λ (b : Bool). RefusesOpening (error_of_pair e) (behind_journal sealed b alone behind)) same (by_half_refused e sealed seen so)
@@ -169,14 +169,14 @@ module _ (geometry : laws.Geometry) (half : Half) (checkpoint : Checkpoint (List
   no_tail sealed opened unsealed = ap (λ (b : Bool). behind_journal b opened alone behind) unsealed
 
   -- after a seal the tail is in the other half, which is closed
-  by_half_there : (at : Half) (opened : Bool) → Reads (λ (h : Half). h) (Ok at) (tail_of half true opened) → (at ≡ other half) × (behind_journal true opened alone behind ≡ read_tail alone behind)
+  by_half_there : (at : Half) (opened : Bool) → ReadsPair (λ (h : Half). h) (Ok at) (half_with_tail half true opened) → (at ≡ other half) × (behind_journal true opened alone behind ≡ read_tail alone behind)
   by_half_there at true so = absurd so
   by_half_there at false so = (sym so, refl)
 
-  pub tail_there : (at : Half) (sealed seen opened : Bool) → seen ≡ opened → sealed ≡ true → Reads (λ (h : Half). h) (Ok at) (tail_of half sealed seen)
+  pub tail_there : (at : Half) (sealed seen opened : Bool) → seen ≡ opened → sealed ≡ true → ReadsPair (λ (h : Half). h) (Ok at) (half_with_tail half sealed seen)
       → (at ≡ other half) × (behind_journal sealed opened alone behind ≡ read_tail alone behind)
   tail_there at sealed seen opened same is so =
-      let there = by_half_there at seen (subst (λ (b : Bool). Reads (λ (h : Half). h) (Ok at) (tail_of half b seen)) is so) in
+      let there = by_half_there at seen (subst (λ (b : Bool). ReadsPair (λ (h : Half). h) (Ok at) (half_with_tail half b seen)) is so) in
       (there.0, (λ i. behind_journal (is i) (sym same i) alone behind) ∙ there.1)
 
   -- a tail that is sealed is refused
@@ -205,7 +205,7 @@ module _ (geometry : laws.Geometry) (half : Half) (checkpoint : Checkpoint (List
   scan_at at = journal_scan command_format (limits_of checkpoint.head.version) (journal_of geometry at reads) front.place
 
   abbrev StandsAt : Result Half PairError → Type 0
-  StandsAt answer = Reads {X = Half} (λ h. h) answer (tail_of half front.sealed (is_some (head_at (other half) heads)))
+  StandsAt answer = ReadsPair {X = Half} (λ h. h) answer (half_with_tail half front.sealed (is_some (head_at (other half) heads)))
 
   pub refused_by_half : (result : Result (Option Scan) OpenError) (e : PairError) → result ≡ Err (error_of_pair e) → StandsAt (Err e) → OpensSo sees result tail_reading
   refused_by_half result e is so =

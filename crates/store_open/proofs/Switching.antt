@@ -8,7 +8,7 @@ use Rattle.store_layout.specs.declared.half.Half.{Half}
 use Rattle.store_layout.specs.Layout.{Geometry, other, area_at, gate_at, area_of, gate_of, journal_of, Area, Journal, InHalf, image_sectors}
 use Rattle.store_layout.specs.StoreFormat.{StoreFormat}
 use Rattle.store_layout.specs.Checkpoint.{Checkpoint, CanBeCheckpoint, IsCheckpoint, checkpoint_encoding}
-use Rattle.store_layout.specs.Opening.{Opening, IsOpening, value_of, OpensTo}
+use Rattle.store_layout.specs.Opening.{Opening, IsOpening, opening_value, OpensTo}
 use Rattle.store_layout.specs.TakeOver.{FoldsJournal, taken_over, empty_journal}
 use Rattle.store_layout.specs.Switch.{IsLaid}
 use Rattle.store_layout.proofs.Exports.{half_inside, area_long, writes_leave_others, part_written, written_there, closed_area_may_change, switches_by_the_gate_at_rest, gate_beside, other_twice, halves_differ}
@@ -90,7 +90,7 @@ module _ {Db C : Type 0} (format : StoreFormat Db C) (latest : ℕ) (image : Lis
   Switches gate =
       (IsOpenGate gate → IsOpening format latest (overwrite (512 * gate_at opening.geometry (other opening.chosen)) gate one) fresh)
       × (¬ IsOpenGate gate → IsOpening format latest (overwrite (512 * gate_at opening.geometry (other opening.chosen)) gate one) opening)
-      × (value_of format fresh ≡ value_of format opening)
+      × (opening_value format fresh ≡ opening_value format opening)
 
   switching : (gate : List ℕ) → length gate ≡ 512 → Switches gate
   switching gate long = switches_by_the_gate_at_rest Db C format latest one opening next gate one_opens may.none one_laid one_closed long
@@ -98,7 +98,7 @@ module _ {Db C : Type 0} (format : StoreFormat Db C) (latest : ℕ) (image : Lis
   open_long : length open_gate ≡ 512
   open_long = refl
 
-  pub same_value : value_of format fresh ≡ value_of format opening
+  pub same_value : opening_value format fresh ≡ opening_value format opening
   same_value = (switching open_gate open_long).2
 
   two_opens : IsOpening format latest two fresh
@@ -134,7 +134,7 @@ module _ {Db C : Type 0} (format : StoreFormat Db C) (latest : ℕ) (image : Lis
 
   -- an image opens to the same value, by a half of this version or a later one
   pub record OpensAfter (content : List ℕ) : Type 0 where
-    pub opens : OpensTo format latest content (value_of format opening)
+    pub opens : OpensTo format latest content (opening_value format opening)
     pub since : opening.checkpoint.head.version ≤ opens.opening.checkpoint.head.version
 
   by_old : (content : List ℕ) → IsOpening format latest content opening → OpensAfter content

@@ -13,7 +13,7 @@ use Rattle.sector_dev.proofs.Stretches.{honest_after}
 use Rattle.store_layout.specs.declared.half.Half.TheVariants.{First, Second}
 use Rattle.store_layout.specs.Layout.{Geometry, IsGeometry, image_sectors, area_at, gate_at, journal_at}
 use Rattle.store_layout.specs.FirstSector.{first_sector}
-use Rattle.store_open.specs.NewStore.{first_checkpoint_bytes, IsNewStore, IsEmptyStore, HoldsNewStore, HasRoomFor}
+use Rattle.store_open.specs.NewStore.{first_checkpoint_bytes, IsNewStore, IsEmptyStore, HoldsNewStore, DeviceHasRoomFor}
 use Rattle.store_open.proofs.NewStores.{empty_store}
 
 -- a sector is written: it has these bytes, and the sectors before it are unchanged
@@ -117,7 +117,7 @@ synced_store E u geometry old new call honest is =
     let there : IsEmptyStore geometry (reads_of new) = subst (IsEmptyStore geometry) (sym reads) (empty_store geometry (reads_of old) is) in
     record { every = λ content image. subst (IsEmptyStore geometry) (sym (image_is_reads new.history.now content clean image)) there; reads = there }
 
-module _ {T E : Type 0} (geometry : Geometry) (d0 : Disk) (has : HasRoomFor geometry d0) (whole : IsHonest d0 → IsWhole d0)
+module _ {T E : Type 0} (geometry : Geometry) (d0 : Disk) (has : DeviceHasRoomFor geometry d0) (whole : IsHonest d0 → IsWhole d0)
     (s2 s3 s4 s5 s6 : ℕ) (b1 b2 b3 b4 b5 b6 : List ℕ)
     (at2 : s2 ≡ area_at geometry First) (at3 : s3 ≡ gate_at geometry First) (at4 : s4 ≡ journal_at geometry First) (at5 : s5 ≡ gate_at geometry Second) (at6 : s6 ≡ journal_at geometry Second)
     (is1 : b1 ≡ first_sector geometry) (is2 : b2 ≡ padded first_checkpoint_bytes) (is3 : b3 ≡ open_gate) (is4 : b4 ≡ closed_gate) (is5 : b5 ≡ closed_gate) (is6 : b6 ≡ closed_gate) where

@@ -4,9 +4,9 @@ use Rattle.store_open.specs.declared.error.OpenError.{OpenError}
 use Rattle.store_open.specs.declared.error.OpenError.TheVariants.{NotAStore, Device, Pair, Journal, NoMemory}
 
 -- each error's number
-abbrev pub number_of : OpenError → ℕ
-number_of NotAStore = 1
-number_of Device = 2
-number_of (Pair e) = 3
-number_of (Journal e) = 4
-number_of NoMemory = 5
+abbrev pub open_error_number : OpenError → ℕ
+open_error_number NotAStore = 1
+open_error_number Device = 2
+open_error_number (Pair e) = 3
+open_error_number (Journal e) = 4
+open_error_number NoMemory = 5

@@ -9,7 +9,7 @@ use Rattle.ckpt_pair.specs.Versions.{latest}
 use Rattle.store_open.specs.declared.folded.Folded.{Folded}
 use Rattle.store_layout.specs.Geometry.{geometry_view}
 use Rattle.store_open.specs.PathStores.{store_format}
-use Rattle.store_open.specs.Store.{StoreView, Tells}
+use Rattle.store_open.specs.Store.{StoreView, HasOpening}
 
 -- the store that it is on a device
 abbrev pub store_on : Disk → Folded → StoreView
@@ -28,7 +28,7 @@ store_on disk folded = record {
 
 -- on any device it has what an image opens with
 abbrev pub TellsOnAny : Folded → Opening (List RowView) Command → Type 0
-TellsOnAny folded opening = (disk : Disk) → Tells (store_on disk folded) opening
+TellsOnAny folded opening = (disk : Disk) → HasOpening (store_on disk folded) opening
 
 -- it was seen on a device: it has what reads of the device open with
 pub record IsSeenOn (disk : Disk) (folded : Folded) : Type 0 where

@@ -11,7 +11,7 @@ pub mod Store
 pub mod StoreShape
 pub mod Allowing
 pub mod TakingOver
-pub mod Pouring
+pub mod RowWrites
 pub mod Open
 pub mod Folded
 pub mod ErrorNumbers

@@ -8,7 +8,7 @@ use Rattle.sector_dev.specs.Calls.{one_more}
 use Rattle.store_layout.specs.declared.half.Half.TheVariants.{First, Second}
 use Rattle.store_layout.specs.Layout.{Geometry, IsGeometry, image_sectors, area_of, gate_of, journal_of}
 use Rattle.store_layout.specs.FirstSector.{IsStore, first_sector}
-use Rattle.store_layout.specs.Checkpoint.{Head, head_encoding}
+use Rattle.store_layout.specs.Checkpoint.{Head, checkpoint_head_encoding}
 use Rattle.store_layout.specs.StoreFormat.{StoreFormat}
 use Rattle.store_layout.specs.TakeOver.{IsFormatted}
 use Rattle.ckpt_pair.specs.Versions.{latest}
@@ -22,7 +22,7 @@ first_head = record { version = latest; epoch = 1; place = 0 }
 
 -- its checkpoint: that head, and no bytes of no rows
 abbrev pub first_checkpoint_bytes : List ℕ
-first_checkpoint_bytes = head_encoding first_head ++ (to_be_bytes w32 0 ++ to_be_bytes w32 0)
+first_checkpoint_bytes = checkpoint_head_encoding first_head ++ (to_be_bytes w32 0 ++ to_be_bytes w32 0)
 
 -- A new store: the first half is open, without rows, and its journal's first gate is closed; both gates of the second half are closed.
 -- Each of these sectors is as it was written, with zeros after the bytes that count.
@@ -51,14 +51,14 @@ pub record HoldsNewStore (geometry : Geometry) (disk : Disk) : Type 0 where
   pub reads : IsEmptyStore geometry (reads_of disk)
 
 -- these sizes are allowed, and the device has room for a store of them
-pub record HasRoomFor (geometry : Geometry) (disk : Disk) : Type 0 where
+pub record DeviceHasRoomFor (geometry : Geometry) (disk : Disk) : Type 0 where
   pub allowed : IsGeometry geometry
   pub room : image_sectors geometry ≤ disk.sectors
 
 -- The result of making a store: the store is there; or the sizes aren't allowed, or they are and the device is too small, and nothing
 -- was done; or the device failed.
 abbrev pub Formats : Geometry → Result (Unit {0}) FormatError → Disk → Disk → Type 0
-Formats geometry (Ok done) old new = HasRoomFor geometry old × (new.faults ≡ old.faults) × (IsHonest old → HoldsNewStore geometry new)
+Formats geometry (Ok done) old new = DeviceHasRoomFor geometry old × (new.faults ≡ old.faults) × (IsHonest old → HoldsNewStore geometry new)
 Formats geometry (Err BadGeometry) old new = (¬ IsGeometry geometry) × (new ≡ old)
 Formats geometry (Err TooSmall) old new = IsGeometry geometry × (old.sectors < image_sectors geometry) × (new ≡ old)
-Formats geometry (Err Fault) old new = HasRoomFor geometry old × (new.faults ≡ one_more old.faults)
+Formats geometry (Err Fault) old new = DeviceHasRoomFor geometry old × (new.faults ≡ one_more old.faults)

@@ -56,17 +56,17 @@ open_error_of (BadPair refusal) = Pair (error_of refusal)
 open_error_of (BadJournal refusal) = Journal (journal_error_of refusal)
 
 -- the reading is a refusal, of which this is the error
-pub record IsRefusedFor {Y : Type 0} (e : OpenError) (reading : Result Y OpenRefusal) : Type 0 where
+pub record IsErrorOfReading {Y : Type 0} (e : OpenError) (reading : Result Y OpenRefusal) : Type 0 where
   pub refusal : OpenRefusal
   pub is : reading ≡ Err refusal
   pub told : e ≡ open_error_of refusal
 
 -- an error of the image is the refusal of its reading; an error of the device or of memory does not depend on the image
 abbrev pub RefusesOpening : {Y : Type 0} → OpenError → Result Y OpenRefusal → Type 0
-RefusesOpening NotAStore reading = IsRefusedFor NotAStore reading
+RefusesOpening NotAStore reading = IsErrorOfReading NotAStore reading
 RefusesOpening Device reading = Unit {0}
-RefusesOpening (Pair e) reading = IsRefusedFor (Pair e) reading
-RefusesOpening (Journal e) reading = IsRefusedFor (Journal e) reading
+RefusesOpening (Pair e) reading = IsErrorOfReading (Pair e) reading
+RefusesOpening (Journal e) reading = IsErrorOfReading (Journal e) reading
 RefusesOpening NoMemory reading = Unit {0}
 
 -- An image has this reading, or this refusal, unless the device failed or memory was refused.

@@ -8,7 +8,7 @@ use Rattle.sector_dev.specs.Calls.{one_more}
 use Rattle.store_layout.specs.declared.half.Half.{Half}
 use Rattle.store_layout.specs.Layout.{Geometry, other}
 use Rattle.store_layout.specs.Checkpoint.{Head}
-use Rattle.store_layout.specs.Opening.{Opening, IsOpening, db_at_seal, value_of}
+use Rattle.store_layout.specs.Opening.{Opening, IsOpening, db_at_seal, opening_value}
 use Rattle.store_layout.specs.StoreGrowth.{last_reading}
 use Rattle.ckpt_pair.specs.Versions.{latest}
 use Rattle.store_open.specs.Closing.{HasClosedGates}
@@ -41,20 +41,20 @@ abbrev pub counted_len : List RowView → ℕ
 counted_len rows = min (rows_len rows) (2 ^ 64 - 1)
 
 -- the store has what an image opens with
-pub record Tells (view : StoreView) (opening : Opening (List RowView) Command) : Type 0 where
+pub record HasOpening (view : StoreView) (opening : Opening (List RowView) Command) : Type 0 where
   pub geometry : opening.geometry ≡ view.geometry
   pub chosen : opening.chosen ≡ view.chosen
   pub head : opening.checkpoint.head ≡ view.head
   pub sealed : opening.journal.sealed ≡ view.sealed
   pub gate : (last_reading opening).tail ≡ view.gate
-  pub value : value_of store_format opening ≡ record { db = view.rows; place = view.place }
+  pub value : opening_value store_format opening ≡ record { db = view.rows; place = view.place }
   pub sealed_len : counted_len (db_at_seal store_format opening) ≡ view.sealed_len
 
 -- At rest nothing is dirty, each image that a stop may leave opens with what the store has, and the half that isn't used is closed,
 -- and so is its journal's first gate.
 pub record IsAtRest (view : StoreView) : Type 0 where
   pub opening : Opening (List RowView) Command
-  pub tells : Tells view opening
+  pub tells : HasOpening view opening
   pub settled : view.disk.history.now.dirty ≡ []
   pub every : EveryImage view.disk.history.now (λ image. IsOpening store_format latest image opening)
   pub unused : view.sealed ≡ false → EveryImage view.disk.history.now (HasClosedGates view.geometry (other view.chosen))

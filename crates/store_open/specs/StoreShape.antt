@@ -3,11 +3,11 @@ use Rattle.std.specs.Prelude.{◌≡◌, ℕ, ◌+◌, ◌≤◌, true, false}
 use Rattle.path_rows.specs.Database.{IsDatabase}
 use Rattle.sector_dev.specs.Disk.{IsHonest}
 use Rattle.ckpt_pair.specs.Versions.{latest}
-use Rattle.store_open.specs.NewStore.{HasRoomFor}
+use Rattle.store_open.specs.NewStore.{DeviceHasRoomFor}
 use Rattle.store_open.specs.Store.{StoreView, IsSound}
 
 -- the last gate and a seal after it are inside their journal, and the version is known
-pub record IsWithin (journal last version : ℕ) : Type 0 where
+pub record IsSealWithin (journal last version : ℕ) : Type 0 where
   pub seal : last + 2 ≤ journal
   pub known : version ≤ latest
 
@@ -15,7 +15,7 @@ pub record IsWithin (journal last version : ℕ) : Type 0 where
 -- sealed where a checkpoint has failed, and an honest device has its contents
 pub record IsStoreWhole (view : StoreView) : Type 0 where
   pub rows : IsDatabase view.rows
-  pub room : HasRoomFor view.geometry view.disk
-  pub within : IsWithin view.geometry.journal view.gate view.head.version
+  pub room : DeviceHasRoomFor view.geometry view.disk
+  pub within : IsSealWithin view.geometry.journal view.gate view.head.version
   pub unsealed : view.broken ≡ true → view.sealed ≡ false
   pub sound : IsHonest view.disk → IsSound view

@@ -8,7 +8,7 @@ ghost use Rattle.sector_dev.specs.Stretch.{Stretch};
 ghost use Rattle.store_layout.specs.Layout.{IsGeometry, image_sectors, other};
 ghost use Rattle.store_layout.specs.Geometry.{geometry_view};
 ghost use Rattle.store_open.specs.Looking.{LooksAt};
-ghost use Rattle.store_open.specs.NewStore.{HasRoomFor};
+ghost use Rattle.store_open.specs.NewStore.{DeviceHasRoomFor};
 ghost use Rattle.store_open.specs.Closing.{IsClosing, IsClosingUnused, HasClosedGates, HasNoGateToClose, synced_by};
 
 use crate::reading::read_sector;
@@ -58,7 +58,7 @@ pub(crate) fn close_unused<D: Device>(
     chosen: Half,
     sealed: bool,
 ) -> Result<(), DevError>
-    requires room { HasRoomFor (geometry_view geometry) (D.disk device.old) }
+    requires room { DeviceHasRoomFor (geometry_view geometry) (D.disk device.old) }
     requires clean { IsHonest (D.disk device.old) → (D.disk device.old).history.now.dirty ≡ [] }
     ensures any_moment { Stretch (D.disk device.old) (D.disk device.new)
         (IsClosingUnused sealed (geometry_view geometry) (other chosen) (reads_of (D.disk device.old))) }

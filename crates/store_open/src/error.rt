@@ -31,11 +31,11 @@ pub enum OpenError {
 }
 
 impl OpenError {
-    ghost use Rattle.store_open.specs.ErrorNumbers.{number_of};
+    ghost use Rattle.store_open.specs.ErrorNumbers.{open_error_number};
 
     /// The number of the error.
     pub fn number(self) -> u8
-        ensures { result ≡ number_of self }
+        ensures { result ≡ open_error_number self }
     {
         match self {
             OpenError::NotAStore => 1,

@@ -10,7 +10,7 @@ ghost use Rattle.sector_dev.specs.Calls.{Keeps, count_after};
 ghost use Rattle.store_layout.specs.FirstSector.{store_magic, layout_number, geometry_in};
 ghost use Rattle.store_layout.specs.Layout.{IsGeometry, image_sectors};
 ghost use Rattle.store_layout.specs.Geometry.{geometry_view};
-ghost use Rattle.store_open.specs.NewStore.{HasRoomFor};
+ghost use Rattle.store_open.specs.NewStore.{DeviceHasRoomFor};
 
 use crate::title::{CHECKPOINT_AT, JOURNAL_AT, LAYOUT, LAYOUT_AT, STORE_MAGIC};
 use byte_lists::{read_u32, read_u64};
@@ -23,7 +23,7 @@ pub fn read_geometry<D: Device>(device: &mut D) -> Result<Option<Geometry>, DevE
     ensures keeps { Keeps (D.disk device.old) (D.disk device.new) }
     ensures faults { (D.disk device.new).faults ≡ count_after result (D.disk device.old).faults }
     ensures history { IsHonest (D.disk device.old) → (D.disk device.new).history ≡ (D.disk device.old).history }
-    ensures room { IfOk result (λ found. IfSome found (λ geometry. HasRoomFor (geometry_view geometry) (D.disk device.new))) }
+    ensures room { IfOk result (λ found. IfSome found (λ geometry. DeviceHasRoomFor (geometry_view geometry) (D.disk device.new))) }
     ensures read { IfOk result (λ found. IsHonest (D.disk device.old) → option_map geometry_view found ≡ geometry_in (reads_of (D.disk device.old))) }
 {
     let sectors = device.sectors();

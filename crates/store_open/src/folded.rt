@@ -4,7 +4,7 @@ ghost use Rattle.std.specs.Prelude.{◌↔◌, IfOk, IsTrue};
 ghost use Rattle.path_rows.specs.Database.{IsDatabase};
 ghost use Rattle.store_open.specs.Folded.{TellsOnAny};
 ghost use Rattle.store_open.specs.Open.{opening_view};
-ghost use Rattle.store_open.specs.StoreShape.{IsWithin};
+ghost use Rattle.store_open.specs.StoreShape.{IsSealWithin};
 
 use crate::folding::fold;
 use crate::opening::Found;
@@ -30,7 +30,7 @@ pub struct Folded {
 impl Folded {
     /// Whether the last gate and a seal after it are inside their journal, and the version is one that is known.
     pub(crate) fn is_within(&self) -> bool
-        ensures { IsTrue result ↔ IsWithin self.now.geometry.journal self.now.gate self.now.head.version }
+        ensures { IsTrue result ↔ IsSealWithin self.now.geometry.journal self.now.gate self.now.head.version }
     {
         let journal = u64::from(self.geometry.journal);
         journal >= 2 && self.gate <= journal - 2 && self.head.version <= LATEST

@@ -10,7 +10,7 @@ ghost use Rattle.sector_dev.specs.Disk.{IsHonest, reads_of};
 ghost use Rattle.sector_dev.specs.Calls.{WriteCall, count_after};
 ghost use Rattle.sector_dev.specs.Stretch.{Stretch};
 ghost use Rattle.seg_core.specs.Encoding.{segment_encoding};
-ghost use Rattle.store_open.specs.Pouring.{IsPoured, record_if_any};
+ghost use Rattle.store_open.specs.RowWrites.{IsWrittenUpTo, record_if_any};
 ghost use Rattle.store_open.specs.TakingOver.{IsTornAt};
 ghost use Rattle.store_open.specs.declared.laying.TheConstants.{BUFFER, WRITE_BYTES};
 
@@ -57,14 +57,14 @@ pub(crate) fn lay<D: Device>(
     ensures faults { (D.disk device.new).faults ≡ count_after result (D.disk device.old).faults }
 {
     put(buffer, 0, head);
-    let (sector, used) = pour(device, at, db.rows(), buffer, BEFORE_ROWS)?;
+    let (sector, used) = write_rows(device, at, db.rows(), buffer, BEFORE_ROWS)?;
     write_rest(device, sector, buffer, used)?;
     device.sync()
 }
 
 /// Writes the used part of the buffer, and rows after it, in whole pieces. Returns the sector from which the rest has to be written,
 /// and how many bytes of the buffer the rest has.
-fn pour<D: Device>(
+fn write_rows<D: Device>(
     device: &mut D,
     at: u64,
     rows: Rows<'_>,
@@ -77,7 +77,7 @@ fn pour<D: Device>(
     requires clean { IsHonest (D.disk device.old) → (D.disk device.old).history.now.dirty ≡ [] }
     ensures any_moment { Stretch (D.disk device.old) (D.disk device.new)
         (IsTornAt (512 * at) (length (padded (take before buffer.old ++ rows_encoding rows.entry))) (reads_of (D.disk device.old))) }
-    ensures poured { IfOk result (λ rest. IsPoured (D.disk device.old) (D.disk device.new) at rest.0
+    ensures poured { IfOk result (λ rest. IsWrittenUpTo (D.disk device.old) (D.disk device.new) at rest.0
         (take rest.1 buffer.new) (take before buffer.old ++ rows_encoding rows.entry)) }
     ensures buffer { length buffer.new ≡ length buffer.old }
     ensures rest { IfOk result (λ rest. rest.1 < WRITE_BYTES) }

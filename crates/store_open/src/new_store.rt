@@ -7,7 +7,7 @@ ghost use Rattle.sector_dev.specs.Image.{IsFromImage};
 ghost use Rattle.sector_dev.specs.Stretch.{Stretch};
 ghost use Rattle.store_layout.specs.Layout.{IsGeometry, image_sectors};
 ghost use Rattle.store_layout.specs.Geometry.{geometry_view};
-ghost use Rattle.store_open.specs.NewStore.{Formats, HoldsNewStore, HasRoomFor};
+ghost use Rattle.store_open.specs.NewStore.{Formats, HoldsNewStore, DeviceHasRoomFor};
 ghost use Rattle.store_open.specs.Behind.{SameBehind};
 
 use crate::sectors::{first_checkpoint, first_sector};
@@ -54,7 +54,7 @@ pub fn format<D: Device>(device: &mut D, geometry: Geometry) -> Result<(), Forma
 
 /// Writes the sectors of a new store, and syncs.
 fn lay_out<D: Device>(device: &mut D, geometry: Geometry) -> Result<(), DevError>
-    requires { HasRoomFor (geometry_view geometry) (D.disk device.old) }
+    requires { DeviceHasRoomFor (geometry_view geometry) (D.disk device.old) }
     ensures keeps { Keeps (D.disk device.old) (D.disk device.new) }
     ensures faults { (D.disk device.new).faults ≡ count_after result (D.disk device.old).faults }
     ensures done { OnOk result (IsHonest (D.disk device.old) → HoldsNewStore (geometry_view geometry) (D.disk device.new)) }

@@ -8,7 +8,7 @@ ghost use Rattle.sector_dev.specs.Stretch.{Stretch};
 ghost use Rattle.store_open.specs.Closing.{synced_by};
 ghost use Rattle.store_open.specs.Folded.{store_on};
 ghost use Rattle.store_layout.specs.Geometry.{geometry_view};
-ghost use Rattle.store_open.specs.NewStore.{HasRoomFor};
+ghost use Rattle.store_open.specs.NewStore.{DeviceHasRoomFor};
 ghost use Rattle.store_open.specs.Open.{OpensAlike, IsOpened, ComesBack, HasNothingToClose, OnlySyncs, IsNoFault, disk_after};
 
 use crate::closing::close_unused;
@@ -65,7 +65,7 @@ fn settle<D: Device>(alloc: Global, device: &mut D) -> Result<Folded, OpenError>
     ensures opened { IfOk result (λ folded. IsHonest (D.disk device.old) →
         IsOpened (reads_of (D.disk device.old)) (store_on (D.disk device.new) folded)) }
     ensures faults { IfOk result (λ folded. (D.disk device.new).faults ≡ (D.disk device.old).faults) }
-    ensures room { IfOk result (λ folded. HasRoomFor (geometry_view folded.geometry) (D.disk device.new)) }
+    ensures room { IfOk result (λ folded. DeviceHasRoomFor (geometry_view folded.geometry) (D.disk device.new)) }
     ensures whole { IfOk result (λ folded. IsDatabase folded.db) }
     ensures refused { IfErr result (λ e. ComesBack e (D.disk device.old) (D.disk device.new)) }
     ensures unwritten { IsHonest (D.disk device.old) → HasNothingToClose (reads_of (D.disk device.old))
@@ -83,7 +83,7 @@ fn bring_to_rest<D: Device>(alloc: Global, device: &mut D) -> Result<Folded, Ope
     ensures opened { IfOk result (λ folded. IsHonest (D.disk device.old) →
         IsOpened (reads_of (D.disk device.old)) (store_on (D.disk device.new) folded)) }
     ensures faults { IfOk result (λ folded. (D.disk device.new).faults ≡ (D.disk device.old).faults) }
-    ensures room { IfOk result (λ folded. HasRoomFor (geometry_view folded.geometry) (D.disk device.new)) }
+    ensures room { IfOk result (λ folded. DeviceHasRoomFor (geometry_view folded.geometry) (D.disk device.new)) }
     ensures whole { IfOk result (λ folded. IsDatabase folded.db) }
     ensures refused { IfErr result (λ e. ComesBack e (D.disk device.old) (D.disk device.new)) }
     ensures unwritten { IsHonest (D.disk device.old) → HasNothingToClose (reads_of (D.disk device.old))

@@ -13,7 +13,7 @@ ghost use Rattle.std.specs.Option.{option_map, IfSome};
 ghost use Rattle.store_layout.specs.FirstSector.{geometry_in};
 ghost use Rattle.store_layout.specs.Geometry.{geometry_view};
 ghost use Rattle.store_open.specs.Heads.{choice_by_heads, HasHeads};
-ghost use Rattle.store_open.specs.NewStore.{HasRoomFor};
+ghost use Rattle.store_open.specs.NewStore.{DeviceHasRoomFor};
 ghost use Rattle.store_open.specs.Open.{opening_view, with_tail_seen, OpensSo, HasFront, WantsMemoryToOpen};
 ghost use Rattle.store_open.specs.PathStores.{store_format};
 ghost use Rattle.store_open.specs.Refusals.{LooksFor, OnOkOrNoMemory};
@@ -45,7 +45,7 @@ pub(crate) fn read_opening<D: Device>(alloc: Global, device: &mut D) -> Result<F
     ensures looks { LooksFor result (D.disk device.old) (D.disk device.new) }
     ensures opening { IsHonest (D.disk device.old) → OpensSo opening_view result (opening_of store_format latest (reads_of (D.disk device.old))) }
     ensures memory { IsHonest (D.disk device.old) → OnOkOrNoMemory result (WantsMemoryToOpen (reads_of (D.disk device.old))) }
-    ensures room { IfOk result (λ found. HasRoomFor (geometry_view found.geometry) (D.disk device.old)) }
+    ensures room { IfOk result (λ found. DeviceHasRoomFor (geometry_view found.geometry) (D.disk device.old)) }
     ensures whole { IfOk result (λ found. IsDatabase found.checkpoint.db) }
 {
     let found = read_geometry(device)?;
@@ -58,13 +58,13 @@ fn read_sized<D: Device>(
     device: &mut D,
     found: Option<Geometry>,
 ) -> Result<Found, OpenError>
-    requires room { IfSome found (λ geometry. HasRoomFor (geometry_view geometry) (D.disk device.old)) }
+    requires room { IfSome found (λ geometry. DeviceHasRoomFor (geometry_view geometry) (D.disk device.old)) }
     requires sizes { IsHonest (D.disk device.old) → option_map geometry_view found ≡ geometry_in (reads_of (D.disk device.old)) }
     ensures looks { LooksFor result (D.disk device.old) (D.disk device.new) }
     ensures opening { IsHonest (D.disk device.old) → OpensSo opening_view result
         (by_geometry store_format latest (reads_of (D.disk device.old)) (option_map geometry_view found)) }
     ensures memory { IsHonest (D.disk device.old) → OnOkOrNoMemory result (WantsMemoryToOpen (reads_of (D.disk device.old))) }
-    ensures room { IfOk result (λ found. HasRoomFor (geometry_view found.geometry) (D.disk device.old)) }
+    ensures room { IfOk result (λ found. DeviceHasRoomFor (geometry_view found.geometry) (D.disk device.old)) }
     ensures whole { IfOk result (λ found. IsDatabase found.checkpoint.db) }
 {
     match found {
@@ -79,7 +79,7 @@ fn read_store<D: Device>(
     device: &mut D,
     geometry: Geometry,
 ) -> Result<Found, OpenError>
-    requires { HasRoomFor (geometry_view geometry) (D.disk device.old) }
+    requires { DeviceHasRoomFor (geometry_view geometry) (D.disk device.old) }
     ensures looks { LooksFor result (D.disk device.old) (D.disk device.new) }
     ensures opening { IsHonest (D.disk device.old) → OpensSo opening_view result (by_choice store_format latest (geometry_view geometry)
         (reads_of (D.disk device.old)) (choice_by_heads (geometry_view geometry) (reads_of (D.disk device.old)))) }
@@ -100,7 +100,7 @@ fn read_journals<D: Device>(
     choice: Choice,
     checkpoint: Checkpoint,
 ) -> Result<Found, OpenError>
-    requires room { HasRoomFor (geometry_view geometry) (D.disk device.old) }
+    requires room { DeviceHasRoomFor (geometry_view geometry) (D.disk device.old) }
     requires heads { IsHonest (D.disk device.old) → HasHeads (geometry_view geometry) (reads_of (D.disk device.old)) choice.heads }
     requires whole { IsDatabase checkpoint.db }
     ensures looks { LooksFor result (D.disk device.old) (D.disk device.new) }
@@ -138,7 +138,7 @@ fn read_tail<D: Device>(
     checkpoint: &Checkpoint,
     journal: &Scan,
 ) -> Result<Option<Scan>, OpenError>
-    requires room { HasRoomFor (geometry_view geometry) (D.disk device.old) }
+    requires room { DeviceHasRoomFor (geometry_view geometry) (D.disk device.old) }
     requires heads { IsHonest (D.disk device.old) → HasHeads (geometry_view geometry) (reads_of (D.disk device.old)) choice.heads }
     ensures looks { LooksFor result (D.disk device.old) (D.disk device.new) }
     ensures opening { IsHonest (D.disk device.old) → OpensSo

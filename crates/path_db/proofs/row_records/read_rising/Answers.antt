@@ -4,7 +4,7 @@ use Rattle.seg_slots.specs.Message.{last_of}
 use Rattle.path_db.specs.declared.error.DbError.{DbError}
 use Rattle.path_rows.specs.Database.{RowView}
 use Rattle.path_rows.specs.Row.{row_view, row_views}
-use Rattle.path_db.specs.RowRecord.{row_decoding, rows_decoding, is_above}
+use Rattle.path_db.specs.RowRecord.{row_decoding, rows_decoding, is_row_above}
 use Rattle.path_db.proofs.Records.{whole_more}
 use Rattle.path_db.proofs.RowsRead.{rows_begun, row_next, row_refused, row_falls, rows_done}
 use Rattle.path_db.proofs.row_records.read_rising.Goals as goal
@@ -26,14 +26,14 @@ returns-in_err-kind-clause-decoding c =
 pub returns-then-not-is_above_last-clause-decoding : goal.returns-then-not-is_above_last-clause-decoding
 returns-then-not-is_above_last-clause-decoding c =
     let some : 0 < length c.loop-rest.rest.now = search rules in
-    let falls : is_above (last_of (row_views c.loop-rest.rows.items)) (c.in_ok-kind.kind, c.in_ok-kind.segment) ≡ false = search rules in
+    let falls : is_row_above (last_of (row_views c.loop-rest.rows.items)) (c.in_ok-kind.kind, c.in_ok-kind.segment) ≡ false = search rules in
     λ _. row_falls _ (row_views c.loop-rest.rows.items) (c.in_ok-kind.kind, c.in_ok-kind.segment) c.loop-rest.rest.now some c.in_ok-kind.ensures.decoding falls c.loop-rest.invariant.decoding
 
 pub loop-rest-preserved : goal.loop-rest-preserved
 loop-rest-preserved c =
     let some : 0 < length c.loop-rest.rest.now = search rules in
     let row : RowView = (c.in_ok-kind.kind, c.in_ok-kind.segment) in
-    let above : is_above (last_of (row_views c.loop-rest.rows.items)) row ≡ true = search rules in
+    let above : is_row_above (last_of (row_views c.loop-rest.rows.items)) row ≡ true = search rules in
     let pushed : row_views c.push.new.self.items ≡ row_views c.loop-rest.rows.items ++ row ∷ [] =
     ap row_views c.in_ok-push.ensures.items ∙ map-append row_view c.loop-rest.rows.items (c.new-row.result ∷ [])
     ∙ ap (λ (r : RowView). row_views c.loop-rest.rows.items ++ r ∷ []) c.new-row.ensures in

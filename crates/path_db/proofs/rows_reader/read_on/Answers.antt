@@ -5,7 +5,7 @@ use Rattle.byte_lists.specs.Content.{AreBytes}
 use Rattle.seg_slots.specs.Message.{last_of}
 use Rattle.path_rows.specs.Database.{RowView}
 use Rattle.path_rows.specs.Row.{row_view, row_views}
-use Rattle.path_db.specs.RowRecord.{has_row, row_size, is_above}
+use Rattle.path_db.specs.RowRecord.{has_row, row_size, is_row_above}
 use Rattle.path_db.proofs.Spelled.{bytes_drop, has_room}
 use Rattle.path_db.proofs.RowPieces.{database_more, encoded_more, refused_on, falls_on, left_more}
 use Rattle.path_db.proofs.rows_reader.read_on.Goals as goal
@@ -22,7 +22,7 @@ pub returns-then-not-is_above_last-clause-refused :
 returns-then-not-is_above_last-clause-refused c =
     let there : has_row c.loop-alloc.left.now ≡ true = search rules in
     let row : RowView = (c.in_ok-kind.kind, c.in_ok-kind.segment) in
-    let falls : is_above (last_of (row_views c.loop-alloc.rows.items)) row ≡ false = search rules in
+    let falls : is_row_above (last_of (row_views c.loop-alloc.rows.items)) row ≡ false = search rules in
     λ _. falls_on (row_views c.loop-alloc.rows.items) c.loop-alloc.left.now _ c.loop-alloc.invariant.database c.loop-alloc.invariant.same there row c.in_ok-kind.ensures.decoding falls
 
 pub loop-alloc-preserved : goal.loop-alloc-preserved
@@ -31,7 +31,7 @@ loop-alloc-preserved c =
     let left = c.loop-alloc.left.now in
     let row : RowView = (c.in_ok-kind.kind, c.in_ok-kind.segment) in
     let there : has_row left ≡ true = search rules in
-    let above : is_above (last_of rows) row ≡ true = search rules in
+    let above : is_row_above (last_of rows) row ≡ true = search rules in
     let each : AreBytes left = subst AreBytes (sym c.loop-alloc.invariant.behind) (bytes_drop _ c.args.bytes.now (λ i. omega (arith, c.type_inv.bytes i))) in
     let pushed : row_views c.push.new.self.items ≡ rows ++ row ∷ [] =
     ap row_views c.in_ok-push.ensures.items ∙ map-append row_view c.loop-alloc.rows.items (c.new-row.result ∷ [])

@@ -1,5 +1,5 @@
 use Rattle.std.proofs.Common.{rules, ◌≡◌, ◌<◌, true, [], ◌∷◌, length, subst, arith}
-use Rattle.isd_as.specs.IsdAs.{number_of}
+use Rattle.isd_as.specs.IsdAs.{isd_as_number}
 use Rattle.path_rows.specs.Answer.{is_shown, answer_of}
 use Rattle.path_rows.specs.Row.{row_view}
 use Rattle.path_rows.proofs.ShownLeft.{ShowsAll, shown_enough, shown_whole, some_left}
@@ -10,7 +10,7 @@ pub returns-clause-same : goal.returns-clause-same
 unfolding answer_of
 returns-clause-same c =
     let query = c.args.wanted in
-    let wanted = is_shown query.kind (number_of query.start) (number_of query.end) query.moment in
+    let wanted = is_shown query.kind (isd_as_number query.start) (isd_as_number query.end) query.moment in
     elim c.match-next.branch [
       | in-None w ↦
           let none : c.loop-row.row-iterator ≡ [] = search (rules, w.in-None) in
@@ -24,7 +24,7 @@ pub returns-in_err-try_clone-clause-memory : goal.returns-in_err-try_clone-claus
 unfolding answer_of
 returns-in_err-try_clone-clause-memory c =
     let query = c.args.wanted in
-    let wanted = is_shown query.kind (number_of query.start) (number_of query.end) query.moment in
+    let wanted = is_shown query.kind (isd_as_number query.start) (isd_as_number query.end) query.moment in
     let asked : length c.loop-row.found.items < c.args.limit = omega (arith, c.loop-row.invariant.few, c.if-len-limit.false, c.len.ensures, c.loop-row.found.ok.0) in
     let row = row_view c.in-Some.row.now in
     let passes : wanted row ≡ true = search (rules, c.if-is_shown) in
@@ -38,7 +38,7 @@ pub returns-in_err-push-clause-memory : goal.returns-in_err-push-clause-memory
 unfolding answer_of
 returns-in_err-push-clause-memory c =
     let query = c.args.wanted in
-    let wanted = is_shown query.kind (number_of query.start) (number_of query.end) query.moment in
+    let wanted = is_shown query.kind (isd_as_number query.start) (isd_as_number query.end) query.moment in
     let asked : length c.loop-row.found.items < c.args.limit = omega (arith, c.loop-row.invariant.few, c.if-len-limit.false, c.len.ensures, c.loop-row.found.ok.0) in
     let row = row_view c.in-Some.row.now in
     let passes : wanted row ≡ true = search (rules, c.if-is_shown) in

@@ -1,12 +1,12 @@
 use Rattle.std.proofs.Common.{rules, ◌≡◌, true, false, sym, ◌∙◌, arith}
-use Rattle.path_rows.specs.EndKeys.{end_of}
+use Rattle.path_rows.specs.EndKeys.{entry_at_end}
 use Rattle.path_rows.proofs.IndexKeys.{swept_standing, swept_away}
 use Rattle.path_rows.proofs.end_keys.sweep.Goals as goal
 use Rattle.path_rows.proofs.end_keys.sweep.Goals.{then-not-is_standing, else-not-is_standing}
 
 pub loop-index_key-preserved : goal.loop-index_key-preserved
 loop-index_key-preserved c =
-    let end = end_of c.args.end in
+    let end = entry_at_end c.args.end in
     let rows = c.args.rows.now in
     let now = c.loop-index_key.index in
     let index_keys = c.args.index_keys.now in

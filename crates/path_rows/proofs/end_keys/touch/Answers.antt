@@ -2,14 +2,14 @@ use Rattle.std.proofs.Common.{rules, ◌≡◌, true, Some, None, is_eq, sym, ap
 use Rattle.std.specs.Option.{option_map}
 use Rattle.end_index.specs.IndexKey.{is_same}
 use Rattle.path_rows.specs.Row.{row_view}
-use Rattle.path_rows.specs.EndKeys.{end_of}
+use Rattle.path_rows.specs.EndKeys.{entry_at_end}
 use Rattle.path_rows.proofs.IndexKeys.{seen_alone, seen_both, seen_same}
 use Rattle.path_rows.proofs.end_keys.touch.Goals as goal
 use Rattle.path_rows.proofs.end_keys.touch.Goals.{in-Some+else-is_eq+in_ok-push, in_default}
 
 pub returns-then-is_eq-clause-seen : goal.returns-then-is_eq-clause-seen
 returns-then-is_eq-clause-seen c =
-    let end = end_of c.args.end in
+    let end = entry_at_end c.args.end in
     let p = c.index_key_of-index_key.result in
     let other = c.index_key_of-other.result in
     let is : option_map row_view c.args.stood.now ≡ Some (row_view c.in-Some.row) = search (rules, c.in-Some) in
@@ -19,7 +19,7 @@ returns-then-is_eq-clause-seen c =
 
 pub returns-clause-seen : goal.returns-clause-seen
 returns-clause-seen c =
-    let end = end_of c.args.end in
+    let end = entry_at_end c.args.end in
     let p = c.index_key_of-index_key.result in
     let new = row_view c.args.new.now in
     let index_keys = c.args.index_keys.now.items in

@@ -2,13 +2,13 @@ use Rattle.std.proofs.Common.{[], ◌∷◌, map, take, ap, ◌∙◌, arith}
 use Rattle.std.proofs.lemmas.List.{map-append}
 use Rattle.path_rows.specs.Row.{row_view, row_views}
 use Rattle.path_rows.specs.Saved.{saved_view}
-use Rattle.path_rows.specs.EndKeys.{end_of}
+use Rattle.path_rows.specs.EndKeys.{entry_at_end}
 use Rattle.path_rows.proofs.IndexKeys.{taken_more, views_more, seen_still, seen_push}
 use Rattle.path_rows.proofs.end_keys.touched_keys.Goals as goal
 
 pub loop-k-preserved : goal.loop-k-preserved
 loop-k-preserved c =
-    let end = end_of c.args.end in
+    let end = entry_at_end c.args.end in
     let i = c.loop-k.k in
     let all = c.args.saved.now in
     let old = c.index-saved-k.result in

@@ -1,7 +1,7 @@
 use Rattle.std.proofs.Common.{true, ◌+◌, List, sym, ◌∙◌, subst}
 use Rattle.path_rows.specs.Row.{row_view}
 use Rattle.row_edits.specs.declared.edit.Edit.{Edit}
-use Rattle.row_edits.specs.Planning.{IsBefore, IsFound}
+use Rattle.row_edits.specs.Planning.{IsBeforeRowEdit, IsAfterKeyPuts}
 use Rattle.row_edits.proofs.Plans.{put_below, put_same, none_same, none_left, is_greater, is_equal, is_less}
 use Rattle.row_edits.proofs.putting.put_up_to.Goals as goal
 
@@ -13,14 +13,14 @@ returns-then-eq c = λ p seen kept olds before.
 
 pub returns-then-eq-2 : goal.returns-then-eq-2
 returns-then-eq-2 c = λ p seen kept olds before.
-    subst (λ (l : List Edit). IsFound true (row_view c.args.row.now) c.args.keys.now p seen (c.loop-at.at + 1) l kept olds) (sym c.in_ok-push.ensures.items)
+    subst (λ (l : List Edit). IsAfterKeyPuts true (row_view c.args.row.now) c.args.keys.now p seen (c.loop-at.at + 1) l kept olds) (sym c.in_ok-push.ensures.items)
     (put_same c.args.keys.now c.loop-at.at _ c.loop-at-test.true (row_view c.args.row.now) p seen c.loop-at.edits.items kept olds
     (c.loop-at.invariant p seen kept olds before)
     (sym c.order_to-order.ensures ∙ (is_equal c.order_to-order.result c.if-eq-2.ensures)))
 
 pub loop-at-preserved : goal.loop-at-preserved
 loop-at-preserved c = λ p seen kept olds before.
-    subst (λ (l : List Edit). IsBefore (row_view c.args.row.now) c.args.keys.now p seen (c.loop-at.at + 1) l kept olds) (sym c.in_ok-push.ensures.items)
+    subst (λ (l : List Edit). IsBeforeRowEdit (row_view c.args.row.now) c.args.keys.now p seen (c.loop-at.at + 1) l kept olds) (sym c.in_ok-push.ensures.items)
     (put_below c.args.keys.now c.loop-at.at _ c.loop-at-test.true (row_view c.args.row.now) p seen c.loop-at.edits.items kept olds
     (c.loop-at.invariant p seen kept olds before)
     (sym c.order_to-order.ensures ∙ (is_less c.order_to-order.result c.if-eq.ensures c.if-eq-2.ensures)))

@@ -2,7 +2,7 @@ use Rattle.std.proofs.Common.{◌≡◌, Bool, ◌||◌, List, [], ◌∷◌, ma
 use Rattle.std.specs.List.{list_any}
 use Rattle.std.proofs.lemmas.Iterator.{YieldsList-from_slice}
 use Rattle.std.proofs.lemmas.Iterator.Search.{any_from_yields_List}
-use Rattle.isd_as.specs.IsdAs.{number_of}
+use Rattle.isd_as.specs.IsdAs.{isd_as_number}
 use Rattle.seg_core.specs.declared.entry.Entry.{Entry}
 use Rattle.seg_core.specs.EntryView.{entry_view}
 use Rattle.seg_core.proofs.path.stands_in.Goals as goal
@@ -14,5 +14,5 @@ list_any-map p f (x ∷ xs) = ap (λ b. p (f x) || b) (list_any-map p f xs)
 
 pub returns : goal.returns
 returns c =
-    let by_call = any_from_yields_List (λ (e : Entry). eqb (number_of e.ia) (number_of c.args.ia)) _ _ c.any.result c.any.ensures.ran (YieldsList-from_slice c.args.entries.now (cc)) (λ x b q k. search (rules, tests)) in
-    by_call ∙ sym (list_any-map (λ f. eqb f.ia (number_of c.args.ia)) entry_view c.args.entries.now)
+    let by_call = any_from_yields_List (λ (e : Entry). eqb (isd_as_number e.ia) (isd_as_number c.args.ia)) _ _ c.any.result c.any.ensures.ran (YieldsList-from_slice c.args.entries.now (cc)) (λ x b q k. search (rules, tests)) in
+    by_call ∙ sym (list_any-map (λ f. eqb f.ia (isd_as_number c.args.ia)) entry_view c.args.entries.now)

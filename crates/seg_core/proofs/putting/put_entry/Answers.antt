@@ -3,7 +3,7 @@ use Rattle.std.proofs.lemmas.Result.{IfOk-weaker}
 use Rattle.pw_wire.specs.Field.{bytes_field_encoding}
 use Rattle.seg_core.specs.declared.pieces.Spans.{Spans}
 use Rattle.seg_core.specs.EntryView.{borrowed_view}
-use Rattle.seg_core.specs.Encoding.{head_encoding, pieces_encoding, as_entry_encoding}
+use Rattle.seg_core.specs.Encoding.{field_head_encoding, pieces_encoding, as_entry_encoding}
 use Rattle.seg_core.proofs.Sizes.{bytes_field-within}
 use Rattle.seg_core.proofs.EncodedLengths.{entry-parts}
 use Rattle.seg_core.proofs.Written.{entry-put, entry-lengths}
@@ -25,9 +25,9 @@ put_pieces-requires c =
       arith,
       entry-lengths (borrowed_view c.args.entry.now) len signed c.entry_len.ensures c.signed_len-signed.ensures,
       ap length c.in_ok-put_head.ensures,
-      length-append c.args.out.now.items (head_encoding 2 len),
+      length-append c.args.out.now.items (field_head_encoding 2 len),
       ap length c.in_ok-put_head-2.ensures,
-      length-append c.put_head.new.out.items (head_encoding 1 signed),
+      length-append c.put_head.new.out.items (field_head_encoding 1 signed),
     )
 
 pub returns-clause-put : goal.returns-clause-put

@@ -2,14 +2,14 @@ use Rattle.std.proofs.Common.{◌≡◌, ◌++◌, length, ap, refl, arith, leng
 use Rattle.std.proofs.lemmas.Result.{IfOk-weaker}
 use Rattle.pw_wire.specs.Field.{bytes_field_encoding}
 use Rattle.seg_core.specs.declared.pieces.Span.{Span}
-use Rattle.seg_core.specs.Encoding.{head_encoding}
+use Rattle.seg_core.specs.Encoding.{field_head_encoding}
 use Rattle.seg_core.proofs.Written.{field-put, head-length}
 use Rattle.seg_core.proofs.putting.put_field.Goals as goal
 
 pub put_piece-requires : goal.put_piece-requires
 put_piece-requires c =
     let bytes = c.args.bytes.now in
-    omega (arith, head-length c.args.number (length bytes) bytes refl, ap length c.in_ok-put_head.ensures, length-append c.args.out.now.items (head_encoding c.args.number (length bytes)))
+    omega (arith, head-length c.args.number (length bytes) bytes refl, ap length c.in_ok-put_head.ensures, length-append c.args.out.now.items (field_head_encoding c.args.number (length bytes)))
 
 pub returns-clause-put : goal.returns-clause-put
 returns-clause-put c =

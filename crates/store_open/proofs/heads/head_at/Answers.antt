@@ -7,7 +7,7 @@ use Rattle.store_layout.specs.OpeningReading.{head_of}
 use Rattle.ckpt_pair.specs.declared.head.Head.{Head}
 use Rattle.ckpt_pair.specs.Heads.{head_seen}
 use Rattle.ckpt_pair.specs.Versions.{latest}
-use Rattle.ckpt_pair.specs.Refusals.{Reads}
+use Rattle.ckpt_pair.specs.Refusals.{ReadsPair}
 use Rattle.store_layout.specs.Geometry.{geometry_view}
 use Rattle.store_open.specs.declared.error.OpenError.{OpenError}
 use Rattle.store_open.specs.Refusals.{error_of_pair, PairSo}
@@ -25,7 +25,7 @@ returns-in_err-read_head-clause-head g c honest =
     (c.in_ok-area.ensures.read (honest_after _ _ c.in_ok-gate.ensures.looks.keeps honest)) in
     subst (λ (r : Result (Option Head) OpenError). PairSo head_seen r (head_of latest (geometry_view c.args.geometry) c.args.half reads)) (sym so)
     (pair_refused head_seen e (head_of latest (geometry_view c.args.geometry) c.args.half reads)
-    (subst (Reads head_seen (Err e)) same c.in_err-read_head.ensures))
+    (subst (ReadsPair head_seen (Err e)) same c.in_err-read_head.ensures))
 
 pub returns-clause-head : goal.returns-clause-head
 returns-clause-head g c honest =

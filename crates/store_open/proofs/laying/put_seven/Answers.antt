@@ -3,7 +3,7 @@ use Rattle.std.proofs.Common.{◌∙◌}
 use Rattle.std.proofs.lemmas.List.Concat.{flat_map-cons}
 use Rattle.path_rows.specs.Row.{row_view}
 use Rattle.path_db.specs.RowRecord.{row_record}
-use Rattle.store_open.proofs.Pouring.{put_next}
+use Rattle.store_open.proofs.RowWrites.{put_next}
 use Rattle.store_open.proofs.laying.put_seven.Goals as goal
 
 pub returns-clause-put : goal.returns-clause-put

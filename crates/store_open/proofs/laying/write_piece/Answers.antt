@@ -1,7 +1,7 @@
 -- The front of the buffer is one piece, and the bytes after it are moved to the front.
 use Rattle.std.proofs.Common.{sym, arith}
 use Rattle.std.proofs.lemmas.List.{length-take-le}
-use Rattle.store_open.proofs.Pouring.{moved_behind}
+use Rattle.store_open.proofs.RowWrites.{moved_behind}
 use Rattle.store_open.proofs.laying.write_piece.Goals as goal
 
 pub slice_bounds-write-end-2 : goal.slice_bounds-write-end-2

@@ -7,7 +7,7 @@ use Rattle.sector_dev.proofs.Stretches.{honest_before, honest_after}
 use Rattle.store_layout.specs.Layout as laws
 use Rattle.store_open.specs.Closing.{synced_by}
 use Rattle.store_layout.specs.Geometry.{geometry_view}
-use Rattle.store_open.specs.NewStore.{HasRoomFor}
+use Rattle.store_open.specs.NewStore.{DeviceHasRoomFor}
 use Rattle.store_open.specs.Open.{opening_view, OpensAlike}
 use Rattle.store_open.specs.declared.folded.Folded.{Folded}
 use Rattle.store_open.specs.declared.error.OpenError.{OpenError}
@@ -42,7 +42,7 @@ returns-in_err-folded-clause-any_moment g c =
 
 pub close_unused-requires-clause-room : goal.close_unused-requires-clause-room
 close_unused-requires-clause-room g c =
-    subst (λ (x : laws.Geometry). HasRoomFor x (g.D.Device.disk c.read_opening.new.device)) (c.in_ok-folded.ensures.tells (g.D.Device.disk c.read_opening.new.device)).geometry
+    subst (λ (x : laws.Geometry). DeviceHasRoomFor x (g.D.Device.disk c.read_opening.new.device)) (c.in_ok-folded.ensures.tells (g.D.Device.disk c.read_opening.new.device)).geometry
     (room_kept (geometry_view c.in_ok-found.found.geometry) (g.D.Device.disk c.args.device.now) (g.D.Device.disk c.read_opening.new.device) c.in_ok-found.ensures.looks.keeps.sectors c.in_ok-found.ensures.room)
 
 pub close_unused-requires-clause-clean : goal.close_unused-requires-clause-clean
@@ -69,7 +69,7 @@ returns-clause-opened g c =
 
 pub returns-clause-room : goal.returns-clause-room
 returns-clause-room g c =
-    subst (λ (x : laws.Geometry). HasRoomFor x (g.D.Device.disk c.close_unused.new.device)) (c.in_ok-folded.ensures.tells (g.D.Device.disk c.close_unused.new.device)).geometry
+    subst (λ (x : laws.Geometry). DeviceHasRoomFor x (g.D.Device.disk c.close_unused.new.device)) (c.in_ok-folded.ensures.tells (g.D.Device.disk c.close_unused.new.device)).geometry
     (room_kept (geometry_view c.in_ok-found.found.geometry) (g.D.Device.disk c.args.device.now) (g.D.Device.disk c.close_unused.new.device) (c.close_unused.ensures.any_moment.keeps.sectors ∙ c.in_ok-found.ensures.looks.keeps.sectors) c.in_ok-found.ensures.room)
 
 pub returns-clause-any_moment : goal.returns-clause-any_moment

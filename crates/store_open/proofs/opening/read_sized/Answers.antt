@@ -6,7 +6,7 @@ use Rattle.store_layout.specs.OpeningReading.{by_geometry}
 use Rattle.ckpt_pair.specs.Versions.{latest}
 use Rattle.store_layout.specs.declared.geometry.Geometry.{Geometry}
 use Rattle.store_layout.specs.Geometry.{geometry_view}
-use Rattle.store_open.specs.NewStore.{HasRoomFor}
+use Rattle.store_open.specs.NewStore.{DeviceHasRoomFor}
 use Rattle.store_open.specs.PathStores.{store_format}
 use Rattle.store_open.specs.Open.{opening_view, OpensSo, HasFront, WantsMemoryToOpen}
 use Rattle.store_open.proofs.Steps.{not_a_store, room_found, memory_then}
@@ -14,7 +14,7 @@ use Rattle.store_open.proofs.opening.read_sized.Goals as goal
 
 pub read_store-requires : goal.read_store-requires
 read_store-requires g c =
-    subst (λ (f : Option Geometry). IfSome f (λ (x : Geometry). HasRoomFor (geometry_view x) (g.D.Device.disk c.args.device.now))) c.in-Some.is c.requires.room
+    subst (λ (f : Option Geometry). IfSome f (λ (x : Geometry). DeviceHasRoomFor (geometry_view x) (g.D.Device.disk c.args.device.now))) c.in-Some.is c.requires.room
 
 pub returns-in-Some-clause-opening : goal.returns-in-Some-clause-opening
 returns-in-Some-clause-opening g c honest =
@@ -36,7 +36,7 @@ returns-in-Some-clause-memory g c honest =
 pub returns-in-Some-clause-room : goal.returns-in-Some-clause-room
 returns-in-Some-clause-room g c =
     room_found c.read_store.result c.in-Some.geometry (g.D.Device.disk c.args.device.now) c.read_store.ensures.same
-    (subst (λ (f : Option Geometry). IfSome f (λ (x : Geometry). HasRoomFor (geometry_view x) (g.D.Device.disk c.args.device.now))) c.in-Some.is c.requires.room)
+    (subst (λ (f : Option Geometry). IfSome f (λ (x : Geometry). DeviceHasRoomFor (geometry_view x) (g.D.Device.disk c.args.device.now))) c.in-Some.is c.requires.room)
 
 pub returns-in-None-clause-opening : goal.returns-in-None-clause-opening
 returns-in-None-clause-opening g c honest = not_a_store (reads_of (g.D.Device.disk c.args.device.now)) c.args.found c.in-None.is

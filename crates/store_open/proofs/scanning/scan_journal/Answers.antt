@@ -12,7 +12,7 @@ use Rattle.store_layout.proofs.Exports.{journal_read}
 use Rattle.gate_journal.specs.declared.scanner.Progress.{Progress}
 use Rattle.gate_journal.specs.declared.scanner.Scan.{Scan}
 use Rattle.gate_journal.specs.Commands.{command_format}
-use Rattle.gate_journal.specs.Scanning.{reading_of, LeadsTo, GoesOn}
+use Rattle.gate_journal.specs.Scanning.{reading_of, PieceLeadsTo, HasFewerPiecesLeft}
 use Rattle.store_layout.specs.Geometry.{geometry_view}
 use Rattle.store_open.specs.declared.error.OpenError.{OpenError}
 use Rattle.store_open.specs.Refusals.{error_of_journal, ScansSo}
@@ -40,18 +40,18 @@ returns-in-Done-clause-scan g c honest =
     let whole = g.met.D.Device.whole c.args.device.now honest in
     let reads = reads_of (g.D.Device.disk c.args.device.now) in
     let bytes = journal_of (geometry_view c.args.geometry) c.args.half reads in
-    let at : LeadsTo (Ok c.in_ok-scan.field-0) (limits_of c.args.version) bytes c.args.place = taken (g.D.Device.disk c.args.device.now) (g.D.Device.disk c.pieces.device) (geometry_view c.args.geometry) c.args.half c.pieces.scanner _ _ _ c.args.version c.args.place _ _ _
+    let at : PieceLeadsTo (Ok c.in_ok-scan.field-0) (limits_of c.args.version) bytes c.args.place = taken (g.D.Device.disk c.args.device.now) (g.D.Device.disk c.pieces.device) (geometry_view c.args.geometry) c.args.half c.pieces.scanner _ _ _ c.args.version c.args.place _ _ _
     (g.met.D.Device.whole c.args.device.now honest) (c.pieces.invariant.history honest) c.in_ok-scan.ensures c.pieces.invariant.version c.pieces.invariant.sectors
     (c.pieces.invariant.read honest) c.journal_at-start.ensures c.wanted-wanted.ensures.first c.wanted-wanted.ensures.count c.wanted-wanted.ensures.inside
     c.deref.ensures.value (c.in_ok-piece.ensures.read (honest_after _ _ c.pieces.invariant.keeps honest)) in
     let journal : IsJournal command_format (limits_of c.args.version) bytes c.args.place (reading_of c.in-Done.scan) =
-    subst (λ (p : Progress). LeadsTo (Ok p) (limits_of c.args.version) bytes c.args.place) c.in-Done.is at in
+    subst (λ (p : Progress). PieceLeadsTo (Ok p) (limits_of c.args.version) bytes c.args.place) c.in-Done.is at in
     journal_read command_format (limits_of c.args.version) bytes c.args.place (reading_of c.in-Done.scan)
     (journal_sectors (geometry_view c.args.geometry) c.args.half reads c.requires.allowed (omega (arith, whole.size, c.requires.room))) journal
 
 pub pieces-preserved : goal.pieces-preserved
 pieces-preserved g c =
-    let on = subst (λ (p : Progress). GoesOn (Ok p) c.pieces.scanner) c.in-More.is c.in_ok-scan.ensures.on in
+    let on = subst (λ (p : Progress). HasFewerPiecesLeft (Ok p) c.pieces.scanner) c.in-More.is c.in_ok-scan.ensures.on in
     record {
       keeps = keeps_then _ _ _ c.pieces.invariant.keeps c.in_ok-piece.ensures.looks.keeps;
       faults = c.in_ok-piece.ensures.looks.faults ∙ c.pieces.invariant.faults;
@@ -61,9 +61,9 @@ pieces-preserved g c =
       read = λ honest.
           let reads = reads_of (g.D.Device.disk c.args.device.now) in
           let bytes = journal_of (geometry_view c.args.geometry) c.args.half reads in
-          let at : LeadsTo (Ok c.in_ok-scan.field-0) (limits_of c.args.version) bytes c.args.place = taken (g.D.Device.disk c.args.device.now) (g.D.Device.disk c.pieces.device) (geometry_view c.args.geometry) c.args.half c.pieces.scanner _ _ _ c.args.version c.args.place _ _ _
+          let at : PieceLeadsTo (Ok c.in_ok-scan.field-0) (limits_of c.args.version) bytes c.args.place = taken (g.D.Device.disk c.args.device.now) (g.D.Device.disk c.pieces.device) (geometry_view c.args.geometry) c.args.half c.pieces.scanner _ _ _ c.args.version c.args.place _ _ _
           (g.met.D.Device.whole c.args.device.now honest) (c.pieces.invariant.history honest) c.in_ok-scan.ensures c.pieces.invariant.version c.pieces.invariant.sectors
           (c.pieces.invariant.read honest) c.journal_at-start.ensures c.wanted-wanted.ensures.first c.wanted-wanted.ensures.count c.wanted-wanted.ensures.inside
           c.deref.ensures.value (c.in_ok-piece.ensures.read (honest_after _ _ c.pieces.invariant.keeps honest)) in
-          subst (λ (p : Progress). LeadsTo (Ok p) (limits_of c.args.version) bytes c.args.place) c.in-More.is at;
+          subst (λ (p : Progress). PieceLeadsTo (Ok p) (limits_of c.args.version) bytes c.args.place) c.in-More.is at;
     }

@@ -3,7 +3,7 @@ use Rattle.std.specs.List.{count_by}
 use Rattle.path_rows.specs.declared.end.End.TheVariants.{First, Last}
 use Rattle.path_rows.specs.Database.{rows_len, IsDatabase}
 use Rattle.path_rows.specs.Command.{is_valid_beyond}
-use Rattle.path_rows.specs.EndKeys.{end_of}
+use Rattle.path_rows.specs.EndKeys.{entry_at_end}
 use Rattle.path_rows.specs.Outcome.{outcome_of_drops}
 use Rattle.path_rows.proofs.Rising.{database_filtered}
 use Rattle.path_rows.proofs.Drops.{dropped_count, fewer_left, fewer_bytes}
@@ -22,8 +22,8 @@ invariant_of-self c =
     record {
       database = subst IsDatabase (sym c.purge.ensures.left) (database_filtered (is_valid_beyond c.args.moment) rows table.database);
       counted = c.bytes-self-inside.ensures;
-      first = purged_now (end_of First) rows c.purge.new.self c.args.moment c.self.inside.by_first c.keep_standing.new.index c.purge.ensures.left table.database.rising table.first c.keep_standing.ensures;
-      last = purged_now (end_of Last) rows c.purge.new.self c.args.moment c.self.inside.by_last c.keep_standing-2.new.index c.purge.ensures.left table.database.rising table.last c.keep_standing-2.ensures;
+      first = purged_now (entry_at_end First) rows c.purge.new.self c.args.moment c.self.inside.by_first c.keep_standing.new.index c.purge.ensures.left table.database.rising table.first c.keep_standing.ensures;
+      last = purged_now (entry_at_end Last) rows c.purge.new.self c.args.moment c.self.inside.by_last c.keep_standing-2.new.index c.purge.ensures.left table.database.rising table.last c.keep_standing-2.ensures;
     }
 
 pub returns-clause-whole : goal.returns-clause-whole

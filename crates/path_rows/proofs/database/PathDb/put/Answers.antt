@@ -4,7 +4,7 @@ use Rattle.path_rows.specs.Put.{database_after_puts, changes_of}
 use Rattle.path_rows.specs.Outcome.{outcome_of_puts}
 use Rattle.path_rows.specs.Row.{row_views}
 use Rattle.path_rows.specs.Saved.{Stood, saved_view}
-use Rattle.path_rows.specs.EndKeys.{end_of, AreSeenTo, IsGrown, HasAll}
+use Rattle.path_rows.specs.EndKeys.{entry_at_end, AreSeenTo, IsIndexGrown, HasAll}
 use Rattle.path_rows.proofs.Covered.{seen_from, covers_either, database_either}
 use Rattle.path_rows.proofs.PutRow.{no_items}
 use Rattle.path_rows.proofs.Restored.{stood_under}
@@ -13,14 +13,14 @@ use Rattle.path_rows.proofs.database.PathDb.put.Goals as goal
 
 pub sweep-requires : goal.sweep-requires
 sweep-requires c =
-    let end = end_of First in
+    let end = entry_at_end First in
     let rows = c.self.inside.rows in
     let new = row_views c.args.new.items in
     let touched = c.in_ok-firsts.firsts.items in
     let each : map saved_view c.in_ok-saved.saved.items ≡ map (stood_under rows) new = rw (← c.deref.ensures.value) c.in_ok-saved.ensures.each in
     let seen : AreSeenTo end touched new (map saved_view c.in_ok-saved.saved.items) =
     rw (← c.deref-2.ensures.value, ← c.deref-3.ensures.value) c.in_ok-firsts.ensures.seen in
-    let grown : IsGrown touched c.self.inside.by_first c.add_both-added.new.by_first = rw (← c.deref-6.ensures.value) c.add_both-added.ensures.first in
+    let grown : IsIndexGrown touched c.self.inside.by_first c.add_both-added.new.by_first = rw (← c.deref-6.ensures.value) c.add_both-added.ensures.first in
     let added : OnOk c.add_both-added.result (HasAll touched c.add_both-added.new.by_first) = rw (← c.deref-6.ensures.value) c.add_both-added.ensures.all_first in
     rw c.deref-8.ensures.value
     (covers_either end rows new c.put_after-put.new.rows touched c.self.inside.by_first c.add_both-added.new.by_first c.add_both-added.result c.put_after-put.result c.self.invariant.database.rising
@@ -29,14 +29,14 @@ sweep-requires c =
 
 pub sweep-requires-2 : goal.sweep-requires-2
 sweep-requires-2 c =
-    let end = end_of Last in
+    let end = entry_at_end Last in
     let rows = c.self.inside.rows in
     let new = row_views c.args.new.items in
     let touched = c.in_ok-lasts.lasts.items in
     let each : map saved_view c.in_ok-saved.saved.items ≡ map (stood_under rows) new = rw (← c.deref.ensures.value) c.in_ok-saved.ensures.each in
     let seen : AreSeenTo end touched new (map saved_view c.in_ok-saved.saved.items) =
     rw (← c.deref-4.ensures.value, ← c.deref-5.ensures.value) c.in_ok-lasts.ensures.seen in
-    let grown : IsGrown touched c.self.inside.by_last c.add_both-added.new.by_last = rw (← c.deref-7.ensures.value) c.add_both-added.ensures.last in
+    let grown : IsIndexGrown touched c.self.inside.by_last c.add_both-added.new.by_last = rw (← c.deref-7.ensures.value) c.add_both-added.ensures.last in
     let added : OnOk c.add_both-added.result (HasAll touched c.add_both-added.new.by_last) = rw (← c.deref-7.ensures.value) c.add_both-added.ensures.all_last in
     rw c.deref-9.ensures.value
     (covers_either end rows new c.put_after-put.new.rows touched c.self.inside.by_last c.add_both-added.new.by_last c.add_both-added.result c.put_after-put.result c.self.invariant.database.rising

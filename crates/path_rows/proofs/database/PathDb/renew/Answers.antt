@@ -4,7 +4,7 @@ use Rattle.path_rows.specs.Database.{RowView, AreWhole, IsDatabase}
 use Rattle.path_rows.specs.Put.{database_after_puts, changes_of, change_of}
 use Rattle.path_rows.specs.Outcome.{outcome_of_puts, outcome_after}
 use Rattle.path_rows.specs.Row.{row_view}
-use Rattle.path_rows.specs.EndKeys.{end_of, IsIndex}
+use Rattle.path_rows.specs.EndKeys.{entry_at_end, IsEndIndex}
 use Rattle.path_rows.proofs.Covered.{index_kept}
 use Rattle.path_rows.proofs.Rising.{database_puts}
 use Rattle.path_rows.proofs.Steps.{one_put, one_counted}
@@ -21,8 +21,8 @@ invariant_of-self-2 c =
     record {
       database = subst IsDatabase (sym put) (database_puts rows (row ∷ []) table.database (subst (λ (r : RowView). AreWhole (r ∷ [])) (sym is) whole));
       counted = c.in_ok-change.ensures.bytes;
-      first = subst (λ l. IsIndex (end_of First) l c.self.inside.by_first) (sym put) (index_kept (end_of First) rows row c.self.inside.by_first table.database.rising table.first (c.in_ok-change.ensures.first c.in_ok-change.change refl));
-      last = subst (λ l. IsIndex (end_of Last) l c.self.inside.by_last) (sym put) (index_kept (end_of Last) rows row c.self.inside.by_last table.database.rising table.last (c.in_ok-change.ensures.last c.in_ok-change.change refl));
+      first = subst (λ l. IsEndIndex (entry_at_end First) l c.self.inside.by_first) (sym put) (index_kept (entry_at_end First) rows row c.self.inside.by_first table.database.rising table.first (c.in_ok-change.ensures.first c.in_ok-change.change refl));
+      last = subst (λ l. IsEndIndex (entry_at_end Last) l c.self.inside.by_last) (sym put) (index_kept (entry_at_end Last) rows row c.self.inside.by_last table.database.rising table.last (c.in_ok-change.ensures.last c.in_ok-change.change refl));
     }
 
 pub returns-clause-whole : goal.returns-clause-whole

@@ -2,7 +2,7 @@ use Rattle.std.proofs.Common.{◌≡◌, [], ◌∷◌, ◌++◌, sym, ap, ◌�
 use Rattle.path_rows.specs.declared.end.End.TheVariants.{First, Last}
 use Rattle.path_rows.specs.Database.{IsDatabase}
 use Rattle.path_rows.specs.Row.{row_view}
-use Rattle.path_rows.specs.EndKeys.{end_of, IsIndex}
+use Rattle.path_rows.specs.EndKeys.{entry_at_end, IsEndIndex}
 use Rattle.path_rows.proofs.Appended.{none_last, rows_last, index_last}
 use Rattle.path_rows.proofs.database.PathDb.with_last.Goals as goal
 
@@ -17,10 +17,10 @@ invariant_of-result c =
     record {
       database = subst IsDatabase (sym same) all;
       counted = omega (arith, more, c.self.invariant.counted, c.from.ensures, c.len.ensures.same);
-      first = subst (λ l. IsIndex (end_of First) l c.add.new.self) (sym same)
-          (index_last (end_of First) rows row c.index_key_of.result c.self.inside.by_first c.add.new.self all.rising c.self.invariant.first c.index_key_of.ensures c.in_ok-add.ensures.ok);
-      last = subst (λ l. IsIndex (end_of Last) l c.add-2.new.self) (sym same)
-          (index_last (end_of Last) rows row c.index_key_of-2.result c.self.inside.by_last c.add-2.new.self all.rising c.self.invariant.last c.index_key_of-2.ensures c.in_ok-add-2.ensures.ok);
+      first = subst (λ l. IsEndIndex (entry_at_end First) l c.add.new.self) (sym same)
+          (index_last (entry_at_end First) rows row c.index_key_of.result c.self.inside.by_first c.add.new.self all.rising c.self.invariant.first c.index_key_of.ensures c.in_ok-add.ensures.ok);
+      last = subst (λ l. IsEndIndex (entry_at_end Last) l c.add-2.new.self) (sym same)
+          (index_last (entry_at_end Last) rows row c.index_key_of-2.result c.self.inside.by_last c.add-2.new.self all.rising c.self.invariant.last c.index_key_of-2.ensures c.in_ok-add-2.ensures.ok);
     }
 
 pub returns : goal.returns

@@ -5,7 +5,7 @@ use Rattle.path_rows.specs.declared.change.Change.TheVariants.{Kept, Updated}
 use Rattle.std.specs.BTreeMap.{insert_entry, is_at}
 use Rattle.path_rows.specs.declared.end.End.TheVariants.{First, Last}
 use Rattle.path_rows.specs.Database.{key_of, row_under, row_len, rows_len}
-use Rattle.path_rows.specs.EndKeys.{end_of}
+use Rattle.path_rows.specs.EndKeys.{entry_at_end}
 use Rattle.path_rows.specs.Row.{row_view}
 use Rattle.path_rows.specs.RowMap.{views_of, len_if_any, AreKeyed, AreUnderTheirKeys}
 use Rattle.path_rows.specs.Saved.{wins}
@@ -80,7 +80,7 @@ returns-then-timestamp-clause-first c =
     let its = its_bytes c.row_key-key.result c.args.row c.row_key-key.ensures in
     let found : row_under (key_of (row_view c.args.row)) (views_of es) ≡ Some (row_view old) = found_at c.row_key-key.result c.args.row old es its c.self.invariant.own is in
     let keys = its_key (key_of (row_view c.args.row)) (row_view old) (found_is_under (key_of (row_view c.args.row)) (views_of es) (row_view old) found) in
-    λ x e. rw (← c.self.view_is) (seen_alike (end_of First) [] (row_view c.args.row) (row_view old) (row_under (key_of (row_view c.args.row)) (views_of es)) found keys (c.if-not-keeps_keys.ensures.first refl))
+    λ x e. rw (← c.self.view_is) (seen_alike (entry_at_end First) [] (row_view c.args.row) (row_view old) (row_under (key_of (row_view c.args.row)) (views_of es)) found keys (c.if-not-keeps_keys.ensures.first refl))
 
 pub returns-then-timestamp-clause-last : goal.returns-then-timestamp-clause-last
 returns-then-timestamp-clause-last c =
@@ -90,7 +90,7 @@ returns-then-timestamp-clause-last c =
     let its = its_bytes c.row_key-key.result c.args.row c.row_key-key.ensures in
     let found : row_under (key_of (row_view c.args.row)) (views_of es) ≡ Some (row_view old) = found_at c.row_key-key.result c.args.row old es its c.self.invariant.own is in
     let keys = its_key (key_of (row_view c.args.row)) (row_view old) (found_is_under (key_of (row_view c.args.row)) (views_of es) (row_view old) found) in
-    λ x e. rw (← c.self.view_is) (seen_alike (end_of Last) [] (row_view c.args.row) (row_view old) (row_under (key_of (row_view c.args.row)) (views_of es)) found keys (c.if-not-keeps_keys.ensures.last refl))
+    λ x e. rw (← c.self.view_is) (seen_alike (entry_at_end Last) [] (row_view c.args.row) (row_view old) (row_under (key_of (row_view c.args.row)) (views_of es)) found keys (c.if-not-keeps_keys.ensures.last refl))
 
 pub returns-then-timestamp-clause-bytes : goal.returns-then-timestamp-clause-bytes
 returns-then-timestamp-clause-bytes c =
@@ -161,7 +161,7 @@ returns-clause-first c =
     let its = its_bytes c.row_key-key.result c.args.row c.row_key-key.ensures in
     let found : row_under (key_of (row_view c.args.row)) (views_of es) ≡ Some (row_view old) = found_at c.row_key-key.result c.args.row old es its c.self.invariant.own is in
     let keys = its_key (key_of (row_view c.args.row)) (row_view old) (found_is_under (key_of (row_view c.args.row)) (views_of es) (row_view old) found) in
-    λ x e. rw (← c.self.view_is) (seen_alike (end_of First) [] (row_view c.args.row) (row_view old) (row_under (key_of (row_view c.args.row)) (views_of es)) found keys (c.if-not-keeps_keys.ensures.first refl))
+    λ x e. rw (← c.self.view_is) (seen_alike (entry_at_end First) [] (row_view c.args.row) (row_view old) (row_under (key_of (row_view c.args.row)) (views_of es)) found keys (c.if-not-keeps_keys.ensures.first refl))
 
 pub returns-clause-last : goal.returns-clause-last
 returns-clause-last c =
@@ -171,7 +171,7 @@ returns-clause-last c =
     let its = its_bytes c.row_key-key.result c.args.row c.row_key-key.ensures in
     let found : row_under (key_of (row_view c.args.row)) (views_of es) ≡ Some (row_view old) = found_at c.row_key-key.result c.args.row old es its c.self.invariant.own is in
     let keys = its_key (key_of (row_view c.args.row)) (row_view old) (found_is_under (key_of (row_view c.args.row)) (views_of es) (row_view old) found) in
-    λ x e. rw (← c.self.view_is) (seen_alike (end_of Last) [] (row_view c.args.row) (row_view old) (row_under (key_of (row_view c.args.row)) (views_of es)) found keys (c.if-not-keeps_keys.ensures.last refl))
+    λ x e. rw (← c.self.view_is) (seen_alike (entry_at_end Last) [] (row_view c.args.row) (row_view old) (row_under (key_of (row_view c.args.row)) (views_of es)) found keys (c.if-not-keeps_keys.ensures.last refl))
 
 pub returns-clause-bytes : goal.returns-clause-bytes
 returns-clause-bytes c =

@@ -1,7 +1,7 @@
 -- Nothing lands: to write again what is there gives the same content.
 use Rattle.std.proofs.Common.{◌≡◌, ◌∷◌, ◌∙◌, ap, true, ◌+◌, ◌*◌, ◌≤◌, ℕ, length, arith, sym}
 use Rattle.byte_lists.specs.Content.{part, overwrite}
-use Rattle.sector_dev.specs.Disk.{Span}
+use Rattle.sector_dev.specs.Disk.{ByteRange}
 use Rattle.byte_lists.proofs.Contents.{length-part, overwrite_same}
 use Rattle.sector_dev.proofs.mem_device.MemDevice.touch.Goals as goal
 
@@ -12,7 +12,7 @@ returns c =
     let same : overwrite (512 * c.args.at) (part (512 * c.args.at) c.args.len bytes) bytes ≡ bytes = overwrite_same (512 * c.args.at) c.args.len bytes inside in
     let size : length (part (512 * c.args.at) c.args.len bytes) ≡ c.args.len = length-part (512 * c.args.at) c.args.len bytes inside in
     let told = c.wrote-self.ensures in
-    let span : ℕ → Span = λ n. record { start = 512 * c.args.at; len = n } in
+    let span : ℕ → ByteRange = λ n. record { start = 512 * c.args.at; len = n } in
     let dirty = told.1 ∙ ap (λ (n : ℕ). span n ∷ c.args.self.now.trail.dirty) (sym size) in
     λ i. record {
       is_honest = true;

@@ -1,7 +1,7 @@
 -- The field has a number that is not noted, or its value is a number, bytes, or of a fixed width.
 use Rattle.std.proofs.Common.{ap, ⊎_elim, arith}
 use Rattle.pw_wire.specs.View.{field_view, value_view}
-use Rattle.seg_slots.specs.Message.{varint_in, bytes_in}
+use Rattle.seg_slots.specs.Message.{varint_in, bytes_of_value}
 use Rattle.seg_slots.proofs.Noting.{AreNoted-past, AreNoted-fixed, AreNoted-varint, AreNoted-bytes}
 use Rattle.seg_slots.proofs.slots.Noted.note.Goals as goal
 
@@ -19,6 +19,6 @@ returns-in-Bytes c = λ before noted.
 pub returns-in-Fixed64 : goal.returns-in-Fixed64
 returns-in-Fixed64 c = λ before noted.
     ⊎_elim
-    (λ (n, is). AreNoted-fixed before (field_view c.args.field.now) _ _ (ap (λ v. varint_in (value_view v)) is) (ap (λ v. bytes_in (value_view v)) is) noted)
-    (λ (n, is). AreNoted-fixed before (field_view c.args.field.now) _ _ (ap (λ v. varint_in (value_view v)) is) (ap (λ v. bytes_in (value_view v)) is) noted)
+    (λ (n, is). AreNoted-fixed before (field_view c.args.field.now) _ _ (ap (λ v. varint_in (value_view v)) is) (ap (λ v. bytes_of_value (value_view v)) is) noted)
+    (λ (n, is). AreNoted-fixed before (field_view c.args.field.now) _ _ (ap (λ v. varint_in (value_view v)) is) (ap (λ v. bytes_of_value (value_view v)) is) noted)
     c.in-Fixed64.is

@@ -8,7 +8,7 @@ use Rattle.store_layout.specs.FirstSector.{IsStore}
 use Rattle.store_layout.specs.StoreFormat.{StoreFormat}
 
 -- the formats, the greatest version that is known, and the sizes
-pub record Setting (Db C : Type 0) : Type 0 where
+pub record StoreConfig (Db C : Type 0) : Type 0 where
   pub format : StoreFormat Db C
   pub latest : ℕ
   pub geometry : Geometry

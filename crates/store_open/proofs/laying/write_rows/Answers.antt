@@ -3,8 +3,8 @@ use Rattle.std.proofs.Common.{rules, ◌≡◌, ◌∷◌, ◌++◌, take, ◌�
 use Rattle.std.proofs.lemmas.List.{length-take-le}
 use Rattle.path_rows.specs.Row.{row_view}
 use Rattle.path_db.specs.RowRecord.{rows_encoding}
-use Rattle.store_open.proofs.Pouring.{torn_here, torn_on, poured_none, row_more, poured_piece}
-use Rattle.store_open.proofs.laying.pour.Goals as goal
+use Rattle.store_open.proofs.RowWrites.{torn_here, torn_on, poured_none, row_more, poured_piece}
+use Rattle.store_open.proofs.laying.write_rows.Goals as goal
 
 pub loop-row-init : goal.loop-row-init
 loop-row-init g c =

@@ -15,7 +15,7 @@ use Rattle.sector_dev.specs.Calls.{Keeps, WriteCall}
 use Rattle.sector_dev.specs.Stretch.{Stretch}
 use Rattle.sector_dev.proofs.Images.{every_written, image_is_reads}
 use Rattle.sector_dev.proofs.Stretches.{honest_before, honest_after, at_exit, stretch_here, stretch_write}
-use Rattle.store_open.specs.Pouring.{IsPoured}
+use Rattle.store_open.specs.RowWrites.{IsWrittenUpTo}
 use Rattle.store_open.specs.TakingOver.{IsTornAt}
 use Rattle.store_open.proofs.TakingOver.{torn_nowhere}
 
@@ -94,7 +94,7 @@ overwrite_more at first second content inside =
     ∙ sym (is_pasted at (first ++ second) content)
 
 -- nothing is written yet
-pub poured_none : (at : ℕ) (bytes : List ℕ) (start : Disk) → (IsHonest start → IsWhole start) → 512 * at ≤ 512 * start.sectors → IsPoured start start at at bytes bytes
+pub poured_none : (at : ℕ) (bytes : List ℕ) (start : Disk) → (IsHonest start → IsWhole start) → 512 * at ≤ 512 * start.sectors → IsWrittenUpTo start start at at bytes bytes
 poured_none at bytes start whole inside = record {
   front = [];
   parts = refl;
@@ -104,12 +104,12 @@ poured_none at bytes start whole inside = record {
 
 -- the same with some more rows after the used part of the buffer, which has room for them
 pub record HasRowMore (start now : Disk) (at sector used : ℕ) (buffer : List ℕ) (left : List RowView) (bytes : List ℕ) : Type 0 where
-  pub poured : IsPoured start now at sector (take used buffer ++ rows_encoding left) bytes
+  pub poured : IsWrittenUpTo start now at sector (take used buffer ++ rows_encoding left) bytes
   pub size : length (take used buffer) ≡ used
   pub room : 512 * sector + used ≤ 512 * at + length (padded bytes)
   pub since : 512 * at ≤ 512 * sector
 
-pub row_more : (start now : Disk) (at sector used more : ℕ) (before after : List ℕ) (rows all left : List RowView) (bytes : List ℕ) → IsPoured start now at sector (take used before ++ rows_encoding rows) bytes
+pub row_more : (start now : Disk) (at sector used more : ℕ) (before after : List ℕ) (rows all left : List RowView) (bytes : List ℕ) → IsWrittenUpTo start now at sector (take used before ++ rows_encoding rows) bytes
     → rows ≡ all → take more after ++ rows_encoding left ≡ take used before ++ rows_encoding all → more ≤ length after → HasRowMore start now at sector more after left bytes
 row_more start now at sector used more before after rows all left bytes so_far next put fits = record {
   poured = poured;
@@ -126,8 +126,8 @@ row_more start now at sector used more before after rows all left bytes so_far n
   since = omega (arith, poured.reached);
 }
   where
-    poured : IsPoured start now at sector (take more after ++ rows_encoding left) bytes
-    poured = subst (λ (rest : List ℕ). IsPoured start now at sector rest bytes) (ap (λ (list : List RowView). take used before ++ rows_encoding list) next ∙ sym put) so_far
+    poured : IsWrittenUpTo start now at sector (take more after ++ rows_encoding left) bytes
+    poured = subst (λ (rest : List ℕ). IsWrittenUpTo start now at sector rest bytes) (ap (λ (list : List RowView). take used before ++ rows_encoding list) next ∙ sym put) so_far
 
     size : length (take more after) ≡ more
     size = length-take-le more after fits
@@ -138,9 +138,9 @@ put_next before after bytes left rest put is =
     ap (λ (list : List ℕ). list ++ rest) put ∙ append_assoc before bytes rest ∙ ap (λ (list : List ℕ). before ++ list) (sym is)
 
 -- a piece that is written, and the bytes after it are the rest
-pub poured_piece : {T E : Type 0} (at sector count : ℕ) (held piece rest left bytes : List ℕ) (answer : Result T E) (start now later : Disk) → IsPoured start now at sector (held ++ left) bytes → Keeps start now
+pub poured_piece : {T E : Type 0} (at sector count : ℕ) (held piece rest left bytes : List ℕ) (answer : Result T E) (start now later : Disk) → IsWrittenUpTo start now at sector (held ++ left) bytes → Keeps start now
     → piece ++ rest ≡ held → WriteCall sector piece answer now later → ((landed : List ℕ) → OnOk answer (landed ≡ piece) → landed ≡ piece) → length piece ≡ 512 * count
-    → (IsHonest start → IsWhole start) → 512 * at ≤ 512 * start.sectors → IsPoured start later at (sector + count) (rest ++ left) bytes
+    → (IsHonest start → IsWhole start) → 512 * at ≤ 512 * start.sectors → IsWrittenUpTo start later at (sector + count) (rest ++ left) bytes
 poured_piece at sector count held piece rest left bytes answer start now later so_far keeps parts call done size whole inside = record {
   front = so_far.front ++ piece;
   parts = append_assoc so_far.front piece (rest ++ left) ∙ ap (λ (list : List ℕ). so_far.front ++ list) (sym (append_assoc piece rest left) ∙ ap (λ (list : List ℕ). list ++ left) parts) ∙ so_far.parts;
@@ -167,7 +167,7 @@ pub put_first : (n : ℕ) (bytes content new : List ℕ) → length bytes ≡ n 
 put_first n bytes content new size fits put = (λ i. take (sym size i) (put i)) ∙ part_new 0 bytes content (omega (arith, size, fits))
 
 -- the rest, padded with zeros, is the end of all bytes, padded with zeros
-module _ (start now : Disk) (at sector : ℕ) (rest bytes : List ℕ) (so_far : IsPoured start now at sector rest bytes) where
+module _ (start now : Disk) (at sector : ℕ) (rest bytes : List ℕ) (so_far : IsWrittenUpTo start now at sector rest bytes) where
   rest_padded : so_far.front ++ padded rest ≡ padded bytes
   rest_padded =
       sym (append_assoc so_far.front rest (replicate (512 * sectors_of (length rest) - length rest) 0))

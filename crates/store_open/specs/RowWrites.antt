@@ -11,7 +11,7 @@ record_if_any None = []
 record_if_any (Some row) = row_record row
 
 -- Of these bytes, which have to be written from a sector on, a front is written, up to this sector; the rest isn't written yet.
-pub record IsPoured (old new : Disk) (at sector : ℕ) (rest bytes : List ℕ) : Type 0 where
+pub record IsWrittenUpTo (old new : Disk) (at sector : ℕ) (rest bytes : List ℕ) : Type 0 where
   pub front : List ℕ
   pub parts : front ++ rest ≡ bytes
   pub reached : 512 * at + length front ≡ 512 * sector
