@@ -1,4 +1,5 @@
--- Contents: lists of bytes, their parts, and contents of which a part is overwritten. Offsets and lengths count bytes.
+-- Contents: lists of bytes, their parts, and contents of which a part is overwritten. Offsets and
+-- lengths count bytes.
 use Rattle.std.specs.Prelude.{◌≡◌, ℕ, ◌+◌, ◌-◌, ◌<◌, ◌≤◌, List, ◌++◌, length, take, drop, slice_index}
 
 -- each number is a byte
@@ -13,7 +14,8 @@ part at n content = take n (drop at content)
 abbrev pub overwrite : ℕ → List ℕ → List ℕ → List ℕ
 overwrite at bytes content = take at content ++ bytes ++ drop (at + length bytes) content
 
--- the parts of an overwritten content: unchanged before and after the range, and within it what was written
+-- the parts of an overwritten content: unchanged before and after the range, and within it what was
+-- written
 pub record AreOverwritten (at : ℕ) (bytes content : List ℕ) : Type 0 where
   pub size : length (overwrite at bytes content) ≡ length content
   pub before : (from n : ℕ) → from + n ≤ at → part from n (overwrite at bytes content) ≡ part from n content

@@ -1,4 +1,5 @@
-//! Laws on bytes and sectors. Each law is the contract of a function that does nothing, so that the law is proved with the crate.
+//! Laws on bytes and sectors. Each law is the contract of a function that does nothing, so that the
+//! law is proved with the crate.
 
 ghost use Rattle.std.specs.Prelude.{◌≡◌, ◌↔◌, ℕ, ◌+◌, ◌*◌, ◌^◌, ◌<◌, ◌≤◌, List, ◌++◌, length, IsTrue};
 ghost use Rattle.std.specs.Int.{w32, w64, to_be_bytes};
@@ -11,7 +12,8 @@ pub fn overwritten_parts()
     ensures { (at : ℕ) (bytes content : List ℕ) → at + length bytes ≤ length content → AreOverwritten at bytes content }
 {}
 
-/// A number that is encoded is read again at any offset, and bytes that are read as a number are the encoding of that number.
+/// A number that is encoded is read again at any offset, and bytes that are read as a number are
+/// the encoding of that number.
 pub fn encoded_numbers()
     ensures four { (n : ℕ) (before after : List ℕ) → n < 2 ^ 32
         → four_at (length before) (before ++ (to_be_bytes w32 n ++ after)) ≡ n }
@@ -23,7 +25,8 @@ pub fn encoded_numbers()
         → to_be_bytes w64 (eight_at at bytes) ≡ part at 8 bytes }
 {}
 
-/// `sectors_of` is the least number of sectors that has room for the bytes, and padded bytes fill this number of sectors.
+/// `sectors_of` is the least number of sectors that has room for the bytes, and padded bytes fill
+/// this number of sectors.
 pub fn padded_sectors()
     ensures least { (n : ℕ) → IsLeastRoom n }
     ensures padded { (bytes : List ℕ) → length (padded bytes) ≡ 512 * sectors_of (length bytes) }

@@ -3,7 +3,8 @@
 ghost use Rattle.std.specs.Prelude.{◌≡◌, ◌+◌, ◌≤◌, ◌++◌, length, take, drop};
 ghost use Rattle.byte_lists.specs.Content.{overwrite};
 
-/// Overwrites the bytes from an offset on with a part. The offset counts bytes; all other bytes are unchanged.
+/// Overwrites the bytes from an offset on with a part. The offset counts bytes; all other bytes are
+/// unchanged.
 pub fn put(bytes: &mut [u8], at: usize, part: &[u8])
     requires { at + length part.now ≤ length bytes.old }
     ensures put { bytes.new ≡ overwrite at part.now bytes.old }

@@ -1,4 +1,5 @@
-//! Gates: sectors whose first byte is 0xA7 when the gate is open. A closed gate is written as zeros.
+//! Gates: sectors whose first byte is 0xA7 when the gate is open. A closed gate is written as
+//! zeros.
 
 ghost use Rattle.std.specs.Prelude.{◌≡◌, ◌↔◌, ◌++◌, length, IsTrue};
 ghost use Rattle.byte_lists.specs.Sectors as laws;

@@ -1,7 +1,9 @@
-//! Lists of bytes as a device of 512-byte sectors holds them: parts, big-endian numbers, padding and gates.
+//! Lists of bytes as a device of 512-byte sectors holds them: parts, big-endian numbers, padding
+//! and gates.
 //!
-//! To the layers above: the definitions by which the contracts of devices, journals and checkpoints describe bytes, and the few
-//! calls that read or write such bytes. The lemmas of `proofs/` are for these layers.
+//! To the layers above: the definitions by which the contracts of devices, journals and checkpoints
+//! describe bytes, and the few calls that read or write such bytes. The lemmas of `proofs/` are for
+//! these layers.
 #![tactic(auto)]
 
 mod content_laws;

@@ -25,15 +25,16 @@ abbrev pub head_at : Half → Heads → Option Head
 head_at First heads = heads.first
 head_at Second heads = heads.second
 
--- The half that has the tail, by whether the chosen half's journal is sealed, and whether the other half is open: the
--- chosen half, or after a seal the other half, which has to be closed.
+-- The half that has the tail, by whether the chosen half's journal is sealed, and whether the other
+-- half is open: the chosen half, or after a seal the other half, which has to be closed.
 abbrev pub half_with_tail : Half → Bool → Bool → Result Half PairRefusal
 half_with_tail chosen false other_is_open = Ok chosen
 half_with_tail chosen true true = Err SealedNewer
 half_with_tail chosen true false = Ok (other chosen)
 
--- An opening once the chosen half's journal is read, by the half that has the tail: it is refused as the tail is; it is complete
--- where the chosen half has the tail; and else it continues with the other half's journal.
+-- An opening once the chosen half's journal is read, by the half that has the tail: it is refused
+-- as the tail is; it is complete where the chosen half has the tail; and else it continues with the
+-- other half's journal.
 pub record IsByTail {Db C : Type 0} (opening : Opening Db C) (sealed other_is_open : Bool) (behind : Result (Reading C) JournalRefusal) : Type 0 where
   pub refused : (refusal : PairRefusal) → half_with_tail opening.chosen sealed other_is_open ≡ Err refusal
       → behind_journal sealed other_is_open opening behind ≡ Err (BadPair refusal)

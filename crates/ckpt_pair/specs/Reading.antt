@@ -42,7 +42,8 @@ or_bad (Some x) = Ok x
 abbrev pub AreNoRows : List ℕ → Type 0
 AreNoRows bytes = (count : ℕ) (behind : List ℕ) → as_counted count (rows_decoding (bytes ++ behind)) ≡ None
 
--- The front of an area is valid, and the first of its rows has an outline: to read such an area takes memory.
+-- The front of an area is valid, and the first of its rows has an outline: to read such an area
+-- takes memory.
 pub record HasRowsToRead (area : List ℕ) : Type 0 where
   pub front : IsOk (front_in latest (length area) area)
   pub outline : HasOutline (part 32 (rows_size area) area)
@@ -61,7 +62,8 @@ with_rows_behind (Ok front) found = with_head front.head (found front)
 abbrev pub rows_behind : List ℕ → FrontView → Option (List RowView)
 rows_behind area front = as_counted front.count (rows_decoding (part 32 front.size area))
 
--- A checkpoint is its front and its rows, and the front depends on the first 32 bytes of the area alone.
+-- A checkpoint is its front and its rows, and the front depends on the first 32 bytes of the area
+-- alone.
 pub record IsReadByItsFront (area : List ℕ) : Type 0 where
   pub checkpoint : checkpoint_in rows_format latest area
       ≡ with_rows_behind (front_in latest (length area) area) (rows_behind area)

@@ -25,7 +25,8 @@ counted_rows count (Ok found) rows is =
     (ap (λ (l : List RowView). let r : Result (List RowView) DbError = Ok l in r) so.1, ap length (sym so.1) ∙ eqb-true (length found) count so.0)
 counted_rows count (Err e) rows is = absurd cc
 
--- Rows are written as their records, and bytes are read as `count` rows exactly where they are the records of `count` rows, in order.
+-- Rows are written as their records, and bytes are read as `count` rows exactly where they are the
+-- records of `count` rows, in order.
 abbrev pub rows_format : RowsFormat (List RowView)
 rows_format = record {
   encoding = rows_encoding;

@@ -1,4 +1,5 @@
--- Rows that a stream returns: the bytes that were pushed, the rows that were returned, and what is still to come.
+-- Rows that a stream returns: the bytes that were pushed, the rows that were returned, and what is
+-- still to come.
 use Rattle.std.specs.Prelude.{◌≡◌, ℕ, ◌+◌, ◌-◌, ◌≤◌, List, ◌++◌, length, take, drop, Ok, Some, None}
 use Rattle.store_layout.specs.CheckpointReading.{checkpoint_in}
 use Rattle.path_rows.specs.Database.{RowView}
@@ -20,13 +21,15 @@ pub record StreamView : Type 0 where
 abbrev pub stream_view : Inside → StreamView
 stream_view s = record { walk = s.walk; bytes = s.bytes; rows = s.rows }
 
--- These bytes were pushed, of which the first `size` are the records of the rows, and these rows of `count` were returned.
+-- These bytes were pushed, of which the first `size` are the records of the rows, and these rows of
+-- `count` were returned.
 pub record HasStreamed (size count : ℕ) (pushed : List ℕ) (given : List RowView) (stream : StreamView) : Type 0 where
   pub walk : HasGiven (take size pushed) given stream.walk
   pub bytes : stream.bytes ≡ size - length pushed
   pub rows : length given + stream.rows ≡ count
 
--- the bytes that were pushed are not read as this number of rows in this number of bytes, whatever bytes come next
+-- the bytes that were pushed are not read as this number of rows in this number of bytes, whatever
+-- bytes come next
 abbrev pub AreNoStreamedRows : StreamView → Type 0
 AreNoStreamedRows stream =
     (size count : ℕ) (pushed : List ℕ) (given : List RowView) → HasStreamed size count pushed given stream
@@ -41,13 +44,15 @@ pub record BeginWith (given rows : List RowView) : Type 0 where
   pub others : List RowView
   pub split : rows ≡ given ++ others
 
--- The rows that the pushed bytes and any later ones are read as begin with the rows that were returned.
+-- The rows that the pushed bytes and any later ones are read as begin with the rows that were
+-- returned.
 abbrev pub StreamsBeginRows : Type 0
 StreamsBeginRows =
     (size count : ℕ) (pushed after : List ℕ) (given rows : List RowView) (stream : StreamView) → HasStreamed size count pushed given stream
     → as_counted count (rows_decoding (take size (pushed ++ after))) ≡ Some rows → BeginWith given rows
 
--- Where a half's area is pushed from the rows on, its checkpoint is the reading of these bytes by the size and the count of its front.
+-- Where a half's area is pushed from the rows on, its checkpoint is the reading of these bytes by
+-- the size and the count of its front.
 abbrev pub StreamsReadHalves : Type 0
 StreamsReadHalves =
     (area bytes : List ℕ) (front : FrontView) → 32 ≤ length area → front_in latest (length area) area ≡ Ok front → bytes ≡ drop 32 area

@@ -12,8 +12,8 @@ use crate::error::PairError;
 use crate::head::Heads;
 use store_layout::Half;
 
-/// The half that is chosen: the open one, and of two open halves the one with the greater epoch. The error is `NoHalf` where no half
-/// is open, and `SameEpoch` where both have the same epoch.
+/// The half that is chosen: the open one, and of two open halves the one with the greater epoch.
+/// The error is `NoHalf` where no half is open, and `SameEpoch` where both have the same epoch.
 pub fn choose(heads: Heads) -> Result<Half, PairError>
     ensures { ReadsPair (λ half. half) result (choice (head_seen heads.first) (head_seen heads.second)) }
 {
@@ -39,8 +39,9 @@ fn by_epochs(first: u64, second: u64) -> Result<Half, PairError>
     }
 }
 
-/// The half that has the tail: the chosen one, or the other one where the chosen half's journal is sealed. The error is
-/// `SealedNewer` where the chosen half's journal is sealed and the other half is open.
+/// The half that has the tail: the chosen one, or the other one where the chosen half's journal is
+/// sealed. The error is `SealedNewer` where the chosen half's journal is sealed and the other half
+/// is open.
 pub fn tail_half(heads: Heads, chosen: Half, sealed: bool) -> Result<Half, PairError>
     ensures { ReadsPair (λ half. half) result (half_with_tail chosen sealed (is_some (head_at (other chosen) heads))) }
 {

@@ -14,8 +14,9 @@ use byte_lists::{SECTOR, pad, put, sector_count};
 use path_db::{PathDb, write_rows};
 use std::alloc::{AllocError, Global};
 
-/// A database as the checkpoint of an epoch and a place, in version `LATEST`, padded with zeros to whole sectors. Its records have
-/// to have less than 4 GiB; such a database can be a checkpoint. The buffer is reserved once, for all of the bytes.
+/// A database as the checkpoint of an epoch and a place, in version `LATEST`, padded with zeros to
+/// whole sectors. Its records have to have less than 4 GiB; such a database can be a checkpoint.
+/// The buffer is reserved once, for all of the bytes.
 pub fn encode_checkpoint(
     alloc: Global,
     db: &PathDb,
@@ -35,8 +36,9 @@ pub fn encode_checkpoint(
     Ok(out)
 }
 
-/// The 32 bytes of that checkpoint before its rows: the magic (4), the version (4), the epoch (8), the place (8), the length of the
-/// rows' records in bytes (4), and the number of rows (4). Numbers are big-endian.
+/// The 32 bytes of that checkpoint before its rows: the magic (4), the version (4), the epoch (8),
+/// the place (8), the length of the rows' records in bytes (4), and the number of rows (4). Numbers
+/// are big-endian.
 pub fn checkpoint_head(db: &PathDb, epoch: u64, place: u64) -> [u8; 32]
     requires { rows_len db.now < 2 ^ 32 }
     ensures spelled { result ++ rows_encoding db.now ≡ checkpoint_bytes rows_format (written_checkpoint epoch place db.now) }
@@ -45,8 +47,8 @@ pub fn checkpoint_head(db: &PathDb, epoch: u64, place: u64) -> [u8; 32]
     checkpoint_front(epoch, place, db.encoded_len() as u32, row_count(db))
 }
 
-/// The same 32 bytes for any rows, by the length of their records in bytes and their number. The caller has to know both before the
-/// rows are written.
+/// The same 32 bytes for any rows, by the length of their records in bytes and their number. The
+/// caller has to know both before the rows are written.
 pub fn checkpoint_front(epoch: u64, place: u64, size: u32, count: u32) -> [u8; 32]
     ensures spelled { (rows : List RowView) → rows_len rows ≡ size → length rows ≡ count
         → result ++ rows_encoding rows ≡ checkpoint_bytes rows_format (written_checkpoint epoch place rows) }

@@ -16,10 +16,12 @@ pub enum PairError {
     /// Both halves are open, and have the same epoch.
     #[error("both halves have the same epoch")]
     SameEpoch,
-    /// An open half has no valid head, or the rows of the chosen half are out of order or not as many as its front has.
+    /// An open half has no valid head, or the rows of the chosen half are out of order or not as
+    /// many as its front has.
     #[error("a checkpoint is not well-formed")]
     BadCheckpoint,
-    /// The chosen half's journal is sealed while the other half is open, or the other journal is sealed too.
+    /// The chosen half's journal is sealed while the other half is open, or the other journal is
+    /// sealed too.
     #[error("a half is sealed beside an open or a sealed one")]
     SealedNewer,
     /// The version of an open half is above `LATEST`.

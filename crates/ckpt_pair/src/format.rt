@@ -8,7 +8,8 @@ use byte_lists::SECTOR;
 pub const CHECKPOINT_MAGIC: u32 = 0x50434b50;
 /// The greatest version of the format that is known. Checkpoints are written in this version.
 pub const LATEST: u32 = 2;
-/// The length of a checkpoint before its rows, in bytes: the head (24), the length of the rows' records (4), and their number (4).
+/// The length of a checkpoint before its rows, in bytes: the head (24), the length of the rows'
+/// records (4), and their number (4).
 pub const BEFORE_ROWS: usize = 32;
 /// The offset of the version in a checkpoint, four bytes.
 pub(crate) const VERSION_AT: usize = 4;
@@ -21,7 +22,8 @@ pub const SIZE_AT: usize = 24;
 /// The offset of the number of rows in a checkpoint, four bytes.
 pub const COUNT_AT: usize = 28;
 
-/// The bytes of rows for which a checkpoint area of this number of sectors has room: all of its bytes but those before the rows.
+/// The bytes of rows for which a checkpoint area of this number of sectors has room: all of its
+/// bytes but those before the rows.
 pub fn area_room(sectors: u32) -> u64
     ensures { result ≡ 512 * sectors - 32 }
 {

@@ -12,8 +12,8 @@ use crate::error::PairError;
 use crate::format::{CHECKPOINT_MAGIC, EPOCH_AT, LATEST, PLACE_AT, VERSION_AT};
 use byte_lists::{is_open, read_u32, read_u64};
 
-/// The head of a checkpoint: the version of its format, the epoch, which is greater in the newer half, and the place, which is
-/// the number of commands that are folded into its rows.
+/// The head of a checkpoint: the version of its format, the epoch, which is greater in the newer
+/// half, and the place, which is the number of commands that are folded into its rows.
 #[derive(Clone, Copy, Debug, PartialEq, Eq)]
 pub struct Head {
     pub version: u32,
@@ -28,8 +28,9 @@ pub struct Heads {
     pub second: Option<Head>,
 }
 
-/// The head at the front of a half's area, or `None` where the half's gate is closed; the area is not read then. An open half
-/// with another magic or with version 0 is `BadCheckpoint`, and a version above `LATEST` is `NewerFormat`.
+/// The head at the front of a half's area, or `None` where the half's gate is closed; the area is
+/// not read then. An open half with another magic or with version 0 is `BadCheckpoint`, and a
+/// version above `LATEST` is `NewerFormat`.
 pub fn read_head(gate: &[u8], area: &[u8]) -> Result<Option<Head>, PairError>
     requires { 24 ≤ length area.now }
     ensures { ReadsPair head_seen result (head_behind (is_open_gate gate.now) (head_in latest area.now)) }

@@ -1,7 +1,8 @@
-//! The two halves of a store: how their heads and checkpoints are read and written, and which half is chosen.
+//! The two halves of a store: how their heads and checkpoints are read and written, and which half
+//! is chosen.
 //!
-//! To the layer above, each call returns what the definitions of `store_layout` give for the bytes, with the rows of `path_db`,
-//! and an error exactly where they give one.
+//! To the layer above, each call returns what the definitions of `store_layout` give for the bytes,
+//! with the rows of `path_db`, and an error exactly where they give one.
 #![tactic(auto)]
 
 mod choice;

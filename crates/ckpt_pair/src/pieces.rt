@@ -1,4 +1,5 @@
-//! The rows of a checkpoint, read from pieces of their bytes: for areas that are larger than the memory for them.
+//! The rows of a checkpoint, read from pieces of their bytes: for areas that are larger than the
+//! memory for them.
 
 ghost use Rattle.std.specs.Prelude.{◌≡◌, ◌≢◌, ◌<◌, ◌++◌, length, IfOk, IfErr, IsOk};
 ghost use Rattle.path_rows.specs.Database.{IsDatabase};
@@ -12,8 +13,8 @@ use crate::error::PairError;
 use crate::reading::has_count;
 use path_db::{DbError, PathDb, RowsReader};
 
-/// Reads the next piece of the rows' bytes, cut anywhere. A `BadCheckpoint` does not depend on the count of rows or on the bytes
-/// after this piece. An empty piece takes no memory.
+/// Reads the next piece of the rows' bytes, cut anywhere. A `BadCheckpoint` does not depend on the
+/// count of rows or on the bytes after this piece. An empty piece takes no memory.
 pub fn feed_rows(reader: RowsReader, piece: &[u8]) -> Result<RowsReader, PairError>
     ensures fed { IfOk result (λ more. more ≡ reader ++ piece.now) }
     ensures refused { IfErr result (λ e. e ≢ NoMemory → (e ≡ BadCheckpoint) × AreNoRows (reader ++ piece.now)) }
@@ -26,8 +27,8 @@ pub fn feed_rows(reader: RowsReader, piece: &[u8]) -> Result<RowsReader, PairErr
     }
 }
 
-/// The database of all bytes that were fed, which have to be the records of exactly `count` rows. The call takes memory only where
-/// the bytes are the records of some rows.
+/// The database of all bytes that were fed, which have to be the records of exactly `count` rows.
+/// The call takes memory only where the bytes are the records of some rows.
 pub fn finish_rows(reader: RowsReader, count: u32) -> Result<PathDb, PairError>
     ensures decoding { GivesPair (λ rows. rows) result (or_bad (as_counted count (rows_decoding reader))) }
     ensures whole { IfOk result IsDatabase }

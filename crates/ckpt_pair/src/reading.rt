@@ -18,7 +18,8 @@ use byte_lists::read_u32;
 use path_db::{DbError, PathDb, read_rows};
 use std::alloc::Global;
 
-/// The front of a checkpoint: its head, the length of the rows' records in bytes, and the number of rows.
+/// The front of a checkpoint: its head, the length of the rows' records in bytes, and the number of
+/// rows.
 #[derive(Clone, Copy, Debug, PartialEq, Eq)]
 pub struct Front {
     pub head: Head,
@@ -33,8 +34,9 @@ pub struct Checkpoint {
     pub db: PathDb,
 }
 
-/// Reads the front of an area of `area` bytes. An area with another magic or with version 0 is `BadCheckpoint`, a version above
-/// `LATEST` is `NewerFormat`, and rows that don't end within the area are `BadCheckpoint`.
+/// Reads the front of an area of `area` bytes. An area with another magic or with version 0 is
+/// `BadCheckpoint`, a version above `LATEST` is `NewerFormat`, and rows that don't end within the
+/// area are `BadCheckpoint`.
 pub fn read_front(bytes: &[u8], area: u64) -> Result<Front, PairError>
     requires { 32 ≤ length bytes.now }
     ensures { ReadsPair front_view result (front_in latest area bytes.now) }
@@ -48,9 +50,10 @@ pub fn read_front(bytes: &[u8], area: u64) -> Result<Front, PairError>
     Ok(Front { head, size, count })
 }
 
-/// Reads the checkpoint at the front of a half's area. Its front is checked first, as by `read_front`. Then rows whose length or
-/// number is not that of the front, or that aren't in the order of their keys, are `BadCheckpoint`. Bytes after the rows are not
-/// read. The call takes memory from the first row on whose segment has an outline.
+/// Reads the checkpoint at the front of a half's area. Its front is checked first, as by
+/// `read_front`. Then rows whose length or number is not that of the front, or that aren't in the
+/// order of their keys, are `BadCheckpoint`. Bytes after the rows are not read. The call takes
+/// memory from the first row on whose segment has an outline.
 pub fn read_half(alloc: Global, area: &[u8]) -> Result<Checkpoint, PairError>
     requires { 32 ≤ length area.now }
     ensures checkpoint { GivesPair checkpoint_view result (checkpoint_in rows_format latest area.now) }

@@ -1,4 +1,5 @@
-//! The rows of a checkpoint as a stream: read one after the other from pieces of their bytes, and not kept.
+//! The rows of a checkpoint as a stream: read one after the other from pieces of their bytes, and
+//! not kept.
 
 ghost use Rattle.std.specs.Prelude.{◌≡◌, ◌≢◌, ◌+◌, ◌≤◌, ◌<◌, ◌∷◌, ◌++◌, [], List, ℕ, length, take, IfOk, IfErr, IfSome, IfNone, OnOk, OnErr, Some, None, false};
 ghost use Rattle.path_rows.specs.Database.{RowView};
@@ -14,8 +15,9 @@ use path_db::{DbError, Row, RowWalk};
 use std::alloc::{AllocError, Global};
 use std::marker::Model;
 
-/// Returns the rows of a checkpoint one after the other, from pieces of their bytes, cut anywhere. It keeps the bytes that were
-/// pushed after the last row that it returned. Once all whole rows are returned, these are fewer than 16,389.
+/// Returns the rows of a checkpoint one after the other, from pieces of their bytes, cut anywhere.
+/// It keeps the bytes that were pushed after the last row that it returned. Once all whole rows are
+/// returned, these are fewer than 16,389.
 #[derive(Drop)]
 pub struct RowStream {
     walk: RowWalk,
@@ -32,8 +34,8 @@ impl Model for RowStream {
 }
 
 impl RowStream {
-    /// A stream before the first piece, of `count` rows in `length` bytes, as in the front of a checkpoint. The call takes no
-    /// memory.
+    /// A stream before the first piece, of `count` rows in `length` bytes, as in the front of a
+    /// checkpoint. The call takes no memory.
     pub fn new(alloc: Global, length: u32, count: u32) -> RowStream
         ensures { HasStreamed length count [] [] result }
     {
@@ -44,8 +46,8 @@ impl RowStream {
         }
     }
 
-    /// Adds the next piece of a half's area from the rows on. Bytes after those of the rows are ignored. An empty piece takes no
-    /// memory. Where memory is refused, the stream is unchanged.
+    /// Adds the next piece of a half's area from the rows on. Bytes after those of the rows are
+    /// ignored. An empty piece takes no memory. Where memory is refused, the stream is unchanged.
     pub fn push(&mut self, piece: &[u8]) -> Result<(), AllocError>
         ensures pushed { OnOk result ((size count : ℕ) (pushed : List ℕ) (given : List RowView) → HasStreamed size count pushed given self.old
             → HasStreamed size count (pushed ++ piece.now) given self.new) }
@@ -58,10 +60,11 @@ impl RowStream {
         Ok(())
     }
 
-    /// The next row, where its whole record was pushed; else `None`. Once all bytes of the rows were pushed, `None` means that the last
-    /// row was returned. Bytes that are no record, a row that is out of order or beyond the count, and bytes that end within a record or
-    /// with too few rows are `BadCheckpoint`, as for `read_half`, whatever bytes come next. The call takes memory only where the row's
-    /// segment has an outline. After an error the stream is unchanged.
+    /// The next row, where its whole record was pushed; else `None`. Once all bytes of the rows
+    /// were pushed, `None` means that the last row was returned. Bytes that are no record, a row
+    /// that is out of order or beyond the count, and bytes that end within a record or with too few
+    /// rows are `BadCheckpoint`, as for `read_half`, whatever bytes come next. The call takes
+    /// memory only where the row's segment has an outline. After an error the stream is unchanged.
     pub fn next(&mut self) -> Result<Option<Row>, PairError>
         ensures row { IfOk result (λ next. IfSome next (λ row. (size count : ℕ) (pushed : List ℕ) (given : List RowView)
             → HasStreamed size count pushed given self.old → HasStreamed size count pushed (given ++ row_view row ∷ []) self.new)) }

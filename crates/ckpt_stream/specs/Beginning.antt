@@ -18,11 +18,13 @@ use Rattle.store_open.specs.declared.sealed.SealedError.TheVariants.{Fault, NoMe
 use Rattle.row_edits.specs.Pouring.{PourView, untaken, untaken_len, edits_end}
 use Rattle.ckpt_stream.specs.Merge.{MergeView, bytes_made, IsReady}
 
--- the checkpoint of a sealed half: its rows, at the place that it reaches, in the version that is written
+-- the checkpoint of a sealed half: its rows, at the place that it reaches, in the version that is
+-- written
 abbrev pub checkpoint_from : ℕ → SealedHalf → Checkpoint (List RowView)
 checkpoint_from epoch sealed = written_checkpoint epoch sealed.place sealed.rows
 
--- A pour of which nothing is taken makes the checkpoint of rows after commands, from the records of these rows.
+-- A pour of which nothing is taken makes the checkpoint of rows after commands, from the records of
+-- these rows.
 pub record PoursCheckpoint (epoch place : ℕ) (rows : List RowView) (commands : List Command) (pour : PourView) : Type 0 where
   pub makes : untaken pour (rows_encoding rows) ≡ checkpoint_bytes rows_format (written_checkpoint epoch place (database_after_all rows commands))
   pub len : untaken_len pour ≡ 32 + rows_len (database_after_all rows commands)
@@ -33,8 +35,9 @@ pub record MakesFrom (merge : MergeView) (old : Checkpoint (List RowView)) : Typ
   pub size : merge.size ≡ length (rows_encoding old.db)
   pub makes : untaken merge.pour (rows_encoding old.db) ≡ bytes_made merge
 
--- A merge makes the checkpoint of this epoch of a sealed half, whatever the device is, and it fits an area; of an honest one the half is
--- what reads give, and the rows of its area are those from which the checkpoint is made.
+-- A merge makes the checkpoint of this epoch of a sealed half, whatever the device is, and it fits
+-- an area; of an honest one the half is what reads give, and the rows of its area are those from
+-- which the checkpoint is made.
 pub record IsMergeOf (geometry : Geometry) (half : Half) (epoch : ℕ) (disk : Disk) (merge : MergeView) : Type 0 where
   pub sealed : SealedHalf
   pub reads : IsHonest disk → sealed_half geometry half (reads_of disk) ≡ Some sealed
@@ -48,7 +51,8 @@ pub record IsMergeOf (geometry : Geometry) (half : Half) (epoch : ℕ) (disk : D
   pub ready : IsReady merge.pour
   pub makes : IsHonest disk → (old : Checkpoint (List RowView)) → checkpoint_in rows_format latest (area_of geometry half (reads_of disk)) ≡ Ok old → MakesFrom merge old
 
--- A sealed half's checkpoint is begun; or the half is none whose checkpoint fits, unless the device failed or memory ran out.
+-- A sealed half's checkpoint is begun; or the half is none whose checkpoint fits, unless the device
+-- failed or memory ran out.
 abbrev pub MergesSealed : Geometry → Half → ℕ → Result MergeView SealedError → Disk → Type 0
 MergesSealed geometry half epoch (Ok merge) disk = IsMergeOf geometry half epoch disk merge
 MergesSealed geometry half epoch (Err Fault) disk = Unit {0}

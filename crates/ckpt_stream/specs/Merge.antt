@@ -11,8 +11,8 @@ use Rattle.row_edits.specs.declared.edit.Edit.TheVariants.{Keep}
 use Rattle.row_edits.specs.Pouring.{PourView, untaken, untaken_len, edits_end}
 use Rattle.ckpt_stream.specs.declared.merge.Merge.TheInside.{Inside}
 
--- What is made and not written, with what is still to be made; how many bytes the rows of the old area have; and the rows of the
--- checkpoint, its epoch and its place.
+-- What is made and not written, with what is still to be made; how many bytes the rows of the old
+-- area have; and the rows of the checkpoint, its epoch and its place.
 pub record MergeView : Type 0 where
   pub pour : PourView
   pub size : ℕ
@@ -35,13 +35,15 @@ abbrev pub encoding_if_any : Option MergeView → List ℕ
 encoding_if_any None = []
 encoding_if_any (Some merge) = encoding_made merge
 
--- The window is 256 sectors, the sectors of the checkpoint are counted, and the edits go over just the rows of the old area.
+-- The window is 256 sectors, the sectors of the checkpoint are counted, and the edits go over just
+-- the rows of the old area.
 pub record IsMerge (s : Inside) : Type 0 where
   pub window : length s.window.items ≡ 131072
   pub sectors : 512 * s.sectors ≡ length (encoding_made (merge_view s))
   pub end : edits_end s.pour ≡ s.size
 
--- the bytes that are written next: at most 256 sectors of what is made, with zeros up to a whole sector
+-- the bytes that are written next: at most 256 sectors of what is made, with zeros up to a whole
+-- sector
 abbrev pub next_piece : PourView → List ℕ
 next_piece pour = padded (take 131072 pour.out)
 
@@ -53,8 +55,8 @@ after_piece pour = record pour { out = drop 131072 pour.out }
 abbrev pub IsReady : PourView → Type 0
 IsReady pour = (131072 ≤ length pour.out) ⊎ (pour.edits ≡ Keep 0 ∷ [])
 
--- More is made, from the rows of an area, which have this number of bytes: as many bytes are not taken as before, and over an honest
--- device these are the same bytes.
+-- More is made, from the rows of an area, which have this number of bytes: as many bytes are not
+-- taken as before, and over an honest device these are the same bytes.
 pub record MakesOn (disk : Disk) (area size : ℕ) (old new : PourView) : Type 0 where
   pub same : IsHonest disk → untaken new (part (512 * area + 32) size (reads_of disk)) ≡ untaken old (part (512 * area + 32) size (reads_of disk))
   pub len : untaken_len new ≡ untaken_len old

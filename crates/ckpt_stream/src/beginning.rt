@@ -24,9 +24,10 @@ use std::alloc::{AllocError, Global};
 use store_layout::{Geometry, Half};
 use store_open::{SealedError, scan_journal};
 
-/// Reads a half whose journal is sealed, and plans the checkpoint of this epoch that the journal's commands make of its rows. The
-/// half's rows are read twice as far as the first piece needs them, and else once; nothing is written, and the half's gate
-/// isn't read. A half that is refused, or whose rows after the commands don't fit an area, is `Damaged`.
+/// Reads a half whose journal is sealed, and plans the checkpoint of this epoch that the journal's
+/// commands make of its rows. The half's rows are read twice as far as the first piece needs them,
+/// and else once; nothing is written, and the half's gate isn't read. A half that is refused, or
+/// whose rows after the commands don't fit an area, is `Damaged`.
 pub fn begin_merge<D: Device>(
     alloc: Global,
     device: &mut D,

@@ -15,8 +15,9 @@ use ckpt_pair::BEFORE_ROWS;
 use row_edits::{PIECE, Pour};
 use sector_dev::{DevError, Device};
 
-/// Makes the next piece of a checkpoint from the rows of an area, which have `size` bytes: it reads at most 256 sectors of the area
-/// at a time, until a whole piece is made or nothing is left to be made.
+/// Makes the next piece of a checkpoint from the rows of an area, which have `size` bytes: it reads
+/// at most 256 sectors of the area at a time, until a whole piece is made or nothing is left to be
+/// made.
 pub(crate) fn make_piece<D: Device>(
     device: &mut D,
     area: u64,
@@ -45,8 +46,8 @@ pub(crate) fn make_piece<D: Device>(
     }
 }
 
-/// How many sectors are read from the one on that has the byte that is wanted: those that may fill the piece, but at most 256, and
-/// none after the rows.
+/// How many sectors are read from the one on that has the byte that is wanted: those that may fill
+/// the piece, but at most 256, and none after the rows.
 fn count_wanted(at: u64, size: u32, first: u64, made: usize) -> u64
     requires wanted { at < size }
     requires first { 512 * first ≤ at + 32 }
@@ -82,8 +83,8 @@ fn pour_sectors(pour: &mut Pour, size: u32, first: u64, count: u64, window: &[u8
     pour.pour(offset + start - head, &window[start as usize..to as usize]);
 }
 
-/// Puts the next piece of what is made into a window: at most 131,072 bytes, with zeros up to a whole sector. The answer is how many
-/// bytes these are.
+/// Puts the next piece of what is made into a window: at most 131,072 bytes, with zeros up to a
+/// whole sector. The answer is how many bytes these are.
 pub(crate) fn put_piece(window: &mut [u8], made: &[u8]) -> usize
     requires { length window.old ≡ 131072 }
     ensures piece { take result window.new ≡ padded (take 131072 made.now) }

@@ -10,14 +10,16 @@ use row_edits::{PIECE, Pour, RowsNote};
 use sector_dev::{DevError, Device};
 use std::marker::Model;
 
-/// The sectors of a piece of a checkpoint: that many are written, and read of the old area, at a time at most.
+/// The sectors of a piece of a checkpoint: that many are written, and read of the old area, at a
+/// time at most.
 pub const PIECE_SECTORS: u64 = (PIECE / SECTOR) as u64;
 
 /// The bytes of the window: a piece.
 pub(crate) const WINDOW: usize = PIECE;
 
-/// The checkpoint of a half whose journal a seal ends, made while it is written. Beside what the edits and the rows of the journal's
-/// keys take it has two buffers: a window of 131,072 bytes, and 147,461 bytes for what is made and not written yet.
+/// The checkpoint of a half whose journal a seal ends, made while it is written. Beside what the
+/// edits and the rows of the journal's keys take it has two buffers: a window of 131,072 bytes, and
+/// 147,461 bytes for what is made and not written yet.
 #[derive(Drop)]
 pub struct Merge {
     pub(crate) pour: Pour,
@@ -47,7 +49,8 @@ impl Merge {
         self.sectors
     }
 
-    /// How many bytes the window has, and how many the buffer of what is made. Both stay as long as the merge lives.
+    /// How many bytes the window has, and how many the buffer of what is made. Both stay as long as
+    /// the merge lives.
     pub fn buffer_lens(&self) -> (usize, usize)
         ensures window { result.0 ≡ 131072 }
         ensures made { result.1 ≡ 147461 }
@@ -55,9 +58,9 @@ impl Merge {
         (self.window.len(), self.pour.buffer_len())
     }
 
-    /// Writes the next sectors of the checkpoint, at most 256, from the sector `at` on, and then makes those after them: it reads
-    /// the rows of the old area, which begins at the sector `area`. Where the write or a read fails, the merge is of no more use.
-    /// It takes no memory.
+    /// Writes the next sectors of the checkpoint, at most 256, from the sector `at` on, and then
+    /// makes those after them: it reads the rows of the old area, which begins at the sector
+    /// `area`. Where the write or a read fails, the merge is of no more use. It takes no memory.
     pub fn write_next<D: Device>(
         &mut self,
         device: &mut D,

@@ -1,5 +1,5 @@
--- What is known of a registration that was decoded and checked, and of a message whose command was taken: for
--- `OnceService::accept`, `OnceService::drop_expired`, `OnceService::drop_one`.
+-- What is known of a registration that was decoded and checked, and of a message whose command was
+-- taken: for `OnceService::accept`, `OnceService::drop_expired`, `OnceService::drop_one`.
 use Rattle.std.proofs.Common.{◌≡◌, ◌≢◌, ◌⊎◌, ℕ, ◌+◌, ◌-◌, ◌*◌, ◌^◌, ◌<◌, Bool, true, false, if◌then◌else◌, List, [], None, Result, Ok, Err, inl, inr, refl, sym, ap, ◌∙◌, subst}
 use Rattle.std.specs.Result.{IsOk}
 use Rattle.std.proofs.lemmas.Bool.{ne_eqb, eq-eqb, le-leb}

@@ -1,4 +1,5 @@
--- A session for which there is no memory from the start: nothing is read, answered or written. For once and answer_in_lines.
+-- A session for which there is no memory from the start: nothing is read, answered or written. For
+-- once and answer_in_lines.
 use Rattle.std.proofs.Common.{◌≡◌, ℕ, List, [], ◌++◌, Option, Some, None, Err, refl, sym, arith}
 use Rattle.std.specs.List.{concat}
 use Rattle.std.specs.Io.KnownBytes.{Appends}

@@ -44,7 +44,8 @@ pub record IsCoreList (texts : List (List ℕ)) : Type 0 where
   pub cores : List IsdAs
   pub are : AreCores texts cores
 
--- why a list is refused: a text in it is no ISD-AS, which is found without memory, or memory ran out for the core ASes
+-- why a list is refused: a text in it is no ISD-AS, which is found without memory, or memory ran
+-- out for the core ASes
 abbrev pub RefusesList : List ℕ → Fault → Type 0
 RefusesList list (fault.Text e) = FirstRefusal (texts_of list) e
 RefusesList list fault.Memory = IsCoreList (texts_of list)

@@ -12,7 +12,8 @@ is_blank byte = (byte == 0x20) || ((byte == 0x0a) || (byte == 0x0d))
 abbrev pub without_blanks : List ℕ → List ℕ
 without_blanks text = filter (λ byte. not (is_blank byte)) text
 
--- why digits are refused: they encode no bytes, which is found without memory, or memory ran out for the bytes
+-- why digits are refused: they encode no bytes, which is found without memory, or memory ran out
+-- for the bytes
 abbrev pub RefusesDigits : List ℕ → Fault → Type 0
 RefusesDigits digits fault.Hex = IsErr (decode_of digits)
 RefusesDigits digits fault.Memory = IsOk (decode_of digits)

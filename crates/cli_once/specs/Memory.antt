@@ -24,8 +24,8 @@ use Rattle.session_core.specs.Reply.{ReplyView, Registered, Found, Purged, Remov
 use Rattle.reply_codes.specs.Codes.{memory_code, seg_code, check_code, lookup_code, submit_code}
 use Rattle.reply_codes.specs.Checking.{first_refusal}
 
--- The core ASes, the verdicts on signatures and the moment, which stay, and the database and the place of the next
--- command, which commands change.
+-- The core ASes, the verdicts on signatures and the moment, which stay, and the database and the
+-- place of the next command, which commands change.
 pub record Served : Type 0 where
   pub roster : RosterView
   pub verifies : Verdicts
@@ -59,7 +59,8 @@ ack_of served c = record { place = served.place; outcome = outcome_of served.row
 abbrev pub fits_store : List RowView → Bool
 fits_store rows = nat_le (32 + rows_len rows) (512 * 4096)
 
--- A command takes the next place. The last number of 64 bits is no place; and the rows after the command have to fit.
+-- A command takes the next place. The last number of 64 bits is no place; and the rows after the
+-- command have to fit.
 abbrev pub command_step : (Ack → ReplyView) → Served → Command → Step
 command_step taken served c =
     if served.place == 2 ^ 64 - 1 then refused_step served (submit_code Exhausted)
@@ -103,15 +104,16 @@ ShowsLookup (Purged ack) = ⊥
 ShowsLookup (Removed ack) = ⊥
 ShowsLookup (Refused code) = ⊥
 
--- Whether memory may run out for a message: a registration is refused without memory where its outline is, a removal where its
--- type is none, and a lookup where it asks for no segments.
+-- Whether memory may run out for a message: a registration is refused without memory where its
+-- outline is, a removal where its type is none, and a lookup where it asks for no segments.
 abbrev pub MayRunOut : Served → MessageView → Type 0
 MayRunOut served (Register body) = IsOk (registration_outline body)
 MayRunOut served (Lookup body) = ShowsLookup (message_step served (Lookup body)).0
 MayRunOut served (Purge moment) = Unit {0}
 MayRunOut served (Remove kind id) = IsOk (type_of kind)
 
--- The message was refused memory: nothing changed, or its command was taken, and the outcome isn't reported.
+-- The message was refused memory: nothing changed, or its command was taken, and the outcome isn't
+-- reported.
 pub record IsRefusedMemory (old : Served) (message : MessageView) (reply : ReplyView) (new : Served) : Type 0 where
   pub refused : reply ≡ Refused memory_code
   pub may : MayRunOut old message

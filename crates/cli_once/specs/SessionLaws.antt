@@ -24,8 +24,8 @@ OnlyReplies =
     (start : Served) (exchanges : List Exchange) (left : Served) → AreAnswered Answers start exchanges left
     → HasMemory exchanges → replies_of exchanges ≡ replies_from start (messages_of exchanges)
 
--- Where memory doesn't run out, a session of a reader whose bytes are known that ends well has written the frames of the
--- replies to its input, and nothing else.
+-- Where memory doesn't run out, a session of a reader whose bytes are known that ends well has
+-- written the frames of the replies to its input, and nothing else.
 abbrev pub WholeSession : {R : Type 0} → (R → Option (List ℕ)) → Type 0
 WholeSession {R} remaining =
     (turns : ℕ) (start : Served) (input output : List ℕ) (old new : R) (output_left : Option (List ℕ)) (count : ℕ)

@@ -23,8 +23,9 @@ pub record ServesCommand (old : Served) (c : Command) (new : Served) : Type 0 wh
   pub fits : FitStore (database_after old.rows c)
   pub taken : new ≡ after_command old c
 
--- The command was taken and acknowledged; or no place was left, or else the rows after it don't fit, and nothing changed. Where memory
--- ran out nothing changed, or the command was taken, and its outcome isn't reported.
+-- The command was taken and acknowledged; or no place was left, or else the rows after it don't
+-- fit, and nothing changed. Where memory ran out nothing changed, or the command was taken, and its
+-- outcome isn't reported.
 abbrev pub MayAcknowledge : Served → Command → Result Ack Refusal → Served → Type 0
 MayAcknowledge old c (Ok ack) new = (ack ≡ ack_of old c) × ServesCommand old c new
 MayAcknowledge old c (Err NoMemory) new = (new ≡ old) ⊎ ServesCommand old c new

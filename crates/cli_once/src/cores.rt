@@ -8,7 +8,8 @@ use crate::error::Fault;
 use isd_as::{IaError, IsdAs, parse};
 use std::alloc::Global;
 
-/// The core ASes of a list of texts joined by commas. A text that is no ISD-AS is found without memory.
+/// The core ASes of a list of texts joined by commas. A text that is no ISD-AS is found without
+/// memory.
 pub fn cores_of(alloc: Global, list: &str) -> Result<Vec<IsdAs>, Fault>
     ensures ok { IfOk result (λ cores. AreCores (texts_of list.now) cores.items) }
     ensures err { IfErr result (RefusesList list.now) }

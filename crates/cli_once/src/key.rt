@@ -10,7 +10,8 @@ use crate::hex_input::bytes_of_digits;
 use seg_check::{Keyed, MOST_KEY};
 use std::alloc::Global;
 
-/// The verifier by the key of a hexadecimal text, of 0 to 64 bytes. A text that is no key is found without memory.
+/// The verifier by the key of a hexadecimal text, of 0 to 64 bytes. A text that is no key is found
+/// without memory.
 pub fn key_of(alloc: Global, text: &str) -> Result<Keyed, Fault>
     ensures ok { IfOk result (λ key. decode_of text.now ≡ Ok key) }
     ensures short { IfOk result (λ key. length key ≤ MOST_KEY) }

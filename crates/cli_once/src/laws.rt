@@ -9,8 +9,8 @@ pub fn only_replies()
     ensures { OnlyReplies }
 {}
 
-/// Where memory doesn't run out, a session of a reader that ends well has written the replies to its input, and nothing
-/// else.
+/// Where memory doesn't run out, a session of a reader that ends well has written the replies to
+/// its input, and nothing else.
 pub fn whole_session<R: Read>()
     ensures { WholeSession R.remaining }
 {}

@@ -22,7 +22,8 @@ use seg_lookup::{Roster, classify};
 use session_core::{Ack, Code, Service};
 use std::alloc::{AllocError, Global};
 
-/// The core ASes, who judges signatures and the moment, and a store in memory. It isn't dropped: `end` ends it.
+/// The core ASes, who judges signatures and the moment, and a store in memory. It isn't dropped:
+/// `end` ends it.
 pub struct OnceService<'a, V: Verifier> {
     roster: &'a Roster,
     checker: &'a V,
@@ -61,8 +62,8 @@ impl<'a, V: Verifier> OnceService<'a, V> {
         store.end();
     }
 
-    /// Applies a command at the next place, and commits it. Where memory runs out nothing changes, or the command is taken, and its
-    /// outcome isn't reported.
+    /// Applies a command at the next place, and commits it. Where memory runs out nothing changes,
+    /// or the command is taken, and its outcome isn't reported.
     fn take(&mut self, command: Command) -> Result<Ack, Refusal>
         requires within { IsWithinLimits command }
         ensures { MayAcknowledge (served_by V.verifies self.old) command result (served_by V.verifies self.new) }

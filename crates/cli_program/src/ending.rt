@@ -19,7 +19,8 @@ pub enum Done {
 /// What ends the program before that is done. It prints this line on standard error.
 #[derive(Clone, Copy, Debug, PartialEq, Eq)]
 pub enum Ended {
-    /// An option can't be read, or a session of `once` ended with a fault, or memory ran out, or a print failed.
+    /// An option can't be read, or a session of `once` ended with a fault, or memory ran out, or a
+    /// print failed.
     Session(cli_once::Fault),
     /// A store isn't made, opened or changed.
     Store(cli_store::Fault),
@@ -76,7 +77,8 @@ impl From<RunError> for Ended {
     }
 }
 
-/// The status of the program: 0 where what the words ask for is done, 1 where it ended before that, and 2 where they can't be read.
+/// The status of the program: 0 where what the words ask for is done, 1 where it ended before that,
+/// and 2 where they can't be read.
 pub fn status_of(outcome: &Result<Done, Ended>) -> u8
     ensures { result ≡ program_status outcome.now }
 {

@@ -5,7 +5,8 @@ use sector_dev::Device;
 use std::net::TcpListener;
 use store_open::Store;
 
-/// Prints what happens to a server on standard error, a line each, unless it should be quiet. What can't be printed is left out.
+/// Prints what happens to a server on standard error, a line each, unless it should be quiet. What
+/// can't be printed is left out.
 #[derive(Drop)]
 pub(crate) struct Notices<'a, R> {
     rt: &'a R,

@@ -12,8 +12,9 @@ use cli_words::{FORMAT, ONCE, RUN, SHOW, STATUS, UPGRADE, read};
 use std::env;
 use std::io::{Read, Write};
 
-/// Does what the words of the command line ask for. Where that isn't done, the reason is a line on standard error. The answer is the
-/// program's status. No clause says what the words do or which status it is; those of the commands that it calls do, and `status_of`.
+/// Does what the words of the command line ask for. Where that isn't done, the reason is a line on
+/// standard error. The answer is the program's status. No clause says what the words do or which
+/// status it is; those of the commands that it calls do, and `status_of`.
 pub fn carry_out<R: System, I: Read, O: Write + Drop>(rt: &R, input: &mut I, output: O) -> u8 {
     let outcome = run(rt, input, output);
     if let Err(ended) = &outcome {
@@ -22,8 +23,9 @@ pub fn carry_out<R: System, I: Read, O: Write + Drop>(rt: &R, input: &mut I, out
     status_of(&outcome)
 }
 
-/// Reads the words of the command line, and does what they ask for. Where they can't be read, or ask for help, that is printed. No clause says what is
-/// answered: that the words reach their command is open.
+/// Reads the words of the command line, and does what they ask for. Where they can't be read, or
+/// ask for help, that is printed. No clause says what is answered: that the words reach their
+/// command is open.
 pub fn run<R: System, I: Read, O: Write + Drop>(
     rt: &R,
     input: &mut I,

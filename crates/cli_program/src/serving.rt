@@ -22,7 +22,8 @@ use store_open::{Store, open};
 /// How long a peer may be silent where no option says so, in seconds.
 const IDLE_SECONDS: u32 = 300;
 
-/// Serves the sessions of a store. Prints `ready` once it listens, and how many sessions there were at the end.
+/// Serves the sessions of a store. Prints `ready` once it listens, and how many sessions there were
+/// at the end.
 pub(crate) fn serve_file<R: System, O: Write>(
     rt: &R,
     words: &ArgMatches<'_>,

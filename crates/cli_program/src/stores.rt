@@ -11,7 +11,8 @@ use std::io::{BufWriter, Write};
 use std::rt::Files;
 use store_open::Geometry;
 
-/// Makes a file, of which nothing stays where it is there, and a store on it. On a block device the store is made as it is.
+/// Makes a file, of which nothing stays where it is there, and a store on it. On a block device the
+/// store is made as it is.
 pub(crate) fn format_file<R: AllocGlobal + Files<File = File>, O: Write>(
     rt: &R,
     options: &ArgMatches<'_>,
@@ -26,7 +27,8 @@ pub(crate) fn format_file<R: AllocGlobal + Files<File = File>, O: Write>(
     format(rt.alloc(), &mut device, geometry, output)
 }
 
-/// Prints the rows of a file's store and its place, or the layout of the file, which is then opened for reading alone.
+/// Prints the rows of a file's store and its place, or the layout of the file, which is then opened
+/// for reading alone.
 pub(crate) fn show_file<R: AllocGlobal + Files<File = File>, O: Write + Drop>(
     rt: &R,
     options: &ArgMatches<'_>,

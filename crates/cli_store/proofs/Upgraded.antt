@@ -1,4 +1,5 @@
--- A store that was opened and had a checkpoint made, if it was of version 1, is in the version that is written.
+-- A store that was opened and had a checkpoint made, if it was of version 1, is in the version that
+-- is written.
 use Rattle.std.proofs.Common.{◌≡◌, inl, inr, ℕ, ◌≤◌, List, Option, Result, Ok, Err, IfOk, IfErr, OnErr, ap, sym, subst, ◌∙◌, arith}
 use Rattle.sector_dev.specs.Disk.{Disk, IsHonest, reads_of}
 use Rattle.store_layout.specs.Checkpoint.{Head}

@@ -56,7 +56,8 @@ abbrev pub faults_after_command : Result (Unit {0}) Fault → ℕ → ℕ
 faults_after_command (Ok done) faults = faults
 faults_after_command (Err fault) faults = faults_after_fault fault faults
 
--- The device isn't opened for this reason, which says of what reads gave what it says there; nothing was written.
+-- The device isn't opened for this reason, which says of what reads gave what it says there;
+-- nothing was written.
 pub record IsNotOpened (e : OpenError) (disk : Disk) (output output_left : Option (List ℕ)) : Type 0 where
   pub refused : IsHonest disk → RefusesOpening e (opening_of store_format latest (reads_of disk))
   pub nothing : Appends output output_left []

@@ -16,9 +16,10 @@ use Rattle.cli_store.specs.Text.{before}
 use Rattle.cli_store.specs.declared.error.Fault.{Fault}
 use Rattle.cli_store.specs.declared.error.Fault.TheVariants.{Format, Open, Checkpoint, File, Memory, Output}
 
--- The numbers of a store: the version and the epoch of the half that is chosen, and whether its journal is sealed; the place
--- reached; how many rows there are, their bytes, and how many bytes of rows a checkpoint area takes; the sectors that are used of
--- the last journal, up to its last gate, and how many sectors a journal has.
+-- The numbers of a store: the version and the epoch of the half that is chosen, and whether its
+-- journal is sealed; the place reached; how many rows there are, their bytes, and how many bytes of
+-- rows a checkpoint area takes; the sectors that are used of the last journal, up to its last gate,
+-- and how many sectors a journal has.
 pub record Status : Type 0 where
   pub version : ℕ
   pub epoch : ℕ

@@ -15,11 +15,12 @@ pub record OpenToTheSame (before behind : List ℕ) : Type 0 where
   pub behind_is : IsStoreOf rows place behind
   pub beyond : SameBehind before_is.opening.geometry before behind
 
--- The image is what it was, or opens to the rows at the place that it opened to. So it opens to nothing else, and one that
--- doesn't open isn't changed.
+-- The image is what it was, or opens to the rows at the place that it opened to. So it opens to
+-- nothing else, and one that doesn't open isn't changed.
 abbrev pub StandsForTheSame : List ℕ → List ℕ → Type 0
 StandsForTheSame before behind = (behind ≡ before) ⊎ OpenToTheSame before behind
 
--- A stop at any moment from the old state on leaves of an honest device what represents the same as an image of the old state.
+-- A stop at any moment from the old state on leaves of an honest device what represents the same as
+-- an image of the old state.
 abbrev pub KeepsItsStore : Disk → Disk → Type 0
 KeepsItsStore old new = Stretch old new (IsFromImage old.history.now StandsForTheSame)

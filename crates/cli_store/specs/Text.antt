@@ -37,7 +37,8 @@ last_entry entries = slice_get entries (length entries - 1)
 abbrev pub before : List ℕ → List ℕ → List ℕ
 before word rest = word ++ (codes " " ++ rest)
 
--- The type, the id in hexadecimal digits, the timestamp in seconds since 1970, and when the segment expires, in half seconds.
+-- The type, the id in hexadecimal digits, the timestamp in seconds since 1970, and when the segment
+-- expires, in half seconds.
 abbrev pub row_head : RowView → List ℕ
 row_head row =
     before (type_word row.0) (before (encode_lower (segment_digest row.1)) (before (decimal row.1.timestamp) (decimal (expiry_of row.1))))

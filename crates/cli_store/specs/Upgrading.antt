@@ -20,7 +20,8 @@ BecomesLatest (Ok done) old new =
     ((old.head.version ≢ 1) × (new ≡ old)) ⊎ ((old.head.version ≡ 1) × Checkpoints (Ok done) old new)
 BecomesLatest (Err e) old new = (old.head.version ≡ 1) × Checkpoints (Err e) old new
 
--- The device holds a store at rest in the version that is written, with the rows and the place that reads gave before.
+-- The device holds a store at rest in the version that is written, with the rows and the place that
+-- reads gave before.
 pub record IsUpgraded (old new : Disk) : Type 0 where
   pub store : StoreView
   pub device : store.disk ≡ new
@@ -28,7 +29,8 @@ pub record IsUpgraded (old new : Disk) : Type 0 where
   pub rest : IsAtRest store
   pub same : IsStoreOf store.rows store.place (reads_of old)
 
--- The store was opened, in version 1, and no checkpoint was made for this reason; nothing was written.
+-- The store was opened, in version 1, and no checkpoint was made for this reason; nothing was
+-- written.
 pub record IsNotUpgraded (e : StoreError) (old new : Disk) (output output_left : Option (List ℕ)) : Type 0 where
   pub store : StoreView
   pub after : StoreView

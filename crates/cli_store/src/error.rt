@@ -7,8 +7,8 @@ use std::error::Error;
 use std::fmt;
 use store_open::{FormatError, OpenError, StoreError};
 
-/// What ends a command over a device. The program prints these words behind `error: `: an area, and the numbers of the error
-/// from the outside in.
+/// What ends a command over a device. The program prints these words behind `error: `: an area, and
+/// the numbers of the error from the outside in.
 #[derive(Clone, Copy, Debug, PartialEq, Eq)]
 pub enum Fault {
     /// No store is made.

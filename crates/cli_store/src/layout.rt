@@ -19,8 +19,8 @@ use std::io::Write;
 use store_layout::Half;
 use store_open::{Geometry, OpenError, read_geometry};
 
-/// Draws the regions of a device, a line each: the sectors, the region, and what is read there. It changes nothing, and goes on
-/// where the device would not be opened.
+/// Draws the regions of a device, a line each: the sectors, the region, and what is read there. It
+/// changes nothing, and goes on where the device would not be opened.
 pub fn show_layout<D: Device, W: Write>(
     alloc: Global,
     device: &mut D,

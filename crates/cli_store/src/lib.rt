@@ -1,8 +1,9 @@
 //! The commands of the program over a device with a store: what each does and prints.
 //!
-//! To the layer above, `format` makes a store, `show` prints the rows and the place that a device opens to, `upgrade` has the
-//! store in the version that is written, and `show_layout` and `status` change nothing: the one draws what is on a device, and
-//! the other prints the numbers of what the device opens with.
+//! To the layer above, `format` makes a store, `show` prints the rows and the place that a device
+//! opens to, `upgrade` has the store in the version that is written, and `show_layout` and `status`
+//! change nothing: the one draws what is on a device, and the other prints the numbers of what the
+//! device opens with.
 #![tactic(auto)]
 
 mod drawing;

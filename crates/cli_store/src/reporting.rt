@@ -13,8 +13,9 @@ use std::alloc::{AllocError, Global};
 use std::io::Write;
 use store_open::{Folded, look};
 
-/// Prints the numbers of a device's store, a line each: the version, the epoch, the place, the rows, their bytes and of how many,
-/// the sectors used of the last journal and of how many, and whether the chosen half's journal is sealed. The device is only read.
+/// Prints the numbers of a device's store, a line each: the version, the epoch, the place, the
+/// rows, their bytes and of how many, the sectors used of the last journal and of how many, and
+/// whether the chosen half's journal is sealed. The device is only read.
 pub fn status<D: Device, W: Write>(
     alloc: Global,
     device: &mut D,

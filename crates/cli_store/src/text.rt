@@ -11,8 +11,8 @@ use seg_check::expiry;
 use seg_core::{Entry, SegType};
 use std::alloc::{AllocError, Global};
 
-/// The line of a row: its type, its id, its timestamp, when it expires in half seconds since 1970, its first and its last
-/// ISD-AS, and how many entries it has.
+/// The line of a row: its type, its id, its timestamp, when it expires in half seconds since 1970,
+/// its first and its last ISD-AS, and how many entries it has.
 #[tactic(auto, unfolding(crate::specs::Text::row_line))]
 pub(crate) fn row_line(alloc: Global, row: &Row) -> Result<String, AllocError>
     ensures { IfOk result (λ line. string_bytes line ≡ row_line (row_view row.now)) }

@@ -20,8 +20,8 @@ use std::alloc::Global;
 use std::io::Write;
 use store_open::{Store, StoreError, open};
 
-/// Opens a device, makes a checkpoint at rest where its store is of version 1, and prints the version, which is 2 then. The
-/// device comes back.
+/// Opens a device, makes a checkpoint at rest where its store is of version 1, and prints the
+/// version, which is 2 then. The device comes back.
 #[tactic(auto, using(crate::proofs::Stops::opened_moments))]
 pub fn upgrade<D: Device, W: Write>(
     alloc: Global,
@@ -32,7 +32,8 @@ pub fn upgrade<D: Device, W: Write>(
     ensures printed { OnOk result (Appends (W.contents writer.old) (W.contents writer.new) version_line) }
     ensures err { IfErr result (λ back. FailsToUpgrade back.1 (D.disk device) (D.disk back.0) (W.contents writer.old) (W.contents writer.new)) }
 
-    // A stop at any moment leaves an image that opens to the rows and the place of before, and the bytes after the store unchanged.
+    // A stop at any moment leaves an image that opens to the rows and the place of before, and the
+    // bytes after the store unchanged.
     ensures any_moment { KeepsItsStore (D.disk device) (D.disk (device_after result)) }
 
     // It answers that the device failed just where it did.

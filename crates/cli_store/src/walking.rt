@@ -34,7 +34,8 @@ pub(crate) struct Walk {
     pub end: End,
 }
 
-/// Goes from gate to gate over the journal in this number of sectors, which the device has. Records aren't read.
+/// Goes from gate to gate over the journal in this number of sectors, which the device has. Records
+/// aren't read.
 pub(crate) fn walk_journal<D: Device>(
     device: &mut D,
     start: u64,

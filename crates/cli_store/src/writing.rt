@@ -12,8 +12,8 @@ use std::alloc::Global;
 use std::io::Write;
 use whole_writes::WriteFailed;
 
-/// Writes the lines of all rows, in the order of their keys, and that of a place. Where memory for a line runs out, those
-/// before it are kept.
+/// Writes the lines of all rows, in the order of their keys, and that of a place. Where memory for
+/// a line runs out, those before it are kept.
 pub(crate) fn write_store<W: Write>(
     alloc: Global,
     db: &PathDb,

@@ -1,8 +1,8 @@
 //! The words of the program's command line, as `clap` reads them.
 //!
-//! To the layer above, `command` is the program's command with those within it that have the names of `ONCE`, `FORMAT`, `SHOW`,
-//! `STATUS`, `UPGRADE` and `RUN`, and `read` reads words by it; what their options say is read by `clap`, but that numbers are decimal digits
-//! alone.
+//! To the layer above, `command` is the program's command with those within it that have the names
+//! of `ONCE`, `FORMAT`, `SHOW`, `STATUS`, `UPGRADE` and `RUN`, and `read` reads words by it; what
+//! their options say is read by `clap`, but that numbers are decimal digits alone.
 #![tactic(auto)]
 
 mod reading;

@@ -11,7 +11,8 @@ use clap::error::ErrorKind;
 use clap::{ArgMatches, Command, Error};
 use std::alloc::Global;
 
-/// What the words of a command line ask for. A number is decimal digits alone, with no sign: `clap` by itself takes one.
+/// What the words of a command line ask for. A number is decimal digits alone, with no sign: `clap`
+/// by itself takes one.
 pub fn read<'a>(alloc: Global, words: &'a [String]) -> Result<ArgMatches<'a>, Error>
     ensures { IfOk result (λ matches. IfSome (subcommand_rows_of matches) (λ met. HasPlainNumbers met.1)) }
 {

@@ -10,10 +10,10 @@ use std::fs::{File, OpenOptions};
 use std::rt::Files;
 use std::{fs, io};
 
-/// Opens a file of `len` zero bytes to be read and written by this process alone. One that is there is cut to nothing first,
-/// once it is locked: where another process has it open by a function of this library, the answer is `WouldBlock`. Before the
-/// answer is Ok, the file, its length and its name in its folder are synced. A block device stays as it is, whatever `len`
-/// says.
+/// Opens a file of `len` zero bytes to be read and written by this process alone. One that is there
+/// is cut to nothing first, once it is locked: where another process has it open by a function of
+/// this library, the answer is `WouldBlock`. Before the answer is Ok, the file, its length and its
+/// name in its folder are synced. A block device stays as it is, whatever `len` says.
 pub fn create<R: AllocGlobal + Files<File = File>>(
     rt: &R,
     path: &str,
@@ -44,7 +44,8 @@ fn set_zeros(file: &File, len: u64) -> io::Result<()> {
     file.sync_all()
 }
 
-// Syncs the folder that has the name of a file, which may be another one than the path's where the path is a link.
+// Syncs the folder that has the name of a file, which may be another one than the path's where the
+// path is a link.
 fn sync_folder<R: AllocGlobal + Files<File = File>>(rt: &R, path: &str) -> io::Result<()> {
     let path = fs::canonicalize(rt, path)?;
     match path.parent() {

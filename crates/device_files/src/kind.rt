@@ -14,7 +14,8 @@ pub(crate) enum DeviceKind {
     Block,
 }
 
-/// What an open file is. All others, as directories, pipes and terminals, are refused by `InvalidInput`.
+/// What an open file is. All others, as directories, pipes and terminals, are refused by
+/// `InvalidInput`.
 pub(crate) fn device_kind(file: &File) -> io::Result<DeviceKind> {
     let kind = file.metadata()?.file_type();
     if kind.is_file() {

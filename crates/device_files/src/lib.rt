@@ -1,8 +1,9 @@
 //! Files and block devices as the devices of a store, each opened under the system's lock on it.
 //!
-//! To the layer above, `open` and `create` open a file for one process alone, and `open_to_read` beside others that only read.
-//! A lock lasts as long as its `SystemFile`. Where another process holds a lock that this one can't be beside, the file is not
-//! read, written or cut. No clause says what the system does; that a `SystemFile` has no failures yet is proved.
+//! To the layer above, `open` and `create` open a file for one process alone, and `open_to_read`
+//! beside others that only read. A lock lasts as long as its `SystemFile`. Where another process
+//! holds a lock that this one can't be beside, the file is not read, written or cut. No clause says
+//! what the system does; that a `SystemFile` has no failures yet is proved.
 #![tactic(auto)]
 
 mod cache;

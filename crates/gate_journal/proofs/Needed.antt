@@ -103,7 +103,8 @@ same_sectors : (one other : Reading Command) → one.tail ≡ other.tail → one
 same_sectors one other tail sealed =
     ap (λ (n : ℕ). sectors_to one.sealed n) tail ∙ ap (λ (b : Bool). sectors_to b other.tail) sealed
 
--- the piece that a scanner wants counts for the reading of each journal that it has read up to its gate
+-- the piece that a scanner wants counts for the reading of each journal that it has read up to its
+-- gate
 pub piece_needed : (scanner : ScannerView) (bytes : List ℕ) (start : ℕ) (reading : Reading Command) → IsInside scanner.stage scanner.sectors scanner.gate scanner.place
     → scanner.gate + 1 ≤ scanner.sectors → IsReadUpTo scanner bytes start → IsJournal command_format (limits_of scanner.version) bytes start reading
     → first_wanted scanner + count_wanted scanner ≤ sectors_read reading

@@ -12,7 +12,8 @@ pub read_from : {T E : Type 0} (reading : Result T E) (value : T) → result_ok 
 read_from (Ok other) value is = cc
 read_from (Err refusal) value is = cc
 
--- A command is spelled as its record, and bytes are read as one; of the limits those on removals count.
+-- A command is spelled as its record, and bytes are read as one; of the limits those on removals
+-- count.
 abbrev pub command_format : CommandFormat Command
 command_format = record {
   encoding = command_encoding;

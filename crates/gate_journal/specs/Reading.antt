@@ -40,8 +40,8 @@ abbrev pub found_in_records : {X : Type 0} → Option X → Result X JournalRefu
 found_in_records None = Err IsBadRecord
 found_in_records (Some x) = Ok x
 
--- The header in the first sector of the payload after a gate, where this place is expected and the journal has this number of
--- sectors; the padding of a seal is checked too.
+-- The header in the first sector of the payload after a gate, where this place is expected and the
+-- journal has this number of sectors; the padding of a seal is checked too.
 abbrev pub header_reading : Limits → List ℕ → ℕ → ℕ → ℕ → Result Header JournalRefusal
 header_reading limits sector gate place sectors =
     if is_group_header limits sector then
@@ -67,7 +67,8 @@ pub record FirstWantsMemory (limits : Limits) (bytes : List ℕ) : Type 0 where
   pub size : 4 + record_size bytes ≤ length bytes
   pub command : IsSome (first_command command_format limits bytes) ⊎ CommandWantsMemory (part 4 (record_size bytes) bytes)
 
--- To read the commands of a group's payload takes memory: zeros are after its records, and the first record takes it.
+-- To read the commands of a group's payload takes memory: zeros are after its records, and the
+-- first record takes it.
 pub record PayloadWantsMemory (limits : Limits) (size : ℕ) (payload : List ℕ) : Type 0 where
   pub padding : are_zeros (padding_of size payload) ≡ true
   pub first : FirstWantsMemory limits (part 16 size payload)

@@ -5,8 +5,8 @@ use Rattle.store_layout.specs.Group.{last_place, payload_sectors, JournalHasRoom
 use Rattle.gate_journal.specs.declared.scanner.Stage.{Stage}
 use Rattle.gate_journal.specs.declared.scanner.Stage.TheVariants.{AtGate, AtHeader, AtPayload}
 
--- How many sectors the journal has, and by which version it is read; up to which gate it is read, the place reached and the
--- commands up to there; and what is read next.
+-- How many sectors the journal has, and by which version it is read; up to which gate it is read,
+-- the place reached and the commands up to there; and what is read next.
 pub record ScannerView : Type 0 where
   pub sectors : ℕ
   pub version : ℕ

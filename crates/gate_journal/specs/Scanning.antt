@@ -1,4 +1,5 @@
--- A journal that is read piece by piece. A piece is whole sectors; they are counted from the journal's start.
+-- A journal that is read piece by piece. A piece is whole sectors; they are counted from the
+-- journal's start.
 use Rattle.std.specs.Prelude.{◌≡◌, ℕ, ◌+◌, ◌-◌, ◌*◌, ◌<◌, ◌≤◌, List, length, Result, Ok, Err}
 use Rattle.byte_lists.specs.Content.{AreBytes, part}
 use Rattle.byte_lists.specs.Sectors.{whole_sectors, sector_at, IsOpenGate}
@@ -26,7 +27,8 @@ reading_of scan = record { commands = scan.commands.items; tail = scan.tail; sea
 
 -- ---- pieces
 
--- which sector the next piece begins with, and how many it has: the gate, the sector after it, or the whole payload
+-- which sector the next piece begins with, and how many it has: the gate, the sector after it, or
+-- the whole payload
 abbrev pub first_sector_of : Stage → ℕ → ℕ
 first_sector_of AtGate gate = gate
 first_sector_of AtHeader gate = gate + 1
@@ -47,7 +49,8 @@ count_wanted scanner = count_of scanner.stage
 abbrev pub HasPiece : ScannerView → List ℕ → List ℕ → Type 0
 HasPiece scanner bytes piece = part (512 * first_wanted scanner) (512 * count_wanted scanner) bytes ≡ piece
 
--- how many pieces are left at most: three after each gate, and a gate is two sectors at least after the last one
+-- how many pieces are left at most: three after each gate, and a gate is two sectors at least after
+-- the last one
 abbrev pub rank_of : Stage → ℕ
 rank_of AtGate = 2
 rank_of AtHeader = 1
@@ -58,7 +61,8 @@ pieces_left scanner = 3 * (scanner.sectors - scanner.gate) + rank_of scanner.sta
 
 -- ---- what was read
 
--- what is known of the journal after the gate: that it is open, and then that its header is one of a group in order
+-- what is known of the journal after the gate: that it is open, and then that its header is one of
+-- a group in order
 abbrev pub IsKnown : Stage → Limits → List ℕ → ℕ → ℕ → Type 0
 IsKnown AtGate limits bytes gate place = Unit {0}
 IsKnown AtHeader limits bytes gate place = IsOpenGate (sector_at gate bytes)
@@ -66,7 +70,8 @@ IsKnown (AtPayload count size) limits bytes gate place =
     IsOpenGate (sector_at gate bytes)
     × (header_reading limits (sector_at (gate + 1) bytes) gate place (whole_sectors bytes) ≡ Ok (Group count size))
 
--- The journal is read up to the scanner's gate: there are groups up to there, the commands are theirs, and the place is reached.
+-- The journal is read up to the scanner's gate: there are groups up to there, the commands are
+-- theirs, and the place is reached.
 pub record IsReadUpTo (scanner : ScannerView) (bytes : List ℕ) (start : ℕ) : Type 0 where
   pub size : whole_sectors bytes ≡ scanner.sectors
   pub groups : List (List Command)
@@ -75,14 +80,16 @@ pub record IsReadUpTo (scanner : ScannerView) (bytes : List ℕ) (start : ℕ) :
   pub place : scanner.place ≡ start + length (all_of groups)
   pub known : IsKnown scanner.stage (limits_of scanner.version) bytes scanner.gate scanner.place
 
--- each journal that the scanner has read up to its gate is read by this number of sectors at least, if it has a reading
+-- each journal that the scanner has read up to its gate is read by this number of sectors at least,
+-- if it has a reading
 abbrev pub CountsForReading : ScannerView → ℕ → Type 0
 CountsForReading scanner sectors =
     (bytes : List ℕ) (start : ℕ) (reading : Reading Command) → IsReadUpTo scanner bytes start
     → IsJournal command_format (limits_of scanner.version) bytes start reading → sectors ≤ sectors_read reading
 
--- Reading may want memory: there are groups up to an open gate; after that is a header of a group that is in order, at the place
--- reached and with room; and to read the group's payload takes memory.
+-- Reading may want memory: there are groups up to an open gate; after that is a header of a group
+-- that is in order, at the place reached and with room; and to read the group's payload takes
+-- memory.
 pub record MayWantMemory (limits : Limits) (bytes : List ℕ) (start : ℕ) : Type 0 where
   pub groups : List (List Command)
   pub gate : ℕ

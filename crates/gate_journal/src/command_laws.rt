@@ -2,7 +2,8 @@
 
 ghost use Rattle.gate_journal.specs.AllowedCommands.{CommandsAreAllowed};
 
-/// The limits of a journal allow each command that is within its own limits, a removal where they allow removals.
+/// The limits of a journal allow each command that is within its own limits, a removal where they
+/// allow removals.
 pub fn commands_are_allowed()
     ensures { CommandsAreAllowed }
 {}

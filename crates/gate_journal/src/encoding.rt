@@ -13,8 +13,9 @@ use byte_lists::{SECTOR, pad};
 use path_db::{Command, write_command};
 use std::alloc::{AllocError, Global};
 
-/// Whether these commands may be written as one group, whose first command has this place: there are 1 to 32, each within its
-/// limits, their records have at most 262,144 bytes, and no place is above 2^64 - 1.
+/// Whether these commands may be written as one group, whose first command has this place: there
+/// are 1 to 32, each within its limits, their records have at most 262,144 bytes, and no place is
+/// above 2^64 - 1.
 pub fn can_be_group(commands: &[Command], place: u64) -> bool
     ensures { IsTrue result ↔ IsWithinGroupLimits commands.now place }
 {
@@ -26,8 +27,8 @@ pub fn can_be_group(commands: &[Command], place: u64) -> bool
         && records_len(commands) <= MOST_RECORD_BYTES
 }
 
-/// The payload of a group whose first command has this place: a header, each command's record after its length, and zeros up
-/// to a whole sector.
+/// The payload of a group whose first command has this place: a header, each command's record after
+/// its length, and zeros up to a whole sector.
 pub fn encode_group(alloc: Global, commands: &[Command], place: u64) -> Result<Vec<u8>, AllocError>
     requires { IsWithinGroupLimits commands.now place }
     ensures { IfOk result (λ payload. payload.items ≡ group_encoding command_format place commands.now) }
@@ -63,8 +64,8 @@ fn records_len(commands: &[Command]) -> usize
     len
 }
 
-/// Appends the header of a group: the kind, the count of commands, two zeros, the length of the records in four big-endian
-/// bytes, the place in eight.
+/// Appends the header of a group: the kind, the count of commands, two zeros, the length of the
+/// records in four big-endian bytes, the place in eight.
 fn put_header(count: u8, size: u32, place: u64, out: &mut Vec<u8>) -> Result<(), AllocError>
     ensures { OnOk result (out.new.items ≡ out.old.items ++ with_header 1 count size place []) }
 {

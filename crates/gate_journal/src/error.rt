@@ -16,7 +16,8 @@ pub enum JournalError {
     /// The header after an open gate is none of a group and none of a seal.
     #[error("a payload has no header")]
     BadHeader,
-    /// The records of a group are not just as many commands as its header says, in just as many bytes, or padding isn't zero.
+    /// The records of a group are not just as many commands as its header says, in just as many
+    /// bytes, or padding isn't zero.
     #[error("a group has a bad record")]
     BadRecord,
     /// A payload has another place than this one, which is reached.

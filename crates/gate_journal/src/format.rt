@@ -7,7 +7,8 @@ ghost use Rattle.store_layout.specs.Limits.{limits_of};
 pub const GROUP: u8 = 1;
 /// The kind of a seal's header.
 pub const SEAL: u8 = 2;
-/// The bytes of a header: the kind, the number of commands, two zeros, the length of the records and the place.
+/// The bytes of a header: the kind, the number of commands, two zeros, the length of the records
+/// and the place.
 pub const HEADER: usize = 16;
 /// The offset of the number of commands in a header, a byte.
 pub const COUNT_AT: usize = 1;

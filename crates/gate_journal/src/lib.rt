@@ -1,7 +1,8 @@
-//! Groups of commands after gates, and seals: what a store's journal is made of, written and scanned.
+//! Groups of commands after gates, and seals: what a store's journal is made of, written and
+//! scanned.
 //!
-//! To the layers above: what is written is the one payload of a group or a seal, and what is read of a journal is what the
-//! scan of `store_layout` gives of it, at the commands of `path_db`.
+//! To the layers above: what is written is the one payload of a group or a seal, and what is read
+//! of a journal is what the scan of `store_layout` gives of it, at the commands of `path_db`.
 #![tactic(auto)]
 
 mod command_laws;

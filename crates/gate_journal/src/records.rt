@@ -15,7 +15,8 @@ use byte_lists::read_u32;
 use path_db::{Command, read_command};
 use std::alloc::Global;
 
-/// Reads the records and the padding of a group's payload, by the count and the size of its header, and appends the commands.
+/// Reads the records and the padding of a group's payload, by the count and the size of its header,
+/// and appends the commands.
 pub(crate) fn read_payload(
     alloc: Global,
     count: u8,

@@ -33,7 +33,8 @@ pub enum Stage {
     AtGate,
     /// The first sector after the gate, which is open.
     AtHeader,
-    /// The whole payload: of a group of this number of commands, whose records have this number of bytes.
+    /// The whole payload: of a group of this number of commands, whose records have this number of
+    /// bytes.
     AtPayload(u8, u32),
 }
 
@@ -88,8 +89,8 @@ pub enum Progress {
 impl Scanner {
     ghost use Rattle.gate_journal.specs.declared.scanner.Stage.TheVariants.{AtGate, AtHeader, AtPayload};
 
-    /// The start of a journal of this number of sectors, which is read by the version of its store. Its first command is to have this
-    /// place.
+    /// The start of a journal of this number of sectors, which is read by the version of its store.
+    /// Its first command is to have this place.
     pub fn new(alloc: Global, sectors: u64, place: u64, version: u32) -> Scanner
         requires { 1 ≤ sectors }
         ensures version { result.version ≡ version }
@@ -106,8 +107,8 @@ impl Scanner {
         }
     }
 
-    /// The piece that it reads next: a gate, the sector after it, or a whole payload. It is one of those sectors that count for
-    /// the reading.
+    /// The piece that it reads next: a gate, the sector after it, or a whole payload. It is one of
+    /// those sectors that count for the reading.
     pub fn wanted(&self) -> Piece
         ensures first { result.first ≡ first_wanted self.now }
         ensures count { result.count ≡ count_wanted self.now }

@@ -13,7 +13,8 @@ use byte_lists::SECTOR;
 use path_db::{Command, ROW_HEAD};
 use seg_core::{MOST_REGISTERED, MOST_REGISTERED_BYTES, SegType, Segment, encoded_len};
 
-/// How many sectors a payload takes whose records have this number of bytes: these and the header's 16, rounded up.
+/// How many sectors a payload takes whose records have this number of bytes: these and the header's
+/// 16, rounded up.
 pub fn payload_sectors(record_bytes: u64) -> u64
     ensures { result ≡ sectors_of_payload record_bytes }
 {
@@ -21,8 +22,8 @@ pub fn payload_sectors(record_bytes: u64) -> u64
     record_bytes / sector + (record_bytes % sector + HEADER as u64 + sector - 1) / sector
 }
 
-/// Whether a journal of this number of sectors has room for a payload of that many after a gate, and for two sectors after it: the
-/// next gate, and a seal's payload.
+/// Whether a journal of this number of sectors has room for a payload of that many after a gate,
+/// and for two sectors after it: the next gate, and a seal's payload.
 pub fn fits(gate: u64, payload: u64, journal: u64) -> bool
     ensures { IsTrue result ↔ JournalHasRoom gate payload journal }
 {
@@ -66,8 +67,8 @@ fn rows_len(rows: &[(SegType, Segment)]) -> usize
     len
 }
 
-/// Whether a command is within its limits: at most 16 segments, which have at most 131,072 bytes together. Then it has a
-/// record, which is read as it.
+/// Whether a command is within its limits: at most 16 segments, which have at most 131,072 bytes
+/// together. Then it has a record, which is read as it.
 pub fn is_within_limits(command: &Command) -> bool
     ensures exact { IsTrue result ↔ IsWithinLimits command.now }
     ensures written { IsTrue result → HasCommandRecord true command.now }

@@ -71,7 +71,8 @@ module _ (small large : ℕ) (grows : small ≤ large) where
   )
   load_larger geometry place gate Seal fits = tt
 
--- what is so where a value had its turn: the phase; and that all is written, where the value says so
+-- what is so where a value had its turn: the phase; and that all is written, where the value says
+-- so
 module _ {view new old : StateView} (is : view ≡ new) where
   pub check_at : {P : Type 0} {phase : Check} {value same : Commit P} → TakesPlanTurn phase value (success (StepError P) same) old new → view.check ≡ phase
   check_at taken = ap (λ (v : StateView). v.check) (is ∙ taken.3) ∙ taken.0.at

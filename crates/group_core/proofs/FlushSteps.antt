@@ -43,7 +43,8 @@ pub flush_at : {P : Type 0} {phase : Flush} {value same : Commit P} {view new ol
 flush_at is taken = ap (λ (v : StateView). v.flush) (is ∙ taken.3) ∙ taken.0.at
 
 module _ (old : StateView) (hidden : PrivateState) (has : IsState old hidden) where
-  -- a phase behind which no bytes are to be written, and something is in flight; and whether the state may go on
+  -- a phase behind which no bytes are to be written, and something is in flight; and whether the
+  -- state may go on
   pub record IsLater (flush : Flush) (stopped : Bool) : Type 0 where
     pub staged : flush ≢ Resting → old.flush ≢ Resting
     pub rests : flush ≡ Resting → old.flush ≡ Resting

@@ -59,7 +59,8 @@ module _ (old : StateView) (hidden : PrivateState) (has : IsState old hidden) wh
       let fits = subst (λ (l : List Command). FitArea old (db_after store_format old.value.db l)) all (has.shape.fits going (length old.pending) (omega arith)) in
       omega (arith, fits, counted (db_after store_format old.value.db old.pending), ap rows_len has.shape.tip)
 
-  -- the outcome of a command more is kept, which is that on the rows after all commands that are accepted
+  -- the outcome of a command more is kept, which is that on the rows after all commands that are
+  -- accepted
   abbrev with_outcome : Command → Outcomes
   with_outcome command = insert_entry nat_cmp old.kept (next_place old) (outcome_of (accepted_rows old) command)
 

@@ -28,9 +28,9 @@ use Rattle.group_core.specs.Keeping.{KeepsOutcomes}
 use Rattle.group_core.specs.Merging.{HasMerge, IsUnderWay, Streams}
 use Rattle.group_core.specs.Showing.{IsFrontOf}
 
--- what no clause sees: the bytes that are to be written of what is in flight, the rows after all commands that are accepted, the
--- place of the first of these, what the showcase has already of the group that it shows next, and the last checkpoint
--- that was begun
+-- what no clause sees: the bytes that are to be written of what is in flight, the rows after all
+-- commands that are accepted, the place of the first of these, what the showcase has already of the
+-- group that it shows next, and the last checkpoint that was begun
 pub record PrivateState : Type 0 where
   pub staged : List ℕ
   pub tip : List RowView
@@ -84,8 +84,9 @@ HasNextEpoch Live epoch = Unit {0}
 HasNextEpoch Closing epoch = Unit {0}
 HasNextEpoch CloseFailed epoch = Unit {0}
 
--- What holds whatever the device does: all is inside it, the outcomes that are kept are those of their commands, what is in flight
--- may be and its bytes are made, and while the state goes on every front fits the area.
+-- What holds whatever the device does: all is inside it, the outcomes that are kept are those of
+-- their commands, what is in flight may be and its bytes are made, and while the state goes on
+-- every front fits the area.
 pub record StateInvariant (view : StateView) (hidden : PrivateState) : Type 0 where
   pub limits : IsGeometry view.geometry
   pub sectors : image_sectors view.geometry ≤ view.disk.sectors
@@ -114,8 +115,8 @@ pub record IsNextCheckpoint (epoch : ℕ) (before next : Checkpoint (List RowVie
   pub new : next.head.epoch ≡ epoch + 1
   pub version : next.head.version ≡ latest
 
--- which half counts, by its epoch, and what the new checkpoint's bytes are, phase by phase: the other half's checkpoint, and that
--- of the half with the tail, there or to be there
+-- which half counts, by its epoch, and what the new checkpoint's bytes are, phase by phase: the
+-- other half's checkpoint, and that of the half with the tail, there or to be there
 abbrev pub CountsAt : Check → ℕ → List ℕ → Checkpoint (List RowView) → Checkpoint (List RowView) → Type 0
 CountsAt Ready epoch bytes before next = next.head.epoch ≡ epoch
 CountsAt Sealed epoch bytes before next = before.head.epoch ≡ epoch
@@ -127,22 +128,22 @@ CountsAt Live epoch bytes before next = next.head.epoch ≡ epoch
 CountsAt Closing epoch bytes before next = next.head.epoch ≡ epoch
 CountsAt CloseFailed epoch bytes before next = next.head.epoch ≡ epoch
 
--- What holds over an honest device: it holds what the state represents, and while the state goes on the fold up to a seal fits the
--- area.
+-- What holds over an honest device: it holds what the state represents, and while the state goes on
+-- the fold up to a seal fits the area.
 pub record DeviceInvariant (view : StateView) : Type 0 where
   pub behind : DeviceContents (List RowView) Command
   pub held : IsHeldBy (config_of view) (commit_state_of view) behind view.disk.history.now
   pub counts : CountsAt view.check view.epoch view.checkpoint behind.old behind.new
   pub fits : view.stopped ≡ false → checkpoint_size rows_format behind.new ≤ 512 * view.geometry.checkpoint
 
--- The same with the checkpoint that is made while it is written: while the state goes on, what is left to be made of it is what isn't
--- written.
+-- The same with the checkpoint that is made while it is written: while the state goes on, what is
+-- left to be made of it is what isn't written.
 pub record DeviceInvariantWith (view : StateView) (merge : Option MergeView) : Type 0 where
   pub sound : DeviceInvariant view
   pub streams : view.stopped ≡ false → view.check ≡ Planned → HasMerge (Streams sound.behind.old.db view.written) merge
 
--- What is held instead by the device of a store whose checkpoint had failed: the state has stopped before anything began, and
--- every image opens to what it shows.
+-- What is held instead by the device of a store whose checkpoint had failed: the state has stopped
+-- before anything began, and every image opens to what it shows.
 pub record IsBroken (view : StateView) : Type 0 where
   pub stopped : view.stopped ≡ true
   pub rests : view.flush ≡ Resting

@@ -13,7 +13,8 @@ use Rattle.group_core.specs.StateView.{StateView}
 abbrev pub value_of_store : StoreView → StoreValue (List RowView)
 value_of_store store = record { db = store.rows; place = store.place }
 
--- A state of it goes on where no checkpoint of it has failed, and its rows, and those up to its seal, have room in an area.
+-- A state of it goes on where no checkpoint of it has failed, and its rows, and those up to its
+-- seal, have room in an area.
 pub record CanContinue (store : StoreView) : Type 0 where
   pub whole : store.broken ≡ false
   pub rows : 32 + rows_len store.rows ≤ 512 * store.geometry.checkpoint

@@ -23,9 +23,11 @@ pub record StateView : Type 0 where
   pub value : StoreValue (List RowView)
   -- the commands that are accepted and not committed yet, in the order of their places
   pub pending : List Command
-  -- the outcome of each accepted command whose ticket isn't redeemed yet, by the command's place; places rise
+  -- the outcome of each accepted command whose ticket isn't redeemed yet, by the command's place;
+  -- places rise
   pub kept : List (ℕ × Outcome)
-  -- how many of the first pending commands are in flight: none while the flusher rests, and where a seal is in flight
+  -- how many of the first pending commands are in flight: none while the flusher rests, and where a
+  -- seal is in flight
   pub taken : ℕ
   -- how far the flusher is
   pub flush : Flush

@@ -1,4 +1,5 @@
--- Which call of the device a step makes. Of reads nothing is said, since they leave the device as it is.
+-- Which call of the device a step makes. Of reads nothing is said, since they leave the device as
+-- it is.
 use Rattle.std.specs.Prelude.{◌≡◌, ℕ, ◌+◌, ◌*◌, List, ◌++◌, Result, Ok, Err}
 use Rattle.byte_lists.specs.Content.{part}
 use Rattle.sector_dev.specs.Disk.{Disk}
@@ -24,8 +25,8 @@ abbrev pub IsMade : {T E : Type 0} → DeviceCall → Result T E → Disk → Di
 IsMade (Write sector bytes) result old new = WriteCall sector bytes result old new
 IsMade Sync result old new = SyncCall result old new
 
--- A step makes this call and no other: where the device decides, the call has the step's result; a step that is refused before that
--- makes none.
+-- A step makes this call and no other: where the device decides, the call has the step's result; a
+-- step that is refused before that makes none.
 abbrev pub StepCall : {P N : Type 0} → DeviceCall → Result N (StepError P) → Disk → Disk → Type 0
 StepCall {P} {N} call (Ok next) old new = IsMade {T = N} {E = StepError P} call (Ok next) old new
 StepCall {P} {N} call (Err Fault) old new = IsMade {T = N} {E = StepError P} call (Err Fault) old new
@@ -34,9 +35,9 @@ StepCall call (Err Stopped) old new = new ≡ old
 StepCall call (Err (NoMemory back)) old new = ⊥
 StepCall call (Err Damaged) old new = ⊥
 
--- What the steps write, and where: what is in flight, after the tail's gate; that gate, open; the next sectors of the new
--- checkpoint, in the area of its half; that half's gate, open; and the other half's gate, with the first gate of its journal,
--- which follows it, both closed.
+-- What the steps write, and where: what is in flight, after the tail's gate; that gate, open; the
+-- next sectors of the new checkpoint, in the area of its half; that half's gate, open; and the
+-- other half's gate, with the first gate of its journal, which follows it, both closed.
 abbrev pub load_write : StateView → DeviceCall
 load_write view = Write (journal_at view.geometry view.half + (view.gate + 1)) (load_bytes command_format view.value.place (load_of (commit_state_of view)))
 

@@ -30,13 +30,15 @@ commit_state_of view = record {
   written = view.written;
 }
 
--- what a stop may leave of a state: it opens to what is committed, with a front of the pending commands as long as the flusher's
--- phase allows, and by a half of the state's version or a later one
+-- what a stop may leave of a state: it opens to what is committed, with a front of the pending
+-- commands as long as the flusher's phase allows, and by a half of the state's version or a later
+-- one
 abbrev pub MayOpen : StateView → List ℕ → Type 0
 MayOpen view image = OpensToFront (config_of view) (commit_state_of view) image
 
--- What a call leaves: at each moment since its entry what a stop may leave of the state before it or after it, and at its exit
--- what one may leave of the state after it; and at every moment what is behind the store is as it was.
+-- What a call leaves: at each moment since its entry what a stop may leave of the state before it
+-- or after it, and at its exit what one may leave of the state after it; and at every moment what
+-- is behind the store is as it was.
 pub record StepLeaves (old new : StateView) : Type 0 where
   pub moments : Stretch old.disk new.disk (OpensAroundCall (config_of old) (commit_state_of old) (commit_state_of new))
   pub exit : IsHonest new.disk → EveryImage new.disk.history.now (MayOpen new)

@@ -2,9 +2,9 @@
 
 use crate::values::{Commit, Durable};
 
-/// Why a step with a value of phase `P` was refused. The first that holds is answered, in this order: `Stranger`, `Stopped`, and
-/// then `Fault`. `NoMemory` and `Damaged` are for a checkpoint of which only the next sectors are held; now all of them are, and no
-/// step answers these two.
+/// Why a step with a value of phase `P` was refused. The first that holds is answered, in this
+/// order: `Stranger`, `Stopped`, and then `Fault`. `NoMemory` and `Damaged` are for a checkpoint of
+/// which only the next sectors are held; now all of them are, and no step answers these two.
 pub enum StepError<P> {
     /// The device failed: the value is spent, and the state has stopped.
     Fault,
@@ -14,7 +14,8 @@ pub enum StepError<P> {
     Stranger(Commit<P>),
     /// Memory ran out: here is the value.
     NoMemory(Commit<P>),
-    /// What was read back is no half or journal of a store: the value is spent, and the state has stopped.
+    /// What was read back is no half or journal of a store: the value is spent, and the state has
+    /// stopped.
     Damaged,
 }
 

@@ -16,9 +16,10 @@ use group_phases::Flush;
 use sector_dev::Device;
 
 impl<D: Device, S: Showcase> State<D, S> {
-    /// Writes what is staged after the tail's gate, in one write. While that gate is closed nothing of it counts, however much of
-    /// it a stop keeps. A group's write ends with the next gate, closed: what was there before may read open, and would be taken
-    /// for a group's gate once the tail's gate is open.
+    /// Writes what is staged after the tail's gate, in one write. While that gate is closed nothing
+    /// of it counts, however much of it a stop keeps. A group's write ends with the next gate,
+    /// closed: what was there before may read open, and would be taken for a group's gate once the
+    /// tail's gate is open.
     pub fn write_group(&mut self, value: Staged) -> Result<Written, StepError<AtStaged>>
         ensures step { FlushStep staged written staged value result self.old self.new }
         ensures call { StepCall (load_write self.old) result self.old.disk self.new.disk }
@@ -35,7 +36,8 @@ impl<D: Device, S: Showcase> State<D, S> {
         }
     }
 
-    /// Syncs what was written. The payload must be on the disk before its gate can be: an open gate makes what is after it count.
+    /// Syncs what was written. The payload must be on the disk before its gate can be: an open gate
+    /// makes what is after it count.
     pub fn sync_group(&mut self, value: Written) -> Result<Stable, StepError<AtWritten>>
         ensures step { FlushStep written stable written value result self.old self.new }
         ensures call { StepCall Sync result self.old.disk self.new.disk }
@@ -51,8 +53,9 @@ impl<D: Device, S: Showcase> State<D, S> {
         }
     }
 
-    /// Writes the tail's gate open. One byte of this sector decides, so a stop keeps the whole group or seal, or nothing of it.
-    /// Where the write fails that stays in doubt, and the state has stopped.
+    /// Writes the tail's gate open. One byte of this sector decides, so a stop keeps the whole
+    /// group or seal, or nothing of it. Where the write fails that stays in doubt, and the state
+    /// has stopped.
     pub fn open_gate(&mut self, value: Stable) -> Result<Opened, StepError<AtStable>>
         ensures step { FlushStep stable opened doubtful value result self.old self.new }
         ensures call { StepCall (gate_write self.old) result self.old.disk self.new.disk }
@@ -72,8 +75,8 @@ impl<D: Device, S: Showcase> State<D, S> {
         }
     }
 
-    /// Syncs the gate: from then on every stop keeps what was in flight. A group counts as committed only once no stop can lose
-    /// its gate, so this comes before `publish`.
+    /// Syncs the gate: from then on every stop keeps what was in flight. A group counts as
+    /// committed only once no stop can lose its gate, so this comes before `publish`.
     pub fn sync_gate(&mut self, value: Opened) -> Result<Durable, StepError<AtOpened>>
         ensures step { FlushStep opened durable opened value result self.old self.new }
         ensures call { StepCall Sync result self.old.disk self.new.disk }

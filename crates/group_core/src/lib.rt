@@ -1,11 +1,12 @@
-//! The state of a store at work: a flusher that commits accepted commands in groups, and a checkpointer that folds a sealed
-//! journal into the other half. One call makes at most one write or one sync of the device, and its clause says which.
+//! The state of a store at work: a flusher that commits accepted commands in groups, and a
+//! checkpointer that folds a sealed journal into the other half. One call makes at most one write
+//! or one sync of the device, and its clause says which.
 //!
-//! Here are the start of a state, submitting commands, staging, beginning a checkpoint, the steps of both actors on the device,
-//! publishing, redeeming, stopping, lookups, and the end of a state.
+//! Here are the start of a state, submitting commands, staging, beginning a checkpoint, the steps
+//! of both actors on the device, publishing, redeeming, stopping, lookups, and the end of a state.
 //!
-//! To the layer above: each step is exact, and says what a stop within it leaves: what is committed, with a front of the
-//! accepted commands as long as the phase of the flusher allows.
+//! To the layer above: each step is exact, and says what a stop within it leaves: what is
+//! committed, with a front of the accepted commands as long as the phase of the flusher allows.
 #![tactic(auto)]
 
 mod accepting;

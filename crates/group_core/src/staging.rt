@@ -27,14 +27,15 @@ use sector_dev::Device;
 use std::alloc::{AllocError, Global};
 use thiserror::Error;
 
-/// Why nothing was staged. The first that holds is answered, in this order: `Stopped`, `InFlight`, `Empty`, `NoRoom`, and then
-/// `NoMemory`.
+/// Why nothing was staged. The first that holds is answered, in this order: `Stopped`, `InFlight`,
+/// `Empty`, `NoRoom`, and then `NoMemory`.
 #[derive(Clone, Copy, Debug, PartialEq, Eq, Error)]
 pub enum StageError {
     /// No command is pending.
     #[error("no command is pending")]
     Empty = 1,
-    /// The journal has no room for the group, and the other half isn't ready for what follows a seal.
+    /// The journal has no room for the group, and the other half isn't ready for what follows a
+    /// seal.
     #[error("the journal has no room")]
     NoRoom = 2,
     /// What was staged before isn't published yet.
@@ -56,7 +57,8 @@ impl From<AllocError> for StageError {
     }
 }
 
-/// The longest front of commands that fits one group: how many they are, and how many bytes their records have.
+/// The longest front of commands that fits one group: how many they are, and how many bytes their
+/// records have.
 #[derive(Clone, Copy)]
 struct Front {
     count: usize,
@@ -64,8 +66,8 @@ struct Front {
 }
 
 impl<D: Device, S: Showcase> State<D, S> {
-    /// Stages the longest front of the pending commands that fits one group. Where the journal has no room for it, a seal is
-    /// staged instead, once the other half is ready.
+    /// Stages the longest front of the pending commands that fits one group. Where the journal has
+    /// no room for it, a seal is staged instead, once the other half is ready.
     pub fn stage(&mut self) -> Result<Staged, StageError>
         ensures step { Stages result self.old self.new }
         ensures any_moment { StepLeaves self.old self.new }

@@ -24,9 +24,10 @@ const NO_TURN: Turn = Turn {
 };
 
 impl<D: Device, S: Showcase> State<D, S> {
-    /// The state of a store that was opened, and whose rows are shown; the caller gives each state of a process a home number of its
-    /// own. It has stopped from its start where a checkpoint of the store has failed, and where its rows, or those up to its seal,
-    /// have no room in a checkpoint area. It takes no memory.
+    /// The state of a store that was opened, and whose rows are shown; the caller gives each state
+    /// of a process a home number of its own. It has stopped from its start where a checkpoint of
+    /// the store has failed, and where its rows, or those up to its seal, have no room in a
+    /// checkpoint area. It takes no memory.
     pub fn new(alloc: Global, store: Store<D>, show: S, home: u64) -> State<D, S>
         requires shown { S.value show ≡ value_of_store store }
         requires paid { S.owed show ≡ [] }

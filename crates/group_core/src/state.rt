@@ -20,21 +20,27 @@ pub struct State<D: Device, S: Showcase> {
     pub(crate) device: D,
     /// The sizes of each half's checkpoint area and journal, in sectors.
     pub(crate) geometry: Geometry,
-    /// The state's own number, which its tickets and its commit values have too; no other state of the process has it.
+    /// The state's own number, which its tickets and its commit values have too; no other state of
+    /// the process has it.
     pub(crate) home: u64,
     /// What shows the committed rows.
     pub(crate) show: S,
-    /// How many commands are committed, since the store was made: the place of the first pending one.
+    /// How many commands are committed, since the store was made: the place of the first pending
+    /// one.
     pub(crate) place: u64,
     /// The rows after all accepted commands.
     pub(crate) tip: PathDb,
-    /// The commands that are accepted and not committed yet, in the order of their places; at most 256.
+    /// The commands that are accepted and not committed yet, in the order of their places; at most
+    /// 256.
     pub(crate) pending: Vec<Command>,
-    /// The outcome of each accepted command whose ticket is not redeemed yet, by the command's place.
+    /// The outcome of each accepted command whose ticket is not redeemed yet, by the command's
+    /// place.
     pub(crate) kept: RisingMap<Outcome>,
-    /// How many of the first pending commands are in flight: 0 while the flusher rests, and where a seal is in flight.
+    /// How many of the first pending commands are in flight: 0 while the flusher rests, and where a
+    /// seal is in flight.
     pub(crate) taken: usize,
-    /// The bytes of the one write of what is in flight, in whole sectors: a group with the closed gate after it, or a seal.
+    /// The bytes of the one write of what is in flight, in whole sectors: a group with the closed
+    /// gate after it, or a seal.
     pub(crate) staged: Vec<u8>,
     /// How far the flusher is.
     pub(crate) flush: Flush,

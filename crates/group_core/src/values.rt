@@ -1,4 +1,5 @@
-//! Commit values: what an actor holds between two of its steps. One can't be copied or dropped: it is given to the next step.
+//! Commit values: what an actor holds between two of its steps. One can't be copied or dropped: it
+//! is given to the next step.
 
 ghost use Rattle.std.specs.Prelude.{◌≡◌, ◌↔◌, IsTrue};
 ghost use Rattle.group_core.specs.Values.{IsOf, IsSame};
@@ -8,7 +9,8 @@ use crate::phases::{
     AtWritten,
 };
 
-/// A value of an actor: the home of the state that gave it, the number of its group or plan, and its phase.
+/// A value of an actor: the home of the state that gave it, the number of its group or plan, and
+/// its phase.
 pub struct Commit<P> {
     home: u64,
     number: u64,

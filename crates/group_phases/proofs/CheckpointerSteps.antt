@@ -106,7 +106,8 @@ begins_plan Db C config base next written moment folds can has = (
   record { inside = omega arith; front = refl },
 )
 
--- a write in front of the tail's journal is apart from the other half, and one at the other half's gates from that front
+-- a write in front of the tail's journal is apart from the other half, and one at the other half's
+-- gates from that front
 front_apart : (geometry : Geometry) (half : Half) (sector n : ℕ) → area_at geometry half ≤ sector → 512 * sector + n ≤ 512 * (gate_at geometry half + 1)
     → AreRangesApart (512 * sector) n (512 * area_at geometry (other half)) (512 * half_sectors geometry)
 front_apart geometry First sector n low high = inl (omega arith)

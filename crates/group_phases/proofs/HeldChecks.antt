@@ -1,4 +1,5 @@
--- Both parts at once: what each call of the checkpointer leaves on a device that holds what a state represents.
+-- Both parts at once: what each call of the checkpointer leaves on a device that holds what a state
+-- represents.
 use Rattle.std.proofs.Common.{◌≡◌, inl, inr, ℕ, ◌+◌, ◌*◌, Bool, ◌++◌, subst, arith, Result, Ok, Err}
 use Rattle.byte_lists.specs.Content.{part}
 use Rattle.sector_dev.specs.Disk.{Moment}

@@ -1,4 +1,5 @@
--- What the checkpointer relies on, phase by phase: facts of both areas, both half gates, and the journal without the tail.
+-- What the checkpointer relies on, phase by phase: facts of both areas, both half gates, and the
+-- journal without the tail.
 use Rattle.std.specs.Prelude.{◌≡◌, ℕ, ◌*◌, ◌<◌, ◌≤◌, Bool, false, List, length, take}
 use Rattle.byte_lists.specs.Content.{part}
 use Rattle.sector_dev.specs.Disk.{Moment}
@@ -16,9 +17,9 @@ use Rattle.group_phases.specs.Halves.{ReadsOpen, IsOpenHalf, IsClosedHalf, HasCh
 use Rattle.group_phases.specs.Tail.{Seal, Tail, tail_place}
 use Rattle.group_phases.specs.FlusherPart.{FlusherPart}
 
--- The half that has the tail, the version under whose limits the tail is written, and that half's checkpoint, there or to be
--- there. While that one doesn't count for sure, of the other half its checkpoint, the groups of its journal, and the gate of
--- the seal that ends it.
+-- The half that has the tail, the version under whose limits the tail is written, and that half's
+-- checkpoint, there or to be there. While that one doesn't count for sure, of the other half its
+-- checkpoint, the groups of its journal, and the gate of the seal that ends it.
 pub record CheckpointPair (Db C : Type 0) : Type 0 where
   pub half : Half
   pub version : ℕ
@@ -31,8 +32,8 @@ pub record CheckpointPair (Db C : Type 0) : Type 0 where
 abbrev pub sealed_of : {Db C : Type 0} → CheckpointPair Db C → Tail C
 sealed_of base = record { half = other base.half; start = base.old.head.place; groups = base.groups; gate = base.gate }
 
--- The sealed half folded is the new checkpoint, which is newer. The tail is written under limits that both halves' versions
--- allow.
+-- The sealed half folded is the new checkpoint, which is newer. The tail is written under limits
+-- that both halves' versions allow.
 pub record FoldsTo {Db C : Type 0} (format : StoreFormat Db C) (base : CheckpointPair Db C) : Type 0 where
   pub place : tail_place (sealed_of base) ≡ base.new.head.place
   pub db : db_after format base.old.db (all_of base.groups) ≡ base.new.db

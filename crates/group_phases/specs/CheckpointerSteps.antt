@@ -1,4 +1,5 @@
--- What the checkpointer's calls make of its part, and what publishing a seal does. Each statement is the contract of a function.
+-- What the checkpointer's calls make of its part, and what publishing a seal does. Each statement
+-- is the contract of a function.
 use Rattle.std.specs.Prelude.{◌≡◌, ℕ, ◌+◌, ◌*◌, ◌≤◌, [], ◌++◌, length, Result}
 use Rattle.byte_lists.specs.Content.{part}
 use Rattle.sector_dev.specs.Disk.{Moment, Disk, IsHonest}
@@ -19,7 +20,8 @@ use Rattle.group_phases.specs.BasePart.{CheckpointPair, FoldsTo, CanBeNewCheckpo
 use Rattle.group_phases.specs.Kept.{IsBesideJournal}
 use Rattle.group_phases.specs.FlusherSteps.{by_result}
 
--- the tail's part under larger limits, and the checkpointer's for a later version of the tail's limits
+-- the tail's part under larger limits, and the checkpointer's for a later version of the tail's
+-- limits
 abbrev pub StaysUnderLargerLimits : Type 0 → Type 0
 StaysUnderLargerLimits C =
     (phase : Flush) (format : CommandFormat C) (small large : Limits) (geometry : Geometry) (tail : Tail C) (load : GroupOrSeal C) (moment : Moment)
@@ -58,7 +60,8 @@ BeginsPlan Db C =
     → FoldsTo config.format (with_new base next) → CanBeNewCheckpoint config next
     → BasePart Sealed config base written moment → BasePart Planned config (with_new base next) 0 moment
 
--- what the checkpointer writes lies beside the tail's journal: a chunk, the new half's gate, and the old half's two gates
+-- what the checkpointer writes lies beside the tail's journal: a chunk, the new half's gate, and
+-- the old half's two gates
 pub record WritesBeside {Db C : Type 0} (config : StoreConfig Db C) (base : CheckpointPair Db C) (written more : ℕ) : Type 0 where
   pub chunk : IsBesideJournal config.geometry base.half (area_at config.geometry base.half + written)
       (length (part (512 * written) (512 * more) (checkpoint_encoding config.format.rows base.new)))
@@ -108,7 +111,8 @@ OpensHalf T E Db C =
 abbrev pub HalfIsSynced : Type 0 → Type 0 → Type 0 → Type 0 → Type 0
 HalfIsSynced T E Db C = IsBaseSync T E Db C Switched Live
 
--- the old half's gate and the first gate of its journal are written closed, in one write, and synced
+-- the old half's gate and the first gate of its journal are written closed, in one write, and
+-- synced
 abbrev pub ClosesHalf : Type 0 → Type 0 → Type 0 → Type 0 → Type 0
 ClosesHalf T E Db C =
     (config : StoreConfig Db C) (base : CheckpointPair Db C) (written : ℕ) (result : Result T E) (old new : Disk)

@@ -16,9 +16,10 @@ use Rattle.group_phases.specs.Tail.{GroupOrSeal, Commands, Seal, Tail, tail_plac
 use Rattle.group_phases.specs.FlusherPart.{FlusherPart}
 use Rattle.group_phases.specs.BasePart.{CheckpointPair, BasePart, MayBeSealed}
 
--- What of a state counts for its device: what is committed; the commands that are pending after that, and how many of the first
--- are in flight, where none of them is a seal; how far the two actors are; the half that has the tail, its gate, and the version
--- under whose limits it is written; and how many sectors of the new checkpoint are written.
+-- What of a state counts for its device: what is committed; the commands that are pending after
+-- that, and how many of the first are in flight, where none of them is a seal; how far the two
+-- actors are; the half that has the tail, its gate, and the version under whose limits it is
+-- written; and how many sectors of the new checkpoint are written.
 pub record CommitState (Db C : Type 0) : Type 0 where
   pub value : StoreValue Db
   pub pending : List C
@@ -52,8 +53,9 @@ seals Opened load = is_seal load
 seals Doubtful load = is_seal load
 seals Durable load = is_seal load
 
--- What is on the device for a state, and in no field of it: the groups of the tail's journal; the checkpoint of the half that has the
--- tail, there or to be there; and the other half's, with the groups of its journal and the gate of the seal that ends it.
+-- What is on the device for a state, and in no field of it: the groups of the tail's journal; the
+-- checkpoint of the half that has the tail, there or to be there; and the other half's, with the
+-- groups of its journal and the gate of the seal that ends it.
 pub record DeviceContents (Db C : Type 0) : Type 0 where
   pub groups : List (List C)
   pub new : Checkpoint Db
@@ -76,7 +78,8 @@ checkpoint_pair_of state behind = record {
   gate = behind.old_gate;
 }
 
--- The device holds what such a state represents, with this on the device: the title, each actor's part, and what joins them.
+-- The device holds what such a state represents, with this on the device: the title, each actor's
+-- part, and what joins them.
 pub record IsHeldBy {Db C : Type 0} (config : StoreConfig Db C) (state : CommitState Db C) (behind : DeviceContents Db C) (moment : Moment) : Type 0 where
   pub title : HasTitle config.geometry moment
   pub taken : state.taken ≤ length state.pending
@@ -92,7 +95,8 @@ pub record IsHeld {Db C : Type 0} (config : StoreConfig Db C) (state : CommitSta
   pub behind : DeviceContents Db C
   pub by : IsHeldBy config state behind moment
 
--- how many commands of those in flight a stop keeps: none until the gate is written, then none or all, and all once that is synced
+-- how many commands of those in flight a stop keeps: none until the gate is written, then none or
+-- all, and all once that is synced
 abbrev pub MayKeep : Flush → ℕ → ℕ → Type 0
 MayKeep Resting taken kept = kept ≡ 0
 MayKeep Staged taken kept = kept ≡ 0
@@ -107,8 +111,8 @@ pub record OpensSince {Db C : Type 0} (config : StoreConfig Db C) (version : ℕ
   pub opens : OpensTo config.format config.latest image value
   pub since : version ≤ opens.opening.checkpoint.head.version
 
--- The image opens to what is committed, with a front of the pending commands as long as a stop may keep, and by a half whose
--- version allows what the tail's limits do.
+-- The image opens to what is committed, with a front of the pending commands as long as a stop may
+-- keep, and by a half whose version allows what the tail's limits do.
 pub record OpensToFront {Db C : Type 0} (config : StoreConfig Db C) (state : CommitState Db C) (image : List ℕ) : Type 0 where
   pub kept : ℕ
   pub may : MayKeep state.flush state.taken kept

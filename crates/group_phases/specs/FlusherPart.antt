@@ -1,4 +1,5 @@
--- What the flusher relies on, phase by phase: facts of the tail's journal alone. A fact says what reads give, or what is clean.
+-- What the flusher relies on, phase by phase: facts of the tail's journal alone. A fact says what
+-- reads give, or what is clean.
 use Rattle.std.specs.Prelude.{◌≡◌, ◌⊎◌, ℕ, ◌+◌, ◌*◌, ◌≤◌, List}
 use Rattle.byte_lists.specs.Content.{part}
 use Rattle.byte_lists.specs.Sectors.{sector_at, IsOpenGate}
@@ -16,7 +17,8 @@ use Rattle.group_phases.specs.Tail.{GroupOrSeal, Commands, Seal, payload_of, loa
 abbrev pub tail_bytes : {C : Type 0} → Geometry → Tail C → Moment → List ℕ
 tail_bytes geometry tail moment = journal_of geometry tail.half moment.reads
 
--- the groups that are committed are there and clean, and after them there is room for a gate and a seal
+-- the groups that are committed are there and clean, and after them there is room for a gate and a
+-- seal
 pub record HasGroups {C : Type 0} (format : CommandFormat C) (limits : Limits) (geometry : Geometry) (tail : Tail C) (moment : Moment) : Type 0 where
   pub chain : IsGroupChain format limits (tail_bytes geometry tail moment) 0 tail.start tail.groups tail.gate
   pub clean : AreCleanSectors geometry tail.half 0 tail.gate moment

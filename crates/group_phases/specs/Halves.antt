@@ -1,5 +1,5 @@
--- Facts of a half of the device: of its gate, its area, and the first gate of its journal. A fact says what reads give, or what
--- is clean.
+-- Facts of a half of the device: of its gate, its area, and the first gate of its journal. A fact
+-- says what reads give, or what is clean.
 use Rattle.std.specs.Prelude.{◌*◌, ◌≤◌}
 use Rattle.byte_lists.specs.Sectors.{sector_at, IsOpenGate}
 use Rattle.sector_dev.specs.Disk.{Moment}
@@ -24,7 +24,8 @@ pub record IsClosedHalf (geometry : Geometry) (half : Half) (moment : Moment) : 
   pub closed : ¬ ReadsOpen geometry half moment
   pub clean : IsGateClean geometry half moment
 
--- a half's area begins with this checkpoint, or with this head, of a version that is known; and that is clean
+-- a half's area begins with this checkpoint, or with this head, of a version that is known; and
+-- that is clean
 pub record HasCheckpoint {Db C : Type 0} (config : StoreConfig Db C) (half : Half) (checkpoint : Checkpoint Db) (moment : Moment) : Type 0 where
   pub begins : IsCheckpoint config.format.rows (area_of config.geometry half moment.reads) checkpoint
   pub known : checkpoint.head.version ≤ config.latest

@@ -1,5 +1,5 @@
--- What each call of the checkpointer leaves on a device that holds what a state represents, in whatever phase the flusher is. Each
--- statement is the contract of a function.
+-- What each call of the checkpointer leaves on a device that holds what a state represents, in
+-- whatever phase the flusher is. Each statement is the contract of a function.
 use Rattle.std.specs.Prelude.{◌≡◌, ℕ, ◌+◌, ◌*◌, ◌≤◌, ◌++◌, length, Result}
 use Rattle.byte_lists.specs.Content.{part}
 use Rattle.sector_dev.specs.Disk.{Disk, IsHonest}

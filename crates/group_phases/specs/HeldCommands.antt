@@ -1,5 +1,5 @@
--- What becomes of what a device holds for a state when commands come: one is accepted, a group is staged, or a seal is. Each statement
--- is the contract of a function.
+-- What becomes of what a device holds for a state when commands come: one is accepted, a group is
+-- staged, or a seal is. Each statement is the contract of a function.
 use Rattle.std.specs.Prelude.{◌≡◌, ℕ, ◌≤◌, [], ◌∷◌, ◌++◌, length, take}
 use Rattle.sector_dev.specs.Disk.{Moment}
 use Rattle.store_layout.specs.Limits.{limits_of}

@@ -1,4 +1,5 @@
--- What a device holds of a store that was just opened, at rest or after a seal. Each statement is the contract of a function.
+-- What a device holds of a store that was just opened, at rest or after a seal. Each statement is
+-- the contract of a function.
 use Rattle.std.specs.Prelude.{◌≡◌, ℕ, ◌<◌, [], Option, Some, None}
 use Rattle.sector_dev.specs.Disk.{Moment}
 use Rattle.store_layout.specs.Journal.{Reading}
@@ -49,13 +50,15 @@ HeldAtRest Db C =
     → IsOpening format latest moment.reads opening → IsOtherHalfClosed opening moment.reads
     → IsHeldFrom format latest opening opening.checkpoint moment
 
--- after a seal, with the checkpoint that folds the sealed journal, and the half that has that journal
+-- after a seal, with the checkpoint that folds the sealed journal, and the half that has that
+-- journal
 pub record IsHeldBehindSeal {Db C : Type 0} (format : StoreFormat Db C) (latest : ℕ) (opening : Opening Db C) (next : Checkpoint Db) (moment : Moment)
     : Type 0 where
   pub held : IsHeldFrom format latest opening next moment
   pub old_is : held.behind.old ≡ opening.checkpoint
 
--- Nothing is dirty, and reads open with a sealed journal: any checkpoint that folds it, of a later epoch, is the one to be there.
+-- Nothing is dirty, and reads open with a sealed journal: any checkpoint that folds it, of a later
+-- epoch, is the one to be there.
 abbrev pub HeldBehindSeal : Type 0 → Type 0 → Type 0
 HeldBehindSeal Db C =
     (format : StoreFormat Db C) (latest : ℕ) (opening : Opening Db C) (moment : Moment) (last : Reading C) (next : Checkpoint Db)

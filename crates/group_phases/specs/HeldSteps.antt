@@ -1,5 +1,5 @@
--- What each call of an actor leaves on a device that holds what a state represents, and what a stop within it leaves. Each
--- statement is the contract of a function.
+-- What each call of an actor leaves on a device that holds what a state represents, and what a stop
+-- within it leaves. Each statement is the contract of a function.
 use Rattle.std.specs.Prelude.{◌≡◌, ◌⊎◌, ℕ, ◌+◌, List, Result}
 use Rattle.sector_dev.specs.Disk.{Disk, IsHonest}
 use Rattle.sector_dev.specs.Calls.{WriteCall, SyncCall}
@@ -17,7 +17,8 @@ use Rattle.group_phases.specs.CommitState.{CommitState, load_of, DeviceContents,
 abbrev pub flushed : {Db C : Type 0} → CommitState Db C → Flush → CommitState Db C
 flushed state phase = record state { flush = phase }
 
--- the flusher's calls, whatever the checkpointer's phase: what is in flight is written; the tail's gate is written; and a sync
+-- the flusher's calls, whatever the checkpointer's phase: what is in flight is written; the tail's
+-- gate is written; and a sync
 abbrev pub HeldWhileLoadIsWritten : Type 0 → Type 0 → Type 0 → Type 0 → Type 0
 HeldWhileLoadIsWritten T E Db C =
     (config : StoreConfig Db C) (state : CommitState Db C) (behind : DeviceContents Db C) (result : Result T E) (old new : Disk)

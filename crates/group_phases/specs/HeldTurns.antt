@@ -1,5 +1,6 @@
--- What becomes of what a device holds for a state without a call: a group or a seal that is durable is published, a plan begins, and
--- the new half's version counts. Each statement is the contract of a function.
+-- What becomes of what a device holds for a state without a call: a group or a seal that is durable
+-- is published, a plan begins, and the new half's version counts. Each statement is the contract of
+-- a function.
 use Rattle.std.specs.Prelude.{◌≡◌, ◌≤◌, [], ◌∷◌, ◌++◌, take, drop}
 use Rattle.sector_dev.specs.Disk.{Moment}
 use Rattle.store_layout.specs.Journal.{gate_behind}
@@ -32,7 +33,8 @@ HeldWhenGroupIsPublished Db C =
     (config : StoreConfig Db C) (state : CommitState Db C) (behind : DeviceContents Db C) (moment : Moment) → state.flush ≡ Durable → 1 ≤ state.taken
     → IsHeldBy config state behind moment → IsHeldBy config (group_published config state) (behind_group state behind) moment
 
--- after a seal that is durable the tail continues in the other half, and the sealed half awaits its checkpoint
+-- after a seal that is durable the tail continues in the other half, and the sealed half awaits its
+-- checkpoint
 abbrev pub seal_published : {Db C : Type 0} → CommitState Db C → CommitState Db C
 seal_published state = record state { flush = Resting; check = Sealed; half = other state.half; gate = 0 }
 

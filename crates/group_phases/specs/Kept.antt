@@ -39,7 +39,8 @@ KeepsBasePart Db C =
     → HasTitle config.geometry old → IsBaseUntouched config.geometry base.half old new
     → BasePart phase config base written old → BasePart phase config base written new
 
--- this number of bytes, from a sector on, lie in the journal of a half, or beside it in the regions of the store
+-- this number of bytes, from a sector on, lie in the journal of a half, or beside it in the regions
+-- of the store
 pub record IsInJournal (geometry : Geometry) (half : Half) (sector n : ℕ) : Type 0 where
   pub from : journal_at geometry half ≤ sector
   pub to : 512 * sector + n ≤ 512 * (journal_at geometry half + geometry.journal)
@@ -55,7 +56,8 @@ pub record IsInHalf (geometry : Geometry) (half : Half) (sector n : ℕ) : Type 
 abbrev pub IsBesideJournal : Geometry → Half → ℕ → ℕ → Type 0
 IsBesideJournal geometry half sector n = IsBeforeJournal geometry half sector n ⊎ IsInHalf geometry (other half) sector n
 
--- a write into the tail's journal leaves all else of the store, and one beside it leaves the journal, whatever they answer
+-- a write into the tail's journal leaves all else of the store, and one beside it leaves the
+-- journal, whatever they answer
 abbrev pub TailWritesLeaveBase : Type 0 → Type 0 → Type 0
 TailWritesLeaveBase T E =
     (geometry : Geometry) (half : Half) (sector : ℕ) (bytes : List ℕ) (result : Result T E) (old new : Disk)

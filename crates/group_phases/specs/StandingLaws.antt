@@ -1,4 +1,5 @@
--- What holds of a device that holds what a state represents. Each statement is the contract of a function.
+-- What holds of a device that holds what a state represents. Each statement is the contract of a
+-- function.
 use Rattle.sector_dev.specs.Disk.{Moment}
 use Rattle.sector_dev.specs.Image.{EveryImage}
 use Rattle.store_layout.specs.Limits.{Limits}

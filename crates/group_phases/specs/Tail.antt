@@ -26,7 +26,8 @@ abbrev pub load_sectors : {C : Type 0} → CommandFormat C → GroupOrSeal C →
 load_sectors format (Commands commands) = group_sectors format commands
 load_sectors format Seal = 1
 
--- what one write leaves after the tail's gate: the payload, and after a group the gate that follows, closed
+-- what one write leaves after the tail's gate: the payload, and after a group the gate that
+-- follows, closed
 abbrev pub load_bytes : {C : Type 0} → CommandFormat C → ℕ → GroupOrSeal C → List ℕ
 load_bytes format place (Commands commands) = group_encoding format place commands ++ closed_gate
 load_bytes format place Seal = seal_encoding place
@@ -35,7 +36,8 @@ abbrev pub written_sectors : {C : Type 0} → CommandFormat C → GroupOrSeal C 
 written_sectors format (Commands commands) = group_sectors format commands + 1
 written_sectors format Seal = 1
 
--- the half that has the tail, the place of the first command of its journal, the journal's groups, and the gate after them
+-- the half that has the tail, the place of the first command of its journal, the journal's groups,
+-- and the gate after them
 pub record Tail (C : Type 0) : Type 0 where
   pub half : Half
   pub start : ℕ
@@ -46,7 +48,8 @@ pub record Tail (C : Type 0) : Type 0 where
 abbrev pub tail_place : {C : Type 0} → Tail C → ℕ
 tail_place tail = tail.start + length (all_of tail.groups)
 
--- what may be in flight there: a group that may be at that place, and has room, or a seal, which always has
+-- what may be in flight there: a group that may be at that place, and has room, or a seal, which
+-- always has
 abbrev pub CanBeLoad : {C : Type 0} → CommandFormat C → Limits → Geometry → Tail C → GroupOrSeal C → Type 0
 CanBeLoad format limits geometry tail (Commands commands) =
     CanBeGroup format limits (tail_place tail) commands × JournalHasRoom tail.gate (group_sectors format commands) geometry.journal

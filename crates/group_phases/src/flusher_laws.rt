@@ -1,4 +1,5 @@
-//! Laws of the flusher's steps, in any format of commands of type `C`. `T` and `E` are what a call answers.
+//! Laws of the flusher's steps, in any format of commands of type `C`. `T` and `E` are what a call
+//! answers.
 
 ghost use Rattle.group_phases.specs.FlusherSteps.{WritesInJournal, WritesLoad, OpensTailGate, SyncsLoad, SyncsTailGate, PublishesGroup};
 
@@ -7,8 +8,9 @@ pub fn flusher_writes_lie_in_the_journal<C>()
     ensures { WritesInJournal C }
 {}
 
-/// What is in flight is written and synced after the tail's gate, and then that gate is written and synced: each call leaves
-/// the flusher's part of the next phase, or where it fails of one that says so.
+/// What is in flight is written and synced after the tail's gate, and then that gate is written and
+/// synced: each call leaves the flusher's part of the next phase, or where it fails of one that
+/// says so.
 pub fn flusher_calls_go_on<T, E, C>()
     ensures write { WritesLoad T E C }
     ensures sync { SyncsLoad T E C }

@@ -1,5 +1,5 @@
-//! Laws of the calls on a device that holds what a state represents, in any format of databases of type `Db` and commands of
-//! type `C`. `T` and `E` are what a call answers.
+//! Laws of the calls on a device that holds what a state represents, in any format of databases of
+//! type `Db` and commands of type `C`. `T` and `E` are what a call answers.
 
 ghost use Rattle.group_phases.specs.declared.phases.Flush.TheVariants.{Written, Stable, Opened, Durable};
 ghost use Rattle.group_phases.specs.declared.phases.Check.TheVariants.{Ready, Switched, Live, Closing};
@@ -8,7 +8,8 @@ ghost use Rattle.group_phases.specs.HeldTurns.{HeldWhenGroupIsPublished, HeldWhe
 ghost use Rattle.group_phases.specs.HeldCommands.{HeldWhenAccepted, HeldWhenGroupIsStaged, HeldWhenSealIsStaged};
 ghost use Rattle.group_phases.specs.HeldSteps.{HeldWhileLoadIsWritten, HeldWhileGateIsOpened, HeldWhileSynced, WritesLeaveFronts, SyncsLeaveFronts};
 
-/// Each call of the flusher leaves a device that holds what the state then represents, in whatever phase the checkpointer is.
+/// Each call of the flusher leaves a device that holds what the state then represents, in whatever
+/// phase the checkpointer is.
 pub fn flusher_calls_are_held<T, E, Db, C>()
     ensures write { HeldWhileLoadIsWritten T E Db C }
     ensures sync { HeldWhileSynced Written Stable T E Db C }
@@ -16,7 +17,8 @@ pub fn flusher_calls_are_held<T, E, Db, C>()
     ensures gate_sync { HeldWhileSynced Opened Durable T E Db C }
 {}
 
-/// Each call of the checkpointer leaves a device that holds what the state then represents, in whatever phase the flusher is.
+/// Each call of the checkpointer leaves a device that holds what the state then represents, in
+/// whatever phase the flusher is.
 pub fn checkpointer_calls_are_held<T, E, Db, C>()
     ensures chunk { HeldWhileChunkIsWritten T E Db C }
     ensures chunks_sync { HeldWhileChunksAreSynced T E Db C }
@@ -26,15 +28,16 @@ pub fn checkpointer_calls_are_held<T, E, Db, C>()
     ensures close_sync { HeldWhileHalfIsSynced Closing Ready T E Db C }
 {}
 
-/// Accepting a command, and staging a group or a seal, leave what the device holds as what the state then represents.
+/// Accepting a command, and staging a group or a seal, leave what the device holds as what the
+/// state then represents.
 pub fn commands_are_held<Db, C>()
     ensures accepted { HeldWhenAccepted Db C }
     ensures group { HeldWhenGroupIsStaged Db C }
     ensures seal { HeldWhenSealIsStaged Db C }
 {}
 
-/// Publishing a group or a seal that is durable, beginning a plan, and taking the new half's version leave what the device holds
-/// as what the state then represents.
+/// Publishing a group or a seal that is durable, beginning a plan, and taking the new half's
+/// version leave what the device holds as what the state then represents.
 pub fn turns_are_held<Db, C>()
     ensures group { HeldWhenGroupIsPublished Db C }
     ensures seal { HeldWhenSealIsPublished Db C }
@@ -42,8 +45,8 @@ pub fn turns_are_held<Db, C>()
     ensures version { HeldUnderTheNewVersion Db C }
 {}
 
-/// What a stop within a write leaves opens to a front that a stop before it or after it may keep, and what one within a sync
-/// leaves to one that a stop before it may keep.
+/// What a stop within a write leaves opens to a front that a stop before it or after it may keep,
+/// and what one within a sync leaves to one that a stop before it may keep.
 pub fn calls_leave_fronts<T, E, Db, C>()
     ensures write { WritesLeaveFronts T E Db C }
     ensures sync { SyncsLeaveFronts T E Db C }

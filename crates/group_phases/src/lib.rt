@@ -1,7 +1,8 @@
-//! What is on a store's device while two actors work on it, the flusher and the checkpointer, and what a stop leaves of it.
+//! What is on a store's device while two actors work on it, the flusher and the checkpointer, and
+//! what a stop leaves of it.
 //!
-//! To the layer above: facts of ranges and of the two actors' parts, with the laws by which each step keeps them. All is stated
-//! for any format of rows and commands.
+//! To the layer above: facts of ranges and of the two actors' parts, with the laws by which each
+//! step keeps them. All is stated for any format of rows and commands.
 #![tactic(auto)]
 
 mod checkpointer_laws;

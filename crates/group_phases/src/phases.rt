@@ -2,7 +2,8 @@
 
 /// How far the flusher is with the group or seal that it has staged.
 ///
-/// Each arrow is a call that succeeds. A call that fails leaves the phase as it is, except a write of the tail's gate:
+/// Each arrow is a call that succeeds. A call that fails leaves the phase as it is, except a write
+/// of the tail's gate:
 ///
 /// ```text
 /// Resting --stage--> Staged --write_group--> Written --sync_group--> Stable --open_gate--> Opened --sync_gate--> Durable
@@ -11,7 +12,8 @@
 ///    '--publish-----------------------------------------------------------------------------------------------------'
 /// ```
 ///
-/// In each phase the groups that are committed are in the tail's journal, clean. What else holds of an honest device there:
+/// In each phase the groups that are committed are in the tail's journal, clean. What else holds of
+/// an honest device there:
 ///
 /// ```text
 ///            the tail's gate   what is in flight, after that gate   a stop keeps of what is in flight
@@ -24,7 +26,8 @@
 /// Durable    open*             it is there*                         all
 /// ```
 ///
-/// `*`: and clean, which says that no write was made there since the last sync that succeeded: so it is in every image.
+/// `*`: and clean, which says that no write was made there since the last sync that succeeded: so
+/// it is in every image.
 #[derive(Clone, Copy, Debug, PartialEq, Eq)]
 pub enum Flush {
     /// Nothing is in flight.
@@ -45,8 +48,8 @@ pub enum Flush {
 
 /// How far the checkpointer is.
 ///
-/// Each arrow is a call that succeeds; `write_chunk` leaves the phase `Planned`. A call that fails leaves the phase as it is,
-/// except a write of a half's gate:
+/// Each arrow is a call that succeeds; `write_chunk` leaves the phase `Planned`. A call that fails
+/// leaves the phase as it is, except a write of a half's gate:
 ///
 /// ```text
 /// Ready --publish of a seal--> Sealed --begin--> Planned --sync_chunks--> Laid --open_half--> Switched --sync_half--> Live
@@ -73,8 +76,9 @@ pub enum Flush {
 /// CloseFailed   open*            new checkpoint*   any      older head*   anything               the tail's half
 /// ```
 ///
-/// `*`: and clean, as above. The new checkpoint is the other half's, with the commands of its journal applied, in the next epoch;
-/// an older head is one of a smaller epoch than the new checkpoint's, which is why that half is in use no more.
+/// `*`: and clean, as above. The new checkpoint is the other half's, with the commands of its
+/// journal applied, in the next epoch; an older head is one of a smaller epoch than the new
+/// checkpoint's, which is why that half is in use no more.
 #[derive(Clone, Copy, Debug, PartialEq, Eq)]
 pub enum Check {
     /// The half without the tail is closed, and its journal too.

@@ -1,5 +1,5 @@
-//! Laws of one range of a device's bytes. Each is the contract of a function that does nothing, so that it is proved with the crate.
-//! `T` and `E` are what a call answers.
+//! Laws of one range of a device's bytes. Each is the contract of a function that does nothing, so
+//! that it is proved with the crate. `T` and `E` are what a call answers.
 
 ghost use Rattle.group_phases.specs.RangeLaws.{IsInEveryImage, HasSettledParts, JoinsNeighbours, ReadsAsBefore, StaysSettled, HasUntouchedParts, StaysOnAndOn, CleanStaysInImages, WritesLeaveWhatIsBeside, WritesAreRead, SyncsLeaveAll, SyncsSettle, WritesAreOneMoment, SyncsAreNoMoment};
 
@@ -14,8 +14,8 @@ pub fn ranges_have_parts()
     ensures joined { JoinsNeighbours }
 {}
 
-/// What is untouched reads as it did and stays settled; so do parts of it, from one moment to the next. A clean range is
-/// untouched in each image.
+/// What is untouched reads as it did and stays settled; so do parts of it, from one moment to the
+/// next. A clean range is untouched in each image.
 pub fn untouched_ranges_stay()
     ensures reads { ReadsAsBefore }
     ensures settled { StaysSettled }
@@ -36,7 +36,8 @@ pub fn syncs_settle<T, E>()
     ensures settled { SyncsSettle T E }
 {}
 
-/// A stop within a write leaves what one before it or after it may, and one within a sync what one before it may.
+/// A stop within a write leaves what one before it or after it may, and one within a sync what one
+/// before it may.
 pub fn calls_leave_what_is_around_them<T, E>()
     ensures write { WritesAreOneMoment T E }
     ensures sync { SyncsAreNoMoment T E }

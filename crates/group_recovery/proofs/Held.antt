@@ -29,7 +29,8 @@ use Rattle.group_recovery.specs.RunSteps.{IsPlanOutAt, IsPlanOut, FlushEvent, Ch
 use Rattle.group_recovery.specs.Holding.{HoldsGroup, HoldsPlan, SealWaits, HoldsTickets, IsHolding}
 use Rattle.group_recovery.proofs.Prefix.{Moves}
 
--- The parts of a state that stay: those that tickets, the flusher's value, the checkpointer's value and a seal depend on.
+-- The parts of a state that stay: those that tickets, the flusher's value, the checkpointer's value
+-- and a seal depend on.
 pub record TicketsStay (old new : StateView) : Type 0 where
   pub home : new.home ≡ old.home
   pub next : next_place new ≡ next_place old

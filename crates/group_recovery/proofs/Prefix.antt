@@ -20,8 +20,8 @@ use Rattle.group_core.specs.StateView.{StateView}
 use Rattle.group_core.specs.Stops.{config_of, commit_state_of, MayOpen, StepLeaves}
 use Rattle.group_recovery.specs.RunLeaves.{IsFrontCommitted, OpensToPrefix, RunLeaves}
 
--- The effect of a step on the committed and the pending commands: a number of the first pending commands are committed, and more
--- commands are accepted. The sizes stay.
+-- The effect of a step on the committed and the pending commands: a number of the first pending
+-- commands are committed, and more commands are accepted. The sizes stay.
 pub record Moves (more : List Command) (old new : StateView) : Type 0 where
   pub shown : ℕ
   pub inside : shown ≤ length old.pending

@@ -1,4 +1,5 @@
--- The effect of each event of a run on the committed and the pending commands, and runs with one more event.
+-- The effect of each event of a run on the committed and the pending commands, and runs with one
+-- more event.
 use Rattle.std.proofs.Common.{◌≡◌, ◌⊎◌, inl, inr, ℕ, zero, suc, ◌+◌, ◌≤◌, true, false, List, [], ◌∷◌, ◌++◌, length, take, drop, get_or, ◌<◌, Option, Result, Ok, Err, IsOk, is_ok, if◌then◌else◌, refl, sym, ◌∙◌, ap, subst, arith, append_assoc, length-drop}
 use Rattle.std.proofs.lemmas.List.{append-nil, length-take-le, take_more}
 use Rattle.path_rows.specs.declared.command.Command.{Command}

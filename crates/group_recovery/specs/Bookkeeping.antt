@@ -1,4 +1,5 @@
--- What a state keeps beside its machine, and the effect of each event of a run on it, by the event's reply.
+-- What a state keeps beside its machine, and the effect of each event of a run on it, by the
+-- event's reply.
 use Rattle.std.specs.Prelude.{◌≡◌, ℕ, ◌+◌, ◌<◌, ◌≤◌, ◌⊎◌, Bool, true, List, length, Some}
 use Rattle.std.specs.Ordering.{nat_cmp}
 use Rattle.std.specs.BTreeMap.{insert_entry}
@@ -21,8 +22,8 @@ use Rattle.group_recovery.specs.declared.events.StepRefusal.TheVariants as why
 use Rattle.group_recovery.specs.Machine.{Machine, machine_of}
 use Rattle.group_recovery.specs.RunSteps.{RunView, IsRunStep}
 
--- The outcomes of the commands that aren't redeemed, by their places, which rise; how many pending commands are in flight; whether
--- the state has stopped; and the version of the half that counts.
+-- The outcomes of the commands that aren't redeemed, by their places, which rise; how many pending
+-- commands are in flight; whether the state has stopped; and the version of the half that counts.
 pub record Bookkeeping : Type 0 where
   pub outcomes : List (ℕ × Outcome)
   pub taken : ℕ
@@ -32,7 +33,8 @@ pub record Bookkeeping : Type 0 where
 abbrev pub bookkeeping_of : StateView → Bookkeeping
 bookkeeping_of view = record { outcomes = view.kept; taken = view.taken; stopped = view.stopped; version = view.version }
 
--- the place of the next command that is accepted, and the rows before its outcome: those after all commands before it
+-- the place of the next command that is accepted, and the rows before its outcome: those after all
+-- commands before it
 abbrev pub next_in : Machine → ℕ
 next_in machine = machine.place + length machine.pending
 
@@ -46,11 +48,13 @@ with_outcome place outcome books = record books { outcomes = insert_entry nat_cm
 abbrev pub without_outcome : ℕ → Bookkeeping → Bookkeeping
 without_outcome place books = record books { outcomes = kept_without place books.outcomes }
 
--- the number of commands in flight: the longest front of the pending ones that fits a group of this version, or 0, for a seal
+-- the number of commands in flight: the longest front of the pending ones that fits a group of this
+-- version, or 0, for a seal
 abbrev pub IsInFlight : ℕ → Machine → ℕ → Type 0
 IsInFlight version machine taken = IsLongestFront (limits_of version) machine.pending taken ⊎ (taken ≡ 0)
 
--- a device that fails stops the state, and so does a half that isn't as the state left it; any other reply changes nothing
+-- a device that fails stops the state, and so does a half that isn't as the state left it; any
+-- other reply changes nothing
 abbrev pub stopped_by : Reply → Bookkeeping → Bookkeeping
 stopped_by (reply.StepRefused why.Fault) books = record books { stopped = true }
 stopped_by (reply.StepRefused why.Damaged) books = record books { stopped = true }
@@ -58,8 +62,9 @@ stopped_by (reply.BeginRefused begin.Fault) books = record books { stopped = tru
 stopped_by (reply.BeginRefused begin.Damaged) books = record books { stopped = true }
 stopped_by _ books = books
 
--- The effect of an event, for this machine before it. A command is accepted at the next place, and its outcome is kept until
--- its ticket is redeemed; a group or a seal is staged, and published; a new half counts, in the version that is written.
+-- The effect of an event, for this machine before it. A command is accepted at the next place, and
+-- its outcome is kept until its ticket is redeemed; a group or a seal is staged, and published; a
+-- new half counts, in the version that is written.
 abbrev pub KeepsBooks : Event → Reply → Machine → Bookkeeping → Bookkeeping → Type 0
 KeepsBooks (event.Submit command) (reply.Accepted place) machine old new =
     (place ≡ next_in machine) × (new ≡ with_outcome place (outcome_of (rows_before_next machine) command) old)

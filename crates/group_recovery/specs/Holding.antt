@@ -82,7 +82,8 @@ AllRedeemed tickets = (k : ℕ) → held_at k tickets ≡ None
 abbrev pub run_view : StateView → List (Option Ticket) → RunView
 run_view state tickets = record { state = state; tickets = map ticket_place tickets }
 
--- What holds for a run between its events: what it holds is of its state, and it holds each value that is out.
+-- What holds for a run between its events: what it holds is of its state, and it holds each value
+-- that is out.
 pub record IsHolding (view : StateView) (held : List (Option Ticket)) (held_group : HeldGroup) (held_plan : HeldPlan) : Type 0 where
   pub tickets : HoldsTickets held view
   pub group : HoldsGroup held_group view

@@ -8,7 +8,8 @@ use Rattle.seg_lookup.specs.Query.{QueryView}
 use Rattle.store_open.specs.PathStores.{store_format}
 use Rattle.group_core.specs.StateView.{StateView}
 
--- the committed rows; the commands accepted after them, in the order of their acceptance; and the place of the first of these
+-- the committed rows; the commands accepted after them, in the order of their acceptance; and the
+-- place of the first of these
 pub record Machine : Type 0 where
   pub committed : List RowView
   pub pending : List Command
@@ -29,7 +30,8 @@ committed_front machine n = record {
   place = machine.place + length (take n machine.pending);
 }
 
--- the machine after a stop that keeps this number of the pending commands: they are committed, and nothing is pending
+-- the machine after a stop that keeps this number of the pending commands: they are committed, and
+-- nothing is pending
 abbrev pub reopened : Machine → ℕ → Machine
 reopened machine kept = record (committed_front machine kept) { pending = [] }
 

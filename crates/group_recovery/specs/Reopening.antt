@@ -33,8 +33,8 @@ pub record OpensToMachine (machine : Machine) (image : List ℕ) : Type 0 where
   pub inside : kept ≤ length machine.pending
   pub opens : OpensTo store_format latest image (machine_value (reopened machine kept))
 
--- What a stop within a run leaves is the machine at its start, with the commands in the order of the lock, reopened; and what a
--- stop leaves of a state is that state's machine, reopened.
+-- What a stop within a run leaves is the machine at its start, with the commands in the order of
+-- the lock, reopened; and what a stop leaves of a state is that state's machine, reopened.
 abbrev pub PrefixesAreReopened : Type 0
 PrefixesAreReopened =
     (start : StateView) (order : List Command) (least : ℕ) (image : List ℕ) → OpensToPrefix start order least image
@@ -69,8 +69,8 @@ SaysNothingOfTheImage NoMemory = Unit {0}
 abbrev pub RefusesNoStore : OpenError → List ℕ → Type 0
 RefusesNoStore e image = (value : StoreValue (List RowView)) → OpensTo store_format latest image value → SaysNothingOfTheImage e
 
--- Why a state isn't opened again: it is in use, and is returned; or its device is returned as one that isn't opened, which for
--- an honest device is not because of its contents.
+-- Why a state isn't opened again: it is in use, and is returned; or its device is returned as one
+-- that isn't opened, which for an honest device is not because of its contents.
 abbrev pub IsNotReopened : {D S N : Type 0} → (D → Disk) → NotReopened D S N → StateView → Type 0
 IsNotReopened disk_of (InUse back) state = (¬ HasNothingOut state) × (back ≡ state)
 IsNotReopened disk_of (Refused device e) state =

@@ -1,4 +1,5 @@
--- What a stop within a run leaves: the rows that were committed when it began, with a front of the commands in the order of the lock.
+-- What a stop within a run leaves: the rows that were committed when it began, with a front of the
+-- commands in the order of the lock.
 use Rattle.std.specs.Prelude.{◌≡◌, ℕ, ◌-◌, ◌≤◌, List, [], ◌∷◌, ◌++◌, length, take, drop}
 use Rattle.path_rows.specs.declared.command.Command.{Command}
 use Rattle.sector_dev.specs.Disk.{IsHonest}
@@ -15,7 +16,8 @@ use Rattle.group_recovery.specs.declared.events.Reply.{Reply}
 use Rattle.group_recovery.specs.declared.events.Reply.TheVariants as reply
 use Rattle.group_core.specs.StateView.{StateView}
 
--- the command that an event submitted, where its reply is that it was accepted; and those of a list of events
+-- the command that an event submitted, where its reply is that it was accepted; and those of a list
+-- of events
 abbrev pub accepted_by : Event → Reply → List Command
 accepted_by (event.Submit command) (reply.Accepted place) = command ∷ []
 accepted_by _ _ = []
@@ -25,26 +27,30 @@ accepted_in [] replies = []
 accepted_in (e ∷ events) [] = []
 accepted_in (e ∷ events) (r ∷ replies) = accepted_by e r ++ accepted_in events replies
 
--- the order of the lock: the commands that are pending at the start, and then those that are accepted
+-- the order of the lock: the commands that are pending at the start, and then those that are
+-- accepted
 abbrev pub lock_order : StateView → List Event → List Reply → List Command
 lock_order start events replies = start.pending ++ accepted_in events replies
 
--- At the end a front of that order is committed, which is all that was shown since, and the rest of the order is pending.
+-- At the end a front of that order is committed, which is all that was shown since, and the rest of
+-- the order is pending.
 pub record IsFrontCommitted (start : StateView) (order : List Command) (end : StateView) : Type 0 where
   pub done : ℕ
   pub inside : done ≤ length order
   pub value : end.value ≡ value_after store_format start.value (take done order)
   pub pending : end.pending ≡ drop done order
 
--- the image opens to the rows that were committed at the start with a front of this order, of at least this number of commands
+-- the image opens to the rows that were committed at the start with a front of this order, of at
+-- least this number of commands
 pub record OpensToPrefix (start : StateView) (order : List Command) (least : ℕ) (image : List ℕ) : Type 0 where
   pub kept : ℕ
   pub enough : least ≤ kept
   pub inside : kept ≤ length order
   pub opens : OpensTo store_format latest image (value_after store_format start.value (take kept order))
 
--- What a run leaves: a front of the order is committed; at each moment since its entry every image opens to a front, and at its
--- exit to one that has all that is committed then. The sizes stay, and at every moment the bytes after the store are unchanged.
+-- What a run leaves: a front of the order is committed; at each moment since its entry every image
+-- opens to a front, and at its exit to one that has all that is committed then. The sizes stay, and
+-- at every moment the bytes after the store are unchanged.
 pub record RunLeaves (start : StateView) (order : List Command) (end : StateView) : Type 0 where
   pub committed : IsFrontCommitted start order end
   pub moments : Stretch start.disk end.disk (OpensToPrefix start order 0)

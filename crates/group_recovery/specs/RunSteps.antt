@@ -1,4 +1,5 @@
--- The effect of an event of a run, by its reply: the call of the state that the event names, with a value that the run holds.
+-- The effect of an event of a run, by its reply: the call of the state that the event names, with a
+-- value that the run holds.
 use Rattle.std.specs.Prelude.{◌≡◌, ℕ, ◌<◌, ◌≤◌, Bool, true, false, List, [], ◌∷◌, ◌++◌, length, Option, Some, None, Ok, Err, slice_index_or, slice_set}
 use Rattle.path_rows.specs.declared.command.Command.{Command}
 use Rattle.path_rows.specs.Answer.{segments_of}
@@ -28,7 +29,8 @@ use Rattle.group_core.specs.Redeeming.{outcome_at, kept_without, halted}
 use Rattle.group_core.specs.Submitting.{MayBeSubmitted, CheckpointHasRoom, IsSubmitRefused, next_place, with_pending_command}
 use Rattle.group_recovery.specs.SameDevice.{DeviceGoesOn}
 
--- a state, and the places of the commands that the run accepted, in their order; `None` once a ticket is redeemed
+-- a state, and the places of the commands that the run accepted, in their order; `None` once a
+-- ticket is redeemed
 pub record RunView : Type 0 where
   pub state : StateView
   pub tickets : List (Option ℕ)
@@ -37,7 +39,8 @@ pub record RunView : Type 0 where
 abbrev pub ticket_at : ℕ → RunView → Option ℕ
 ticket_at k run = slice_index_or run.tickets k None
 
--- the flusher's value is out, at this phase; the same for the checkpointer's value; and for its plan, complete or not
+-- the flusher's value is out, at this phase; the same for the checkpointer's value; and for its
+-- plan, complete or not
 abbrev pub IsGroupOut : Flush → StateView → Type 0
 IsGroupOut phase view = (view.group.out ≡ true) × (view.flush ≡ phase)
 
@@ -47,8 +50,8 @@ IsPlanOutAt phase view = (view.plan.out ≡ true) × (view.check ≡ phase)
 abbrev pub IsPlanOut : Bool → StateView → Type 0
 IsPlanOut whole view = (view.plan.out ≡ true) × (view.check ≡ check.Planned) × (is_whole view ≡ whole)
 
--- A step of the flusher, from one phase to the next, or to another one where the device fails. A state that had stopped, and a device
--- that fails, spend the value.
+-- A step of the flusher, from one phase to the next, or to another one where the device fails. A
+-- state that had stopped, and a device that fails, spend the value.
 abbrev pub FlushEvent : Flush → Flush → Flush → Reply → StateView → StateView → Type 0
 FlushEvent from to failed reply.Done old new =
     IsGroupOut from old × (old.stopped ≡ false) × (new.disk.faults ≡ old.disk.faults)
@@ -61,8 +64,8 @@ FlushEvent from to failed (reply.StepRefused why.Fault) old new =
 FlushEvent from to failed reply.NoValue old new = (¬ IsGroupOut from old) × (new ≡ old)
 FlushEvent from to failed _ old new = ⊥
 
--- A step of the checkpointer, where its value is out as `has` states: the state after it except for the device, and the phase where
--- the device fails.
+-- A step of the checkpointer, where its value is out as `has` states: the state after it except for
+-- the device, and the phase where the device fails.
 abbrev pub CheckEvent : Type 0 → StateView → Check → Reply → StateView → StateView → Type 0
 CheckEvent has after failed reply.Done old new =
     has × (old.stopped ≡ false) × (new.disk.faults ≡ old.disk.faults) × (new ≡ record after { disk = new.disk })
@@ -97,13 +100,15 @@ abbrev pub HaltEvent : Reply → StateView → StateView → Type 0
 HaltEvent reply.Done old new = new ≡ halted old
 HaltEvent _ old new = ⊥
 
--- The answer of a lookup is from the committed rows. Memory is refused only where there are segments to show.
+-- The answer of a lookup is from the committed rows. Memory is refused only where there are
+-- segments to show.
 abbrev pub LookupEvent : Query → ℕ → Reply → StateView → StateView → Type 0
 LookupEvent query now (reply.Answer found) old new = (found.items ≡ segments_of (served (machine_of old) (query_view query) now)) × (new ≡ old)
 LookupEvent query now reply.AnswerRefused old new = (1 ≤ length (served (machine_of old) (query_view query) now)) × (new ≡ old)
 LookupEvent query now _ old new = ⊥
 
--- A command is accepted: its place is the next one, and the run has its ticket. Or it is refused, and nothing changes.
+-- A command is accepted: its place is the next one, and the run has its ticket. Or it is refused,
+-- and nothing changes.
 abbrev pub SubmitEvent : Command → Reply → RunView → RunView → Type 0
 SubmitEvent command (reply.Accepted place) old new =
     MayBeSubmitted command old.state × CheckpointHasRoom command old.state × (place ≡ next_place old.state)
@@ -118,8 +123,8 @@ redeemed_at k place old = record {
   tickets = slice_set old.tickets k None;
 }
 
--- A ticket is redeemed for the outcome that is kept for its place, where the command is committed. Before that the ticket stays,
--- unless the state has stopped.
+-- A ticket is redeemed for the outcome that is kept for its place, where the command is committed.
+-- Before that the ticket stays, unless the state has stopped.
 abbrev pub RedeemEvent : ℕ → Reply → RunView → RunView → Type 0
 RedeemEvent k (reply.Committed place outcome) old new =
     (ticket_at k old ≡ Some place) × (place < old.state.value.place) × (outcome_at place old.state.kept ≡ Some outcome)

@@ -8,7 +8,8 @@ pub record MomentsGoOn (old new : History) : Type 0 where
   pub later : List Moment
   pub are : moments new ≡ moments old ++ later
 
--- It is the same device: the fields that no call changes are the same, and the moments of an honest one continue.
+-- It is the same device: the fields that no call changes are the same, and the moments of an honest
+-- one continue.
 pub record DeviceGoesOn (old new : Disk) : Type 0 where
   pub keeps : Keeps old new
   pub goes_on : IsHonest old → MomentsGoOn old.history new.history

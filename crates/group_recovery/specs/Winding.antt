@@ -9,8 +9,8 @@ use Rattle.group_core.specs.StateView.{StateView}
 use Rattle.group_recovery.specs.RunSteps.{RunView, IsRun}
 use Rattle.group_recovery.specs.RunLeaves.{accepted_in, lock_order, RunLeaves}
 
--- a state is stopped, and then each step that a value may be at is tried, which spends the value: the flusher's, from the first to
--- publishing, and the checkpointer's
+-- a state is stopped, and then each step that a value may be at is tried, which spends the value:
+-- the flusher's, from the first to publishing, and the checkpointer's
 abbrev pub ending_events : List Event
 ending_events =
     event.Halt ∷ event.WriteGroup ∷ event.SyncGroup ∷ event.OpenGate ∷ event.SyncGate ∷ event.Publish
@@ -38,7 +38,8 @@ pub record HasWound (old new : RunView) : Type 0 where
 abbrev pub OpensAtRest : StateView → Disk → Type 0
 OpensAtRest view disk = IsHonest disk → view.pending ≡ [] → HoldsStoreOf view.value disk
 
--- the device of a state in which no outcome is kept and no value is out, or the run, where something is left
+-- the device of a state in which no outcome is kept and no value is out, or the run, where
+-- something is left
 abbrev pub HandsOutDevice : {D : Type 0} → (D → Disk) → Result D RunView → RunView → Type 0
 HandsOutDevice disk_of (Ok device) run =
     HasNothingOut run.state × (disk_of device ≡ run.state.disk) × OpensAtRest run.state (disk_of device)

@@ -95,6 +95,7 @@ pub enum Reply {
     Answer(Vec<Segment>),
     /// Memory was refused for a lookup.
     AnswerRefused,
-    /// The run has no ticket or value of the kind that the event takes, or a plan in another state than the call needs: nothing changes.
+    /// The run has no ticket or value of the kind that the event takes, or a plan in another state
+    /// than the call needs: nothing changes.
     NoValue,
 }

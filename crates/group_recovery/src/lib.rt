@@ -1,8 +1,10 @@
-//! Runs of a store at work: any list of events, done one after the other, each a call of the state or a lookup.
+//! Runs of a store at work: any list of events, done one after the other, each a call of the state
+//! or a lookup.
 //!
-//! To the layer above: the effect of a run is the effect that its replies name, event by event, on one device. A stop at any moment
-//! of the run leaves the rows that were committed when it began, with a front of the commands in the order of the lock. A device that is
-//! opened again has the value that a stop left.
+//! To the layer above: the effect of a run is the effect that its replies name, event by event, on
+//! one device. A stop at any moment of the run leaves the rows that were committed when it began,
+//! with a front of the commands in the order of the lock. A device that is opened again has the
+//! value that a stop left.
 #![tactic(auto)]
 
 mod events;

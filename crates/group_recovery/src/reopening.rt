@@ -15,7 +15,8 @@ use sector_dev::Device;
 use std::alloc::Global;
 use store_open::{OpenError, Store, open};
 
-/// Opens a device, after any stop. The store has the value that the stop left: an image has at most one list of rows and place.
+/// Opens a device, after any stop. The store has the value that the stop left: an image has at most
+/// one list of rows and place.
 pub fn reopen<D: Device>(alloc: Global, device: D) -> Result<Store<D>, (D, OpenError)>
     ensures value { IfOk result (λ store. IsHonest (D.disk device) → HasValueOf (reads_of (D.disk device)) store) }
     ensures machine { IfOk result (λ store. IsHonest (D.disk device) → ReopensMachines (reads_of (D.disk device)) store) }
@@ -26,7 +27,8 @@ pub fn reopen<D: Device>(alloc: Global, device: D) -> Result<Store<D>, (D, OpenE
     ensures refused { IfErr result (λ back. ComesBack back.1 (D.disk device) (D.disk back.0)) }
     ensures no_store { IfErr result (λ back. IsHonest (D.disk device) → RefusesNoStore back.1 (reads_of (D.disk device))) }
 
-    // At every moment each image that a stop may leave is an image of the start, or opens with what an image of the start opens with.
+    // At every moment each image that a stop may leave is an image of the start, or opens with what
+    // an image of the start opens with.
     ensures any_moment { Stretch (D.disk device) (disk_after D.disk result) (IsFromImage (D.disk device).history.now OpensAlike) }
 {
     open(alloc, device)
@@ -40,8 +42,9 @@ pub enum NotReopened<D: Device, S: Showcase> {
     Refused(D, OpenError),
 }
 
-/// Takes the device out of a state, and opens it. Where nothing is pending, the store has the committed rows, at their
-/// place; else it has the committed rows after a front of the pending commands.
+/// Takes the device out of a state, and opens it. Where nothing is pending, the store has the
+/// committed rows, at their place; else it has the committed rows after a front of the pending
+/// commands.
 pub fn reopen_state<D: Device, S: Showcase>(
     alloc: Global,
     state: State<D, S>,
@@ -54,7 +57,8 @@ where
     ensures settled { OnOk result (HasNothingOut state) }
     ensures refused { IfErr result (λ e. IsNotReopened D.disk e state) }
 
-    // At every moment each image that a stop may leave opens to the committed rows, with a front of the pending commands.
+    // At every moment each image that a stop may leave opens to the committed rows, with a front of
+    // the pending commands.
     ensures any_moment { Stretch state.disk (disk_left D.disk result) (OpensToMachine (machine_of state)) }
 {
     state.stops_leave_fronts();

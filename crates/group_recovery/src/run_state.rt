@@ -18,7 +18,8 @@ use sector_dev::Device;
 use std::alloc::Global;
 use std::marker::Model;
 
-/// A state, with the tickets of the commands that it accepted here and the commit values that are out.
+/// A state, with the tickets of the commands that it accepted here and the commit values that are
+/// out.
 pub struct Run<D: Device> {
     state: State<D, PlainShow>,
     tickets: Vec<Option<Ticket>>,
@@ -53,7 +54,8 @@ impl<D: Device> Run<D> {
         })
     }
 
-    /// Does nothing: a stop leaves what it may leave of the state, which has no more commands in flight than are pending.
+    /// Does nothing: a stop leaves what it may leave of the state, which has no more commands in
+    /// flight than are pending.
     pub(crate) fn stops_leave_fronts(&self)
         ensures leaves { StepLeaves self.now.state self.now.state }
         ensures taken { self.now.state.taken ≤ length self.now.state.pending }
@@ -73,7 +75,8 @@ impl<D: Device> Run<D> {
         self.tickets.len()
     }
 
-    /// The device, where no outcome is kept and no value is out: then no values and tickets are left. Else the run is returned.
+    /// The device, where no outcome is kept and no value is out: then no values and tickets are
+    /// left. Else the run is returned.
     pub(crate) fn into_device(self) -> Result<D, Run<D>>
         ensures { HandsOutDevice D.disk result self }
     {

@@ -9,8 +9,8 @@ use crate::run_state::Run;
 use sector_dev::Device;
 use std::alloc::{AllocError, Global};
 
-/// Makes these events, one after the other. An error means that there is no room for the replies, and then no event was made. An empty
-/// list of events is never refused.
+/// Makes these events, one after the other. An error means that there is no room for the replies,
+/// and then no event was made. An empty list of events is never refused.
 pub fn run<D: Device>(
     alloc: Global,
     run: Run<D>,

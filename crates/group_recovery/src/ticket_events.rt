@@ -11,7 +11,8 @@ use path_db::Command;
 use sector_dev::Device;
 use std::alloc::Global;
 
-/// Submits a copy of a command, and keeps its ticket after the others. Where the command is refused without memory, none is taken.
+/// Submits a copy of a command, and keeps its ticket after the others. Where the command is refused
+/// without memory, none is taken.
 pub(crate) fn submit<D: Device, S: Showcase>(
     alloc: Global,
     tickets: &mut Vec<Option<Ticket>>,

@@ -9,7 +9,8 @@ use std::fmt;
 pub enum IaError {
     /// The text is outside the grammar.
     BadText = 1,
-    /// The text is in the grammar, but its ISD is above 65,535 or its decimal AS above 4,294,967,295.
+    /// The text is in the grammar, but its ISD is above 65,535 or its decimal AS above
+    /// 4,294,967,295.
     TooLarge = 2,
 }
 

@@ -9,15 +9,16 @@ use crate::number::IsdAs;
 
 /// Parses the text of an ISD-AS number.
 ///
-/// The grammar is lenient: one or more decimal digits, a dash, and then either one or more decimal digits or
-/// three groups of 1 to 4 hexadecimal digits of either case, joined by colons. A run of decimal digits may be
-/// of any length, and leading zeros do not matter.
+/// The grammar is lenient: one or more decimal digits, a dash, and then either one or more decimal
+/// digits or three groups of 1 to 4 hexadecimal digits of either case, joined by colons. A run of
+/// decimal digits may be of any length, and leading zeros do not matter.
 pub fn parse(text: &str) -> Result<IsdAs, IaError>
     ensures ok { IfOk result (IsIsdAsText text.now) }
     ensures only { (ia : IsdAs) → IsIsdAsText text.now ia → result ≡ Ok ia }
     ensures canonical { (ia : IsdAs) → ia.isd < 2 ^ 16 → text.now ≡ isd_as_text ia → result ≡ Ok ia }
 
-    // The grammar is checked first: a text outside the grammar is `BadText`, however large its numbers are.
+    // The grammar is checked first: a text outside the grammar is `BadText`, however large its
+    // numbers are.
     ensures bad_text { IsErrOf result IaError.BadText ↔ (¬ IsInGrammar text.now) }
     ensures too_large { IsErrOf result IaError.TooLarge ↔ IsTooLargeText text.now }
 {

@@ -3,8 +3,9 @@ ghost use Rattle.std.specs.Prelude.{Some};
 use crate::number::IsdAs;
 use std::fmt;
 
-/// Writes the canonical text: an AS below 2^32 in decimal, a larger one as three groups of 16 bits in
-/// lower-case hexadecimal without leading zeros. Options of the format, such as a width, are ignored.
+/// Writes the canonical text: an AS below 2^32 in decimal, a larger one as three groups of 16 bits
+/// in lower-case hexadecimal without leading zeros. Options of the format, such as a width, are
+/// ignored.
 impl fmt::Display for IsdAs {
     ghost use Rattle.isd_as.specs.Text.{isd_as_text};
 

@@ -1,6 +1,7 @@
-//! A server and its peers in one process, which print the same lines in any order of the threads: a segment is registered in one session
-//! and looked up in another, three purges take the next places, a fault ends its own session alone, and while 64 sessions are open one
-//! more is turned away.
+//! A server and its peers in one process, which print the same lines in any order of the threads: a
+//! segment is registered in one session and looked up in another, three purges take the next
+//! places, a fault ends its own session alone, and while 64 sessions are open one more is turned
+//! away.
 #![tactic(auto)]
 
 mod peers;
@@ -30,7 +31,8 @@ const SIZES: Geometry = Geometry {
 /// The core AS of the server.
 const CORE: u64 = 0x0001_ff00_0000_0110;
 
-/// How many sessions the server starts: one for each request, 64 that are open at one time, and a last one.
+/// How many sessions the server starts: one for each request, 64 that are open at one time, and a
+/// last one.
 const SESSIONS: u64 = 69;
 
 /// How many sessions are open at one time.
@@ -92,7 +94,8 @@ fn main(rt: HostRuntime) -> io::Result<()> {
     let alloc = rt.alloc();
     let listener = TcpListener::bind(&rt, "127.0.0.1:0")?;
     let to = listener.local_addr()?;
-    // Where a peer fails, the server must not wait for the others: a second handle of the listening socket shuts it down.
+    // Where a peer fails, the server must not wait for the others: a second handle of the listening
+    // socket shuts it down.
     let stop = TcpStream::from(OwnedFd::from(listener.try_clone()?));
     let mut cores = Vec::new(alloc);
     cores.push(IsdAs::from_u64(CORE))?;

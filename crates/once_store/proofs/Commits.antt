@@ -1,4 +1,5 @@
--- The steps that commit the one pending command. For commit_pending, commit_after_seal and commit_durable.
+-- The steps that commit the one pending command. For commit_pending, commit_after_seal and
+-- commit_durable.
 use Rattle.std.proofs.Common.{◌≡◌, ℕ, ◌+◌, ◌<◌, ◌≤◌, List, [], ◌∷◌, length, take, drop, Some, None, IsSome, refl, sym, ap, subst, ◌∙◌, arith}
 use Rattle.path_rows.specs.Database.{RowView}
 use Rattle.path_rows.specs.declared.command.Command.{Command}

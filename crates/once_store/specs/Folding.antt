@@ -29,7 +29,8 @@ pub record IsFolded (old new : StateView) : Type 0 where
     written = new.written;
   }
 
--- A checkpoint may be made: no plan is out, and either no journal is sealed or one is, and an epoch is left.
+-- A checkpoint may be made: no plan is out, and either no journal is sealed or one is, and an epoch
+-- is left.
 pub record MayFold (view : StateView) : Type 0 where
   pub going : view.stopped ≡ false
   pub free : view.plan.out ≡ false

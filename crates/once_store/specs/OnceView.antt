@@ -19,7 +19,8 @@ once_view state = record { rows = accepted_rows state; place = next_place state 
 abbrev pub no_rows : OnceView
 no_rows = record { rows = []; place = 0 }
 
--- nothing is held where nothing is pending; or a pending command's ticket is, and the value of its group where that is durable
+-- nothing is held where nothing is pending; or a pending command's ticket is, and the value of its
+-- group where that is durable
 abbrev pub HoldsPending : Option Held → StateView → Type 0
 HoldsPending None view = (view.pending ≡ []) × (view.kept ≡ []) × (view.flush ≡ Resting)
 HoldsPending (Some held) view = HasOnePending held.ticket view × HoldsDurable held.durable view

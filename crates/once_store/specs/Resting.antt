@@ -14,8 +14,8 @@ use Rattle.group_core.specs.Redeeming.{outcome_at, kept_without}
 abbrev pub sizes : Geometry
 sizes = record { checkpoint = 4096; journal = 4096 }
 
--- The checkpointer rests: no journal is sealed, or one is and the tail's journal is empty. A seal comes only after a group, so that
--- there were no more seals than committed commands.
+-- The checkpointer rests: no journal is sealed, or one is and the tail's journal is empty. A seal
+-- comes only after a group, so that there were no more seals than committed commands.
 abbrev pub CheckRests : Check → StateView → Type 0
 CheckRests Ready view = (view.epoch ≤ view.value.place + 1) × (1 ≤ view.gate → view.epoch ≤ view.value.place)
 CheckRests Sealed view = (view.epoch ≤ view.value.place) × (view.gate ≡ 0)

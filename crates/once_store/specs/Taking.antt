@@ -22,8 +22,9 @@ pub record TakesCommand (old : OnceView) (command : Command) (new : OnceView) : 
   pub fits : FitStore (database_after old.rows command)
   pub taken : new ≡ once_view_with_command old command
 
--- The command is taken, with its place and its outcome; or the last place is reached, or else the rows after it don't fit, and nothing
--- changes. Where memory runs out nothing changes, or it is taken, and its outcome isn't reported.
+-- The command is taken, with its place and its outcome; or the last place is reached, or else the
+-- rows after it don't fit, and nothing changes. Where memory runs out nothing changes, or it is
+-- taken, and its outcome isn't reported.
 abbrev pub MayTake : OnceView → Command → Result Taken TakeError → OnceView → Type 0
 MayTake old command (Ok taken) new =
     (taken ≡ record { place = old.place; outcome = outcome_of old.rows command }) × TakesCommand old command new

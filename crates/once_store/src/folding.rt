@@ -11,7 +11,8 @@ use crate::memory_state::{MemoryState, never_fails};
 use group_core::{BeginError, Laid, Plan};
 use std::alloc::AllocError;
 
-/// Makes the checkpoint of the sealed half, where there is one, so that the other half is ready for the next seal.
+/// Makes the checkpoint of the sealed half, where there is one, so that the other half is ready for
+/// the next seal.
 #[tactic(auto, using(crate::proofs::Rests::may_fold, crate::proofs::Rests::room_made, crate::proofs::Rests::looked_at))]
 pub(crate) fn make_room(state: &mut MemoryState) -> Result<(), AllocError>
     requires steady { IsSteady state.old }

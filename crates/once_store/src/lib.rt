@@ -1,7 +1,8 @@
-//! A store on a device in memory, for one caller: each command is committed before the next one is taken.
+//! A store on a device in memory, for one caller: each command is committed before the next one is
+//! taken.
 //!
-//! To the layer above it is rows and a place, which each command that is taken changes; its contracts name nothing of the
-//! device, its journals and its checkpoints.
+//! To the layer above it is rows and a place, which each command that is taken changes; its
+//! contracts name nothing of the device, its journals and its checkpoints.
 #![tactic(auto)]
 
 mod committing;

@@ -24,8 +24,9 @@ use seg_lookup::Query;
 use std::alloc::{AllocError, Global};
 use std::marker::Model;
 
-/// A store at work on a device in memory, whose halves have checkpoint areas and journals of 4,096 sectors. Each command is
-/// committed before the next one is taken. It isn't dropped: `end` ends it.
+/// A store at work on a device in memory, whose halves have checkpoint areas and journals of 4,096
+/// sectors. Each command is committed before the next one is taken. It isn't dropped: `end` ends
+/// it.
 pub struct OnceStore {
     state: MemoryState,
     /// What is held of an accepted command, where memory ran out before that was committed.
@@ -51,8 +52,8 @@ impl OnceStore {
         Ok(OnceStore { state, held: None })
     }
 
-    /// Takes a command, and commits it. Where memory runs out it isn't taken, or it is and its outcome isn't reported; what comes
-    /// later goes on from there.
+    /// Takes a command, and commits it. Where memory runs out it isn't taken, or it is and its
+    /// outcome isn't reported; what comes later goes on from there.
     pub fn take(&mut self, command: Command) -> Result<Taken, TakeError>
         requires within { IsWithinLimits command }
         ensures { MayTake self.old command result self.new }
@@ -77,8 +78,8 @@ impl OnceStore {
         }
     }
 
-    /// The segments that a query shows at a moment, in half seconds since 1970. Memory is refused only where there are segments to show,
-    /// or where it was refused for an earlier command.
+    /// The segments that a query shows at a moment, in half seconds since 1970. Memory is refused
+    /// only where there are segments to show, or where it was refused for an earlier command.
     pub fn look_up(&mut self, query: &Query, now: u64) -> Result<Vec<Segment>, AllocError>
         ensures answer { IfOk result (λ found. found.items ≡ segments_of (answer_to self.old.rows (query_view query.now) now)) }
         ensures few { IfOk result (λ found. length found.items ≤ ANSWER_LIMIT) }

@@ -14,7 +14,8 @@ const SIZES: Geometry = Geometry {
     checkpoint: 4096,
     journal: 4096,
 };
-/// The home number of each state of this crate. No ticket or commit value leaves the crate, so that all its states may have this one.
+/// The home number of each state of this crate. No ticket or commit value leaves the crate, so that
+/// all its states may have this one.
 const LONE_HOME: u64 = 1;
 
 /// A state of a new store, on a device of its own.

@@ -1,4 +1,5 @@
--- Bytes that are read as at least one row begin with a row whose segment has an outline: for `read_rows`.
+-- Bytes that are read as at least one row begin with a row whose segment has an outline: for
+-- `read_rows`.
 use Rattle.std.proofs.Common.{◌≡◌, ◌<◌, length, arith, ℕ, Bool, true, false, List, [], ◌∷◌, Result, Ok, Err, IsOk, refl, sym, ap, subst}
 use Rattle.seg_slots.specs.declared.error.SegError.{SegError}
 use Rattle.path_db.specs.declared.error.DbError.{DbError}

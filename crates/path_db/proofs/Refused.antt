@@ -65,7 +65,8 @@ record Lower (before : Option RowView) (bytes : List ℕ) (e : DbError) : Type 0
   lower : is_row_above before row ≡ false
   reason : e ≡ Order
 
--- after rows in order there are bytes that are refused as a row, or a row whose key isn't above the last one's
+-- after rows in order there are bytes that are refused as a row, or a row whose key isn't above the
+-- last one's
 record Stops (before : Option RowView) (bytes : List ℕ) (e : DbError) : Type 0 where
   rows : List RowView
   rest : List ℕ

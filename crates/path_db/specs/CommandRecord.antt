@@ -24,8 +24,9 @@ IsWithinLimits (Register rows) = (length rows ≤ MOST_REGISTERED) × (segments_
 IsWithinLimits (Purge moment) = Unit {0}
 IsWithinLimits (Remove kind id) = Unit {0}
 
--- the record of a command: its kind (1 byte); after it, for a registration, a count (1) and the records of the rows; for a purge,
--- a moment (8); for a removal, a type (1) and an id (32). Numbers are big-endian.
+-- the record of a command: its kind (1 byte); after it, for a registration, a count (1) and the
+-- records of the rows; for a purge, a moment (8); for a removal, a type (1) and an id (32). Numbers
+-- are big-endian.
 unfoldable pub command_encoding : Command → List ℕ
 command_encoding (Register rows) = 1 ∷ length rows ∷ rows_encoding rows
 command_encoding (Purge moment) = 2 ∷ to_be_bytes w64 moment
@@ -40,7 +41,8 @@ items_decoding (suc count) bytes = do
   rows ← items_decoding count (drop (row_size bytes) bytes)
   Ok (row ∷ rows)
 
--- a count of at most 16, and this number of rows: each takes five bytes beside its segment's, which are at most 131,072 together
+-- a count of at most 16, and this number of rows: each takes five bytes beside its segment's, which
+-- are at most 131,072 together
 unfoldable pub registration_record_decoding : List ℕ → Result Command DbError
 registration_record_decoding [] = Err BadRecord
 registration_record_decoding (count ∷ items) = do
@@ -72,7 +74,8 @@ command_decoding removals (kind ∷ body) =
     else if kind == 3 then (if removals then removal_decoding body else Err BadRecord)
     else Err BadRecord
 
--- To read a registration takes memory if it has 1 to 16 segments, no more bytes than the limit, and its first segment has an outline.
+-- To read a registration takes memory if it has 1 to 16 segments, no more bytes than the limit, and
+-- its first segment has an outline.
 pub record WantsItems (body : List ℕ) : Type 0 where
   pub some : 1 ≤ slice_index body 0
   pub most : slice_index body 0 ≤ MOST_REGISTERED

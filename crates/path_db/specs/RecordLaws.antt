@@ -14,7 +14,8 @@ ReadCommandsAreSpelled =
     (removals : Bool) (bytes : List ℕ) (command : Command) → AreBytes bytes
     → command_decoding removals bytes ≡ Ok command → command_encoding command ≡ bytes
 
--- Bytes that are read as a command are read as the same command where as many kinds or more are allowed.
+-- Bytes that are read as a command are read as the same command where as many kinds or more are
+-- allowed.
 abbrev pub CommandsAreReadOn : Type 0
 CommandsAreReadOn =
     (small large : Bool) (bytes : List ℕ) (command : Command) → (small ≡ true → large ≡ true)

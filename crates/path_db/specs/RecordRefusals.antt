@@ -11,7 +11,8 @@ use Rattle.path_db.specs.RowRecord.{row_record, rows_encoding, is_row_above, row
 use Rattle.path_db.specs.CommandRecord.{command_encoding, command_decoding}
 use Rattle.path_db.specs.RecordLaws.{HasCommandRecord}
 
--- After the records of a database, perhaps an empty one, there are bytes that begin with no row's record.
+-- After the records of a database, perhaps an empty one, there are bytes that begin with no row's
+-- record.
 pub record HasNoRecord (bytes : List ℕ) : Type 0 where
   pub rows : List RowView
   pub rest : List ℕ
@@ -20,7 +21,8 @@ pub record HasNoRecord (bytes : List ℕ) : Type 0 where
   pub some : 0 < length rest
   pub none : (row : RowView) (after : List ℕ) → IsSegment row.1 → rest ≢ row_record row ++ after
 
--- After the records of a database there is the record of a row whose key is not above the last one's.
+-- After the records of a database there is the record of a row whose key is not above the last
+-- one's.
 pub record HasLowerRow (bytes : List ℕ) : Type 0 where
   pub rows : List RowView
   pub row : RowView
@@ -30,11 +32,13 @@ pub record HasLowerRow (bytes : List ℕ) : Type 0 where
   pub whole : IsSegment row.1
   pub lower : is_row_above (last_of rows) row ≡ false
 
--- Bytes are refused as rows with BadRecord exactly where, after the records of a database, they begin with no row's record.
+-- Bytes are refused as rows with BadRecord exactly where, after the records of a database, they
+-- begin with no row's record.
 abbrev pub BadRecordIsExact : Type 0
 BadRecordIsExact = (bytes : List ℕ) → AreBytes bytes → (rows_decoding bytes ≡ Err BadRecord) ↔ HasNoRecord bytes
 
--- Bytes are refused as rows with Order exactly where, after the records of a database, there is the record of a lower row.
+-- Bytes are refused as rows with Order exactly where, after the records of a database, there is the
+-- record of a lower row.
 abbrev pub OrderIsExact : Type 0
 OrderIsExact = (bytes : List ℕ) → AreBytes bytes → (rows_decoding bytes ≡ Err Order) ↔ HasLowerRow bytes
 
@@ -42,7 +46,8 @@ OrderIsExact = (bytes : List ℕ) → AreBytes bytes → (rows_decoding bytes �
 abbrev pub RowsWantNoMemory : Type 0
 RowsWantNoMemory = (bytes : List ℕ) → AreBytes bytes → rows_decoding bytes ≢ Err NoMemory
 
--- Bytes are refused as a command exactly where they are the record of no command that can be written.
+-- Bytes are refused as a command exactly where they are the record of no command that can be
+-- written.
 abbrev pub CommandRefusalIsExact : Type 0
 CommandRefusalIsExact =
     (removals : Bool) (bytes : List ℕ) → AreBytes bytes

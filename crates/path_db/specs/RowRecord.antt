@@ -18,7 +18,8 @@ use Rattle.path_db.specs.RecordSteps.{◌>>=◌, demand}
 
 -- ---- writing
 
--- the record of a row: its type (1 byte), the length of its segment's encoding (4, big-endian), and the encoding
+-- the record of a row: its type (1 byte), the length of its segment's encoding (4, big-endian), and
+-- the encoding
 unfoldable pub row_record : RowView → List ℕ
 row_record row = type_number row.0 ∷ (to_be_bytes w32 (length (segment_encoding row.1)) ++ segment_encoding row.1)
 
@@ -56,7 +57,8 @@ row_decoding bytes = do
   segment ← spelled_segment (part 5 (four_at 1 bytes) bytes)
   Ok (kind, segment)
 
--- The record at the front is whole, it has a type, and its segment has an outline: to read such a record takes memory.
+-- The record at the front is whole, it has a type, and its segment has an outline: to read such a
+-- record takes memory.
 pub record HasOutline (bytes : List ℕ) : Type 0 where
   pub there : has_row bytes ≡ true
   pub kind : IsOk (type_of (slice_index bytes 0))

@@ -1,4 +1,5 @@
--- Rows that a walk returns one after the other: the bytes that were pushed, the rows that were returned, and the bytes that are left.
+-- Rows that a walk returns one after the other: the bytes that were pushed, the rows that were
+-- returned, and the bytes that are left.
 use Rattle.std.specs.Prelude.{◌≡◌, ℕ, ◌≤◌, ◌<◌, ◌⊎◌, Bool, true, false, List, ◌++◌, length, drop, Option, Some, None, Ok, Err}
 use Rattle.std.specs.Option.{option_map}
 use Rattle.std.specs.Ordering.{nat_cmp, is_lt}
@@ -26,7 +27,8 @@ walk_view s = record { last = option_map key_bytes s.last; rest = drop s.at s.re
 abbrev pub IsWalk : Inside → Type 0
 IsWalk s = s.at ≤ length s.rest.items
 
--- These bytes were pushed, and these rows returned: a database, whose records and the bytes that are left are all that was pushed.
+-- These bytes were pushed, and these rows returned: a database, whose records and the bytes that
+-- are left are all that was pushed.
 pub record HasGiven (fed : List ℕ) (given : List RowView) (walk : WalkView) : Type 0 where
   pub database : IsDatabase given
   pub last : walk.last ≡ option_map key_of (last_of given)
@@ -66,7 +68,8 @@ pub record IsLowerRow (left : List ℕ) (last : Option Key) : Type 0 where
   pub read : row_decoding left ≡ Ok row
   pub lower : is_above_key last row ≡ false
 
--- the bytes are no next row, whatever bytes come next: the length is too large, or a whole record is no row, or its key isn't above
+-- the bytes are no next row, whatever bytes come next: the length is too large, or a whole record
+-- is no row, or its key isn't above
 abbrev pub IsNoNextRow : List ℕ → Option Key → DbError → Type 0
 IsNoNextRow left last e =
     ((e ≡ BadRecord) × IsRowTooLong left) ⊎ ((has_row left ≡ true) × ((row_decoding left ≡ Err e) ⊎ (IsLowerRow left last × (e ≡ Order))))

@@ -19,7 +19,8 @@ pub record IsReader (s : Inside) : Type 0 where
 abbrev pub AreRefused : List ℕ → DbError → Type 0
 AreRefused bytes e = (behind : List ℕ) → rows_decoding (bytes ++ behind) ≡ Err e
 
--- This number of bytes at the front are whole rows, which were read after the rows before; after them there is no whole row.
+-- This number of bytes at the front are whole rows, which were read after the rows before; after
+-- them there is no whole row.
 pub record AreReadOn (before after : List RowView) (bytes : List ℕ) (taken : ℕ) : Type 0 where
   pub within : taken ≤ length bytes
   pub same : rows_encoding after ++ drop taken bytes ≡ rows_encoding before ++ bytes

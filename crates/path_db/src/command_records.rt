@@ -19,9 +19,10 @@ use path_rows::{Command, ROW_HEAD, Registration, type_byte};
 use seg_core::{MOST_REGISTERED, MOST_REGISTERED_BYTES, SegType, Segment};
 use std::alloc::{AllocError, Global};
 
-/// Appends the record of a command: its kind (1 byte); after it, for a registration, the count of its segments (1) and the record
-/// of a row for each; for a purge, a moment (8); for a removal, a type (1) and an id (32). Numbers are big-endian. Where memory is
-/// refused, the vector keeps its items.
+/// Appends the record of a command: its kind (1 byte); after it, for a registration, the count of
+/// its segments (1) and the record of a row for each; for a purge, a moment (8); for a removal, a
+/// type (1) and an id (32). Numbers are big-endian. Where memory is refused, the vector keeps its
+/// items.
 pub fn write_command(command: &Command, out: &mut Vec<u8>) -> Result<(), AllocError>
     requires { IsWithinLimits command.now }
     ensures ok { OnOk result (out.new.items ≡ out.old.items ++ command_encoding command.now) }
@@ -88,8 +89,9 @@ fn put_removal(kind: SegType, id: &[u8; 32], out: &mut Vec<u8>) -> Result<(), Al
     out.extend_from_slice(id)
 }
 
-/// Reads a command's record, which has to be all of the bytes. A removal is refused in version 1. A purge, a removal, and a
-/// registration with too many segments or bytes take no memory. A command that is read can be written.
+/// Reads a command's record, which has to be all of the bytes. A removal is refused in version 1. A
+/// purge, a removal, and a registration with too many segments or bytes take no memory. A command
+/// that is read can be written.
 #[tactic(auto, unfolding(crate::specs::CommandRecord::command_decoding))]
 pub fn read_command(alloc: Global, bytes: &[u8], version: u32) -> Result<Command, DbError>
     ensures decoding { GivesRecord (λ command. command) result (command_decoding (allows_removals version) bytes.now) }

@@ -12,8 +12,8 @@ pub enum DbError {
     /// Memory was refused. The bytes may be valid or not.
     #[error("out of memory")]
     NoMemory,
-    /// Bytes are missing or left over, a number is out of its range, or a segment's bytes can't be read or are not its one
-    /// encoding.
+    /// Bytes are missing or left over, a number is out of its range, or a segment's bytes can't be
+    /// read or are not its one encoding.
     #[error("a record is not well-formed")]
     BadRecord,
     /// The key of a row isn't strictly above the key of the row before.

@@ -12,8 +12,8 @@ use seg_check::seg_id;
 use seg_core::{SegType, Segment};
 use std::cmp::Ordering;
 
-/// The key of a row: its type and its id. Keys are ordered by the types' numbers, and under one type by the
-/// ids' bytes.
+/// The key of a row: its type and its id. Keys are ordered by the types' numbers, and under one
+/// type by the ids' bytes.
 #[derive(Clone, Copy, Debug, PartialEq, Eq)]
 pub struct Key {
     pub kind: SegType,

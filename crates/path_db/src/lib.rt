@@ -1,8 +1,8 @@
 //! The database of a path segment server and its records: rows and commands as bytes.
 //!
-//! To the layer above: the rows of `path_rows`, and the calls that write rows and commands as records and read these. What was
-//! written is read back unchanged, bytes that are read are the record of the result, and each refusal comes exactly where the
-//! definitions have it.
+//! To the layer above: the rows of `path_rows`, and the calls that write rows and commands as
+//! records and read these. What was written is read back unchanged, bytes that are read are the
+//! record of the result, and each refusal comes exactly where the definitions have it.
 #![tactic(auto)]
 
 mod command_records;

@@ -14,8 +14,9 @@ use seg_check::expiry;
 use seg_core::{SegType, Segment};
 use std::alloc::AllocError;
 
-/// The row under a key after commands, where `found` is the row under it before: the row that a database has there after them. A
-/// new row shares its segment with the command. The call takes no memory. An error means that 2^63 rows share a segment already.
+/// The row under a key after commands, where `found` is the row under it before: the row that a
+/// database has there after them. A new row shares its segment with the command. The call takes no
+/// memory. An error means that 2^63 rows share a segment already.
 pub fn row_after(
     key: &Key,
     found: Option<Row>,
@@ -60,7 +61,8 @@ fn row_after_puts(
     Ok(left)
 }
 
-/// The row under the key after a put: the new row if it has this key, unless the row before is at least as new.
+/// The row under the key after a put: the new row if it has this key, unless the row before is at
+/// least as new.
 fn row_after_put(
     key: &Key,
     found: Option<Row>,

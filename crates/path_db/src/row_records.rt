@@ -19,9 +19,9 @@ use seg_core::{
 };
 use std::alloc::{AllocError, Global};
 
-/// Appends the records of all rows, in the order of their keys. A record is the type (1 byte), the length of the segment's
-/// encoding (4, big-endian), and the encoding. Where memory is refused, the vector keeps its items. An empty database takes no
-/// memory.
+/// Appends the records of all rows, in the order of their keys. A record is the type (1 byte), the
+/// length of the segment's encoding (4, big-endian), and the encoding. Where memory is refused, the
+/// vector keeps its items. An empty database takes no memory.
 pub fn write_rows(db: &PathDb, out: &mut Vec<u8>) -> Result<(), AllocError>
     ensures ok { OnOk result (out.new.items ≡ out.old.items ++ rows_encoding db.now) }
     ensures err { OnErr result (out.new.items ≡ out.old.items) }
@@ -56,7 +56,8 @@ pub(crate) fn put_row(kind: SegType, segment: &Segment, out: &mut Vec<u8>) -> Re
     put_segment(segment, out)
 }
 
-/// The bytes of a row's record before the segment's encoding: the type (1), and the length of that encoding (4, big-endian).
+/// The bytes of a row's record before the segment's encoding: the type (1), and the length of that
+/// encoding (4, big-endian).
 #[tactic(auto, unfolding(crate::specs::RowRecord::row_record))]
 pub fn row_head(kind: SegType, segment: &Segment) -> [u8; 5]
     ensures { result ++ segment_encoding segment.now ≡ row_record (kind, segment.now) }
@@ -126,9 +127,10 @@ pub(crate) fn read_row(alloc: Global, bytes: &[u8]) -> Result<((SegType, Segment
     Ok(((kind, segment), &bytes[size..]))
 }
 
-/// Reads the records of rows, which have to be all of the bytes. The ids are computed again. The error is the first that applies:
-/// `BadRecord` for bytes that are no record, `Order` for a row whose key isn't strictly above the key of the row before. No bytes
-/// are an empty database. The call takes memory from the first row on whose segment has an outline.
+/// Reads the records of rows, which have to be all of the bytes. The ids are computed again. The
+/// error is the first that applies: `BadRecord` for bytes that are no record, `Order` for a row
+/// whose key isn't strictly above the key of the row before. No bytes are an empty database. The
+/// call takes memory from the first row on whose segment has an outline.
 pub fn read_rows(alloc: Global, bytes: &[u8]) -> Result<PathDb, DbError>
     ensures decoding { GivesRecord (λ rows. rows) result (rows_decoding bytes.now) }
     ensures whole { IfOk result IsDatabase }

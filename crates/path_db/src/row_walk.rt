@@ -17,9 +17,9 @@ use seg_core::MOST_SEGMENT_BYTES;
 use std::alloc::{AllocError, Global};
 use std::marker::Model;
 
-/// Reads rows from pieces of their records, cut anywhere, and returns them one after the other. It keeps the key of the last row
-/// that it returned, and the bytes after that row. Once all whole rows are returned, these are fewer than 16,389 bytes, the length
-/// of the greatest record.
+/// Reads rows from pieces of their records, cut anywhere, and returns them one after the other. It
+/// keeps the key of the last row that it returned, and the bytes after that row. Once all whole
+/// rows are returned, these are fewer than 16,389 bytes, the length of the greatest record.
 #[derive(Drop)]
 pub struct RowWalk {
     alloc: Global,
@@ -51,7 +51,8 @@ impl RowWalk {
         }
     }
 
-    /// Adds the next piece. An empty piece takes no memory. Where memory is refused, the walk is unchanged.
+    /// Adds the next piece. An empty piece takes no memory. Where memory is refused, the walk is
+    /// unchanged.
     pub fn push(&mut self, piece: &[u8]) -> Result<(), AllocError>
         ensures fed { OnOk result ((fed : List ℕ) (given : List RowView) → HasGiven fed given self.old → HasGiven (fed ++ piece.now) given self.new) }
         ensures rest { OnOk result (self.new.rest ≡ self.old.rest ++ piece.now) }
@@ -68,10 +69,11 @@ impl RowWalk {
         Ok(())
     }
 
-    /// The next row, where its whole record is there; `None` where it is not. Bytes that are no record are `BadRecord`, as is a segment
-    /// of more than 16,384 bytes as soon as its length is there. A row whose key isn't strictly above the key of the row before is
-    /// `Order`. The refusal does not depend on later bytes. The call takes memory only where the row's segment has an outline. After an
-    /// error the walk is unchanged.
+    /// The next row, where its whole record is there; `None` where it is not. Bytes that are no
+    /// record are `BadRecord`, as is a segment of more than 16,384 bytes as soon as its length is
+    /// there. A row whose key isn't strictly above the key of the row before is `Order`. The
+    /// refusal does not depend on later bytes. The call takes memory only where the row's segment
+    /// has an outline. After an error the walk is unchanged.
     pub fn next(&mut self) -> Result<Option<Row>, DbError>
         ensures row { IfOk result (λ next. MatchOption next ((self.new ≡ self.old) × (has_row self.old.rest ≡ false))
             (λ row. (fed : List ℕ) (given : List RowView) → HasGiven fed given self.old → HasGiven fed (given ++ row_view row ∷ []) self.new)) }
@@ -108,7 +110,8 @@ fn bytes_from(bytes: &[u8], at: usize) -> &[u8]
     &bytes[at..]
 }
 
-/// The row at the front of the bytes, after a row with this key, and the length of its record. `None` where the record is not whole.
+/// The row at the front of the bytes, after a row with this key, and the length of its record.
+/// `None` where the record is not whole.
 fn next_of(alloc: Global, last: &Option<Key>, left: &[u8]) -> Result<Option<(Row, usize)>, DbError>
     ensures row { IfOk result (λ next. MatchOption next (IsRowCutShort left.now) (λ found. IsNextRow left.now last.now (row_view found.0) found.1)) }
     ensures refused { IfErr result (λ e. e ≢ NoMemory → IsNoNextRow left.now last.now e) }
@@ -125,7 +128,8 @@ fn next_of(alloc: Global, last: &Option<Key>, left: &[u8]) -> Result<Option<(Row
     Ok(Some((row, size)))
 }
 
-/// The length of the record at the front, or `None` where the record is not whole. A segment of more than 16,384 bytes is refused.
+/// The length of the record at the front, or `None` where the record is not whole. A segment of
+/// more than 16,384 bytes is refused.
 fn size_of_next(left: &[u8]) -> Result<Option<usize>, DbError>
     ensures size { IfOk result (λ size. MatchOption size (IsRowCutShort left.now)
         (λ size. (has_row left.now ≡ true) × (size ≡ row_size left.now) × (size ≤ length left.now))) }

@@ -14,8 +14,9 @@ use path_rows::{PathDb, Row};
 use std::alloc::{AllocError, Global};
 use std::marker::Model;
 
-/// Reads the records of rows from pieces of their bytes, cut anywhere. It keeps the rows that were read, and beside them only the
-/// bytes of a record that isn't whole yet. In contracts its value is all of the bytes that were fed.
+/// Reads the records of rows from pieces of their bytes, cut anywhere. It keeps the rows that were
+/// read, and beside them only the bytes of a record that isn't whole yet. In contracts its value is
+/// all of the bytes that were fed.
 #[derive(Drop)]
 pub struct RowsReader {
     alloc: Global,
@@ -46,8 +47,8 @@ impl RowsReader {
         }
     }
 
-    /// Reads the next piece. The refusal does not depend on the bytes after this piece. An empty piece takes no
-    /// memory.
+    /// Reads the next piece. The refusal does not depend on the bytes after this piece. An empty
+    /// piece takes no memory.
     pub fn feed(self, piece: &[u8]) -> Result<RowsReader, DbError>
         ensures fed { IfOk result (λ reader. reader ≡ self ++ piece.now) }
         ensures refused { IfErr result (λ e. e ≢ NoMemory → AreRefused (self ++ piece.now) e) }
@@ -67,7 +68,8 @@ impl RowsReader {
         Ok(RowsReader { alloc, rows, rest })
     }
 
-    /// The rows of all bytes that were fed, as `read_rows` returns them. The call takes memory only where there are rows.
+    /// The rows of all bytes that were fed, as `read_rows` returns them. The call takes memory only
+    /// where there are rows.
     pub fn finish(self) -> Result<PathDb, DbError>
         ensures decoding { GivesRecord (λ rows. rows) result (rows_decoding self) }
         ensures whole { IfOk result IsDatabase }
@@ -92,7 +94,8 @@ fn cut_front(bytes: Vec<u8>, taken: usize) -> Result<Vec<u8>, AllocError>
     bytes.split_off(taken)
 }
 
-/// Reads the whole rows at the front of the bytes, after the rows before, and returns how many bytes their records have.
+/// Reads the whole rows at the front of the bytes, after the rows before, and returns how many
+/// bytes their records have.
 fn read_on(alloc: Global, rows: Vec<Row>, bytes: &[u8]) -> Result<(Vec<Row>, usize), DbError>
     requires { IsDatabase (row_views rows.items) }
     ensures read { IfOk result (λ read. AreReadOn (row_views rows.items) (row_views read.0.items) bytes.now read.1) }

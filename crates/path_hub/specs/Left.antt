@@ -8,7 +8,8 @@ use Rattle.ckpt_pair.specs.Versions.{latest}
 use Rattle.store_open.specs.PathStores.{store_format}
 use Rattle.path_hub.specs.Shown.{shown_after, AreGroups}
 
--- The image opens to what the hub opened with after the groups that were published, and after some commands more that were accepted.
+-- The image opens to what the hub opened with after the groups that were published, and after some
+-- commands more that were accepted.
 pub record OpensAfter (opening : StoreValue (List RowView)) (image : List ℕ) : Type 0 where
   pub groups : List (List Command)
   pub whole : AreGroups groups

@@ -38,13 +38,15 @@ pub record IsShownAfter (opening value : StoreValue (List RowView)) (groups : Li
   pub is : value ≡ shown_after opening groups
   pub whole : AreGroups groups
 
--- The readers' rule: there are groups after which this is shown, and each seat has seen a front of them.
+-- The readers' rule: there are groups after which this is shown, and each seat has seen a front of
+-- them.
 pub record KeepsRule (opening value : StoreValue (List RowView)) (views : List SeenGroups) : Type 0 where
   pub groups : List (List Command)
   pub shown : IsShownAfter opening value groups
   pub seats : (seat : ℕ) (view : SeenGroups) → get_elem? views seat ≡ some view → IsPrefix view.groups groups
 
--- What a reader's step says: the reader has then seen all groups after which this is shown, and they begin with those that it had seen.
+-- What a reader's step says: the reader has then seen all groups after which this is shown, and
+-- they begin with those that it had seen.
 pub record IsSeen (opening : StoreValue (List RowView)) (old : SeenGroups) (before after : StoreValue (List RowView)) (new : SeenGroups) : Type 0 where
   pub shown : IsShownAfter opening after new.groups
   pub later : IsPrefix old.groups new.groups

@@ -9,8 +9,9 @@ use store_loops::Awaited;
 /// The longest rest, in milliseconds.
 const LONGEST_REST: u64 = 10;
 
-/// Counts the changes of each kind, and wakes the threads that wait for one. A change is counted after it was made, outside the
-/// state's lock, so that a thread which read the count before a call was refused sees each change that the call didn't see.
+/// Counts the changes of each kind, and wakes the threads that wait for one. A change is counted
+/// after it was made, outside the state's lock, so that a thread which read the count before a call
+/// was refused sees each change that the call didn't see.
 #[derive(Drop)]
 pub(crate) struct Changes {
     work: Condvar,
@@ -41,7 +42,8 @@ impl Changes {
         self.bell(awaited).notify_all();
     }
 
-    /// Wakes the threads whose commands have these places: from the first up to the second, which is left out.
+    /// Wakes the threads whose commands have these places: from the first up to the second, which
+    /// is left out.
     pub(crate) fn announce_outcomes(&self, from: u64, to: u64) {
         self.reached.fetch_max(to, Ordering::SeqCst);
         for place in from..to {

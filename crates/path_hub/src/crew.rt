@@ -20,8 +20,8 @@ use std::time::Clock;
 use store_loops::{checkpointer_loop, flusher_loop};
 use store_open::Store;
 
-/// What threads do with a hub: guests come one by one, and each is attended to in a thread of its own. It can't name a hub itself, so
-/// all that a guest is handed is of this one.
+/// What threads do with a hub: guests come one by one, and each is attended to in a thread of its
+/// own. It can't name a hub itself, so all that a guest is handed is of this one.
 pub trait Crew<D: Device, R: Wait + Clock> {
     /// What one thread attends to.
     type Guest: Send + Drop;
@@ -35,15 +35,17 @@ pub trait Crew<D: Device, R: Wait + Clock> {
     /// No thread was given for a guest, who is dropped.
     fn miss(&self);
 
-    /// The flusher has ended, as the state has stopped: because a device failed, or because `stop` was called, as it is once all guests
-    /// have been attended to. The flusher's thread calls this, where both actors were given their threads.
+    /// The flusher has ended, as the state has stopped: because a device failed, or because `stop`
+    /// was called, as it is once all guests have been attended to. The flusher's thread calls this,
+    /// where both actors were given their threads.
     fn stopped(&self) {}
 }
 
-/// Makes a hub over a store, starts the flusher, the checkpointer and a thread for each guest, and answers how many guests were
-/// attended to (a count that stays at 2^64 - 1) once the last of these threads has ended. Then the state is stopped, the actors end, and
-/// the device comes out; it comes back, too, where the hub or an actor's thread isn't given, which is `NoMemory` or `NoReader`. The caller
-/// gives each state of a process a home number of its own.
+/// Makes a hub over a store, starts the flusher, the checkpointer and a thread for each guest, and
+/// answers how many guests were attended to (a count that stays at 2^64 - 1) once the last of these
+/// threads has ended. Then the state is stopped, the actors end, and the device comes out; it comes
+/// back, too, where the hub or an actor's thread isn't given, which is `NoMemory` or `NoReader`.
+/// The caller gives each state of a process a home number of its own.
 pub fn with_crew<
     D: Device + Send,
     C: Crew<D, R> + Sync,
@@ -76,8 +78,8 @@ fn named_crew<
     (hub.close(), attended)
 }
 
-/// Runs both actors while guests are attended to, and stops them then. The flusher starts last, so that the crew isn't
-/// called at all where the thread of an actor isn't given.
+/// Runs both actors while guests are attended to, and stops them then. The flusher starts last, so
+/// that the crew isn't called at all where the thread of an actor isn't given.
 fn act<
     N: HubName + Send + Sync,
     D: Device + Send,

@@ -13,7 +13,8 @@ pub enum HubError {
     /// All 64 readers are taken, or the library gave none.
     #[error("no reader is left")]
     NoReader,
-    /// The state stopped before the command of this place was committed: whether the store keeps the command is not known.
+    /// The state stopped before the command of this place was committed: whether the store keeps
+    /// the command is not known.
     #[error("the state stopped before place {0}")]
     Stopped(u64),
     /// The command was not accepted.

@@ -23,8 +23,9 @@ pub const READERS: usize = 64;
 
 /// A store's state behind one lock, and the readers of what it shows, under one name.
 ///
-/// The lock's value is a `State`, so what that type says of a state holds whenever the lock is free: a stop at that moment leaves an
-/// image that opens to the committed rows with a front of the pending commands.
+/// The lock's value is a `State`, so what that type says of a state holds whenever the lock is
+/// free: a stop at that moment leaves an image that opens to the committed rows with a front of the
+/// pending commands.
 pub struct Hub<D: Device, N: HubName, R: Wait + Clock> {
     pub(crate) rt: R,
     pub(crate) state: Mutex<State<D, HubShow<N, R>>>,
@@ -41,7 +42,8 @@ impl<D: Device, N: HubName, R: Wait + Clock> Hub<D, N, R> {
         &self.rt
     }
 
-    /// Takes a reader out. There are 64; a reader that is dropped and not given back is lost to the hub.
+    /// Takes a reader out. There are 64; a reader that is dropped and not given back is lost to the
+    /// hub.
     pub fn reader(&self) -> Result<HubReader<N>, HubError>
         ensures { IfErr result (λ e. e ≡ NoReader) }
     {
@@ -56,9 +58,10 @@ impl<D: Device, N: HubName, R: Wait + Clock> Hub<D, N, R> {
         let _ = self.readers.lock(&self.rt).push(reader);
     }
 
-    /// Submits a command, and waits until it is committed: the receipt shows the command, and its note a place above the command's own.
-    /// A command that isn't accepted is refused at once. Where the state stops before the command is committed, its place is answered:
-    /// whether the store keeps the command is not known.
+    /// Submits a command, and waits until it is committed: the receipt shows the command, and its
+    /// note a place above the command's own. A command that isn't accepted is refused at once.
+    /// Where the state stops before the command is committed, its place is answered: whether the
+    /// store keeps the command is not known.
     #[tactic(auto, using(crate::proofs::Committed::is_committed))]
     pub fn register(&self, command: Command) -> Result<Receipt<HubNote<N>>, HubError>
         ensures committed { IfOk result (ReceiptShows command) }
@@ -80,7 +83,8 @@ impl<D: Device, N: HubName, R: Wait + Clock> Hub<D, N, R> {
         unreachable!()
     }
 
-    /// Waits until the command of a place is committed or the state has stopped, at most 10 milliseconds.
+    /// Waits until the command of a place is committed or the state has stopped, at most 10
+    /// milliseconds.
     fn await_outcome(&self, place: u64) {
         let awaited = Awaited::Outcome(place);
         let seen = self.changes(awaited);
@@ -89,8 +93,9 @@ impl<D: Device, N: HubName, R: Wait + Clock> Hub<D, N, R> {
         }
     }
 
-    /// The numbers of the state at one moment, and how much both actors had completed then. The lock is taken for this one read.
-    /// The clause is about the state's numbers; what the actors completed is open.
+    /// The numbers of the state at one moment, and how much both actors had completed then. The
+    /// lock is taken for this one read. The clause is about the state's numbers; what the actors
+    /// completed is open.
     #[tactic(auto, using(crate::proofs::Numbers::are_numbers))]
     pub fn numbers(&self) -> (Numbers, Completed)
         ensures { AreNumbers result.0 }

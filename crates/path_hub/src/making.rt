@@ -27,7 +27,8 @@ use std::sync::{Mutex, Wait};
 use std::time::Clock;
 use store_open::Store;
 
-/// What is done with a hub, in one thread. It can't name a hub itself, so all that it is handed is of this one.
+/// What is done with a hub, in one thread. It can't name a hub itself, so all that it is handed is
+/// of this one.
 pub trait HubJob<D: Device, R: Wait + Clock> {
     /// What comes of it.
     type Out;
@@ -39,8 +40,9 @@ pub trait HubJob<D: Device, R: Wait + Clock> {
         ensures { does self result };
 }
 
-/// Makes a hub over a store, and does the job with it. At the end the state is taken apart, and the device dropped. The caller gives
-/// each state of a process a home number of its own. Where the hub can't be made, the store comes back as it was, and the job too.
+/// Makes a hub over a store, and does the job with it. At the end the state is taken apart, and the
+/// device dropped. The caller gives each state of a process a home number of its own. Where the hub
+/// can't be made, the store comes back as it was, and the job too.
 pub fn with_hub<D: Device + Drop, J: HubJob<D, R>, R: Wait + Clock + Copy>(
     rt: R,
     alloc: Global,
@@ -111,8 +113,8 @@ impl<D: Device, N: HubName, R: Wait + Clock> Hub<D, N, R> {
         })
     }
 
-    /// Ends the hub, which no one else has, and hands out its device: an honest one opens to what the hub opened with after some
-    /// commands. It waits for readers that are within a lookup.
+    /// Ends the hub, which no one else has, and hands out its device: an honest one opens to what
+    /// the hub opened with after some commands. It waits for readers that are within a lookup.
     pub(crate) fn close(self) -> D
     where
         R: Drop,

@@ -2,8 +2,9 @@
 
 use std::marker::Brand;
 
-/// Names one hub by what its store held when the hub was made: its rows, and its place. The call that makes a hub picks the name, so
-/// no two hubs have one name, and a note or a reader of one hub is refused by the types of another.
+/// Names one hub by what its store held when the hub was made: its rows, and its place. The call
+/// that makes a hub picks the name, so no two hubs have one name, and a note or a reader of one hub
+/// is refused by the types of another.
 pub trait HubName {
     ghost use Rattle.std.specs.Prelude.{List};
     ghost use Rattle.path_rows.specs.Database.{RowView};

@@ -26,8 +26,8 @@ use std::marker::Model;
 /// A reader's seat at what a hub publishes.
 pub(crate) type HubSeat<N> = Reader<Published, SeenGroups, ReaderRule<N>>;
 
-/// A reader of the hub of this name. Contracts see the groups after which its last lookup was answered, and the greatest place that a
-/// lookup or a receipt has shown it.
+/// A reader of the hub of this name. Contracts see the groups after which its last lookup was
+/// answered, and the greatest place that a lookup or a receipt has shown it.
 #[derive(Drop)]
 pub struct HubReader<N: HubName> {
     seat: HubSeat<N>,
@@ -52,21 +52,24 @@ impl<N: HubName> HubReader<N> {
         HubReader { seat, seen: 0 }
     }
 
-    /// The segments that a query asks for, at a moment in half seconds since 1970, of what is published at one moment within the call:
-    /// no older than what this reader was shown before or has learnt. It takes no lock and waits for nobody. The segments are shared
-    /// with the published rows, not copied.
+    /// The segments that a query asks for, at a moment in half seconds since 1970, of what is
+    /// published at one moment within the call: no older than what this reader was shown before or
+    /// has learnt. It takes no lock and waits for nobody. The segments are shared with the
+    /// published rows, not copied.
     pub fn lookup(&mut self, query: &Query, now: u64) -> Result<Vec<Segment>, HubError>
         ensures answer { IfOk result (λ found. found.items ≡ segments_of (answer_after N.opening self.new.groups query.now now)) }
         ensures few { IfOk result (λ found. length found.items ≤ ANSWER_LIMIT) }
         ensures whole { IfOk result (λ found. AllByRecursion IsSegment found.items) }
 
-        // What is published has all groups that this reader was shown before, and its place is at least what the reader has seen.
+        // What is published has all groups that this reader was shown before, and its place is at
+        // least what the reader has seen.
         ensures later { IsPrefix self.old.groups self.new.groups }
         ensures fresh { OnOk result (self.old.seen ≤ place_after N.opening self.new.groups) }
         ensures seen { OnOk result (self.new.seen ≡ place_after N.opening self.new.groups) }
 
-        // Memory runs out only for an answer that isn't empty, after the reader has looked. NoReader comes only where the reader can't look,
-        // or where what is published is older than what it has seen: it has then seen what it had.
+        // Memory runs out only for an answer that isn't empty, after the reader has looked.
+        // NoReader comes only where the reader can't look, or where what is published is older than
+        // what it has seen: it has then seen what it had.
         ensures why { IfErr result (λ e. (e ≡ NoMemory) ⊎ (e ≡ NoReader)) }
         ensures memory { IfErr result (λ e. e ≡ NoMemory → 1 ≤ length (answer_after N.opening self.new.groups query.now now)) }
         ensures looked { IfErr result (λ e. e ≡ NoMemory → self.new.seen ≡ place_after N.opening self.new.groups) }
@@ -84,8 +87,8 @@ impl<N: HubName> HubReader<N> {
         Ok(sight.found?)
     }
 
-    /// Takes the note out of a receipt: from then on this reader is shown nothing older than the receipt's command. Where no note is
-    /// left nothing changes.
+    /// Takes the note out of a receipt: from then on this reader is shown nothing older than the
+    /// receipt's command. Where no note is left nothing changes.
     pub fn learn(&mut self, receipt: &mut Receipt<HubNote<N>>)
         ensures groups { self.new.groups ≡ self.old.groups }
         ensures seen { self.new.seen ≡ learnt self.old.seen receipt.old.note }

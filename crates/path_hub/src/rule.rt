@@ -12,8 +12,8 @@ pub struct SeenGroups {
     pub groups: LinkedList<LinkedList<Command>>,
 }
 
-/// The readers' rule: what is published is what the hub opened with after a list of whole groups, and every seat has seen a front of
-/// that list.
+/// The readers' rule: what is published is what the hub opened with after a list of whole groups,
+/// and every seat has seen a front of that list.
 pub struct ReaderRule<N> {
     of: PhantomData<N>,
 }

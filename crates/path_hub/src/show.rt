@@ -23,8 +23,8 @@ use std::sync::Wait;
 /// What publishes to a hub's readers.
 pub(crate) type HubWriter<N> = Writer<Published, Command, SeenGroups, ReaderRule<N>>;
 
-/// Says that the hub of this name has shown a place: how many commands had made the rows. Contracts see a note as that number. Only
-/// the hub's showcase makes one.
+/// Says that the hub of this name has shown a place: how many commands had made the rows. Contracts
+/// see a note as that number. Only the hub's showcase makes one.
 #[derive(Drop)]
 pub struct HubNote<N: HubName> {
     shown: u64,
@@ -60,8 +60,8 @@ impl<N: HubName> HubNote<N> {
 
 /// Publishes committed groups to readers that wait for nobody. It is not `Drop`: the hub ends it.
 ///
-/// Contracts see the groups that it has published, the rows and the place that they lead to, and which commands of the next group it
-/// has already, since memory ran out for that group.
+/// Contracts see the groups that it has published, the rows and the place that they lead to, and
+/// which commands of the next group it has already, since memory ran out for that group.
 pub struct HubShow<N: HubName, R: Wait> {
     rt: R,
     alloc: Global,
@@ -170,8 +170,8 @@ impl<N: HubName, R: Wait> HubShow<N, R> {
     }
 }
 
-/// Hands the writer copies of the commands of a group from an index on. Answers how many of the group the writer has then: fewer than
-/// all where memory runs out.
+/// Hands the writer copies of the commands of a group from an index on. Answers how many of the
+/// group the writer has then: fewer than all where memory runs out.
 fn hand_over<N: HubName>(
     alloc: Global,
     writer: &mut HubWriter<N>,

@@ -13,7 +13,8 @@ pub struct Completed {
     pub checkpoints: u64,
 }
 
-/// Counts what both actors complete. It is changed and read only by threads that have the state's lock.
+/// Counts what both actors complete. It is changed and read only by threads that have the state's
+/// lock.
 #[derive(Drop)]
 pub(crate) struct Tally {
     groups: AtomicU64,
@@ -31,7 +32,8 @@ impl Tally {
         }
     }
 
-    /// Counts what was published, by the places before and after: a group takes places, and a seal none.
+    /// Counts what was published, by the places before and after: a group takes places, and a seal
+    /// none.
     pub(crate) fn count_published(&self, from: u64, to: u64) {
         let counter = if from < to { &self.groups } else { &self.seals };
         counter.fetch_add(1, Ordering::SeqCst);

@@ -1,4 +1,5 @@
--- The first and the last entry of a segment, and the last row: for `Wanted::is_shown` and `is_above_last`.
+-- The first and the last entry of a segment, and the last row: for `Wanted::is_shown` and
+-- `is_above_last`.
 use Rattle.std.proofs.Common.{◌≡◌, ℕ, ◌-◌, List, [], ◌∷◌, length, map, Option, Some, None, Bor, refl, sym, ap, ◌∙◌, arith}
 use Rattle.std.specs.List.{slice_get}
 use Rattle.std.specs.Option.{option_map, option_copied, option_or}

@@ -1,4 +1,5 @@
--- The row under a key that a search found or did not find, and the rows after a removal: for `get` and `remove`.
+-- The row under a key that a search found or did not find, and the rows after a removal: for `get`
+-- and `remove`.
 use Rattle.std.proofs.Common.{◌≡◌, ℕ, zero, suc, ◌<◌, true, false, not, cond, List, [], ◌∷◌, length, get_or, Some, None, if◌then◌else◌, refl, sym, ap, ◌∙◌, subst, arith}
 use Rattle.std.specs.List.{AllByRecursion, remove}
 use Rattle.std.specs.Ordering.{nat_cmp, is_eq, ordering_reverse}

@@ -1,4 +1,5 @@
--- The index at which a search among rising rows ends, and the rows after a put at that index: for `index_of` and `put`.
+-- The index at which a search among rising rows ends, and the rows after a put at that index: for
+-- `index_of` and `put`.
 use Rattle.std.proofs.Common.{◌≡◌, ℕ, zero, suc, ◌<◌, ◌≤◌, List, [], ◌∷◌, length, get_or, set, if◌then◌else◌, Result, Ok, Err, IfOk, IfErr, refl, sym, ap, ◌∙◌, subst, arith}
 use Rattle.std.specs.List.{insert}
 use Rattle.std.specs.List.Sorted.{IsSearchInRange, IsBinarySearchResult, IsNonDecreasingBy}

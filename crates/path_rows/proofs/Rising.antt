@@ -1,4 +1,5 @@
--- Commands keep the keys rising and the segments whole: for `put_all`, the calls of `PathDb` and the laws.
+-- Commands keep the keys rising and the segments whole: for `put_all`, the calls of `PathDb` and
+-- the laws.
 use Rattle.std.proofs.Common.{◌≡◌, Bool, true, false, cond, List, [], ◌∷◌, if◌then◌else◌, refl}
 use Rattle.std.specs.List.{filter}
 use Rattle.std.specs.declared.cmp.Ordering.{Ordering}

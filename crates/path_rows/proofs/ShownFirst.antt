@@ -1,4 +1,5 @@
--- The segments that a scan of index keys has found, by the index keys that are left: for `shown_at`.
+-- The segments that a scan of index keys has found, by the index keys that are left: for
+-- `shown_at`.
 use Rattle.std.proofs.Common.{◌≡◌, ℕ, zero, suc, ◌<◌, ◌≤◌, Bool, List, [], ◌∷◌, ◌++◌, length, take, refl, sym, ap, ◌∙◌, arith}
 use Rattle.std.proofs.lemmas.List.{append_assoc, length-append}
 use Rattle.std.specs.List.{filter}
@@ -9,7 +10,8 @@ use Rattle.path_rows.specs.Database.{RowView}
 use Rattle.path_rows.specs.Answer.{segments_of}
 use Rattle.path_rows.proofs.ShownLeft.{append_nil, take_few, take_some}
 
--- the first of the segments until now and those that are left to find are the first of all segments that are shown
+-- the first of the segments until now and those that are left to find are the first of all segments
+-- that are shown
 abbrev pub ShowsFirst : ℕ → (RowView → Bool) → List RowView → List SegmentView → List RowView → Type 0
 ShowsFirst n w rows found left = take n (segments_of (filter w rows)) ≡ take n (found ++ segments_of (filter w left))
 

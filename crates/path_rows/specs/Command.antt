@@ -32,7 +32,8 @@ unfoldable pub database_after_all : List RowView → List Command → List RowVi
 database_after_all rows [] = rows
 database_after_all rows (command ∷ commands) = database_after_all (database_after rows command) commands
 
--- The outcome of a command: how many of its puts add, replace and keep a row, and how many rows the command drops.
+-- The outcome of a command: how many of its puts add, replace and keep a row, and how many rows the
+-- command drops.
 unfoldable pub outcome_of : List RowView → Command → Outcome
 outcome_of rows (Register new) = outcome_of_puts (changes_of rows new)
 outcome_of rows (Purge moment) = outcome_of_drops (count_by (λ row. not (is_valid_beyond moment row)) rows)

@@ -10,7 +10,8 @@ use Rattle.path_rows.specs.Database.{RowView, key, key_of, is_under, row_under, 
 use Rattle.path_rows.specs.Put.{is_newer}
 use Rattle.path_rows.specs.Command.{is_valid_beyond, database_after, database_after_all, HasWholeSegments}
 
--- the row under a key after a put: the new row, where there was none or the new one is newer, else the old one
+-- the row under a key after a put: the new row, where there was none or the new one is newer, else
+-- the old one
 abbrev pub winner : RowView → Option RowView → RowView
 winner row None = row
 winner row (Some old) = if is_newer row old then row else old
@@ -46,7 +47,8 @@ KeysAreSeparate =
     (k : List ℕ) (rows : List RowView) (commands : List Command) → IsRising rows
     → row_under k (database_after_all rows commands) ≡ left_under_all k (row_under k rows) commands
 
--- The database after two lists of commands is the database after the first list and then the second.
+-- The database after two lists of commands is the database after the first list and then the
+-- second.
 abbrev pub CommandsAppend : Type 0
 CommandsAppend =
     (rows : List RowView) (commands more : List Command)
@@ -68,7 +70,8 @@ DatabaseIsCanonical =
     (rows others : List RowView) → IsRising rows → IsRising others
     → ((k : List ℕ) → row_under k rows ≡ row_under k others) → rows ≡ others
 
--- the candidates of a key: the row that was under it, and then the rows registered under it, in order
+-- the candidates of a key: the row that was under it, and then the rows registered under it, in
+-- order
 abbrev pub candidates : List ℕ → List RowView → List RowView → List RowView
 candidates k rows new = option_to_list (row_under k rows) ++ filter (is_under k) new
 
@@ -80,7 +83,8 @@ pub record IsNewest (rows : List RowView) (row : RowView) : Type 0 where
   pub older : AllByRecursion (λ other. other.1.timestamp < row.1.timestamp) before
   pub no_newer : AllByRecursion (λ other. other.1.timestamp ≤ row.1.timestamp) after
 
--- After a registration the row under a key is the newest of its candidates, the first of them where timestamps are equal.
+-- After a registration the row under a key is the newest of its candidates, the first of them where
+-- timestamps are equal.
 abbrev pub RegisterLeavesNewest : Type 0
 RegisterLeavesNewest =
     (k : List ℕ) (rows new : List RowView) → IsRising rows

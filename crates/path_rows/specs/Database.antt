@@ -15,7 +15,8 @@ use Rattle.seg_core.specs.Digest.{segment_digest}
 abbrev pub RowView : Type 0
 RowView = SegType × SegmentView
 
--- The key of a type and an id: the type's number, then the id's bytes. Keys are in the order of their bytes.
+-- The key of a type and an id: the type's number, then the id's bytes. Keys are in the order of
+-- their bytes.
 abbrev pub key : SegType → List ℕ → List ℕ
 key kind id = type_number kind ∷ id
 

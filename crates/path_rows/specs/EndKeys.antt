@@ -47,7 +47,8 @@ HaveOneIndexKey end new old =
 abbrev pub EndAlike : (List EntryView → Option EntryView) → RowView → RowView → Type 0
 EndAlike end new old = (number : ℕ) × (is_of (end new.1.entries) number ≡ true) × (is_of (end old.1.entries) number ≡ true)
 
--- A new row and the row that was under its key: the index keys of both are in the list, or both have the same index key.
+-- A new row and the row that was under its key: the index keys of both are in the list, or both
+-- have the same index key.
 abbrev pub IsSeenTo : (List EntryView → Option EntryView) → List IndexKey → RowView → Option RowView → Type 0
 IsSeenTo end index_keys new stood =
     (IsTouched end index_keys new × ((r : RowView) → stood ≡ Some r → IsTouched end index_keys r))

@@ -1,4 +1,5 @@
--- A put: it adds a row under a new key, replaces the row under its key only by a newer one, and otherwise keeps it.
+-- A put: it adds a row under a new key, replaces the row under its key only by a newer one, and
+-- otherwise keeps it.
 use Rattle.std.specs.Prelude.{List, [], ◌∷◌, Bool, nat_lt, if◌then◌else◌}
 use Rattle.std.specs.declared.cmp.Ordering.{Ordering}
 use Rattle.std.specs.declared.cmp.Ordering.TheVariants.{Less, Equal, Greater}
@@ -10,7 +11,8 @@ use Rattle.path_rows.specs.Database.{RowView, key_order}
 abbrev pub is_newer : RowView → RowView → Bool
 is_newer row old = nat_lt old.1.timestamp row.1.timestamp
 
--- The rows after a put, by the order of its key and the key of the first row. All other rows are unchanged.
+-- The rows after a put, by the order of its key and the key of the first row. All other rows are
+-- unchanged.
 abbrev pub put_before : Ordering → RowView → RowView → List RowView → List RowView → List RowView
 put_before Less row old others later = row ∷ old ∷ others
 put_before Equal row old others later = (if is_newer row old then row else old) ∷ others

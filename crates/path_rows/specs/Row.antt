@@ -18,7 +18,8 @@ row_views rows = map row_view rows
 abbrev pub IsIndexOfKey : List Row → List ℕ → ℕ → Type 0
 IsIndexOfKey rows k at = (at < length rows) × HoldsAt (λ row. slice_cmp nat_cmp (key_of (row_view row)) k ≡ Equal) rows at
 
--- the index where the key would be inserted: the keys before the index are lower, the keys from it on are greater
+-- the index where the key would be inserted: the keys before the index are lower, the keys from it
+-- on are greater
 abbrev pub IsGap : List Row → List ℕ → ℕ → Type 0
 IsGap rows k at =
     (at ≤ length rows)

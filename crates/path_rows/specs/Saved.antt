@@ -32,7 +32,8 @@ pub record AreFirstPut (old new now : List RowView) : Type 0 where
 abbrev pub is_key : List ℕ → List ℕ → Bool
 is_key k l = is_eq (slice_cmp nat_cmp k l)
 
--- The row under the key is what it was, given that a row is there now if one was there before. All other rows are unchanged.
+-- The row under the key is what it was, given that a row is there now if one was there before. All
+-- other rows are unchanged.
 abbrev pub PutsBack : Stood → List RowView → List RowView → Type 0
 PutsBack stood old new =
     (orig : List RowView) → stood.1 ≡ row_under stood.0 orig → (IsSome stood.1 → IsSome (row_under stood.0 old))
@@ -42,8 +43,8 @@ PutsBack stood old new =
 abbrev pub is_saved : List Stood → List ℕ → Bool
 is_saved saved k = list_any (λ stood. is_key k stood.0) saved
 
--- What is left to put back: the row under each other key is the original one, and each original row has a row under its key
--- now.
+-- What is left to put back: the row under each other key is the original one, and each original row
+-- has a row under its key now.
 pub record IsLeft (orig : List RowView) (saved : List Stood) (now : List RowView) : Type 0 where
   pub stood : AllByRecursion (λ stood. stood.1 ≡ row_under stood.0 orig) saved
   pub others : (k : List ℕ) → is_saved saved k ≡ false → row_under k now ≡ row_under k orig

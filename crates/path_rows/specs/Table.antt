@@ -8,7 +8,8 @@ use Rattle.path_rows.specs.EndKeys.{entry_at_end, IsEndIndex}
 abbrev pub rows_of_table : Inside → List RowView
 rows_of_table s = s.rows
 
--- The rows are a database, their bytes are counted, and both indexes have exactly the index keys of the rows.
+-- The rows are a database, their bytes are counted, and both indexes have exactly the index keys of
+-- the rows.
 pub record IsTable (s : Inside) : Type 0 where
   pub database : IsDatabase s.rows
   pub counted : s.bytes ≡ rows_len s.rows

@@ -21,7 +21,8 @@ use seg_check::expiry;
 use seg_core::{Entry, SegType, Segment};
 use std::alloc::{AllocError, Global};
 
-/// The rows that a lookup asks for: of a type, with a first and a last entry that are covered, and valid beyond a moment.
+/// The rows that a lookup asks for: of a type, with a first and a last entry that are covered, and
+/// valid beyond a moment.
 #[derive(Clone, Copy)]
 pub(crate) struct Wanted {
     pub kind: SegType,
@@ -84,8 +85,8 @@ fn covers_entry(pattern: IsdAs, entry: Option<&Entry>) -> bool
     }
 }
 
-/// Whether the rows for a pattern are found by the index keys of its ISD-AS: no part of the pattern is 0, and the pattern isn't
-/// 2^64 - 1.
+/// Whether the rows for a pattern are found by the index keys of its ISD-AS: no part of the pattern
+/// is 0, and the pattern isn't 2^64 - 1.
 pub(crate) fn is_indexed(pattern: IsdAs) -> bool
     ensures { IsTrue result → IsExact (isd_as_number pattern) }
 {
@@ -127,8 +128,8 @@ fn next_row<'a>(rows: &'a RowMap, index_keys: &mut IndexKeys<'_>) -> Option<&'a 
     }
 }
 
-/// The rows at an index key and the next three that the lookup asks for. All four are read before any is shared, so that the
-/// processor waits for their memory at the same time.
+/// The rows at an index key and the next three that the lookup asks for. All four are read before
+/// any is shared, so that the processor waits for their memory at the same time.
 fn next_shown<'a>(
     rows: &'a RowMap,
     index_key: &IndexKey,

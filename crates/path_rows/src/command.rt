@@ -48,17 +48,19 @@ impl Registration {
 /// A command to a database.
 #[derive(Drop)]
 pub enum Command {
-    /// Puts segments one after the other. The row under a key is replaced only by one with a strictly greater timestamp.
+    /// Puts segments one after the other. The row under a key is replaced only by one with a
+    /// strictly greater timestamp.
     Register(Registration),
-    /// Drops every row that expires at this moment or before. The moment is in half seconds since 1970.
+    /// Drops every row that expires at this moment or before. The moment is in half seconds since
+    /// 1970.
     Purge(u64),
     /// Drops the row of this type and id, where there is one.
     Remove(SegType, [u8; 32]),
 }
 
 impl Command {
-    /// An equal command, which shares the segments. Only a registration of at least one segment takes memory; an error means that
-    /// memory was refused.
+    /// An equal command, which shares the segments. Only a registration of at least one segment
+    /// takes memory; an error means that memory was refused.
     pub fn try_clone(&self, alloc: Global) -> Result<Command, AllocError>
         ensures same { IfOk result (λ copy. copy ≡ self.now) }
         ensures memory { OnErr result (TakesMemory self.now) }

@@ -30,8 +30,9 @@ use seg_core::{SegType, Segment};
 use std::alloc::{AllocError, Global};
 use std::marker::Model;
 
-/// A finite map from keys to segments. A key is a type and an id, and keys are ordered by the type's number and then
-/// by the id's bytes. The database keeps the allocator with which it was made.
+/// A finite map from keys to segments. A key is a type and an id, and keys are ordered by the
+/// type's number and then by the id's bytes. The database keeps the allocator with which it was
+/// made.
 #[derive(Drop)]
 pub struct PathDb {
     alloc: Global,
@@ -67,7 +68,8 @@ impl PathDb {
         }
     }
 
-    /// The database of these rows, whose keys rise. An error means that memory was refused. An empty list takes no memory.
+    /// The database of these rows, whose keys rise. An error means that memory was refused. An
+    /// empty list takes no memory.
     pub fn of_rows(alloc: Global, rows: Vec<Row>) -> Result<PathDb, AllocError>
         requires { IsDatabase (row_views rows.items) }
         ensures same { IfOk result (λ db. db ≡ row_views rows.items) }
@@ -80,7 +82,8 @@ impl PathDb {
         Ok(db)
     }
 
-    /// The database with one row more, whose key is above all others. No row is under this key, so none is looked up or replaced.
+    /// The database with one row more, whose key is above all others. No row is under this key, so
+    /// none is looked up or replaced.
     fn with_last(self, row: Row) -> Result<PathDb, AllocError>
         requires { IsDatabase (self ++ row_view row ∷ []) }
         ensures { IfOk result (λ db. db ≡ self ++ row_view row ∷ []) }
@@ -106,8 +109,8 @@ impl PathDb {
         })
     }
 
-    /// Applies a command, or changes nothing where memory is refused. A purge, a removal and a registration of no segments take
-    /// no memory. A registered segment is shared with its row.
+    /// Applies a command, or changes nothing where memory is refused. A purge, a removal and a
+    /// registration of no segments take no memory. A registered segment is shared with its row.
     pub fn apply(&mut self, command: &Command) -> Result<Outcome, AllocError>
         ensures database { OnOk result (self.new ≡ database_after self.old command.now) }
         ensures outcome { IfOk result (λ outcome. outcome ≡ outcome_of self.old command.now) }
@@ -121,8 +124,9 @@ impl PathDb {
         }
     }
 
-    /// Applies a command, or changes nothing where memory is refused or the rows would take more than `most` bytes as records. A
-    /// purge, a removal and a registration of no segments never add bytes, and are applied whatever the limit.
+    /// Applies a command, or changes nothing where memory is refused or the rows would take more
+    /// than `most` bytes as records. A purge, a removal and a registration of no segments never add
+    /// bytes, and are applied whatever the limit.
     pub fn apply_within(&mut self, command: &Command, most: u64) -> Result<Outcome, ApplyError>
         ensures database { OnOk result (self.new ≡ database_after self.old command.now) }
         ensures outcome { IfOk result (λ outcome. outcome ≡ outcome_of self.old command.now) }
@@ -175,8 +179,8 @@ impl PathDb {
         self.put(new, most)
     }
 
-    /// Puts a segment, where there is a row under its key with the same ends, and all rows with the new one have at most `most` bytes.
-    /// Otherwise nothing changes.
+    /// Puts a segment, where there is a row under its key with the same ends, and all rows with the
+    /// new one have at most `most` bytes. Otherwise nothing changes.
     fn renew(&mut self, new: &(SegType, Segment), most: u128) -> Option<Outcome>
         ensures database { ForSome result (λ _. self.new ≡ database_after_puts self.old (new.now ∷ [])) }
         ensures outcome { ForSome result (λ outcome. outcome ≡ outcome_of_puts (changes_of self.old (new.now ∷ []))) }
@@ -197,7 +201,8 @@ impl PathDb {
         Some(outcome)
     }
 
-    /// Puts rows one after the other, or none of them where memory is refused or the rows would take more than `most` bytes.
+    /// Puts rows one after the other, or none of them where memory is refused or the rows would
+    /// take more than `most` bytes.
     fn put(&mut self, new: Vec<Row>, most: u128) -> Result<Outcome, ApplyError>
         requires { AreWhole (row_views new.items) }
         ensures database { OnOk result (self.new ≡ database_after_puts self.old (row_views new.items)) }
@@ -222,7 +227,8 @@ impl PathDb {
         put
     }
 
-    /// Drops every row that expires at the moment or before. The moment is in half seconds since 1970.
+    /// Drops every row that expires at the moment or before. The moment is in half seconds since
+    /// 1970.
     fn purge(&mut self, moment: u64) -> Outcome
         ensures database { self.new ≡ database_after_purge self.old moment }
         ensures fewer { rows_len self.new ≤ rows_len self.old }
@@ -272,9 +278,10 @@ impl PathDb {
         self.rows.rows()
     }
 
-    /// The segments of the first rows by key, at most `limit`, that are of this type, whose first entry `start` covers and
-    /// whose last entry `end` covers (a part that is 0 covers all), and that expire after `now`, in half seconds since 1970. The
-    /// segments are shared, not copied. An error means that memory was refused. An answer without segments takes no memory.
+    /// The segments of the first rows by key, at most `limit`, that are of this type, whose first
+    /// entry `start` covers and whose last entry `end` covers (a part that is 0 covers all), and
+    /// that expire after `now`, in half seconds since 1970. The segments are shared, not copied. An
+    /// error means that memory was refused. An answer without segments takes no memory.
     pub fn matching(
         &self,
         kind: SegType,
@@ -313,16 +320,17 @@ impl PathDb {
         self.rows.len()
     }
 
-    /// The bytes of all rows as records: for each the type (1), the length (4), and the segment's encoding. The result is 2^64 - 1 for
-    /// a greater count. The call takes constant time, as the count is kept up to date.
+    /// The bytes of all rows as records: for each the type (1), the length (4), and the segment's
+    /// encoding. The result is 2^64 - 1 for a greater count. The call takes constant time, as the
+    /// count is kept up to date.
     pub fn encoded_len(&self) -> u64
         ensures { result ≡ min (rows_len self.now) (2 ^ 64 - 1) }
     {
         u64::try_from(self.bytes).unwrap_or(u64::MAX)
     }
 
-    /// An equal database, which shares the segments. An error means that memory was refused. A copy of an empty database takes no
-    /// memory.
+    /// An equal database, which shares the segments. An error means that memory was refused. A copy
+    /// of an empty database takes no memory.
     pub fn try_clone(&self) -> Result<PathDb, AllocError>
         ensures same { IfOk result (λ copy. copy ≡ self.now) }
         ensures memory { OnErr result (0 < length self.now) }

@@ -41,7 +41,8 @@ fn isd_as_at(end: End, row: &Row) -> u64
     }
 }
 
-/// The index keys of new rows and of the rows that were under their keys, except for pairs with the same index key.
+/// The index keys of new rows and of the rows that were under their keys, except for pairs with the
+/// same index key.
 pub(crate) fn touched_keys(
     alloc: Global,
     end: End,
@@ -59,7 +60,8 @@ pub(crate) fn touched_keys(
     Ok(index_keys)
 }
 
-/// Appends the index keys of a new row and of the row that was under its key, unless both have the same.
+/// Appends the index keys of a new row and of the row that was under its key, unless both have the
+/// same.
 fn touch(
     index_keys: &mut Vec<IndexKey>,
     end: End,

@@ -50,7 +50,8 @@ impl Ord for RowKey {
     }
 }
 
-/// The order of two ids by their bytes. The first two bytes are compared first, since they mostly decide.
+/// The order of two ids by their bytes. The first two bytes are compared first, since they mostly
+/// decide.
 fn cmp_ids(one: &[u8; 32], other: &[u8; 32]) -> Ordering
     requires one { length one.now ≡ 32 }
     requires other { length other.now ≡ 32 }

@@ -1,8 +1,10 @@
-//! The rows of a path segment server: a finite map from keys, a type and an id, to segments, and the commands that change it.
+//! The rows of a path segment server: a finite map from keys, a type and an id, to segments, and
+//! the commands that change it.
 //!
-//! To the layer above, `PathDb::apply` leaves the database that the definition gives after a command and returns what the command
-//! did; where memory is refused, nothing changes. `apply_within` also refuses a command after which the rows would take too many
-//! bytes. `rows` is the map in the order of its keys, and `matching` returns what a lookup shows.
+//! To the layer above, `PathDb::apply` leaves the database that the definition gives after a
+//! command and returns what the command did; where memory is refused, nothing changes.
+//! `apply_within` also refuses a command after which the rows would take too many bytes. `rows` is
+//! the map in the order of its keys, and `matching` returns what a lookup shows.
 #![tactic(auto)]
 
 mod answers;

@@ -5,8 +5,8 @@ ghost use Rattle.path_rows.specs.Outcome.{outcome_of_puts, outcome_of_drops, out
 
 use crate::change::Change;
 
-/// What a command did: how many segments it inserted, updated and kept, and how many rows it dropped. A count above
-/// 2^32 - 1 is 2^32 - 1.
+/// What a command did: how many segments it inserted, updated and kept, and how many rows it
+/// dropped. A count above 2^32 - 1 is 2^32 - 1.
 #[derive(Clone, Copy, Debug, PartialEq, Eq)]
 pub struct Outcome {
     pub inserted: u32,

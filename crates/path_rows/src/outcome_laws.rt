@@ -7,7 +7,8 @@ pub fn each_put_is_counted()
     ensures { EachPutIsCounted }
 {}
 
-/// The number of rows before a command and those inserted is the number of rows after it and those dropped.
+/// The number of rows before a command and those inserted is the number of rows after it and those
+/// dropped.
 pub fn rows_are_counted()
     ensures { RowsAreCounted }
 {}

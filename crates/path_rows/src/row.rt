@@ -35,7 +35,8 @@ impl Row {
         Row { kind, id, segment }
     }
 
-    /// An equal row, which shares the segment. The call takes no memory. An error means that 2^63 rows share the segment already.
+    /// An equal row, which shares the segment. The call takes no memory. An error means that 2^63
+    /// rows share the segment already.
     pub fn try_clone(&self) -> Result<Row, AllocError>
         ensures view { IfOk result (λ copy. row_view copy ≡ row_view self.now) }
         ensures same { IfOk result (λ copy. copy ≡ self.now) }

@@ -127,7 +127,8 @@ impl RowMap {
         self.rows.get(&key)
     }
 
-    /// Puts a row under its key, and returns the row that was there. Replacing a row takes no memory.
+    /// Puts a row under its key, and returns the row that was there. Replacing a row takes no
+    /// memory.
     pub(crate) fn set(&mut self, row: Row) -> Result<Option<Row>, AllocError>
         ensures ok { IfOk result (λ old. HasRowPut self.old (row_view row) self.new) }
         ensures old { IfOk result (λ old. option_map row_view old ≡ row_under (key_of (row_view row)) self.old) }
@@ -141,8 +142,9 @@ impl RowMap {
         Ok(old)
     }
 
-    /// Replaces an older row under the same key and with the same ends, or keeps one that is as new, and returns which of both was done.
-    /// This takes no memory. `None` means that there is no such row and nothing changed. `bytes` counts the bytes of all rows.
+    /// Replaces an older row under the same key and with the same ends, or keeps one that is as
+    /// new, and returns which of both was done. This takes no memory. `None` means that there is no
+    /// such row and nothing changed. `bytes` counts the bytes of all rows.
     pub(crate) fn renew(&mut self, bytes: &mut u128, row: Row) -> Option<Change>
         requires { bytes.old ≡ rows_len self.old }
         ensures rows { ForSome result (λ _. self.new ≡ database_after_put self.old (row_view row)) }

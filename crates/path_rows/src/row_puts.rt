@@ -68,7 +68,8 @@ fn copy_of(rows: &RowMap, row: &Row) -> Result<Option<Row>, AllocError>
     }
 }
 
-/// Puts back the rows that were under keys. This takes no memory, since a row is there now under each key that had one.
+/// Puts back the rows that were under keys. This takes no memory, since a row is there now under
+/// each key that had one.
 pub(crate) fn restore(rows: &mut RowMap, saved: Vec<Saved>)
     ensures { RestoresFrom (map saved_view saved.items) rows.old rows.new }
 {
@@ -118,8 +119,9 @@ pub(crate) fn put_after(
     put_all(rows, bytes, new, saved, most)
 }
 
-/// Puts rows one after the other, or none of them where memory is refused or all rows would take more than `most` bytes. `saved`
-/// has the rows under their keys, and `bytes` counts the bytes of all rows.
+/// Puts rows one after the other, or none of them where memory is refused or all rows would take
+/// more than `most` bytes. `saved` has the rows under their keys, and `bytes` counts the bytes of
+/// all rows.
 pub(crate) fn put_all(
     rows: &mut RowMap,
     bytes: &mut u128,
@@ -149,8 +151,8 @@ pub(crate) fn put_all(
     }
 }
 
-/// Puts rows one after the other. Where memory is refused, or all rows take more than `most` bytes, only the first ones are put.
-/// `bytes` counts the bytes of all rows.
+/// Puts rows one after the other. Where memory is refused, or all rows take more than `most` bytes,
+/// only the first ones are put. `bytes` counts the bytes of all rows.
 pub(crate) fn put_rows(
     rows: &mut RowMap,
     bytes: &mut u128,

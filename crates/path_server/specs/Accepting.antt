@@ -8,11 +8,13 @@ abbrev pub is_among : List ℕ → ℕ → Bool
 is_among [] number = false
 is_among (one ∷ more) number = (number == one) || is_among more number
 
--- Linux's numbers of the errors of accept(2) which say that the listener is none: EBADF, EFAULT, EINVAL, ENOTSOCK, EOPNOTSUPP
+-- Linux's numbers of the errors of accept(2) which say that the listener is none: EBADF, EFAULT,
+-- EINVAL, ENOTSOCK, EOPNOTSUPP
 abbrev pub of_the_listener : List ℕ
 of_the_listener = 9 ∷ 14 ∷ 22 ∷ 88 ∷ 95 ∷ []
 
--- those of the errors after which one waits: EAGAIN, and for want of memory or descriptors ENOMEM, ENFILE, EMFILE, ENOBUFS
+-- those of the errors after which one waits: EAGAIN, and for want of memory or descriptors ENOMEM,
+-- ENFILE, EMFILE, ENOBUFS
 abbrev pub for_want : List ℕ
 for_want = 11 ∷ 12 ∷ 23 ∷ 24 ∷ 105 ∷ []
 

@@ -30,7 +30,8 @@ pub enum Failure {
     Broken,
 }
 
-/// What is done after an accept that failed, by the system's number of its error; an error without one is the peer's.
+/// What is done after an accept that failed, by the system's number of its error; an error without
+/// one is the peer's.
 pub fn after_failure(error: &io::Error) -> Failure
     ensures { result ≡ failure_after (raw_os_error error.now) }
 {

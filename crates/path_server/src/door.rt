@@ -52,8 +52,8 @@ impl<L: OpenListener<Stream = TcpStream> + Drop> Door<L> {
         *listener = None;
     }
 
-    /// Waits for the next peer. `None`: the door is closed, or its listener is broken. Where descriptors or memory are short, the peer
-    /// is waited for until it can be accepted.
+    /// Waits for the next peer. `None`: the door is closed, or its listener is broken. Where
+    /// descriptors or memory are short, the peer is waited for until it can be accepted.
     pub(crate) fn next_peer<R: Wait + Clock>(&self, rt: &R) -> Option<TcpStream> {
         let listener = self.listener.lock(rt);
         let listener = (*listener).as_ref()?;

@@ -18,8 +18,8 @@ pub(crate) fn drain(stream: &TcpStream, reads: u64) {
     }
 }
 
-/// Drops what comes until the peer has closed the connection, a read fails, or the time is over. Each read waits as long as the
-/// connection's read timeout lets it.
+/// Drops what comes until the peer has closed the connection, a read fails, or the time is over.
+/// Each read waits as long as the connection's read timeout lets it.
 pub(crate) fn drain_for(clock: &impl Clock, stream: &TcpStream, time: Duration) {
     let Ok(begun) = Instant::now(clock) else {
         return;

@@ -1,9 +1,10 @@
 //! The TCP server: sessions over a hub, each in a thread of its own.
 //!
-//! To the layer above, `serve_store` accepts connections of a listener and answers each as a session of the store, at most 64 at one
-//! time, until the number of sessions that its options name have been started; then the listener is closed, and once the last session
-//! has ended, the device comes out. `run_on` is the same without the device. A second listener, where there is one, is for peers that ask
-//! for the server's numbers.
+//! To the layer above, `serve_store` accepts connections of a listener and answers each as a
+//! session of the store, at most 64 at one time, until the number of sessions that its options name
+//! have been started; then the listener is closed, and once the last session has ended, the device
+//! comes out. `run_on` is the same without the device. A second listener, where there is one, is
+//! for peers that ask for the server's numbers.
 #![tactic(auto)]
 
 mod accepting;

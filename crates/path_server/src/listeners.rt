@@ -13,8 +13,8 @@ const ACCEPT: u64 = 200;
 pub struct Listeners<L> {
     /// For sessions.
     pub sessions: L,
-    /// For requests of its numbers, if they are answered. An accept has to fail soon where no peer comes, as after `bound_accepts`, since
-    /// the server looks only then whether it is at its end.
+    /// For requests of its numbers, if they are answered. An accept has to fail soon where no peer
+    /// comes, as after `bound_accepts`, since the server looks only then whether it is at its end.
     pub status: Option<L>,
 }
 
@@ -33,9 +33,9 @@ impl<L> Listeners<L> {
     }
 }
 
-/// Has each accept of a listener fail where no peer comes within 200 milliseconds. The error is the system's, where it gives no second
-/// handle or doesn't set the time. No contract of the system's calls says which time a socket has, nor that a call succeeds, so there is
-/// no clause.
+/// Has each accept of a listener fail where no peer comes within 200 milliseconds. The error is the
+/// system's, where it gives no second handle or doesn't set the time. No contract of the system's
+/// calls says which time a socket has, nor that a call succeeds, so there is no clause.
 pub fn bound_accepts(listener: &TcpListener) -> io::Result<()> {
     // A second handle of the listening socket, with a stream's methods: it sets the time of both.
     let socket = TcpStream::from(OwnedFd::from(listener.try_clone()?));

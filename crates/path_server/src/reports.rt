@@ -9,7 +9,8 @@ use std::fmt::{Display, Formatter};
 pub enum Report {
     /// The device failed, and the store takes no more commands; lookups go on.
     Stopped,
-    /// This number of peers, since the last such report, were turned away, because [`MOST_SESSIONS`] sessions were open.
+    /// This number of peers, since the last such report, were turned away, because
+    /// [`MOST_SESSIONS`] sessions were open.
     TurnedAway(u64),
 }
 
@@ -27,7 +28,8 @@ impl Display for Report {
     }
 }
 
-/// Takes the reports of a server. The thread that accepts connections and that of the flusher call it.
+/// Takes the reports of a server. The thread that accepts connections and that of the flusher call
+/// it.
 pub trait Reports {
     fn report(&self, report: Report);
 }

@@ -29,9 +29,10 @@ pub trait System: Wait + Clock + Threads + Copy + Drop + Send + Sync {}
 
 impl<R: Wait + Clock + Threads + Copy + Drop + Send + Sync> System for R {}
 
-/// Serves sessions over a store until the number that the options name has been started and has ended, and returns that number. The
-/// device is dropped. A listener for sessions that breaks is `Net`, and want of memory for the readers, for an actor's thread or for that
-/// of requests of the numbers `NoMemory`. One for such requests that breaks ends their thread alone.
+/// Serves sessions over a store until the number that the options name has been started and has
+/// ended, and returns that number. The device is dropped. A listener for sessions that breaks is
+/// `Net`, and want of memory for the readers, for an actor's thread or for that of requests of the
+/// numbers `NoMemory`. One for such requests that breaks ends their thread alone.
 pub fn run_on<
     R: System,
     L: OpenListener<Stream = TcpStream> + Drop + Send,
@@ -50,8 +51,9 @@ pub fn run_on<
     served
 }
 
-/// The same, and hands the device out: where it is honest, it opens to the store's rows and place after the commands that were
-/// published and some more that were accepted, whatever the sessions did.
+/// The same, and hands the device out: where it is honest, it opens to the store's rows and place
+/// after the commands that were published and some more that were accepted, whatever the sessions
+/// did.
 pub fn serve_store<
     R: System,
     L: OpenListener<Stream = TcpStream> + Drop + Send,

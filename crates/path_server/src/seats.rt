@@ -20,7 +20,8 @@ impl Seats {
         }
     }
 
-    /// Takes a seat, if one is free. While several threads ask for the last free seat, all of them may be refused.
+    /// Takes a seat, if one is free. While several threads ask for the last free seat, all of them
+    /// may be refused.
     pub(crate) fn take(&self) -> bool {
         if self.taken.fetch_add(1, Ordering::SeqCst) < MOST_SESSIONS {
             return true;

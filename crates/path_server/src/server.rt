@@ -22,7 +22,8 @@ use std::sync::Wait;
 use std::sync::atomic::{AtomicBool, Ordering};
 use std::time::{Clock, Instant};
 
-/// A server: where its peers come in, the seats that they take, what each session is answered by, and what is counted of it.
+/// A server: where its peers come in, the seats that they take, what each session is answered by,
+/// and what is counted of it.
 #[derive(Drop)]
 pub(crate) struct Server<'a, L, V, O> {
     pub(crate) alloc: Global,
@@ -90,7 +91,8 @@ impl<'a, L: OpenListener<Stream = TcpStream> + Drop, V: Verifier, O: Reports> Se
         Ok(self.door.started())
     }
 
-    /// The next peer for whom there is a seat, which is then taken. Those who come while all are taken are turned away.
+    /// The next peer for whom there is a seat, which is then taken. Those who come while all are
+    /// taken are turned away.
     fn next_seated<R: Wait + Clock>(&self, rt: &R) -> Option<TcpStream> {
         for _ in rt.forever() {
             let stream = self.door.next_peer(rt)?;
@@ -169,7 +171,8 @@ impl<
     }
 
     fn stopped(&self) {
-        // Where nobody is to come or being served, or the listener broke, the server itself has stopped the store.
+        // Where nobody is to come or being served, or the listener broke, the server itself has
+        // stopped the store.
         if self.is_open() && !self.is_broken() {
             self.reports.report(Report::Stopped);
         }

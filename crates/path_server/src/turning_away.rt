@@ -15,9 +15,10 @@ use std::net::{Shutdown, TcpStream};
 /// How often what a peer has sent is read before its connection is closed.
 const READS: u64 = 4;
 
-/// Refuses a peer for want of a seat and closes its side of the connection: one reply, with the code of `Refusal::NoReader`. The call waits for nothing:
-/// the buffer of a new connection has room for the reply. What the peer has already sent is read, so that the close doesn't take
-/// the reply back.
+/// Refuses a peer for want of a seat and closes its side of the connection: one reply, with the
+/// code of `Refusal::NoReader`. The call waits for nothing: the buffer of a new connection has room
+/// for the reply. What the peer has already sent is read, so that the close doesn't take the reply
+/// back.
 pub(crate) fn turn_away(stream: &TcpStream) {
     let mut output = stream;
     if stream.set_nonblocking(true).is_err() || write_refusal(&mut output).is_err() {

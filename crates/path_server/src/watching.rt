@@ -21,7 +21,8 @@ use std::time::{Clock, Duration};
 const LONGEST: u64 = 1_000;
 
 impl<L: OpenListener<Stream = TcpStream> + Drop, V: Verifier, O: Reports> Server<'_, L, V, O> {
-    /// Answers the peers of a listener, one after the other, until the server is at its end or the listener is broken.
+    /// Answers the peers of a listener, one after the other, until the server is at its end or the
+    /// listener is broken.
     pub(crate) fn watch<D: Device, N: HubName, R: Wait + Clock>(
         &self,
         hub: &Hub<D, N, R>,

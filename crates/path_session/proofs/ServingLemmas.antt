@@ -1,4 +1,5 @@
--- From what handing a command to the hub answers to what the message is answered: for `accept`, `drop_expired`, `drop_one`.
+-- From what handing a command to the hub answers to what the message is answered: for `accept`,
+-- `drop_expired`, `drop_one`.
 use Rattle.std.proofs.Common.{◌≡◌, ℕ, List, Option, None, Result, Ok, Err, inl, inr, refl, sym, ap, subst}
 use Rattle.seg_slots.specs.declared.error.SegError.{SegError}
 use Rattle.seg_core.specs.declared.seg_type.SegType.{SegType}

@@ -33,8 +33,8 @@ IsRefusedWithCode code old reply new = (reply ≡ Refused code) × (new ≡ old)
 
 -- ---- commands
 
--- The command was committed: its receipt is kept, without its note, and the acknowledgement has the receipt's place and outcome; and
--- more than that place was seen.
+-- The command was committed: its receipt is kept, without its note, and the acknowledgement has the
+-- receipt's place and outcome; and more than that place was seen.
 pub record AcknowledgesCommit (old : Serving) (c : Command) (ack : Ack) (new : Serving) : Type 0 where
   pub receipt : Receipt ℕ
   pub kept : new ≡ record old { seen = new.seen; last = Some receipt }
@@ -56,7 +56,8 @@ pub record IsNotAccepted (old : Serving) (reply : ReplyView) (new : Serving) : T
   pub why : SubmitError
   pub refused : IsRefusedWithCode (submit_code why) old reply new
 
--- The command was committed; or it was not accepted, or the store stopped before it was committed, and nothing changed.
+-- The command was committed; or it was not accepted, or the store stopped before it was committed,
+-- and nothing changed.
 abbrev pub AnswersCommand : (Ack → ReplyView) → Serving → Command → ReplyView → Serving → Type 0
 AnswersCommand taken old c reply new =
     IsAcknowledged taken old c reply new ⊎ (IsNotAccepted old reply new ⊎ IsRefusedWithCode stopped_code old reply new)
@@ -65,7 +66,8 @@ abbrev pub AnswersChecked : Serving → List RowView → Option CheckError → R
 AnswersChecked old rows None reply new = AnswersCommand Registered old (command.Register rows) reply new
 AnswersChecked old rows (Some e) reply new = IsRefusedWithCode (check_code e) old reply new
 
--- The clock is asked for a registration that was read, whose segments are checked at the moment that it gave.
+-- The clock is asked for a registration that was read, whose segments are checked at the moment
+-- that it gave.
 abbrev pub AnswersRegistration : Serving → Result (List RowView) SegError → ReplyView → Serving → Type 0
 AnswersRegistration old (Ok rows) reply new =
     AnswersChecked (at_moment old new.moment) rows (first_refusal old.verifies new.moment rows) reply new
@@ -78,12 +80,13 @@ AnswersRemoval old id (Err e) reply new = IsRefusedWithCode (seg_code e) old rep
 -- ---- lookups
 
 module _ (opening : StoreValue (List RowView)) where
-  -- the rows that a query shows at a moment, of what a hub that opened with this value shows after these groups
+  -- the rows that a query shows at a moment, of what a hub that opened with this value shows after
+  -- these groups
   abbrev pub found_after : List (List Command) → QueryView → ℕ → List RowView
   found_after groups query moment = answer_to (shown_after opening groups).db query moment
 
-  -- The reader was shown what is published: all groups that it was shown before, and maybe more. The place of that is no less than
-  -- what it had seen, and is what it has then seen.
+  -- The reader was shown what is published: all groups that it was shown before, and maybe more.
+  -- The place of that is no less than what it had seen, and is what it has then seen.
   pub record HasLooked (old new : Serving) : Type 0 where
     pub kept : new ≡ record old { groups = new.groups; seen = place_after opening new.groups }
     pub later : IsPrefix old.groups new.groups
@@ -109,7 +112,8 @@ module _ (opening : StoreValue (List RowView)) where
   abbrev pub LooksUp : Serving → QueryView → ReplyView → Serving → Type 0
   LooksUp old query reply new = RepliesWithSegments old query reply new ⊎ (LacksMemory old query reply new ⊎ LacksReader old reply new)
 
-  -- The clock is asked for a lookup that was classified, which is answered at the moment that it gave.
+  -- The clock is asked for a lookup that was classified, which is answered at the moment that it
+  -- gave.
   abbrev pub AnswersQuery : Serving → Result QueryView LookupError → ReplyView → Serving → Type 0
   AnswersQuery old (Ok query) reply new = LooksUp (at_moment old new.moment) query reply new
   AnswersQuery old (Err e) reply new = IsRefusedWithCode (lookup_code e) old reply new
@@ -120,7 +124,8 @@ module _ (opening : StoreValue (List RowView)) where
 
   -- ---- messages
 
-  -- One message, which is read, checked or classified, and passed to the hub: the first refusal is the reply.
+  -- One message, which is read, checked or classified, and passed to the hub: the first refusal is
+  -- the reply.
   unfoldable pub IsAnswered : Serving → MessageView → ReplyView → Serving → Type 0
   IsAnswered old (Register body) reply new = AnswersRegistration old (registration_decoding body) reply new
   IsAnswered old (Lookup body) reply new = AnswersLookup old (request_decoding body) reply new
@@ -134,6 +139,7 @@ module _ (opening : StoreValue (List RowView)) where
   RegistrationLacksMemory old (Purge moment) reply new = ⊥
   RegistrationLacksMemory old (Remove kind id) reply new = ⊥
 
-  -- What a service over a hub that opened with this value may answer to a message, and what it is then.
+  -- What a service over a hub that opened with this value may answer to a message, and what it is
+  -- then.
   abbrev pub HubAnswers : Serving → MessageView → ReplyView → Serving → Type 0
   HubAnswers old message reply new = RegistrationLacksMemory old message reply new ⊎ IsAnswered old message reply new

@@ -6,8 +6,9 @@ use Rattle.seg_lookup.specs.Roster.{RosterView}
 use Rattle.group_core.specs.declared.ticket.Receipt.{Receipt}
 use Rattle.path_hub.specs.Sight.{Sight}
 
--- The core ASes and the verdicts on signatures, which stay; the groups that its reader was shown, and the greatest place that the
--- reader has seen; the moment that its clock gave last; and the receipt of the last command that it had committed.
+-- The core ASes and the verdicts on signatures, which stay; the groups that its reader was shown,
+-- and the greatest place that the reader has seen; the moment that its clock gave last; and the
+-- receipt of the last command that it had committed.
 pub record Serving : Type 0 where
   pub roster : RosterView
   pub verifies : Verdicts

@@ -7,7 +7,8 @@ use Rattle.reply_codes.specs.declared.refusal.Refusal.TheVariants.{NoMemory, Mes
 use Rattle.path_session.specs.Serving.{Serving}
 use Rattle.path_session.specs.Answered.{AcknowledgesCommit}
 
--- The command was committed; or it was not accepted, or the store stopped before it was committed, and nothing changed.
+-- The command was committed; or it was not accepted, or the store stopped before it was committed,
+-- and nothing changed.
 abbrev pub IsCommandAnswered : Serving → Command → Result Ack Refusal → Serving → Type 0
 IsCommandAnswered old c (Ok ack) new = AcknowledgesCommit old c ack new
 IsCommandAnswered old c (Err (Submit e)) new = new ≡ old

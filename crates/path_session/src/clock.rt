@@ -70,7 +70,8 @@ fn moment_after(last: u64, reading: Option<Duration>) -> u64
     }
 }
 
-/// Twice the seconds, and one more from the middle of a second on. What doesn't fit is the greatest number.
+/// Twice the seconds, and one more from the middle of a second on. What doesn't fit is the greatest
+/// number.
 fn half_seconds(time: Duration) -> u64
     ensures { result ≡ half_seconds_of (as_nanos time) }
 {

@@ -1,8 +1,9 @@
 //! A session's service over a hub.
 //!
-//! To the layer above, `HubService` answers each message by the first refusal in its order, or else by the hub: a lookup by what is
-//! published, at the moment that the service's clock gave, and a command by the receipt that the service then keeps. The crate exports
-//! `session_core`, whose `serve` runs a session.
+//! To the layer above, `HubService` answers each message by the first refusal in its order, or else
+//! by the hub: a lookup by what is published, at the moment that the service's clock gave, and a
+//! command by the receipt that the service then keeps. The crate exports `session_core`, whose
+//! `serve` runs a session.
 #![tactic(auto)]
 
 mod clock;

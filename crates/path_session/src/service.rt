@@ -27,11 +27,12 @@ use std::alloc::Global;
 use std::sync::Wait;
 use std::time::Clock;
 
-/// Answers the messages of one session from a hub, by a reader of its own. A service can't be dropped: at its end the reader is taken
-/// out, which the hub is then given back.
+/// Answers the messages of one session from a hub, by a reader of its own. A service can't be
+/// dropped: at its end the reader is taken out, which the hub is then given back.
 ///
-/// The clock is asked once for each registration that was read, and once for each lookup that was classified. Signatures are checked
-/// before the hub is called, so under no lock. Lookups wait for nobody.
+/// The clock is asked once for each registration that was read, and once for each lookup that was
+/// classified. Signatures are checked before the hub is called, so under no lock. Lookups wait for
+/// nobody.
 pub struct HubService<'a, D: Device, N: HubName, R: Wait + Clock, V: Verifier, C: Now> {
     hub: &'a Hub<D, N, R>,
     reader: HubReader<N>,

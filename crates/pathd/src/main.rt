@@ -1,6 +1,7 @@
 //! `pathd`, a path segment server for the core ASes of a SCION network.
 //!
-//! What the words of its command line ask for is done by `cli_program`; here are the program's input, output and status alone.
+//! What the words of its command line ask for is done by `cli_program`; here are the program's
+//! input, output and status alone.
 #![tactic(auto)]
 
 use cli_program::carry_out;

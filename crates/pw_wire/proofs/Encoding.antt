@@ -1,5 +1,5 @@
--- Encoding a number from its low bits on: what was pushed until now, and what is left of the number. For `push_varint`, and
--- for functions of other crates that count the bytes of an encoding.
+-- Encoding a number from its low bits on: what was pushed until now, and what is left of the
+-- number. For `push_varint`, and for functions of other crates that count the bytes of an encoding.
 use Rattle.std.proofs.Common.{◌≡◌, ℕ, zero, suc, ◌+◌, ◌*◌, ◌/◌, ◌%◌, ◌-◌, ◌<◌, ◌≤◌, List, [], ◌∷◌, ◌++◌, length, refl, sym, ap, subst, ◌∙◌, append_assoc, arith, inl, inr}
 use Rattle.std.proofs.lemmas.Bool.{cases_lt, lt-ltb, le-ltb}
 use Rattle.pw_wire.specs.Varint.{encoding_within, varint_encoding}

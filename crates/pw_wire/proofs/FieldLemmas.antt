@@ -1,5 +1,5 @@
--- A field is read as its number and value, and what is read is a field: both directions, for the fault too. For the law
--- `field_or_fault`, and for `Messages` and `NextField`.
+-- A field is read as its number and value, and what is read is a field: both directions, for the
+-- fault too. For the law `field_or_fault`, and for `Messages` and `NextField`.
 use Rattle.std.proofs.Common.{◌≡◌, ◌≢◌, ℕ, zero, suc, ◌+◌, ◌*◌, ◌/◌, ◌%◌, ◌-◌, ◌^◌, ◌<◌, ◌≤◌, ◌⊎◌, Bool, true, false, cond, eqb, ltb, List, [], ◌++◌, length, take, drop, Result, Ok, Err, refl, sym, ap, subst, ◌∙◌, append_assoc, arith, inl, inr}
 use Rattle.std.specs.Int.{w32, w64, from_le_bytes}
 use Rattle.std.proofs.lemmas.Bool.{cases_lt, ltb-true, ltb-false, lt-ltb, le-ltb, ne_eqb}

@@ -1,5 +1,6 @@
--- Reading a varint from its lowest byte on: what was read so far, and by how many bits the next seven are shifted. For
--- `long_varint`, and for `Varints`, which takes the steps of the reading from here.
+-- Reading a varint from its lowest byte on: what was read so far, and by how many bits the next
+-- seven are shifted. For `long_varint`, and for `Varints`, which takes the steps of the reading
+-- from here.
 use Rattle.std.proofs.Common.{◌≡◌, ℕ, zero, suc, ◌+◌, ◌*◌, ◌%◌, ◌-◌, ◌^◌, ◌<◌, ◌≤◌, List, [], ◌∷◌, length, drop, get_or, Result, Ok, Err, refl, sym, ap, subst, ◌∙◌, arith, add-one, drop-cons}
 use Rattle.std.proofs.Math.ListN.{drop_of_length-le}
 use Rattle.std.proofs.Math.Nat.{mul-le-mul_right, pow-le-pow_right}

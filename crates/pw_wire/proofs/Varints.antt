@@ -1,5 +1,5 @@
--- A varint is read as its number, and what is read is a varint: both directions, for the fault too. For the law
--- `encoded_varint`, and for `FieldLemmas`.
+-- A varint is read as its number, and what is read is a varint: both directions, for the fault too.
+-- For the law `encoded_varint`, and for `FieldLemmas`.
 use Rattle.std.proofs.Common.{◌≡◌, ℕ, zero, suc, ◌+◌, ◌*◌, ◌/◌, ◌%◌, ◌-◌, ◌^◌, ◌<◌, ◌≤◌, ◌⊎◌, List, [], ◌∷◌, ◌++◌, length, take, get_or, Result, Ok, Err, refl, sym, ap, subst, ◌∙◌, arith, inl, inr}
 use Rattle.std.proofs.lemmas.Bool.{cases_lt}
 use Rattle.pw_wire.specs.declared.error.WireError.{WireError}

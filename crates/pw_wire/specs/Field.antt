@@ -41,8 +41,8 @@ IsValue encoding (Fixed64 n) = (length encoding ≡ 8) × (n ≡ from_le_bytes w
 IsValue encoding (Bytes bytes) = BeginsWithVarint encoding (length bytes) bytes
 IsValue encoding (Fixed32 n) = (length encoding ≡ 4) × (n ≡ from_le_bytes w32 encoding)
 
--- Bytes that begin with a field of this length: a tag, which is the varint of the field's number times 8
--- plus its wire type, and a value.
+-- Bytes that begin with a field of this length: a tag, which is the varint of the field's number
+-- times 8 plus its wire type, and a value.
 pub record IsField (bytes : List ℕ) (field_number : ℕ) (value : FieldValue) (len : ℕ) : Type 0 where
   pub tag : List ℕ
   pub content : List ℕ
@@ -67,7 +67,8 @@ pub record BeginsWithField (bytes : List ℕ) : Type 0 where
 abbrev pub HasNumber : ℕ → Type 0
 HasNumber tag = (8 ≤ tag) × (tag < 2 ^ 32)
 
--- What is wrong with a tag: its number, else its wire type. Types 3 and 4 are groups, 6 and 7 unknown.
+-- What is wrong with a tag: its number, else its wire type. Types 3 and 4 are groups, 6 and 7
+-- unknown.
 abbrev pub IsTagFault : ℕ → WireError → Type 0
 IsTagFault tag BadField = (tag < 8) ⊎ (2 ^ 32 ≤ tag)
 IsTagFault tag GroupWire = HasNumber tag × ((tag % 8 ≡ 3) ⊎ (tag % 8 ≡ 4))
@@ -75,7 +76,8 @@ IsTagFault tag BadWire = HasNumber tag × (6 ≤ tag % 8)
 IsTagFault tag Truncated = ⊥
 IsTagFault tag LongVarint = ⊥
 
--- What is wrong with a value of this wire type: its varint or its length's varint, or bytes are missing.
+-- What is wrong with a value of this wire type: its varint or its length's varint, or bytes are
+-- missing.
 pub data IsValueFault (kind : ℕ) (bytes : List ℕ) (error : WireError) : Type 0 where
   in_varint : kind ≡ 0 → IsVarintFault bytes error → IsValueFault kind bytes error
   in_fixed64 : kind ≡ 1 → error ≡ Truncated → length bytes < 8 → IsValueFault kind bytes error

@@ -23,12 +23,14 @@ AreFieldsUntil bytes (f ∷ fs) error = BeginsWith f (λ rest. AreFieldsUntil re
 
 -- ---- reading one
 
--- the fields, given the result of reading the first one: this field, and the fields from a later byte on, or none
+-- the fields, given the result of reading the first one: this field, and the fields from a later
+-- byte on, or none
 abbrev pub fields_from : Result (FieldView × ℕ) WireError → (ℕ → List FieldView) → List FieldView
 fields_from (Ok next) others = next.0 ∷ others next.1
 fields_from (Err e) others = []
 
--- the fault, given the result of reading the first field: its own fault, else the fault from a later byte on
+-- the fault, given the result of reading the first field: its own fault, else the fault from a
+-- later byte on
 abbrev pub fault_from : Result (FieldView × ℕ) WireError → (ℕ → Option WireError) → Option WireError
 fault_from (Ok next) later = later next.1
 fault_from (Err e) later = Some e

@@ -1,4 +1,5 @@
--- Varints, as protobuf's encoding page defines them: https://protobuf.dev/programming-guides/encoding/#varints
+-- Varints, as protobuf's encoding page defines them:
+-- https://protobuf.dev/programming-guides/encoding/#varints
 use Rattle.std.specs.Prelude.{◌≡◌, ℕ, zero, suc, ◌+◌, ◌*◌, ◌/◌, ◌%◌, ◌-◌, ◌^◌, ◌<◌, ◌≤◌, List, [], ◌∷◌, ◌++◌, length, take, slice_index, Result, Ok, Err, nat_lt, if◌then◌else◌}
 use Rattle.std.specs.List.{AllByRecursion}
 use Rattle.pw_wire.specs.declared.error.WireError.{WireError}
@@ -7,7 +8,8 @@ use Rattle.pw_wire.specs.Decoding.{◌>>=◌}
 
 -- ---- what a varint is
 
--- A continuation byte is 128 plus the low seven bits of the number; the bytes after it encode the bits above.
+-- A continuation byte is 128 plus the low seven bits of the number; the bytes after it encode the
+-- bits above.
 pub record IsContinuationByte (EncodesAbove : ℕ → Type 0) (byte n : ℕ) : Type 0 where
   pub low : ℕ
   pub high : ℕ
@@ -16,8 +18,8 @@ pub record IsContinuationByte (EncodesAbove : ℕ → Type 0) (byte n : ℕ) : T
   pub number_is : n ≡ low + 128 * high
   pub above : EncodesAbove high
 
--- Seven bits a byte, the lowest first: a byte below 128 is the last byte and has its own value, and each byte before it
--- is a continuation byte.
+-- Seven bits a byte, the lowest first: a byte below 128 is the last byte and has its own value, and
+-- each byte before it is a continuation byte.
 abbrev pub EncodesNumber : List ℕ → ℕ → Type 0
 EncodesNumber [] n = ⊥
 EncodesNumber (b ∷ []) n = (b < 128) × (n ≡ b)
@@ -49,7 +51,8 @@ pub record BeginsWithVarint (bytes : List ℕ) (n : ℕ) (rest : List ℕ) : Typ
 
 -- ---- reading one
 
--- Reading with `left` bytes allowed before the last possible one: the number, and how many bytes it took.
+-- Reading with `left` bytes allowed before the last possible one: the number, and how many bytes it
+-- took.
 unfoldable pub varint_within : ℕ → List ℕ → Result (ℕ × ℕ) WireError
 varint_within left [] = Err Truncated
 varint_within zero (b ∷ bytes) = if nat_lt b 2 then Ok (b, 1) else Err LongVarint

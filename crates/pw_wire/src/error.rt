@@ -1,13 +1,14 @@
 use thiserror::Error;
 
-/// The first check of a field that fails. The checks come in the order of the field's bytes: the tag's
-/// varint, its number, its wire type, the value.
+/// The first check of a field that fails. The checks come in the order of the field's bytes: the
+/// tag's varint, its number, its wire type, the value.
 #[derive(Clone, Copy, Debug, PartialEq, Eq, Error)]
 pub enum WireError {
     /// The bytes end within a varint or a value.
     #[error("a field passes the end")]
     Truncated = 1,
-    /// A varint's tenth byte is above 1, so that its number has more than 64 bits or its bytes continue.
+    /// A varint's tenth byte is above 1, so that its number has more than 64 bits or its bytes
+    /// continue.
     #[error("a varint has more than 64 bits")]
     LongVarint = 2,
     /// The tag is above 2^32 - 1, or its field number is 0.

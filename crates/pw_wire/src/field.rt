@@ -1,5 +1,5 @@
-/// A field of a message: its number, from 1 to 2^29 - 1, and its value. The wire format does not contain
-/// the type that the message's description gives the field.
+/// A field of a message: its number, from 1 to 2^29 - 1, and its value. The wire format does not
+/// contain the type that the message's description gives the field.
 #[derive(Clone, Copy, Debug, PartialEq)]
 pub struct Field<'a> {
     pub number: u32,

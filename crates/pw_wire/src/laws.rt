@@ -1,5 +1,5 @@
-//! Laws of the definitions that the crate's contracts cite. Each law is the contract of a function that does
-//! nothing, so that the law is proved with the crate.
+//! Laws of the definitions that the crate's contracts cite. Each law is the contract of a function
+//! that does nothing, so that the law is proved with the crate.
 
 ghost use Rattle.std.specs.Prelude.{◌≡◌, ◌≢◌, ◌↔◌, ◌⊎◌, ℕ, ◌^◌, ◌<◌, ◌≤◌, List, [], length, Some, None};
 ghost use Rattle.pw_wire.specs.declared.error.WireError.{WireError};
@@ -23,7 +23,8 @@ pub fn field_or_fault()
         → IsFieldFault bytes d → IsFieldFault bytes e → d ≡ e }
 {}
 
-/// `fields` and `fault` are exact: the bytes are these fields up to the end, or these fields up to that fault.
+/// `fields` and `fault` are exact: the bytes are these fields up to the end, or these fields up to
+/// that fault.
 pub fn all_fields()
     ensures whole { (bytes : List ℕ) (fs : List FieldView) → IsBytes bytes
         → (AreFields bytes fs) ↔ ((fault bytes ≡ None) × (fields bytes ≡ fs)) }
@@ -31,7 +32,8 @@ pub fn all_fields()
         → (AreFieldsUntil bytes fs e) ↔ ((fault bytes ≡ Some e) × (fields bytes ≡ fs)) }
 {}
 
-/// Bytes encode one number at most. The encoding of a number is a varint of it, and no other varint of it is shorter.
+/// Bytes encode one number at most. The encoding of a number is a varint of it, and no other varint
+/// of it is shorter.
 pub fn encoded_varint()
     ensures one_number { (bytes : List ℕ) (m n : ℕ)
         → EncodesNumber bytes m → EncodesNumber bytes n → m ≡ n }

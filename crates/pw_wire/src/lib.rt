@@ -1,9 +1,11 @@
-//! Fields of the protobuf wire format (<https://protobuf.dev/programming-guides/encoding/>): reading the
-//! first field of some bytes, and appending a field to a `Vec`. Reading takes no memory and one pass.
+//! Fields of the protobuf wire format (<https://protobuf.dev/programming-guides/encoding/>):
+//! reading the first field of some bytes, and appending a field to a `Vec`. Reading takes no memory
+//! and one pass.
 //!
-//! `next_field` finds exactly the field that the bytes begin with, or the first check that fails there. Its
-//! contract relates the result to `fields` and `fault`, which describe the whole message. The `put_` calls
-//! append the shortest encoding of a field, which is read back as that field, whatever follows it.
+//! `next_field` finds exactly the field that the bytes begin with, or the first check that fails
+//! there. Its contract relates the result to `fields` and `fault`, which describe the whole
+//! message. The `put_` calls append the shortest encoding of a field, which is read back as that
+//! field, whatever follows it.
 #![tactic(auto)]
 
 mod error;

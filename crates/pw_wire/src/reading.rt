@@ -8,8 +8,8 @@ use crate::error::WireError;
 use crate::field::{Field, Value};
 use crate::varint::read_varint;
 
-/// The first field of the bytes, and how many bytes the field takes: `None` where there are no bytes, an error
-/// where the bytes begin with no field. The value borrows from the bytes.
+/// The first field of the bytes, and how many bytes the field takes: `None` where there are no
+/// bytes, an error where the bytes begin with no field. The value borrows from the bytes.
 #[inline(always)]
 pub fn next_field(bytes: &[u8]) -> Result<Option<(Field<'_>, usize)>, WireError>
     ensures none { (result ≡ Ok None) ↔ (bytes.now ≡ []) }
@@ -29,8 +29,8 @@ pub fn next_field(bytes: &[u8]) -> Result<Option<(Field<'_>, usize)>, WireError>
     Ok(Some(first_field(bytes)?))
 }
 
-/// The number under this field number, below 16, where the bytes begin with this field and its tag takes one byte, and how many
-/// bytes the field takes. `None` in all other cases.
+/// The number under this field number, below 16, where the bytes begin with this field and its tag
+/// takes one byte, and how many bytes the field takes. `None` in all other cases.
 #[inline(always)]
 pub fn first_number(field_number: u8, bytes: &[u8]) -> Option<(u64, usize)>
     requires positive { 1 ≤ field_number }
@@ -41,8 +41,8 @@ pub fn first_number(field_number: u8, bytes: &[u8]) -> Option<(u64, usize)>
     number_under(field_number, bytes)
 }
 
-/// The byte string under this field number, below 16, where the bytes begin with this field and its tag takes one byte, and how
-/// many bytes the field takes. `None` in all other cases.
+/// The byte string under this field number, below 16, where the bytes begin with this field and its
+/// tag takes one byte, and how many bytes the field takes. `None` in all other cases.
 #[inline(always)]
 pub fn first_bytes(field_number: u8, bytes: &[u8]) -> Option<(&[u8], usize)>
     requires positive { 1 ≤ field_number }

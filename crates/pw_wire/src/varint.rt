@@ -20,7 +20,8 @@ pub(crate) fn read_varint(bytes: &[u8]) -> Result<(u64, usize), WireError>
     }
 }
 
-/// A varint of more than two bytes. The result goes through this function, so that a shorter varint reserves no memory for it.
+/// A varint of more than two bytes. The result goes through this function, so that a shorter varint
+/// reserves no memory for it.
 #[inline(always)]
 fn read_longer_varint(bytes: &[u8]) -> Result<(u64, usize), WireError>
     ensures exact { result ≡ varint_at bytes.now }

@@ -7,7 +7,8 @@ use std::alloc::AllocError;
 /// The most bytes of a varint.
 const VARINT_ROOM: usize = 10;
 
-/// Appends the shortest varint of a number, without a tag. Where memory is refused, the vector keeps its items.
+/// Appends the shortest varint of a number, without a tag. Where memory is refused, the vector
+/// keeps its items.
 pub fn put_varint(out: &mut Vec<u8>, n: u64) -> Result<(), AllocError>
     ensures ok { OnOk result (out.new.items ≡ out.old.items ++ varint_encoding n) }
     ensures err { OnErr result (out.new.items ≡ out.old.items) }
@@ -17,7 +18,8 @@ pub fn put_varint(out: &mut Vec<u8>, n: u64) -> Result<(), AllocError>
     Ok(())
 }
 
-/// Appends a field of wire type 0, in its shortest encoding. Where memory is refused, the vector keeps its items.
+/// Appends a field of wire type 0, in its shortest encoding. Where memory is refused, the vector
+/// keeps its items.
 #[tactic(auto, unfolding(crate::specs::Field::varint_field_encoding))]
 pub fn put_varint_field(out: &mut Vec<u8>, field_number: u32, n: u64) -> Result<(), AllocError>
     requires positive { 1 ≤ field_number }
@@ -31,8 +33,8 @@ pub fn put_varint_field(out: &mut Vec<u8>, field_number: u32, n: u64) -> Result<
     Ok(())
 }
 
-/// Appends a field of wire type 2, as of bytes, a string or a message, in its shortest encoding. Where memory is refused, the
-/// vector keeps its items.
+/// Appends a field of wire type 2, as of bytes, a string or a message, in its shortest encoding.
+/// Where memory is refused, the vector keeps its items.
 #[tactic(auto, unfolding(crate::specs::Field::bytes_field_encoding))]
 pub fn put_bytes_field(out: &mut Vec<u8>, field_number: u32, bytes: &[u8]) -> Result<(), AllocError>
     requires positive { 1 ≤ field_number }

@@ -7,8 +7,8 @@ ghost use Rattle.reply_codes.specs.Checking.{first_refusal};
 use seg_check::{CheckError, Verifier, check};
 use seg_core::{SegType, Segment};
 
-/// Checks segments in their order, at a moment in half seconds since 1970. The error is the refusal of the first segment that
-/// isn't accepted.
+/// Checks segments in their order, at a moment in half seconds since 1970. The error is the refusal
+/// of the first segment that isn't accepted.
 pub fn check_all<V: Verifier>(
     segments: &[(SegType, Segment)],
     verifier: &V,

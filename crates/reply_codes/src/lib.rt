@@ -1,8 +1,8 @@
-//! What the services of a session share: the refusals of a message, the code of each refusal in a reply, and the check of a
-//! registration's segments.
+//! What the services of a session share: the refusals of a message, the code of each refusal in a
+//! reply, and the check of a registration's segments.
 //!
-//! To the layer above, `Refusal::code` is the code in a reply, and `check_all` returns the refusal of the first segment that isn't
-//! accepted.
+//! To the layer above, `Refusal::code` is the code in a reply, and `check_all` returns the refusal
+//! of the first segment that isn't accepted.
 #![tactic(auto)]
 
 mod checking;

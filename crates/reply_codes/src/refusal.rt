@@ -32,7 +32,8 @@ pub enum Refusal {
     /// No reader was free for the lookup.
     #[error("no reader is left")]
     NoReader,
-    /// The store stopped before the command was committed. It is not known whether the store keeps the command.
+    /// The store stopped before the command was committed. It is not known whether the store keeps
+    /// the command.
     #[error("the store stopped before the command was committed")]
     Stopped,
 }

@@ -1,4 +1,5 @@
--- Slots that rise: by their indices, in two parts, and with one slot more or another in the place of one.
+-- Slots that rise: by their indices, in two parts, and with one slot more or another in the place
+-- of one.
 use Rattle.std.proofs.Common.{◌≡◌, ℕ, zero, suc, ◌<◌, List, [], ◌∷◌, ◌++◌, length, get_or, sym, subst, arith}
 use Rattle.std.specs.List.{AllByRecursion}
 use Rattle.rising_map.specs.declared.slots.Slot.{Slot}

@@ -1,7 +1,7 @@
 //! A map from numbers to values, made for numbers that mostly rise.
 //!
-//! To the layer above: a list of entries by rising number. An entry above all others is put at the end, and numbers without gaps are
-//! found without a search.
+//! To the layer above: a list of entries by rising number. An entry above all others is put at the
+//! end, and numbers without gaps are found without a search.
 #![tactic(auto)]
 
 mod map;

@@ -12,9 +12,10 @@ use std::marker::Model;
 
 /// A map from numbers to values, made for numbers that mostly rise: its entries by rising number.
 ///
-/// To insert above all numbers and to remove take constant time on the average, as looking up does where no number is missing between
-/// the first and the one that is asked for; else a look-up takes time by the logarithm of the entries, and an insertion between them
-/// moves all that are above. The memory stays in proportion to the most entries that the map had at once.
+/// To insert above all numbers and to remove take constant time on the average, as looking up does
+/// where no number is missing between the first and the one that is asked for; else a look-up takes
+/// time by the logarithm of the entries, and an insertion between them moves all that are above.
+/// The memory stays in proportion to the most entries that the map had at once.
 #[derive(Drop)]
 pub struct RisingMap<V: Copy> {
     /// The entries by rising number, and holes where entries were removed.
@@ -62,8 +63,8 @@ impl<V: Copy> RisingMap<V> {
         }
     }
 
-    /// Puts a value at a number, and returns the value that it replaces, if any. To replace a value takes no memory. Where memory is
-    /// refused, the map is unchanged.
+    /// Puts a value at a number, and returns the value that it replaces, if any. To replace a value
+    /// takes no memory. Where memory is refused, the map is unchanged.
     pub fn insert(&mut self, number: u64, value: V) -> Result<Option<V>, AllocError>
         ensures entries { OnOk result (self.new ≡ insert_entry nat_cmp self.old number value) }
         ensures before { IfOk result (λ before. before ≡ lookup (is_at (nat_cmp number)) self.old) }
@@ -91,7 +92,8 @@ impl<V: Copy> RisingMap<V> {
         }
     }
 
-    /// Removes the entry of a number, and returns its value, where the map has it. This takes no memory.
+    /// Removes the entry of a number, and returns its value, where the map has it. This takes no
+    /// memory.
     pub fn remove(&mut self, number: u64) -> Option<V>
         ensures entries { self.new ≡ remove_entry (is_at (nat_cmp number)) self.old }
         ensures value { result ≡ lookup (is_at (nat_cmp number)) self.old }

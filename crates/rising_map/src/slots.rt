@@ -13,9 +13,9 @@ pub(crate) struct Slot<V: Copy> {
     pub(crate) value: Option<V>,
 }
 
-/// The index of the slot that has a number, or as an error how many slots are below it where none has it. Where the number is above
-/// all slots', or the slots from the first one to it have no gap, this takes constant time, and else time by the logarithm of their
-/// number.
+/// The index of the slot that has a number, or as an error how many slots are below it where none
+/// has it. Where the number is above all slots', or the slots from the first one to it have no gap,
+/// this takes constant time, and else time by the logarithm of their number.
 pub(crate) fn find<V: Copy>(slots: &[Slot<V>], number: u64) -> Result<usize, usize>
     requires { AreRisingSlots slots.now }
     ensures { IsFoundSlot slots.now number result }

@@ -23,14 +23,16 @@ abbrev pub HaveDistinctTimestamps : List RowView → Type 0
 HaveDistinctTimestamps rows =
     (row other : RowView) → Contains rows row → Contains rows other → key_of row ≡ key_of other → row.1.timestamp ≡ other.1.timestamp → row ≡ other
 
--- Two servers with the same rows have the same rows after registrations of the same segments, which are whole and apart.
+-- Two servers with the same rows have the same rows after registrations of the same segments, which
+-- are whole and apart.
 abbrev pub RegistrationsCommute : Type 0
 RegistrationsCommute =
     (rows : List RowView) (one other : List (List RowView)) → IsDatabase rows → AreWhole (all_rows_of one) → AreWhole (all_rows_of other)
     → HaveSameRows (all_rows_of one) (all_rows_of other) → HaveDistinctTimestamps (all_rows_of one)
     → database_after_all rows (register_commands one) ≡ database_after_all rows (register_commands other)
 
--- Registering segments again that were all registered before changes nothing, whatever commands came between.
+-- Registering segments again that were all registered before changes nothing, whatever commands
+-- came between.
 abbrev pub RegistrationsRepeat : Type 0
 RegistrationsRepeat =
     (rows : List RowView) (registrations : List (List RowView)) (again : List RowView) → IsDatabase rows → AreWhole (all_rows_of registrations) → AreWhole again

@@ -6,8 +6,8 @@ use path_rows::{
     commands_keep_database, database_is_canonical, keys_are_separate, register_leaves_newest,
 };
 
-/// Registrations of the same segments give the same rows, in any order and any number of times, where no two
-/// different segments of one key have the same timestamp.
+/// Registrations of the same segments give the same rows, in any order and any number of times,
+/// where no two different segments of one key have the same timestamp.
 pub fn registrations_commute()
     ensures { RegistrationsCommute }
 {

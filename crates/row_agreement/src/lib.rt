@@ -1,6 +1,8 @@
-//! Laws of servers with the same registrations: in whatever order the registrations come, the servers have the same rows.
+//! Laws of servers with the same registrations: in whatever order the registrations come, the
+//! servers have the same rows.
 //!
-//! Each law is the contract of a function that does nothing. Nothing is assumed of the hash in an id.
+//! Each law is the contract of a function that does nothing. Nothing is assumed of the hash in an
+//! id.
 #![tactic(auto)]
 
 mod agreement;

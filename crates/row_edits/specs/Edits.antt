@@ -26,8 +26,8 @@ abbrev pub count_rows : List (Option RowView) → ℕ
 count_rows [] = 0
 count_rows (found ∷ rows) = length (option_to_list found) + count_rows rows
 
--- What edits make of bytes: `Keep` takes a number of them over, `Pass` leaves a number of them out, and `Put` puts the record of the
--- next entry of `rows`.
+-- What edits make of bytes: `Keep` takes a number of them over, `Pass` leaves a number of them out,
+-- and `Put` puts the record of the next entry of `rows`.
 abbrev pub edited : List Edit → List (Option RowView) → List ℕ → List ℕ
 edited [] rows bytes = []
 edited (Keep n ∷ edits) rows bytes = take n bytes ++ edited edits rows (drop n bytes)

@@ -5,8 +5,9 @@ use Rattle.std.specs.declared.cmp.Ordering.TheVariants.{Less, Equal, Greater}
 use Rattle.path_rows.specs.Database.{RowView, key_of}
 use Rattle.row_edits.specs.Merging.{order_of}
 
--- One key and one row, by how the key compares to the row's: the row is found where they are equal. `more` is what is found after
--- the row, by the keys that are left, and `below` what is found by the keys after this one.
+-- One key and one row, by how the key compares to the row's: the row is found where they are equal.
+-- `more` is what is found after the row, by the keys that are left, and `below` what is found by
+-- the keys after this one.
 abbrev pub found_by_order : Ordering → RowView → (List (List ℕ) → List RowView) → List ℕ → List (List ℕ) → List RowView → List RowView
 found_by_order Less row more k ks below = below
 found_by_order Equal row more k ks below = row ∷ more ks

@@ -17,8 +17,8 @@ use Rattle.row_edits.specs.Merging.{keys_named_by, has_key, KeysRise, Includes, 
 abbrev pub left_of : List RowView → List Command → List ℕ → Option RowView
 left_of rows commands k = left_under_all k (row_under k rows) commands
 
--- The rows after commands are the rows before, without those that a purge drops, merged with what is left under keys: those that the
--- commands name, and perhaps others.
+-- The rows after commands are the rows before, without those that a purge drops, merged with what
+-- is left under keys: those that the commands name, and perhaps others.
 abbrev pub MergesAreFolds : Type 0
 MergesAreFolds =
     (rows : List RowView) (commands : List Command) (keys : List (List ℕ)) → IsDatabase rows → AllByRecursion HasWholeSegments commands
@@ -36,7 +36,8 @@ KeysMakeFolds =
     → KeysRise keys → Includes keys (keys_named_by commands) → AreUnder keys rows
     → rows_left (left_of rows commands) keys ≡ database_after_all rows commands
 
--- Edits that were planned of rows make the records of the rows after commands, where each `Put` has what is left under its key.
+-- Edits that were planned of rows make the records of the rows after commands, where each `Put` has
+-- what is left under its key.
 abbrev pub PlansMakeFolds : Type 0
 PlansMakeFolds =
     (rows : List RowView) (commands : List Command) (keys : List Key) (purged : Option ℕ) (edits : List Edit) (kept : ℕ) (olds : List RowView)

@@ -1,4 +1,5 @@
--- What commands make of rows, said key by key in the order of the keys: those of the rows before, and those that the commands name.
+-- What commands make of rows, said key by key in the order of the keys: those of the rows before,
+-- and those that the commands name.
 use Rattle.std.specs.Prelude.{◌≡◌, ℕ, List, [], ◌∷◌, ◌++◌, map, Bool, true, false, Option, if◌then◌else◌}
 use Rattle.std.specs.List.{AllByRecursion}
 use Rattle.std.specs.Option.{option_to_list}
@@ -57,9 +58,10 @@ outlives (Remove kind id ∷ commands) row = outlives commands row
 abbrev pub one_if : (RowView → Bool) → RowView → List RowView
 one_if p row = if p row then row ∷ [] else []
 
--- One key and one row of before, by how the key compares to the row's: what is left under the key comes first where it is below; in
--- the row's place where it is the row's own; and else the row comes first, if it passes the test. `more` is what comes after the
--- row, of the keys that are left, and `below` what comes after the key.
+-- One key and one row of before, by how the key compares to the row's: what is left under the key
+-- comes first where it is below; in the row's place where it is the row's own; and else the row
+-- comes first, if it passes the test. `more` is what comes after the row, of the keys that are
+-- left, and `below` what comes after the key.
 abbrev pub by_order : Ordering → (List ℕ → Option RowView) → (RowView → Bool) → RowView → (List (List ℕ) → List RowView) → List ℕ → List (List ℕ) → List RowView → List RowView
 by_order Less left p row more k ks below = option_to_list (left k) ++ below
 by_order Equal left p row more k ks below = option_to_list (left k) ++ more ks
@@ -75,8 +77,8 @@ abbrev pub rows_left : (List ℕ → Option RowView) → List (List ℕ) → Lis
 rows_left left [] = []
 rows_left left (k ∷ ks) = option_to_list (left k) ++ rows_left left ks
 
--- Rows of before merged with what is left under keys: under each of the keys what is left there, under any other key the row of
--- before if it passes the test, all in the order of the keys.
+-- Rows of before merged with what is left under keys: under each of the keys what is left there,
+-- under any other key the row of before if it passes the test, all in the order of the keys.
 abbrev pub merged : (List ℕ → Option RowView) → (RowView → Bool) → List (List ℕ) → List RowView → List RowView
 merged left p keys [] = rows_left left keys
 merged left p keys (row ∷ rows) = up_to_row left p row (λ ks. merged left p ks rows) keys

@@ -17,15 +17,16 @@ pub record HasPlanned (seen : List RowView) (planner : Planner) : Type 0 where
   pub counted : planner.kept ≡ min count (2 ^ 64 - 1)
   pub planned : IsPlanned planner.keys.items (is_beyond planner.purged) seen planner.at planner.edits.items count planner.olds.items
 
--- A planner for commands has seen these rows: it has the keys that the commands name and the greatest of their purges, and has planned
--- the rows.
+-- A planner for commands has seen these rows: it has the keys that the commands name and the
+-- greatest of their purges, and has planned the rows.
 pub record HasSeen (commands : List Command) (seen : List RowView) (planner : Planner) : Type 0 where
   pub rise : KeysRise (map key_bytes planner.keys.items)
   pub covers : Includes (map key_bytes planner.keys.items) (keys_named_by commands)
   pub purges : (row : RowView) → is_beyond planner.purged row ≡ outlives commands row
   pub planned : HasPlanned seen planner
 
--- What the edit of a row does to a planner, once it is known whether the row's key is one of the planner's: the row is planned too.
+-- What the edit of a row does to a planner, once it is known whether the row's key is one of the
+-- planner's: the row is planned too.
 pub record PlansOn (found : Bool) (row : RowView) (old new : Planner) : Type 0 where
   pub keys : new.keys.items ≡ old.keys.items
   pub purged : new.purged ≡ old.purged
@@ -33,8 +34,8 @@ pub record PlansOn (found : Bool) (row : RowView) (old new : Planner) : Type 0 w
       → IsAfterKeyPuts found row old.keys.items (is_beyond old.purged) seen old.at old.edits.items count old.olds.items
       → HasPlanned (seen ++ row ∷ []) new
 
--- By a plan these rows become those after commands: its edits, with the rows that they put, make the records after of the records
--- before, and its size and count are those of the rows after.
+-- By a plan these rows become those after commands: its edits, with the rows that they put, make
+-- the records after of the records before, and its size and count are those of the rows after.
 pub record IsPlanOf (rows : List RowView) (commands : List Command) (plan : Plan) : Type 0 where
   pub makes : edited plan.edits.items (views_if_any plan.rows.items) (rows_encoding rows) ≡ rows_encoding (database_after_all rows commands)
   pub bytes : bytes_in plan.edits.items ≡ rows_len rows

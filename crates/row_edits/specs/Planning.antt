@@ -28,7 +28,8 @@ keys_done keys at = map key_bytes (take at keys)
 abbrev pub keys_left : List Key → ℕ → List (List ℕ)
 keys_left keys at = map key_bytes (drop at keys)
 
--- what is still to be merged: by what is left under keys, by the keys that are left, and by the rows to come
+-- what is still to be merged: by what is left under keys, by the keys that are left, and by the
+-- rows to come
 abbrev pub StillToMerge : Type 0
 StillToMerge = (List ℕ → Option RowView) → List (List ℕ) → List RowView → List RowView
 
@@ -36,9 +37,10 @@ StillToMerge = (List ℕ → Option RowView) → List (List ℕ) → List RowVie
 abbrev pub TailFound : Type 0
 TailFound = List (List ℕ) → List RowView → List RowView
 
--- The edits so far are those of the rows seen. Whatever is left under the keys and whatever rows come next: the edits make the front
--- of the merge, and the tail is what is still to be merged (`makes`); the rows that are kept and those that are put are counted
--- (`counts`); and `olds` are the rows seen that are under keys (`finds`). `next` gives the rows after those seen.
+-- The edits so far are those of the rows seen. Whatever is left under the keys and whatever rows
+-- come next: the edits make the front of the merge, and the tail is what is still to be merged
+-- (`makes`); the rows that are kept and those that are put are counted (`counts`); and `olds` are
+-- the rows seen that are under keys (`finds`). `next` gives the rows after those seen.
 pub record Makes (keys : List Key) (p : RowView → Bool) (seen : List RowView) (at : ℕ) (edits : List Edit) (kept : ℕ) (olds : List RowView)
     (next : List RowView → List RowView) (tail : StillToMerge) (found : TailFound) : Type 0 where
   pub inside : at ≤ length keys
@@ -71,7 +73,8 @@ abbrev pub rows_when : Bool → List RowView → List RowView
 rows_when true rows = rows
 rows_when false rows = []
 
--- the same after the keys up to the row's have a `Put`, where it is known whether its own is one of them
+-- the same after the keys up to the row's have a `Put`, where it is known whether its own is one of
+-- them
 abbrev pub IsAfterKeyPuts : Bool → RowView → List Key → (RowView → Bool) → List RowView → ℕ → List Edit → ℕ → List RowView → Type 0
 IsAfterKeyPuts found row keys p seen at edits kept olds =
     Makes keys p seen at edits kept olds (λ rows. row ∷ rows)
@@ -82,8 +85,8 @@ abbrev pub IsEnding : List Key → (RowView → Bool) → List RowView → ℕ �
 IsEnding keys p seen at edits kept olds =
     Makes keys p seen at edits kept olds (λ rows. []) (λ left ks rows. rows_left left ks) (λ ks rows. [])
 
--- Once each key has a `Put`: the edits make the merge of the rows seen, whatever is left under the keys; its rows are counted; and
--- `olds` are the rows under keys.
+-- Once each key has a `Put`: the edits make the merge of the rows seen, whatever is left under the
+-- keys; its rows are counted; and `olds` are the rows under keys.
 pub record MakesAll (keys : List Key) (p : RowView → Bool) (seen : List RowView) (edits : List Edit) (kept : ℕ) (olds : List RowView) : Type 0 where
   pub puts : puts_in edits ≡ length keys
   pub bytes : bytes_in edits ≡ rows_len seen

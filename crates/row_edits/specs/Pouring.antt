@@ -6,8 +6,8 @@ use Rattle.row_edits.specs.declared.edit.Edit.TheVariants.{Keep, Pass, Put}
 use Rattle.row_edits.specs.declared.pour.Pour.TheInside.{Inside}
 use Rattle.row_edits.specs.Edits.{record_if_any, views_if_any, edited, bytes_in, bytes_out}
 
--- What was made and is not taken; the edits that are left, of which the first may be done in part; the rows that they put; and how
--- many bytes of the records before the edits have gone over.
+-- What was made and is not taken; the edits that are left, of which the first may be done in part;
+-- the rows that they put; and how many bytes of the records before the edits have gone over.
 pub record PourView : Type 0 where
   pub out : List ℕ
   pub edits : List Edit
@@ -61,8 +61,8 @@ abbrev pub with_next_row : List (Option RowView) → PourView → PourView
 with_next_row [] view = view
 with_next_row (row ∷ rows) view = record view { out = view.out ++ record_if_any row; rows = rows }
 
--- What pouring a window keeps: all that is not taken, of any records before that show the window at its offset; how many bytes that
--- is; and where the edits end. The position never goes back.
+-- What pouring a window keeps: all that is not taken, of any records before that show the window at
+-- its offset; how many bytes that is; and where the edits end. The position never goes back.
 pub record Pours (from : ℕ) (window : List ℕ) (old new : PourView) : Type 0 where
   pub same : (bytes : List ℕ) → take (length window) (drop from bytes) ≡ window → untaken new bytes ≡ untaken old bytes
   pub len : untaken_len new ≡ untaken_len old
@@ -73,7 +73,8 @@ pub record Pours (from : ℕ) (window : List ℕ) (old new : PourView) : Type 0 
 abbrev pub IsOutside : ℕ → ℕ → ℕ → Type 0
 IsOutside from len position = (position < from) ⊎ (from + len ≤ position)
 
--- why pouring stops: a piece is made, or nothing is left to be made, or a byte is wanted that isn't in the window
+-- why pouring stops: a piece is made, or nothing is left to be made, or a byte is wanted that isn't
+-- in the window
 abbrev pub WhyStopped : ℕ → ℕ → PourView → Type 0
 WhyStopped from len view = (131072 ≤ length view.out) ⊎ ((view.edits ≡ Keep 0 ∷ []) ⊎ ((0 < left_to_keep view) × IsOutside from len view.position))
 

@@ -4,7 +4,8 @@ ghost use Rattle.std.specs.Prelude.{◌∷◌, []};
 ghost use Rattle.std.specs.Option.{ForSome};
 ghost use Rattle.row_edits.specs.Planning.{SameEdits};
 
-/// One edit of the records of rows. Edits are applied in their order, and go over the records from the first byte on.
+/// One edit of the records of rows. Edits are applied in their order, and go over the records from
+/// the first byte on.
 #[derive(Clone, Copy, Debug, PartialEq, Eq)]
 pub enum Edit {
     /// The next bytes are kept: this number of them.
@@ -18,7 +19,8 @@ pub enum Edit {
 const _: () = prove!(size_of::<Edit>() == 8);
 
 impl Edit {
-    /// Two edits of bytes as one, where they are of one kind and all their bytes are fewer than 2^32.
+    /// Two edits of bytes as one, where they are of one kind and all their bytes are fewer than
+    /// 2^32.
     pub(crate) fn joined(self, next: Edit) -> Option<Edit>
         ensures { ForSome result (λ both. SameEdits (self ∷ next ∷ []) (both ∷ [])) }
     {

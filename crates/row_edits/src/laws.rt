@@ -5,7 +5,8 @@ ghost use Rattle.row_edits.specs.Chunks.{PiecesFollow, LastPieceEnds};
 
 use path_db::{commands_keep_database, database_is_canonical, keys_are_separate};
 
-/// The rows after commands are the rows before, merged with the rows that are left under the keys that the commands name.
+/// The rows after commands are the rows before, merged with the rows that are left under the keys
+/// that the commands name.
 pub fn merges_are_folds()
     ensures { MergesAreFolds }
 {
@@ -14,7 +15,8 @@ pub fn merges_are_folds()
     commands_keep_database();
 }
 
-/// The rows that are left under the keys of both sides, in the order of the keys, are the rows after commands.
+/// The rows that are left under the keys of both sides, in the order of the keys, are the rows
+/// after commands.
 pub fn keys_make_folds()
     ensures { KeysMakeFolds }
 {
@@ -30,8 +32,9 @@ pub fn plans_make_folds()
     merges_are_folds();
 }
 
-/// Of bytes that are written in pieces of 256 sectors, the first 131,072 bytes that are made and not written are the next piece,
-/// and all of them, where nothing is left to be made, filled up with zeros, are the last.
+/// Of bytes that are written in pieces of 256 sectors, the first 131,072 bytes that are made and
+/// not written are the next piece, and all of them, where nothing is left to be made, filled up
+/// with zeros, are the last.
 pub fn pieces_follow()
     ensures next { PiecesFollow }
     ensures last { LastPieceEnds }

@@ -13,8 +13,9 @@ use path_db::{Command, Key, PathDb, Registration, Row};
 use seg_core::{SegType, Segment};
 use std::alloc::{AllocError, Global};
 
-/// The rows that commands leave under keys, where `olds` are the rows under these keys before: one entry for each key. The rows
-/// go into a database of their own, to which the commands are applied. A row shares its segment.
+/// The rows that commands leave under keys, where `olds` are the rows under these keys before: one
+/// entry for each key. The rows go into a database of their own, to which the commands are applied.
+/// A row shares its segment.
 pub fn settle(
     alloc: Global,
     keys: &[Key],

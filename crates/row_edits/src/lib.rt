@@ -1,8 +1,9 @@
 //! The records of a database after commands, made of the records before piece by piece.
 //!
-//! To the layer above: a `Planner` sees each row once and makes a `Plan`, which has a small edit for each run of rows and a row for
-//! each key that the commands name. A `Pour` follows the plan: it makes the records after in pieces, from pieces of the records
-//! before, reads no row again and takes no memory.
+//! To the layer above: a `Planner` sees each row once and makes a `Plan`, which has a small edit
+//! for each run of rows and a row for each key that the commands name. A `Pour` follows the plan:
+//! it makes the records after in pieces, from pieces of the records before, reads no row again and
+//! takes no memory.
 #![tactic(auto)]
 
 mod edit;

@@ -20,8 +20,9 @@ use seg_check::expiry;
 use seg_core::{SegType, Segment, encoded_len};
 use std::alloc::{AllocError, Global};
 
-/// Plans what commands make of rows, which it sees one after the other in the order of their keys. It keeps the keys that the
-/// commands name, an edit for each run of rows, and the rows under those keys, which share their segments.
+/// Plans what commands make of rows, which it sees one after the other in the order of their keys.
+/// It keeps the keys that the commands name, an edit for each run of rows, and the rows under those
+/// keys, which share their segments.
 #[derive(Drop)]
 pub struct Planner {
     keys: Vec<Key>,
@@ -33,7 +34,8 @@ pub struct Planner {
 }
 
 impl Planner {
-    /// A planner for commands that has seen no row. It computes the id of each segment that they register.
+    /// A planner for commands that has seen no row. It computes the id of each segment that they
+    /// register.
     pub fn new(alloc: Global, commands: &[Command]) -> Result<Planner, AllocError>
         ensures { IfOk result (λ planner. HasSeen commands.now [] planner) }
     {

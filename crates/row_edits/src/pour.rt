@@ -16,9 +16,9 @@ pub const PIECE: usize = 256 * SECTOR;
 /// The bytes of the buffer: a piece, and the greatest record of a row.
 const BUFFER: usize = PIECE + MOST_ROW_BYTES;
 
-/// Makes the records after commands of the records before. Both go through it in pieces: the records before are given in
-/// windows, which may be cut anywhere, and what was made is taken. It has a buffer of 147,461 bytes, and takes no memory once it is
-/// made.
+/// Makes the records after commands of the records before. Both go through it in pieces: the
+/// records before are given in windows, which may be cut anywhere, and what was made is taken. It
+/// has a buffer of 147,461 bytes, and takes no memory once it is made.
 #[derive(Drop)]
 pub struct Pour {
     edits: Vec<Edit>,
@@ -47,7 +47,8 @@ impl Pour {
     ghost use Rattle.row_edits.specs.Edits.{bytes_in, views_if_any};
     ghost use Rattle.row_edits.specs.Pouring.{Pours, WhyStopped, IsOutside, left_to_keep, with_edit, with_next_row, untaken, untaken_len, edits_end, steps_left};
 
-    /// A pour of the 32 bytes of a head, and of what edits make with the rows that they put. It takes the memory of its buffer.
+    /// A pour of the 32 bytes of a head, and of what edits make with the rows that they put. It
+    /// takes the memory of its buffer.
     pub fn new(
         alloc: Global,
         head: &[u8; 32],
@@ -71,8 +72,9 @@ impl Pour {
         })
     }
 
-    /// Makes what it can of a window: the bytes of the records before from offset `from` on. It stops where a piece or more is made
-    /// and not taken, where nothing is left to be made, or where it wants a byte that isn't in the window.
+    /// Makes what it can of a window: the bytes of the records before from offset `from` on. It
+    /// stops where a piece or more is made and not taken, where nothing is left to be made, or
+    /// where it wants a byte that isn't in the window.
     pub fn pour(&mut self, from: u64, window: &[u8])
         ensures pours { Pours from window.now self.old self.new }
         ensures stops { WhyStopped from (length window.now) self.new }
@@ -80,7 +82,8 @@ impl Pour {
         while self.step(from, window) {}
     }
 
-    /// The offset of the next byte that is wanted, where less than a piece is made and not taken, and bytes are to be kept.
+    /// The offset of the next byte that is wanted, where less than a piece is made and not taken,
+    /// and bytes are to be kept.
     pub fn wanted(&self) -> Option<u64>
         ensures some { ForSome result (λ at. (at ≡ self.now.position) × (0 < left_to_keep self.now) × (length self.now.out < 131072)) }
         ensures none { result ≡ None → (131072 ≤ length self.now.out) ⊎ (left_to_keep self.now ≡ 0) }

@@ -44,7 +44,8 @@ pub(crate) fn put_part(
     used + count
 }
 
-/// Takes bytes from the front: the others in use are moved there. The answer is how many bytes are in use then.
+/// Takes bytes from the front: the others in use are moved there. The answer is how many bytes are
+/// in use then.
 pub(crate) fn cut_front(buffer: &mut [u8], used: usize, count: usize) -> usize
     requires used { used ≤ length buffer.old }
     requires count { count ≤ used }

@@ -12,8 +12,9 @@ use path_db::{Key, Row};
 use std::alloc::AllocError;
 use std::cmp::Ordering;
 
-/// Appends a `Put` for each key from an index on that is below a row's, and for the row's own, where it is one of them. The answer
-/// is the index of the next key, and whether the row's is one of them.
+/// Appends a `Put` for each key from an index on that is below a row's, and for the row's own,
+/// where it is one of them. The answer is the index of the next key, and whether the row's is one
+/// of them.
 pub(crate) fn put_up_to(
     keys: &[Key],
     at: usize,

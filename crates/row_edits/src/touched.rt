@@ -13,8 +13,9 @@ use path_db::{Command, Key};
 use seg_core::{SegType, Segment};
 use std::alloc::{AllocError, Global};
 
-/// The greatest moment of the purges among commands, in half seconds since 1970, where there are any: a row that no command
-/// names is left after the commands just where it expires after that moment.
+/// The greatest moment of the purges among commands, in half seconds since 1970, where there are
+/// any: a row that no command names is left after the commands just where it expires after that
+/// moment.
 pub fn greatest_purge(commands: &[Command]) -> Option<u64>
     ensures { (row : RowView) → is_beyond result row ≡ outlives commands.now row }
 {
@@ -45,8 +46,8 @@ fn later(greatest: Option<u64>, moment: u64) -> u64
     }
 }
 
-/// The keys that commands name, each once, in their order: those of the rows that they register, and those that they remove. It
-/// computes the id of each segment that is registered.
+/// The keys that commands name, each once, in their order: those of the rows that they register,
+/// and those that they remove. It computes the id of each segment that is registered.
 pub fn touched_keys(alloc: Global, commands: &[Command]) -> Result<Vec<Key>, AllocError>
     ensures rise { IfOk result (λ keys. KeysRise (map key_bytes keys.items)) }
     ensures covers { IfOk result (λ keys. Includes (map key_bytes keys.items) (keys_named_by commands.now)) }

@@ -1,5 +1,5 @@
--- The images that a stop may leave, before a call and after it, and the bytes that are clean. This crate and the crates
--- above it cite these lemmas.
+-- The images that a stop may leave, before a call and after it, and the bytes that are clean. This
+-- crate and the crates above it cite these lemmas.
 use Rattle.std.proofs.Common.{◌≡◌, ◌⊎◌, inl, inr, ℕ, ◌+◌, ◌-◌, ◌≤◌, List, [], ◌∷◌, length, get_or, refl, sym, ◌∙◌, ap, subst, arith}
 use Rattle.std.proofs.lemmas.Bool.{cases_lt}
 use Rattle.std.proofs.lemmas.List.Elements.{All-nil, All-cons, All-head, All-tail}
@@ -120,7 +120,8 @@ image_written history at landed content inside bytes image = record {
       ]
     ]
 
--- If each content with P has Q once it is overwritten in the range by any bytes, then each image after the write has Q.
+-- If each content with P has Q once it is overwritten in the range by any bytes, then each image
+-- after the write has Q.
 pub every_written : (P Q : List ℕ → Type 0) (history : History) (at : ℕ) (landed : List ℕ) → at + length landed ≤ length history.now.reads → AreBytes history.now.reads → EveryImage history.now P
     → ((content torn : List ℕ) → length content ≡ length history.now.reads → length torn ≡ length landed → P content → Q (overwrite at torn content)) → EveryImage (after_write at landed history).now Q
 every_written P Q history at landed inside bytes each step content image =

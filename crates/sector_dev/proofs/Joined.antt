@@ -1,5 +1,5 @@
--- Several transfers, one after another, for `read_whole` and `write_whole`, and their effect on a device over the file, for
--- `FileDevice::write`.
+-- Several transfers, one after another, for `read_whole` and `write_whole`, and their effect on a
+-- device over the file, for `FileDevice::write`.
 use Rattle.std.proofs.Common.{◌≡◌, ◌≢◌, ℕ, ◌+◌, ◌-◌, ◌*◌, ◌<◌, ◌≤◌, inl, inr, List, [], ◌∷◌, ◌++◌, length, get_or, take, drop, refl, sym, ◌∙◌, ap, subst, arith, length-append, length-drop, get_or-take, Result, OnOk, Bool, IsTrue, add-zero}
 use Rattle.std.proofs.lemmas.Bool.{cases_lt}
 use Rattle.std.proofs.lemmas.Bool.Decides.{nat_tests}

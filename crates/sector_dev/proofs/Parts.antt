@@ -1,5 +1,5 @@
--- The effect of one call of an honest device, and its effect on a part outside of its range, whatever the call returned. For
--- the crates above.
+-- The effect of one call of an honest device, and its effect on a part outside of its range,
+-- whatever the call returned. For the crates above.
 use Rattle.std.proofs.Common.{◌≡◌, ◌⊎◌, inl, inr, ℕ, ◌+◌, ◌*◌, ◌≤◌, List, length, sym, ◌∙◌, ap, subst, arith, Result, Ok, Err}
 use Rattle.byte_lists.specs.Content.{part}
 use Rattle.sector_dev.specs.Disk.{History, Disk, IsHonest, reads_of, after_write, after_sync}

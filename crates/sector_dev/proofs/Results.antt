@@ -1,4 +1,5 @@
--- Results as values, for lemmas on one of the two cases. This crate and the crates above it cite these lemmas.
+-- Results as values, for lemmas on one of the two cases. This crate and the crates above it cite
+-- these lemmas.
 use Rattle.std.proofs.Common.{Result, Ok, Err}
 
 -- a result without an error

@@ -1,4 +1,5 @@
--- The effect of each call of a device, one record for each call. The effect on an honest device is defined under that premise.
+-- The effect of each call of a device, one record for each call. The effect on an honest device is
+-- defined under that premise.
 use Rattle.std.specs.Prelude.{◌≡◌, ℕ, ◌+◌, ◌-◌, ◌*◌, ◌^◌, min, List, length, Result, Ok, Err, OnOk, OnErr}
 use Rattle.byte_lists.specs.Content.{part}
 use Rattle.sector_dev.specs.Disk.{Disk, IsHonest, History, reads_of, after_write, after_sync}
@@ -24,7 +25,8 @@ pub record ReadCall {T E : Type 0} (sector : ℕ) (into : List ℕ) (result : Re
   pub history : IsHonest old → new.history ≡ old.history
   pub bytes : IsHonest old → OnOk result (into ≡ part (512 * sector) (length into) (reads_of old))
 
--- some bytes landed in the range of a write, and nothing else changed; after a write that succeeded, they are the given bytes
+-- some bytes landed in the range of a write, and nothing else changed; after a write that
+-- succeeded, they are the given bytes
 pub record Lands {T E : Type 0} (sector : ℕ) (bytes : List ℕ) (result : Result T E) (old new : History) : Type 0 where
   pub landed : List ℕ
   pub size : length landed ≡ length bytes

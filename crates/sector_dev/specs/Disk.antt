@@ -1,4 +1,5 @@
--- A device of 512-byte sectors as contracts see it, and how its calls change it. Offsets and lengths count bytes.
+-- A device of 512-byte sectors as contracts see it, and how its calls change it. Offsets and
+-- lengths count bytes.
 use Rattle.std.specs.Prelude.{◌≡◌, ℕ, ◌*◌, Bool, IsTrue, List, [], ◌∷◌, ◌++◌, length}
 use Rattle.byte_lists.specs.Content.{AreBytes, overwrite}
 
@@ -17,7 +18,8 @@ pub record History : Type 0 where
   pub past : List Moment
   pub now : Moment
 
--- all of a device: whether it is honest, its size in sectors, the count of failed calls, and its history
+-- all of a device: whether it is honest, its size in sectors, the count of failed calls, and its
+-- history
 pub record Disk : Type 0 where
   pub is_honest : Bool
   pub sectors : ℕ

@@ -18,7 +18,8 @@ pub record IsMadeOver (file : FileState) (disk : Disk) : Type 0 where
   pub faults : disk.faults ≡ 0
   pub history : IsHonestFile file → disk.history ≡ record { past = []; now = record { reads = front disk.sectors file.bytes; dirty = file.dirty } }
 
--- all transfers of a write: some bytes landed, as many as were given, and exactly these where no transfer failed
+-- all transfers of a write: some bytes landed, as many as were given, and exactly these where no
+-- transfer failed
 pub record LandsWhole {T E : Type 0} (offset : ℕ) (bytes : List ℕ) (result : Result T E) (old new : List ℕ) : Type 0 where
   pub landed : List ℕ
   pub size : length landed ≡ length bytes
@@ -31,8 +32,8 @@ pub record WritesWhole {T E : Type 0} (offset : ℕ) (bytes : List ℕ) (result 
   pub lands : IsHonestFile old → offset + length bytes ≤ length old.bytes → LandsWhole offset bytes result old.bytes new.bytes
   pub dirty : IsHonestFile old → DirtiesOnly offset (length bytes) old.dirty new.dirty
 
--- a call fails exactly where a call of its file fails: the file's count of failures grows by one, and stays where no call
--- fails
+-- a call fails exactly where a call of its file fails: the file's count of failures grows by one,
+-- and stays where no call fails
 abbrev pub FailsWithFile : {T E : Type 0} → Result T E → FileState → FileState → Type 0
 FailsWithFile result old new = new.failures ≡ count_after result old.failures
 

@@ -33,7 +33,8 @@ pub record BurnsOne {T E : Type 0} (result : Result T E) (old new : FuseDevice) 
   pub left : calls_left new ≡ calls_left old - 1
   pub tear : fuse_tear new ≡ fuse_tear old
 
--- the history after a failed write: the write is torn where it is the first call that failed, and else nothing lands
+-- the history after a failed write: the write is torn where it is the first call that failed, and
+-- else nothing lands
 abbrev pub after_stopped_write : FuseDevice → ℕ → List ℕ → History
 after_stopped_write fuse sector bytes =
     let history = (fuse_disk fuse).history in

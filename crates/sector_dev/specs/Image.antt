@@ -1,5 +1,6 @@
--- The contents that a device may have after a stop. A stop within a call is covered too: in the middle of a write, the contents are
--- an image of the moment after it, and in the middle of a sync an image of the moment before it.
+-- The contents that a device may have after a stop. A stop within a call is covered too: in the
+-- middle of a write, the contents are an image of the moment after it, and in the middle of a sync
+-- an image of the moment before it.
 use Rattle.std.specs.Prelude.{◌≡◌, ℕ, ◌+◌, ◌<◌, ◌≤◌, List, length, drop, slice_index, All}
 use Rattle.byte_lists.specs.Content.{AreBytes}
 use Rattle.sector_dev.specs.Disk.{ByteRange, Moment, History, moments}

@@ -1,12 +1,14 @@
--- The effects of the calls of a file that is read and written at offsets. The effect on an honest file is defined under that premise.
+-- The effects of the calls of a file that is read and written at offsets. The effect on an honest
+-- file is defined under that premise.
 use Rattle.std.specs.Prelude.{◌≡◌, ℕ, ◌+◌, ◌≤◌, Bool, IsTrue, List, [], length, take, Result, Ok, Err, IfOk, OnOk, OnErr, if◌then◌else◌, ◌==◌, ◌&&◌, nat_lt}
 use Rattle.byte_lists.specs.Content.{part, overwrite}
 use Rattle.sector_dev.specs.Disk.{ByteRange}
 use Rattle.sector_dev.specs.Image.{IsClean}
 use Rattle.sector_dev.specs.Calls.{count_after, one_more}
 
--- a file as contracts see it: whether it is honest, its bytes, the ranges written since the last sync that
--- succeeded, in which a stop may leave any bytes, and how many of its transfers and syncs have failed
+-- a file as contracts see it: whether it is honest, its bytes, the ranges written since the last
+-- sync that succeeded, in which a stop may leave any bytes, and how many of its transfers and syncs
+-- have failed
 pub record FileState : Type 0 where
   pub is_honest : Bool
   pub bytes : List ℕ
@@ -23,7 +25,8 @@ pub record LeavesFile (old new : FileState) : Type 0 where
   pub bytes : IsHonestFile old → new.bytes ≡ old.bytes
   pub dirty : IsHonestFile old → new.dirty ≡ old.dirty
 
--- the count of failures after a transfer of this number of bytes: one more where it failed, or moved none of them
+-- the count of failures after a transfer of this number of bytes: one more where it failed, or
+-- moved none of them
 abbrev pub failures_after_transfer : {E : Type 0} → ℕ → Result ℕ E → ℕ → ℕ
 failures_after_transfer asked (Ok moved) failures = if nat_lt 0 asked && moved == 0 then one_more failures else failures
 failures_after_transfer asked (Err _) failures = one_more failures
@@ -57,7 +60,8 @@ pub record LandsAny (offset : ℕ) (bytes old new : List ℕ) : Type 0 where
   pub size : length landed ≡ length bytes
   pub is : new ≡ overwrite offset landed old
 
--- the bytes of an honest file after a transfer into it: the number that it returns landed, and any bytes where it failed
+-- the bytes of an honest file after a transfer into it: the number that it returns landed, and any
+-- bytes where it failed
 abbrev pub LandsTransfer : {E : Type 0} → ℕ → List ℕ → Result ℕ E → List ℕ → List ℕ → Type 0
 LandsTransfer offset bytes (Ok n) old new = new ≡ overwrite offset (take n bytes) old
 LandsTransfer offset bytes (Err _) old new = LandsAny offset bytes old new

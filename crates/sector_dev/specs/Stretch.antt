@@ -10,7 +10,8 @@ pub record Leaves (old new : History) (P : List ℕ → Type 0) : Type 0 where
   pub goes_on : moments new ≡ moments old ++ later
   pub every : EveryImageSince (length old.past) new P
 
--- a stretch of calls: the fields that no call changes are the same, and on an honest device each image has P
+-- a stretch of calls: the fields that no call changes are the same, and on an honest device each
+-- image has P
 pub record Stretch (old new : Disk) (P : List ℕ → Type 0) : Type 0 where
   pub keeps : Keeps old new
   pub leaves : IsHonest old → Leaves old.history new.history P

@@ -25,8 +25,9 @@ impl Error for DevError {}
 
 /// A device of 512-byte sectors. The argument `at` counts sectors.
 ///
-/// Contracts see a device as a `Disk`. No call changes whether the device is honest. What contracts state of reads, and of the
-/// contents after a stop, holds for an honest device. No call takes memory.
+/// Contracts see a device as a `Disk`. No call changes whether the device is honest. What contracts
+/// state of reads, and of the contents after a stop, holds for an honest device. No call takes
+/// memory.
 pub trait Device {
     /// The device as contracts see it.
     ghost disk: { Self → Disk };
@@ -35,20 +36,22 @@ pub trait Device {
     fn sectors(&self) -> u64
         ensures sectors { result ≡ (disk self.now).sectors };
 
-    /// Reads whole sectors from sector `at` on into `into`. After a failed read `into` may have any bytes.
+    /// Reads whole sectors from sector `at` on into `into`. After a failed read `into` may have any
+    /// bytes.
     fn read(&mut self, at: u64, into: &mut [u8]) -> Result<(), DevError>
         requires whole { length into.old % 512 ≡ 0 }
         requires inside { 512 * at + length into.old ≤ 512 * (disk self.old).sectors }
         ensures read { ReadCall at into.new result (disk self.old) (disk self.new) };
 
-    /// Writes whole sectors from sector `at` on. A failed write may leave any bytes in its range. Until a sync succeeds, a stop may
-    /// leave any bytes in the range, whatever the write returned.
+    /// Writes whole sectors from sector `at` on. A failed write may leave any bytes in its range.
+    /// Until a sync succeeds, a stop may leave any bytes in the range, whatever the write returned.
     fn write(&mut self, at: u64, bytes: &[u8]) -> Result<(), DevError>
         requires whole { length bytes.now % 512 ≡ 0 }
         requires inside { 512 * at + length bytes.now ≤ 512 * (disk self.old).sectors }
         ensures write { WriteCall at bytes.now result (disk self.old) (disk self.new) };
 
-    /// After a sync that succeeds, a stop leaves the bytes that reads return. A sync that fails changes nothing.
+    /// After a sync that succeeds, a stop leaves the bytes that reads return. A sync that fails
+    /// changes nothing.
     fn sync(&mut self) -> Result<(), DevError>
         ensures sync { SyncCall result (disk self.old) (disk self.new) };
 

@@ -3,8 +3,8 @@ ghost use Rattle.std.specs.Prelude.{◌≡◌, ◌+◌, ◌-◌, ◌*◌, ◌%�
 
 use crate::{DevError, Device, MemDevice};
 
-/// A device in memory of which one call of `read`, `write` or `sync` fails. All other calls are passed on. Where the failing call is
-/// a write, nothing of it lands.
+/// A device in memory of which one call of `read`, `write` or `sync` fails. All other calls are
+/// passed on. Where the failing call is a write, nothing of it lands.
 #[derive(Drop)]
 pub struct FaultDevice {
     memory: MemDevice,

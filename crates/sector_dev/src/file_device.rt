@@ -7,8 +7,9 @@ use crate::transfers::{read_whole, write_whole};
 use crate::{DevError, Device, PositionedFile, SECTOR};
 use std::io;
 
-/// The whole sectors of a file, of the length that the file had when the device was made. The device is honest if the file is. A call
-/// returns `Fault` exactly where the file's count of failures grows: where a transfer failed or moved nothing, or a sync failed.
+/// The whole sectors of a file, of the length that the file had when the device was made. The
+/// device is honest if the file is. A call returns `Fault` exactly where the file's count of
+/// failures grows: where a transfer failed or moved nothing, or a sync failed.
 #[derive(Drop)]
 pub struct FileDevice<F: PositionedFile> {
     file: F,
@@ -31,7 +32,8 @@ impl<F: PositionedFile> FileDevice<F> {
     ghost use Rattle.sector_dev.specs.FileDevice.{IsMadeOver, file_disk, file_of, file_state};
     ghost use Rattle.sector_dev.specs.Calls.{one_more};
 
-    /// A device over the file's whole sectors. The bytes after them are never touched. The error is that of the call for the file's length.
+    /// A device over the file's whole sectors. The bytes after them are never touched. The error is
+    /// that of the call for the file's length.
     pub fn new(mut file: F) -> io::Result<FileDevice<F>>
     where
         F: Drop,

@@ -4,15 +4,17 @@ ghost use Rattle.sector_dev.specs.Calls.{count_after, ReadCall, WriteCall, SyncC
 
 use crate::{DevError, Device, MemDevice};
 
-/// How the write at which a fuse stops is torn: its first `keep` bytes land, and all others become `fill`.
+/// How the write at which a fuse stops is torn: its first `keep` bytes land, and all others become
+/// `fill`.
 #[derive(Clone, Copy)]
 pub struct Tear {
     pub keep: usize,
     pub fill: u8,
 }
 
-/// A device in memory of which some calls of `read`, `write` and `sync` succeed, and then all calls fail. Where the first call that
-/// fails is a write, the write is torn. Of later writes nothing lands.
+/// A device in memory of which some calls of `read`, `write` and `sync` succeed, and then all calls
+/// fail. Where the first call that fails is a write, the write is torn. Of later writes nothing
+/// lands.
 #[derive(Drop)]
 pub struct FuseDevice {
     memory: MemDevice,

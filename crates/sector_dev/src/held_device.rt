@@ -3,7 +3,8 @@ ghost use Rattle.std.specs.Prelude.{◌≡◌, ◌+◌, ◌*◌, ◌%◌, ◌≤
 
 use crate::{DevError, Device};
 
-/// The gate that a `HeldDevice` passes before each sync. A gate may count the syncs, or make them wait.
+/// The gate that a `HeldDevice` passes before each sync. A gate may count the syncs, or make them
+/// wait.
 pub trait Gate {
     /// One pass may change the first state into the second.
     ghost passed: { Self → Self → Type 0 };

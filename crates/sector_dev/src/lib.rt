@@ -1,8 +1,9 @@
-//! Devices of 512-byte sectors: a contract for the contents at every moment, including a stop within a call, and five
-//! devices that satisfy it.
+//! Devices of 512-byte sectors: a contract for the contents at every moment, including a stop
+//! within a call, and five devices that satisfy it.
 //!
-//! To the layer above: the contract of each call of `Device` states how the call changes what reads return and what a stop may leave,
-//! where the device is honest. `proofs/Stretches.antt` has lemmas for several calls, one after the other.
+//! To the layer above: the contract of each call of `Device` states how the call changes what reads
+//! return and what a stop may leave, where the device is honest. `proofs/Stretches.antt` has lemmas
+//! for several calls, one after the other.
 #![tactic(auto)]
 
 mod device;

@@ -6,8 +6,8 @@ use crate::PositionedFile;
 use crate::positioned_file::failures_after;
 use std::io;
 
-/// An honest file in memory, of which one transfer moves at most a given number of bytes. Its calls never return an error. A transfer
-/// that moves nothing of some bytes counts as a failure.
+/// An honest file in memory, of which one transfer moves at most a given number of bytes. Its calls
+/// never return an error. A transfer that moves nothing of some bytes counts as a failure.
 #[derive(Drop)]
 pub struct MemFile {
     bytes: Vec<u8>,

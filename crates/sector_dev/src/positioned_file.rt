@@ -5,8 +5,8 @@ ghost use Rattle.sector_dev.specs.PositionedFile.{FileState, IsHonestFile, Leave
 
 use std::io;
 
-/// A file whose transfers start at an offset in bytes and may be short. It counts its failures: the transfers that failed
-/// or moved none of some bytes, and the syncs that failed.
+/// A file whose transfers start at an offset in bytes and may be short. It counts its failures: the
+/// transfers that failed or moved none of some bytes, and the syncs that failed.
 pub trait PositionedFile {
     /// The file as contracts see it.
     ghost state: { Self → FileState };

@@ -10,9 +10,10 @@ use std::io;
 use std::io::{ErrorKind, Seek, SeekFrom};
 use std::os::unix::fs::FileExt;
 
-/// A file of the system, or a block device, with a count of its failures, which stays at 2^64 - 1. No contract states what such a
-/// file returns or keeps, so the file is not known to be honest. A transfer that a signal interrupts before any byte moved is
-/// repeated, and counts as one: no transfer returns `Interrupted`.
+/// A file of the system, or a block device, with a count of its failures, which stays at 2^64 - 1.
+/// No contract states what such a file returns or keeps, so the file is not known to be honest. A
+/// transfer that a signal interrupts before any byte moved is repeated, and counts as one: no
+/// transfer returns `Interrupted`.
 #[derive(Drop)]
 pub struct SystemFile {
     file: File,

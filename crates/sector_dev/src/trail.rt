@@ -1,4 +1,5 @@
-//! The history of a device, for proofs alone: a trail takes no memory, and its functions do nothing.
+//! The history of a device, for proofs alone: a trail takes no memory, and its functions do
+//! nothing.
 ghost use Rattle.std.specs.Prelude.{◌≡◌, List, [], ◌∷◌, ◌++◌};
 ghost use Rattle.std.specs.Borrow.{ftrue};
 ghost use Rattle.sector_dev.specs.Disk.{ByteRange, Moment};

@@ -1,4 +1,5 @@
--- The first refusal of a segment is exactly what `IsAccepted`, `HasFirstBad` and `HasExpired` define.
+-- The first refusal of a segment is exactly what `IsAccepted`, `HasFirstBad` and `HasExpired`
+-- define.
 use Rattle.std.proofs.Common.{◌≡◌, ℕ, ◌<◌, Bool, true, false, List, [], ◌∷◌, ◌++◌, length, refl, sym, ap, subst, ◌∙◌, inl, inr, append_assoc, append-nil, drop, arith}
 use Rattle.std.specs.Prelude.{IsTrue, nat_le, Option, Some, None}
 use Rattle.std.proofs.lemmas.Bool.{cases_Bool, leb-true, le-leb}

@@ -9,7 +9,8 @@ use Rattle.seg_check.specs.Signatures.{Verdicts, is_verified, AllVerified}
 
 -- ---- the definitions
 
--- A segment is accepted where it is whole, the signature of each entry is good, and the segment expires later than now.
+-- A segment is accepted where it is whole, the signature of each entry is good, and the segment
+-- expires later than now.
 pub record IsAccepted (verifies : Verdicts) (now : ℕ) (s : SegmentView) : Type 0 where
   pub whole : IsSegment s
   pub verified : AllVerified verifies s.info s.entries
@@ -32,7 +33,8 @@ pub record HasExpired (verifies : Verdicts) (now : ℕ) (s : SegmentView) : Type
 
 -- ---- the test of these definitions
 
--- the index of the first of the entries whose signature is not good; the earlier entries come before them
+-- the index of the first of the entries whose signature is not good; the earlier entries come
+-- before them
 abbrev pub first_bad_behind : List EntryView → Verdicts → List ℕ → List EntryView → Option ℕ
 first_bad_behind earlier verifies info [] = None
 first_bad_behind earlier verifies info (e ∷ entries) =

@@ -4,7 +4,8 @@ use Rattle.std.specs.List.{flat_map}
 use Rattle.std.specs.Borrow.{Bor}
 use Rattle.seg_core.specs.SegmentView.{EntryView}
 
--- a verifier's answers: whether a signature is good, by the ISD-AS, the signed bytes, the signature and the associated pieces
+-- a verifier's answers: whether a signature is good, by the ISD-AS, the signed bytes, the signature
+-- and the associated pieces
 abbrev pub Verdicts : Type 0
 Verdicts = ℕ → List ℕ → List ℕ → List (List ℕ) → Bool
 
@@ -12,8 +13,8 @@ Verdicts = ℕ → List ℕ → List ℕ → List (List ℕ) → Bool
 abbrev pub referred_pieces : List (Bor (List ℕ)) → List (List ℕ)
 referred_pieces pieces = map (λ piece. piece.now) pieces
 
--- What the signature of an entry covers beside its own bytes: the segment's information, then the signed bytes and the signature
--- of each earlier entry.
+-- What the signature of an entry covers beside its own bytes: the segment's information, then the
+-- signed bytes and the signature of each earlier entry.
 abbrev pub associated_pieces : List ℕ → List EntryView → List (List ℕ)
 associated_pieces info earlier = info ∷ flat_map (λ e. e.signed ∷ e.signature ∷ []) earlier
 

@@ -10,11 +10,13 @@ use crate::expiring::expiry;
 use crate::verifier::Verifier;
 use seg_core::Segment;
 
-/// The most pieces that a signature covers: the segment's information, and two for each of 63 earlier entries.
+/// The most pieces that a signature covers: the segment's information, and two for each of 63
+/// earlier entries.
 const MOST_PIECES: usize = 127;
 
-/// Checks that the signature of each entry is good and that the segment expires later than `now`, which is in half seconds
-/// since 1970. The error is the first check that fails, entry by entry and then the expiry. The call takes no memory.
+/// Checks that the signature of each entry is good and that the segment expires later than `now`,
+/// which is in half seconds since 1970. The error is the first check that fails, entry by entry and
+/// then the expiry. The call takes no memory.
 #[tactic(auto, unfolding(crate::specs::Checking::check_refusal))]
 pub fn check<V: Verifier>(segment: &Segment, verifier: &V, now: u64) -> Result<(), CheckError>
     ensures refusal { result_err result ≡ check_refusal (V.verifies verifier.now) now segment.now }

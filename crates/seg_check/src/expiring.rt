@@ -6,8 +6,8 @@ ghost use Rattle.seg_check.specs.Expiry.{least_exp_time, expiry_of};
 
 use seg_core::{Entry, Segment};
 
-/// When a segment expires, in half seconds since 1970: the moment at which the first of its hop fields expires. The call takes no
-/// memory.
+/// When a segment expires, in half seconds since 1970: the moment at which the first of its hop
+/// fields expires. The call takes no memory.
 #[tactic(auto, unfolding(crate::specs::Expiry::expiry_of))]
 pub fn expiry(segment: &Segment) -> u64
     ensures { result ≡ expiry_of segment.now }

@@ -1,4 +1,5 @@
-//! A test profile of signatures, which is part of no standard. The key that checks a signature also makes it.
+//! A test profile of signatures, which is part of no standard. The key that checks a signature also
+//! makes it.
 
 ghost use Rattle.std.specs.Prelude.{◌≡◌, ◌↔◌, ◌≤◌, ◌++◌, ℕ, List, length, IsTrue};
 ghost use Rattle.seg_check.specs.Signatures.{referred_pieces};
@@ -13,8 +14,8 @@ use std::marker::Model;
 /// The most bytes of a key of the test profile.
 pub const MOST_KEY: usize = 64;
 
-/// A verifier by which a signature is good exactly when `keyed_signature` makes it with this key, for any ISD-AS. The test profile
-/// is part of no standard.
+/// A verifier by which a signature is good exactly when `keyed_signature` makes it with this key,
+/// for any ISD-AS. The test profile is part of no standard.
 #[derive(Drop)]
 pub struct Keyed {
     key: Vec<u8>,
@@ -58,8 +59,9 @@ impl Verifier for Keyed {
     }
 }
 
-/// The signature of the test profile by a key: SHA-256 (FIPS 180-4) over the key, the signed bytes and the associated pieces
-/// in order, each after its length, 8 bytes, big-endian. The call takes no memory. The signature is part of no standard.
+/// The signature of the test profile by a key: SHA-256 (FIPS 180-4) over the key, the signed bytes
+/// and the associated pieces in order, each after its length, 8 bytes, big-endian. The call takes
+/// no memory. The signature is part of no standard.
 #[tactic(auto, unfolding(crate::specs::Keyed::keyed_signature))]
 pub fn keyed_signature(key: &[u8], signed: &[u8], associated: &[&[u8]]) -> [u8; 32]
     ensures { result ≡ keyed_signature key.now signed.now (referred_pieces associated.now) }

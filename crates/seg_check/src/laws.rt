@@ -1,5 +1,5 @@
-//! Laws of the definitions that the crate's contracts cite. Each law is the contract of a function that does nothing, so that
-//! the law is proved with the crate.
+//! Laws of the definitions that the crate's contracts cite. Each law is the contract of a function
+//! that does nothing, so that the law is proved with the crate.
 
 ghost use Rattle.std.specs.Prelude.{◌≡◌, ◌↔◌, ◌<◌, ◌≤◌, ◌^◌, ℕ, List, length, All, Some, None, IsTrue};
 ghost use Rattle.std.specs.List.{Any};
@@ -20,15 +20,16 @@ pub fn digests_have_32_bytes()
     ensures bytes { (s : SegmentView) → IsBytes (segment_digest s) }
 {}
 
-/// A whole segment expires with the first of its hop entries: no hop entry expires before the segment, and one expires with it. The
-/// moment has at most 34 bits.
+/// A whole segment expires with the first of its hop entries: no hop entry expires before the
+/// segment, and one expires with it. The moment has at most 34 bits.
 pub fn segments_expire_with_a_hop()
     ensures none_before { (s : SegmentView) → IsSegment s → All (λ e. expiry_of s ≤ hop_expiry s.timestamp e) s.entries }
     ensures one_then { (s : SegmentView) → IsSegment s → Any (λ e. hop_expiry s.timestamp e ≡ expiry_of s) s.entries }
     ensures fits { (s : SegmentView) → IsSegment s → expiry_of s < 2 ^ 34 }
 {}
 
-/// The first refusal is exactly what the definitions give, and a whole segment has none exactly when it is accepted.
+/// The first refusal is exactly what the definitions give, and a whole segment has none exactly
+/// when it is accepted.
 pub fn check_refusals_are_exact()
     ensures accepted { (verifies : Verdicts) (now : ℕ) (s : SegmentView) → IsSegment s → (check_refusal verifies now s ≡ None) ↔ IsAccepted verifies now s }
     ensures bad_signature { (verifies : Verdicts) (now at : ℕ) (s : SegmentView)

@@ -11,9 +11,9 @@ pub trait Verifier {
     /// The verifier's answers, by an ISD-AS, signed bytes, a signature and associated pieces.
     ghost verifies: { Self → ℕ → List ℕ → List ℕ → List (List ℕ) → Bool };
 
-    /// Whether the signature of the AS over the signed bytes and the associated pieces is good. The pieces are those that the
-    /// signature of an entry covers beside its own bytes: the segment's information, then, for each earlier entry in order,
-    /// the signed bytes and the signature.
+    /// Whether the signature of the AS over the signed bytes and the associated pieces is good. The
+    /// pieces are those that the signature of an entry covers beside its own bytes: the segment's
+    /// information, then, for each earlier entry in order, the signed bytes and the signature.
     fn verify(&self, ia: IsdAs, signed: &[u8], signature: &[u8], associated: &[&[u8]]) -> bool
         ensures { result ≡ verifies self.now (isd_as_number ia) signed.now signature.now (referred_pieces associated.now) };
 }

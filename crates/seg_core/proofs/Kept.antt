@@ -1,4 +1,5 @@
--- What is read of a segment is kept: its encoding, and in the encoding its information and the pieces of its entries.
+-- What is read of a segment is kept: its encoding, and in the encoding its information and the
+-- pieces of its entries.
 use Rattle.std.proofs.Common.{◌≡◌, ℕ, List, ◌++◌, Ok, sym, ap, ◌∙◌, subst}
 use Rattle.std.specs.Arc.{arc_value}
 use Rattle.pw_wire.specs.Decoding.{IsBytes}

@@ -1,5 +1,5 @@
--- A message of bytes, of any length, is no shorter than the shortest encodings of the values under its field numbers 1
--- and 2. For the laws that decoded messages are whole.
+-- A message of bytes, of any length, is no shorter than the shortest encodings of the values under
+-- its field numbers 1 and 2. For the laws that decoded messages are whole.
 use Rattle.std.proofs.Common.{◌≡◌, ℕ, ◌+◌, ◌<◌, ◌≤◌, List, [], ◌∷◌, ◌++◌, length, drop, ap, ◌∙◌, inl, inr, arith, length-append}
 use Rattle.std.specs.Prelude.{◌==◌, if◌then◌else◌}
 use Rattle.std.proofs.lemmas.Bool.{cases_Bool, eqb-true}

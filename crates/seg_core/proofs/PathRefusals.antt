@@ -1,5 +1,5 @@
--- A segment is refused as no chain, or for a loop, exactly when its entries are read and are no chain, or have a loop. For the
--- law `path_refusals_are_exact`.
+-- A segment is refused as no chain, or for a loop, exactly when its entries are read and are no
+-- chain, or have a loop. For the law `path_refusals_are_exact`.
 use Rattle.std.proofs.Common.{◌≡◌, ℕ, Bool, true, false, List, Result, Ok, Err, refl, sym, ◌∙◌}
 use Rattle.std.specs.Prelude.{◌↔◌}
 use Rattle.std.proofs.lemmas.Bool.{false≢true}

@@ -1,5 +1,6 @@
--- The refusals of the parts of a reading: no part is refused with `NoMemory`, and the parts up to the entries, and the entries
--- alone, are not refused for their path. For the readers of segments and registrations, and the laws on decodings.
+-- The refusals of the parts of a reading: no part is refused with `NoMemory`, and the parts up to
+-- the entries, and the entries alone, are not refused for their path. For the readers of segments
+-- and registrations, and the laws on decodings.
 use Rattle.std.proofs.Common.{◌≡◌, ◌≢◌, ℕ, zero, suc, ◌+◌, Bool, true, false, List, [], ◌∷◌, ◌++◌, Result, Ok, Err, Option, Some, None, refl, sym, ap, ◌∙◌, arith}
 use Rattle.std.specs.Prelude.{nat_le, nat_lt, ok_or, if◌then◌else◌, not, ◌&&◌, is_some}
 use Rattle.std.proofs.lemmas.Bool.{false≢true, lt-ltb, ltb-true}

@@ -1,4 +1,5 @@
--- The length of a response. For the law `responses_are_short`; the crates above cite `short_response`.
+-- The length of a response. For the law `responses_are_short`; the crates above cite
+-- `short_response`.
 use Rattle.std.proofs.Common.{◌≡◌, ℕ, zero, suc, ◌+◌, ◌*◌, ◌/◌, ◌%◌, ◌<◌, ◌≤◌, Bool, true, false, List, [], ◌∷◌, ◌++◌, length, map, refl, ap, ◌∙◌, arith}
 use Rattle.std.specs.Prelude.{◌==◌, nat_lt, if◌then◌else◌}
 use Rattle.std.specs.List.{AllByRecursion, filter}

@@ -20,7 +20,8 @@ Rows = List (SegType × SegmentView)
 abbrev behind : Rows → MapEntry → SegType × Rows
 behind found entry = (entry.0, found ++ typed_segments entry.0 entry.1)
 
--- What was found are the rows of entries, and with these the messages that are left give the rows of all entries.
+-- What was found are the rows of entries, and with these the messages that are left give the rows
+-- of all entries.
 pub record Found (all left : List (List ℕ)) (found : Rows) (seen : Earlier) : Type 0 where
   pub entries : List MapEntry
   pub are_in : AreIn entries seen

@@ -1,4 +1,5 @@
--- The encoding of what was read of a message is no longer than the message. For the laws that decoded messages are whole.
+-- The encoding of what was read of a message is no longer than the message. For the laws that
+-- decoded messages are whole.
 use Rattle.std.proofs.Common.{◌≡◌, ℕ, ◌+◌, ◌≤◌, List, [], ◌∷◌, ◌++◌, length, Option, Some, None, arith, length-append}
 use Rattle.std.specs.Prelude.{unwrap_or}
 use Rattle.std.specs.List.{sum_by}
@@ -46,7 +47,8 @@ or_empty-length k None = omega arith
 
 -- ---- the parts of a message of two fields
 
--- The message is no shorter than the shortest encodings of the values under its field numbers 1 and 2.
+-- The message is no shorter than the shortest encodings of the values under its field numbers 1 and
+-- 2.
 pub record HasRoom (message : List ℕ) : Type 0 where
   pub both : encoded_len 1 (bytes_fields 1 (fields message)) + encoded_len 2 (bytes_fields 2 (fields message)) ≤ length message
 

@@ -1,4 +1,5 @@
--- A type and its number, and whether the type has had an entry. For `Earlier::new_type`, `read_map` and the law on types.
+-- A type and its number, and whether the type has had an entry. For `Earlier::new_type`, `read_map`
+-- and the law on types.
 use Rattle.std.proofs.Common.{◌≡◌, ℕ, zero, suc, Bool, true, false, not, List, [], ◌∷◌, ◌++◌, Ok, refl, sym, ap, ◌∙◌}
 use Rattle.std.specs.Prelude.{◌||◌, ◌==◌}
 use Rattle.std.proofs.Math.Bool.{or-false}

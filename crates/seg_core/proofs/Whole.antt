@@ -131,7 +131,8 @@ outline_read message outline are reading =
       counted = counted.0;
     })
 
--- The encodings of the segment's information and of its entries' messages are short, and so are those of its entries.
+-- The encodings of the segment's information and of its entries' messages are short, and so are
+-- those of its entries.
 pub outline-room : (message : List ℕ) (outline : SegmentOutline) → IsBytes message → segment_outline message ≡ Ok outline
     → length (bytes_encoding 1 outline.info) + encoded_len 2 outline.entries ≤ 16384
 outline-room message outline are reading =

@@ -1,5 +1,6 @@
--- The one encoding of a segment and of a response: fields by number, numbers in the shortest varints, zero numbers
--- and empty bytes left out. The pieces that are kept of an entry are written unchanged.
+-- The one encoding of a segment and of a response: fields by number, numbers in the shortest
+-- varints, zero numbers and empty bytes left out. The pieces that are kept of an entry are written
+-- unchanged.
 use Rattle.std.specs.Prelude.{◌≡◌, ℕ, ◌+◌, ◌*◌, ◌<◌, ◌≤◌, ◌^◌, List, [], ◌∷◌, ◌++◌, length, map, filter, ◌==◌, Ok, Option, Some, None}
 use Rattle.std.specs.List.{flat_map, AllByRecursion}
 use Rattle.std.specs.Option.{ForSome}
@@ -53,8 +54,8 @@ segment_encoding s = bytes_encoding 1 s.info ++ entries_encoding s.entries
 abbrev pub entry_body : EntryView → Body
 entry_body e = record { ia = e.ia; next = e.next; hop = record { ingress = e.ingress; egress = e.egress; exp_time = e.exp_time } }
 
--- What holds for every entry: its numbers are those of its signed body, its two ISD-AS numbers are below 2^64, and the pieces
--- that are kept unchanged are bytes.
+-- What holds for every entry: its numbers are those of its signed body, its two ISD-AS numbers are
+-- below 2^64, and the pieces that are kept unchanged are bytes.
 pub record IsEntry (e : EntryView) : Type 0 where
   pub says : header_and_body_decoding e.signed ≡ Ok (entry_body e)
   pub ia : e.ia < 2 ^ 64
@@ -63,8 +64,8 @@ pub record IsEntry (e : EntryView) : Type 0 where
   pub signature : IsBytes e.signature
   pub unsigned : ForSome e.unsigned IsBytes
 
--- What holds for every segment: its information is bytes with its numbers, its entries are 1 to 64 and one path without a
--- loop, and its encoding has at most 16,384 bytes.
+-- What holds for every segment: its information is bytes with its numbers, its entries are 1 to 64
+-- and one path without a loop, and its encoding has at most 16,384 bytes.
 pub record IsSegment (s : SegmentView) : Type 0 where
   pub info_says : info_decoding s.info ≡ Ok (record { timestamp = s.timestamp; segment_id = s.segment_id })
   pub info_bytes : IsBytes s.info

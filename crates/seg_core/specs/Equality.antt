@@ -1,4 +1,5 @@
--- Equality of two entries, and of two segments: a test of all their fields, which is true exactly when they are the same.
+-- Equality of two entries, and of two segments: a test of all their fields, which is true exactly
+-- when they are the same.
 use Rattle.std.specs.Prelude.{ℕ, List, Bool, ◌==◌, ◌&&◌, nat_eq}
 use Rattle.std.specs.Option.{option_eq}
 use Rattle.std.specs.Cmp.Lexicographic.{pointwise}

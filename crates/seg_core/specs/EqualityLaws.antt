@@ -1,5 +1,5 @@
--- The tests of equality decide whether two entries or segments are the same, so that the tests are symmetric and
--- transitive. The impl of `PartialEq` for `Segment` cites these laws.
+-- The tests of equality decide whether two entries or segments are the same, so that the tests are
+-- symmetric and transitive. The impl of `PartialEq` for `Segment` cites these laws.
 use Rattle.std.proofs.Common.{◌≡◌, ℕ, Bool, true, false, List, Option, Some, None, refl, sym, ap, ◌∙◌}
 use Rattle.std.specs.Prelude.{◌&&◌, IsTrue, ◌↔◌}
 use Rattle.std.specs.Bool.{Decides, one_answer}

@@ -1,5 +1,5 @@
--- The pieces of an entry, by their ranges in an encoding: what is signed, its signature, and what is not signed, which
--- may be missing.
+-- The pieces of an entry, by their ranges in an encoding: what is signed, its signature, and what
+-- is not signed, which may be missing.
 use Rattle.std.specs.Prelude.{ℕ, List, length, ◌≤◌}
 use Rattle.std.specs.Arc.{arc_value}
 use Rattle.std.specs.List.{between}

@@ -43,7 +43,8 @@ entry_rows entries = flat_map (λ entry. typed_segments entry.0 entry.1) entries
 abbrev pub has_type : List MapEntry → SegType → Bool
 has_type entries kind = list_any (λ entry. type_number entry.0 == type_number kind) entries
 
--- The segments of one type, after this number of segments of the registration: the 17th is refused before it is read.
+-- The segments of one type, after this number of segments of the registration: the 17th is refused
+-- before it is read.
 unfoldable pub segments_decoding : ℕ → List (List ℕ) → Result (List SegmentView) SegError
 segments_decoding count [] = Ok []
 segments_decoding count (message ∷ messages) = do
@@ -75,7 +76,8 @@ map_decoding earlier (message ∷ messages) = do
   entry ← map_entry_decoding earlier message
   map_decoding (earlier ++ entry ∷ []) messages
 
--- The messages of the map's entries. Its size, its wire format and the kinds of its fields are checked without taking memory.
+-- The messages of the map's entries. Its size, its wire format and the kinds of its fields are
+-- checked without taking memory.
 unfoldable pub registration_outline : List ℕ → Result (List (List ℕ)) SegError
 registration_outline message = do
   _ ← must_hold (nat_le (length message) MOST_REGISTERED_BYTES) TooLarge

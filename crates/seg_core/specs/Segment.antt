@@ -27,8 +27,8 @@ pub record SegmentOutline : Type 0 where
   pub info : List ℕ
   pub entries : List (List ℕ)
 
--- A segment up to its entries: its size, its wire format and the kinds of its fields, how many entries there are, and its
--- information. These are checked without taking memory.
+-- A segment up to its entries: its size, its wire format and the kinds of its fields, how many
+-- entries there are, and its information. These are checked without taking memory.
 unfoldable pub segment_outline : List ℕ → Result SegmentOutline SegError
 segment_outline message = do
   _ ← must_hold (nat_le (length message) MOST_SEGMENT_BYTES) TooLarge

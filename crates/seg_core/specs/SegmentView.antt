@@ -1,7 +1,9 @@
--- A path segment as contracts see it: the numbers in its bytes, and the pieces that are kept unchanged.
+-- A path segment as contracts see it: the numbers in its bytes, and the pieces that are kept
+-- unchanged.
 use Rattle.std.specs.Prelude.{ℕ, List, Option}
 
--- The pieces of an entry that are kept unchanged: what the AS has signed, its signature, and what is not signed, which may be missing.
+-- The pieces of an entry that are kept unchanged: what the AS has signed, its signature, and what
+-- is not signed, which may be missing.
 pub record PiecesView : Type 0 where
   pub signed : List ℕ
   pub signature : List ℕ

@@ -1,5 +1,5 @@
--- The shapes of the messages: the kind of the value under each of their field numbers. A shape is a list by field numbers from 0
--- on; no field has the number 0.
+-- The shapes of the messages: the kind of the value under each of their field numbers. A shape is a
+-- list by field numbers from 0 on; no field has the number 0.
 use Rattle.std.specs.Prelude.{List, [], ◌∷◌}
 use Rattle.seg_slots.specs.declared.shape.FieldKind.{FieldKind}
 use Rattle.seg_slots.specs.declared.shape.FieldKind.TheVariants.{Unknown, Number, Bytes, Message, Messages}

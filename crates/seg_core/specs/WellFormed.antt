@@ -6,8 +6,8 @@ use Rattle.seg_core.specs.SegmentView.{EntryView, SegmentView}
 
 -- ---- the definitions
 
--- From an entry the path leads to the entry after it: the second entry's AS is the first entry's next AS, and neither the egress
--- of the first nor the ingress of the second is 0.
+-- From an entry the path leads to the entry after it: the second entry's AS is the first entry's
+-- next AS, and neither the egress of the first nor the ingress of the second is 0.
 pub record LeadsTo (e f : EntryView) : Type 0 where
   pub next : e.next ≡ f.ia
   pub egress : e.egress ≢ 0
@@ -51,7 +51,8 @@ pub record IsInRange (s : SegmentView) : Type 0 where
   pub segment_id : s.segment_id < 2 ^ 16
   pub entries : All IsEntryInRange s.entries
 
--- A segment is 1 to 64 entries that are one path without a loop, and its numbers are in their ranges.
+-- A segment is 1 to 64 entries that are one path without a loop, and its numbers are in their
+-- ranges.
 pub record IsWellFormed (s : SegmentView) : Type 0 where
   pub counted : HasEntryCount s.entries
   pub chain : IsEntryChain s.entries

@@ -1,5 +1,5 @@
-//! Laws of the definitions by which messages are read. Each law is the contract of a function that does nothing, so that
-//! the law is proved with the crate.
+//! Laws of the definitions by which messages are read. Each law is the contract of a function that
+//! does nothing, so that the law is proved with the crate.
 
 ghost use Rattle.std.specs.Prelude.{◌≡◌, ◌≢◌, ◌↔◌, ℕ, List, Some, None, Ok, Err};
 ghost use Rattle.pw_wire.specs.Field.{FieldView};
@@ -19,14 +19,16 @@ pub fn type_numbers_are_exact()
     ensures only { (n : ℕ) (kind : SegType) → type_of n ≡ Ok kind → n ≡ type_number kind }
 {}
 
-/// No message is refused with `NoMemory` by the definitions: only a call that is refused memory returns that error.
+/// No message is refused with `NoMemory` by the definitions: only a call that is refused memory
+/// returns that error.
 pub fn decodings_want_no_memory()
     ensures segment { (message : List ℕ) → segment_decoding message ≢ Err NoMemory }
     ensures registration { (message : List ℕ) → registration_decoding message ≢ Err NoMemory }
     ensures request { (message : List ℕ) → request_decoding message ≢ Err NoMemory }
 {}
 
-/// A segment is refused for its path exactly when its entries are read and are no chain, or are a chain with a loop.
+/// A segment is refused for its path exactly when its entries are read and are no chain, or are a
+/// chain with a loop.
 pub fn path_refusals_are_exact()
     ensures no_chain { (message : List ℕ) → (segment_decoding message ≡ Err Chain) ↔ HasNoChain message }
     ensures has_loop { (message : List ℕ) → (segment_decoding message ≡ Err Loop) ↔ HasLoop message }

@@ -1,8 +1,9 @@
 //! Path segments, and the messages that register, request and return them.
 //!
-//! To the layer above, each reader returns exactly what the definition of its message gives, including the first
-//! refusal. A `Segment` is always whole: its numbers are those of its bytes, its entries are one path without a
-//! loop, and its one encoding has at most 16,384 bytes and is read as that segment again.
+//! To the layer above, each reader returns exactly what the definition of its message gives,
+//! including the first refusal. A `Segment` is always whole: its numbers are those of its bytes,
+//! its entries are one path without a loop, and its one encoding has at most 16,384 bytes and is
+//! read as that segment again.
 #![tactic(auto)]
 
 mod body;

@@ -1,4 +1,5 @@
-//! The pieces that are kept of an entry as received. They are parts of the encoding of the entry's segment.
+//! The pieces that are kept of an entry as received. They are parts of the encoding of the entry's
+//! segment.
 
 ghost use Rattle.std.specs.Prelude.{◌≡◌, ◌≤◌, length, IfOk};
 ghost use Rattle.std.specs.Arc.{arc_value};
@@ -9,7 +10,8 @@ use std::alloc::AllocError;
 use std::marker::Model;
 use std::sync::Arc;
 
-/// The range of a piece in an encoding, which has at most 16,384 bytes: where it starts, and where it ends.
+/// The range of a piece in an encoding, which has at most 16,384 bytes: where it starts, and where
+/// it ends.
 #[derive(Clone, Copy)]
 pub(crate) struct Span {
     pub start: u16,
@@ -26,7 +28,8 @@ impl Span {
     }
 }
 
-/// The ranges of an entry's pieces: what its AS has signed, its signature, and what is not signed, which may be missing.
+/// The ranges of an entry's pieces: what its AS has signed, its signature, and what is not signed,
+/// which may be missing.
 #[derive(Clone, Copy)]
 pub(crate) struct Spans {
     pub signed: Span,
@@ -34,7 +37,8 @@ pub(crate) struct Spans {
     pub unsigned: Option<Span>,
 }
 
-/// What an AS has signed, its signature, and what is not signed, in an encoding that other pieces share.
+/// What an AS has signed, its signature, and what is not signed, in an encoding that other pieces
+/// share.
 #[derive(Drop)]
 pub struct Pieces {
     encoding: Arc<Vec<u8>>,
@@ -54,7 +58,8 @@ impl Model for Pieces {
 }
 
 impl Pieces {
-    /// The pieces in these ranges of an encoding, whose reference count rises by one. An error means that the count is 2^63 already.
+    /// The pieces in these ranges of an encoding, whose reference count rises by one. An error
+    /// means that the count is 2^63 already.
     pub(crate) fn new(encoding: &Arc<Vec<u8>>, spans: Spans) -> Result<Pieces, AllocError>
         requires { AreWithin (arc_value encoding.now).items spans }
         ensures { IfOk result (λ pieces. pieces ≡ pieces_at (arc_value encoding.now).items spans) }

@@ -1,4 +1,5 @@
-//! Putting an entry after other bytes, in its one encoding. Each call returns the ranges of the pieces that it puts.
+//! Putting an entry after other bytes, in its one encoding. Each call returns the ranges of the
+//! pieces that it puts.
 
 ghost use Rattle.std.specs.Prelude.{◌≡◌, ◌+◌, ◌<◌, ◌≤◌, ◌++◌, length, IfOk, OnOk};
 ghost use Rattle.std.specs.Option.{option_map, ForSome};
@@ -85,7 +86,8 @@ fn put_unsigned(out: &mut Vec<u8>, bytes: Option<&[u8]>) -> Result<Option<Span>,
     }
 }
 
-/// Appends the pieces of an entry, after the tag and the length of its signed message: the signed message, and what is not signed.
+/// Appends the pieces of an entry, after the tag and the length of its signed message: the signed
+/// message, and what is not signed.
 fn put_pieces(out: &mut Vec<u8>, entry: &BorrowedEntry<'_>) -> Result<Spans, AllocError>
     requires { length out.old.items + length (pieces_encoding (borrowed_view entry.now)) ≤ MOST_SEGMENT_BYTES }
     ensures put { IfOk result (λ _. out.new.items ≡ out.old.items ++ pieces_encoding (borrowed_view entry.now)) }

@@ -85,9 +85,10 @@ fn read_outline(message: &[u8]) -> Result<BytesFields<'_>, SegError>
     Ok(slots.bytes_fields(1))
 }
 
-/// Reads a `SegmentsRegistrationRequest` from all of the bytes: its segments and their types, in the order of the message.
-/// A registration above 131,072 bytes is refused before it is read, and one with more than 16 segments before the 17th is read.
-/// The outline is checked before memory is taken.
+/// Reads a `SegmentsRegistrationRequest` from all of the bytes: its segments and their types, in
+/// the order of the message. A registration above 131,072 bytes is refused before it is read, and
+/// one with more than 16 segments before the 17th is read. The outline is checked before memory is
+/// taken.
 #[tactic(auto, unfolding(crate::specs::Registration::registration_decoding))]
 pub fn read_registration(alloc: Global, message: &[u8]) -> Result<Vec<(SegType, Segment)>, SegError>
     ensures decoding { GivesSegment (λ v. v.items) result (registration_decoding message.now) }

@@ -8,7 +8,8 @@ use crate::shape::REQUEST;
 use isd_as::IsdAs;
 use seg_slots::{SegError, slots_of};
 
-/// The source and the destination of a `SegmentsRequest`, 0-0 where the message has none. The call takes no memory.
+/// The source and the destination of a `SegmentsRequest`, 0-0 where the message has none. The call
+/// takes no memory.
 #[tactic(auto, unfolding(crate::specs::Request::request_decoding))]
 pub fn read_request(message: &[u8]) -> Result<(IsdAs, IsdAs), SegError>
     ensures { ReadsFields (λ ends. (isd_as_number ends.0, isd_as_number ends.1)) result (request_decoding message.now) }

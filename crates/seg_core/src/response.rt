@@ -12,7 +12,8 @@ use crate::writing::{encoded_len, put_segment};
 use pw_wire::put_varint_field;
 use std::alloc::{AllocError, Global};
 
-/// The room that is reserved for the last bytes of a response, beyond their length: two varints of ten bytes.
+/// The room that is reserved for the last bytes of a response, beyond their length: two varints of
+/// ten bytes.
 const SLACK: usize = 20;
 /// The length of the key of a map entry: a tag, and a type of one byte.
 const KEY_LEN: usize = 2;
@@ -103,7 +104,8 @@ fn response_len(segments: &[(SegType, &Segment)]) -> Result<usize, AllocError>
     sum(up, sum(down, core)?)
 }
 
-/// The bytes of a `SegmentsResponse` of segments that the caller keeps elsewhere, the same bytes as of [`write_response`].
+/// The bytes of a `SegmentsResponse` of segments that the caller keeps elsewhere, the same bytes as
+/// of [`write_response`].
 #[tactic(auto, unfolding(crate::specs::Encoding::response_encoding))]
 pub fn write_response_of(
     alloc: Global,
@@ -122,8 +124,8 @@ pub fn write_response_of(
     Ok(out)
 }
 
-/// The bytes of a `SegmentsResponse`: for each type that has segments, these segments in their order. An error means that
-/// memory was refused. A response without segments takes no memory.
+/// The bytes of a `SegmentsResponse`: for each type that has segments, these segments in their
+/// order. An error means that memory was refused. A response without segments takes no memory.
 #[tactic(auto, unfolding(crate::specs::Encoding::response_encoding))]
 pub fn write_response(alloc: Global, segments: &[(SegType, Segment)]) -> Result<Vec<u8>, AllocError>
     ensures exact { IfOk result (λ v. v.items ≡ response_encoding segments.now) }

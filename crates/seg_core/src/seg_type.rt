@@ -5,8 +5,8 @@ ghost use Rattle.seg_slots.specs.Steps.{ReadsFields};
 
 use seg_slots::SegError;
 
-/// The type of a segment: up and down segments lead from a core AS outwards, core segments from one core AS to
-/// another. The numbers of the variants are those of the messages.
+/// The type of a segment: up and down segments lead from a core AS outwards, core segments from one
+/// core AS to another. The numbers of the variants are those of the messages.
 #[derive(Clone, Copy, Debug, PartialEq, Eq)]
 pub enum SegType {
     Up = 1,
@@ -28,7 +28,8 @@ impl SegType {
         }
     }
 
-    /// The type with this number. The whole number is checked, not its low bits; any number but 1, 2 and 3 is `BadType`.
+    /// The type with this number. The whole number is checked, not its low bits; any number but 1,
+    /// 2 and 3 is `BadType`.
     pub fn from_number(number: u64) -> Result<SegType, SegError>
         ensures { ReadsFields (λ kind. kind) result (type_of number) }
     {

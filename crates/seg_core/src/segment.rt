@@ -30,7 +30,8 @@ use std::fmt;
 use std::marker::Model;
 use std::sync::Arc;
 
-/// The fields of a segment, which its copies share. Its information and the pieces of its entries are in its encoding.
+/// The fields of a segment, which its copies share. Its information and the pieces of its entries
+/// are in its encoding.
 #[derive(Drop)]
 struct Parts {
     timestamp: u32,
@@ -41,7 +42,8 @@ struct Parts {
     entries: Vec<Entry>,
 }
 
-/// A path segment: 1 to 64 entries that are one path without a loop, and pieces of the message from which it was read.
+/// A path segment: 1 to 64 entries that are one path without a loop, and pieces of the message from
+/// which it was read.
 #[derive(Drop)]
 pub struct Segment {
     shared: Arc<Parts>,
@@ -75,8 +77,8 @@ impl Segment {
         self.shared.segment_id
     }
 
-    /// SHA-256 (FIPS 180-4) over 12 bytes for each entry in order: its ISD-AS, ingress and egress, big-endian. The digest was computed
-    /// when the segment was read.
+    /// SHA-256 (FIPS 180-4) over 12 bytes for each entry in order: its ISD-AS, ingress and egress,
+    /// big-endian. The digest was computed when the segment was read.
     pub fn digest(&self) -> &[u8; 32]
         ensures { result.now ≡ segment_digest self.now }
     {
@@ -106,7 +108,8 @@ impl Segment {
         &self.shared.entries
     }
 
-    /// An equal segment that shares the memory of this one. The call takes no memory. An error means that 2^63 segments share it already.
+    /// An equal segment that shares the memory of this one. The call takes no memory. An error
+    /// means that 2^63 segments share it already.
     pub fn try_clone(&self) -> Result<Segment, AllocError>
         ensures same { IfOk result (λ copy. copy ≡ self.now) }
         ensures whole { IsSegment self.now }

@@ -26,8 +26,8 @@ pub fn is_encoding_of(bytes: &[u8], segment: &Segment) -> bool
     bytes == segment.encoding()
 }
 
-/// Appends the bytes of a `PathSegment`, in its one encoding. Where memory is refused, the vector keeps its
-/// items. The call takes no memory where the vector has room.
+/// Appends the bytes of a `PathSegment`, in its one encoding. Where memory is refused, the vector
+/// keeps its items. The call takes no memory where the vector has room.
 pub fn put_segment(segment: &Segment, out: &mut Vec<u8>) -> Result<(), AllocError>
     ensures ok { OnOk result (out.new.items ≡ out.old.items ++ segment_encoding segment.now) }
     ensures err { OnErr result (out.new.items ≡ out.old.items) }
@@ -37,8 +37,8 @@ pub fn put_segment(segment: &Segment, out: &mut Vec<u8>) -> Result<(), AllocErro
     out.extend_from_slice(segment.encoding())
 }
 
-/// The bytes of a `PathSegment`, in its one encoding, which `read_segment` reads as that segment again. An error means that
-/// memory was refused.
+/// The bytes of a `PathSegment`, in its one encoding, which `read_segment` reads as that segment
+/// again. An error means that memory was refused.
 pub fn write_segment(alloc: Global, segment: &Segment) -> Result<Vec<u8>, AllocError>
     ensures exact { IfOk result (λ v. v.items ≡ segment_encoding segment.now) }
     ensures whole { IsSegment segment.now }

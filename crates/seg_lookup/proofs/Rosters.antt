@@ -54,7 +54,8 @@ none_among cores n i parted =
       | inr behind ↦ turned (isd_as_number (get_or cores k d)) n Greater (parted.1 k d behind lt)
     ])
 
--- a binary search by number among numbers that do not fall finds a number exactly when it is among them
+-- a binary search by number among numbers that do not fall finds a number exactly when it is among
+-- them
 search_tells : (cores : List IsdAs) (n : ℕ) (r : Result ℕ ℕ) → IsNonDecreasingBy isd_as_number cores → IsSearchInRange r (length cores) → IsBinarySearchResult (λ core. nat_cmp (isd_as_number core) n) cores r → is_ok r ≡ is_among n cores
 search_tells [] n (Ok at) rising in_range equal = absurd (omega arith)
 search_tells (core ∷ cores) n (Ok at) rising in_range equal =

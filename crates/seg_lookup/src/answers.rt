@@ -15,8 +15,8 @@ use std::alloc::AllocError;
 /// How many segments an answer has at most.
 pub const ANSWER_LIMIT: usize = 64;
 
-/// The segments of the first 64 rows by key that match the query and expire after `now`, in half seconds since 1970. The
-/// segments are shared, not copied. An answer of none takes no memory.
+/// The segments of the first 64 rows by key that match the query and expire after `now`, in half
+/// seconds since 1970. The segments are shared, not copied. An answer of none takes no memory.
 pub fn answer(db: &PathDb, query: &Query, now: u64) -> Result<Vec<Segment>, AllocError>
     ensures same { IfOk result (λ found. found.items ≡ segments_of (answer_to db.now (query_view query.now) now)) }
     ensures memory { OnErr result (0 < length (answer_to db.now (query_view query.now) now)) }

@@ -1,5 +1,5 @@
-//! Laws of the definitions that the crate's contracts speak in. Each is the contract of a function that does nothing, so that it is
-//! proved with the crate.
+//! Laws of the definitions that the crate's contracts speak in. Each is the contract of a function
+//! that does nothing, so that it is proved with the crate.
 
 ghost use Rattle.seg_lookup.specs.AnswerLaws.{AnswersAreShort, AnswersAreWanted, AnswersRise, AnswersAreComplete};
 ghost use Rattle.seg_lookup.specs.ClassificationLaws.{RostersHaveTheirCores, QueriesStartAtACore};

@@ -3,8 +3,8 @@
 use isd_as::IsdAs;
 use seg_core::SegType;
 
-/// Segments of one type, from one AS to another by the order of their entries. A part of a side that is 0 means every
-/// number.
+/// Segments of one type, from one AS to another by the order of their entries. A part of a side
+/// that is 0 means every number.
 #[derive(Clone, Copy)]
 pub struct Query {
     pub kind: SegType,

@@ -8,7 +8,8 @@ ghost use Rattle.seg_lookup.specs.Roster.{is_core, roster_of};
 use isd_as::IsdAs;
 use std::marker::Model;
 
-/// A set of core ASes. Members with a zero part are allowed, and count only where a side equals them.
+/// A set of core ASes. Members with a zero part are allowed, and count only where a side equals
+/// them.
 #[derive(Drop)]
 pub struct Roster {
     /// In the order of their numbers; one may occur several times.

@@ -1,4 +1,5 @@
--- The test finds the first field that doesn't fit, as the relation defines it. For the law `first_misfit_is_exact`.
+-- The test finds the first field that doesn't fit, as the relation defines it. For the law
+-- `first_misfit_is_exact`.
 use Rattle.std.proofs.Common.{◌≡◌, ◌⊎◌, ⊎_elim, inl, inr, List, [], ◌∷◌, ◌++◌, Option, Some, None, refl, sym, ap, subst, ◌∙◌, append_assoc, append-nil}
 use Rattle.std.specs.Prelude.{◌↔◌}
 use Rattle.std.specs.Option.{option_or}

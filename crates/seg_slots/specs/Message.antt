@@ -1,4 +1,5 @@
--- What all messages share: the values under a field number, and the checks that come before a message's own.
+-- What all messages share: the values under a field number, and the checks that come before a
+-- message's own.
 use Rattle.std.specs.Prelude.{◌≡◌, ℕ, List, [], ◌∷◌, ◌++◌, Bool, true, false, ◌&&◌, not, ◌==◌, Option, Some, None, ok_or, is_some, slice_index_or, Result, Ok, if◌then◌else◌, unwrap_or}
 use Rattle.std.specs.Option.{option_or, option_map}
 use Rattle.pw_wire.specs.Field.{FieldValue, Varint, Fixed64, Bytes, Fixed32, FieldView}
@@ -76,7 +77,8 @@ is_single kind.Bytes = false
 is_single kind.Message = true
 is_single kind.Messages = false
 
--- whether a value has the wire type of its kind: a varint for a number, and bytes for all other kinds
+-- whether a value has the wire type of its kind: a varint for a number, and bytes for all other
+-- kinds
 abbrev pub suits : FieldKind → FieldValue → Bool
 suits kind.Unknown value = true
 suits kind.Number (Varint n) = true
@@ -115,11 +117,13 @@ abbrev pub misfit_after : List FieldKind → List FieldView → List FieldView �
 misfit_after shape before [] = None
 misfit_after shape before (f ∷ fs) = option_or (misfit_at shape before f) (misfit_after shape (before ++ f ∷ []) fs)
 
--- what is wrong with the first field that doesn't fit: `first_misfit_is_exact` relates this to `HasFirstMisfit`
+-- what is wrong with the first field that doesn't fit: `first_misfit_is_exact` relates this to
+-- `HasFirstMisfit`
 abbrev pub first_misfit : List FieldKind → List FieldView → Option SegError
 first_misfit shape fs = misfit_after shape [] fs
 
--- The fields of a message. It is refused where its wire format has a fault anywhere, and then where a field doesn't fit.
+-- The fields of a message. It is refused where its wire format has a fault anywhere, and then where
+-- a field doesn't fit.
 unfoldable pub message_fields : List FieldKind → List ℕ → Result (List FieldView) SegError
 message_fields shape bytes = do
   _ ← unless_refused (option_map error.Wire (fault bytes))

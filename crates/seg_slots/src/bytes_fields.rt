@@ -7,8 +7,8 @@ ghost use Rattle.seg_slots.specs.Message.{bytes_fields};
 
 use pw_wire::{Value, first_bytes, next_field};
 
-/// The rest of a message, and the field number whose byte strings are returned, in the order of the message. A fault of the wire
-/// format ends them.
+/// The rest of a message, and the field number whose byte strings are returned, in the order of the
+/// message. A fault of the wire format ends them.
 #[derive(Clone, Copy)]
 pub struct BytesFields<'a> {
     /// The field number.

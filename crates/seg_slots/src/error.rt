@@ -9,8 +9,9 @@ use thiserror::Error;
 
 /// The first check that a message fails. Nothing of a refused message is kept.
 ///
-/// The variants are numbered from 0 in this order. A reply's code is 0x20 plus that number, except that the code of `Wire` is 0x10
-/// plus the number of the wire error, and the code of `NoMemory` is 0x01.
+/// The variants are numbered from 0 in this order. A reply's code is 0x20 plus that number, except
+/// that the code of `Wire` is 0x10 plus the number of the wire error, and the code of `NoMemory` is
+/// 0x01.
 #[derive(Clone, Copy, Debug, PartialEq, Eq, Error)]
 pub enum SegError {
     /// Memory was refused. The message may be valid or not.
@@ -31,7 +32,8 @@ pub enum SegError {
     /// A number is out of its range, an ISD-AS has a zero part, or a MAC does not have 6 bytes.
     #[error("a number is out of range")]
     Range,
-    /// Two neighbouring entries do not fit together, the first entry has an ingress, or the last entry does not end the path.
+    /// Two neighbouring entries do not fit together, the first entry has an ingress, or the last
+    /// entry does not end the path.
     #[error("the entries do not form a chain")]
     Chain,
     /// An AS occurs twice.

@@ -1,5 +1,5 @@
-//! The law of the first field that doesn't fit its shape: the contract of a function that does nothing, so that the law is proved
-//! with the crate.
+//! The law of the first field that doesn't fit its shape: the contract of a function that does
+//! nothing, so that the law is proved with the crate.
 
 ghost use Rattle.std.specs.Prelude.{◌≡◌, ◌↔◌, List, Some, None};
 ghost use Rattle.pw_wire.specs.Field.{FieldView};

@@ -1,5 +1,5 @@
-//! The shape of a message is a list of the kinds of its fields by their numbers, from 0 on. No field has the number 0, and every
-//! number past the list's end is unknown.
+//! The shape of a message is a list of the kinds of its fields by their numbers, from 0 on. No
+//! field has the number 0, and every number past the list's end is unknown.
 
 /// The kind of the value under a field number of a message.
 #[derive(Clone, Copy)]

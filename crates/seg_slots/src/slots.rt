@@ -109,7 +109,8 @@ fn misfit_of(shape: &[FieldKind], noted: &Noted<'_>, field: &Field<'_>) -> Optio
     None
 }
 
-/// A message that has passed the checks that all messages share, and the values under its field numbers.
+/// A message that has passed the checks that all messages share, and the values under its field
+/// numbers.
 #[derive(Clone, Copy)]
 pub struct Slots<'a> {
     /// The message's bytes.
@@ -140,7 +141,8 @@ fn slots_in_any_order<'a>(shape: &[FieldKind], message: &'a [u8]) -> Result<Slot
     }
 }
 
-/// Notes the number under this field number that the bytes begin with, and returns the bytes after it; all bytes where there is none.
+/// Notes the number under this field number that the bytes begin with, and returns the bytes after
+/// it; all bytes where there is none.
 #[inline(always)]
 fn take_number<'a>(field_number: u8, noted: &mut Noted<'a>, rest: &'a [u8]) -> &'a [u8]
     requires positive { 1 ≤ field_number }
@@ -177,7 +179,8 @@ fn take_bytes<'a>(field_number: u8, noted: &mut Noted<'a>, rest: &'a [u8]) -> &'
     }
 }
 
-/// Notes the messages under this field number that come next, of which there may be any number, and returns the rest.
+/// Notes the messages under this field number that come next, of which there may be any number, and
+/// returns the rest.
 #[inline(always)]
 fn take_messages<'a>(field_number: u8, noted: &mut Noted<'a>, rest: &'a [u8]) -> &'a [u8]
     requires positive { 1 ≤ field_number }
@@ -223,8 +226,9 @@ fn take_under<'a>(
     }
 }
 
-/// The fields of a message whose tags take one byte, which fit, and which come in the order of their numbers, as an encoder writes
-/// them. `None` means that the message has to be read in another way.
+/// The fields of a message whose tags take one byte, which fit, and which come in the order of
+/// their numbers, as an encoder writes them. `None` means that the message has to be read in
+/// another way.
 #[inline]
 fn slots_in_order<'a, const SHAPE: u8>(shape: &[FieldKind], message: &'a [u8]) -> Option<Slots<'a>>
     requires { length shape.now ≤ 7 }
@@ -244,7 +248,8 @@ fn slots_in_order<'a, const SHAPE: u8>(shape: &[FieldKind], message: &'a [u8]) -
     None
 }
 
-/// The result of the scan is returned by this function, so that a message in order reserves no memory for it.
+/// The result of the scan is returned by this function, so that a message in order reserves no
+/// memory for it.
 #[inline(always)]
 fn slots_by_scan<'a>(shape: &[FieldKind], message: &'a [u8]) -> Result<Slots<'a>, SegError>
     requires { length shape.now ≤ 7 }
@@ -257,9 +262,10 @@ fn slots_by_scan<'a>(shape: &[FieldKind], message: &'a [u8]) -> Result<Slots<'a>
     }
 }
 
-/// Reads the fields of a message: first its wire format, to its last byte, then kinds and repetitions, in the order of the
-/// fields. An error is the first refusal: `Wire`, or else `KindOfField` or `RepeatedMessage`. `SHAPE` differs from shape to
-/// shape, so that the compiler generates code for the order of each shape's field numbers.
+/// Reads the fields of a message: first its wire format, to its last byte, then kinds and
+/// repetitions, in the order of the fields. An error is the first refusal: `Wire`, or else
+/// `KindOfField` or `RepeatedMessage`. `SHAPE` differs from shape to shape, so that the compiler
+/// generates code for the order of each shape's field numbers.
 #[inline(always)]
 pub fn slots_of<'a, const SHAPE: u8>(
     shape: &[FieldKind],

@@ -1,4 +1,5 @@
--- The answers of a borrowed service are the answers of the service: for `serve` and `serve_in_lines`.
+-- The answers of a borrowed service are the answers of the service: for `serve` and
+-- `serve_in_lines`.
 use Rattle.std.proofs.Common.{◌≡◌, ℕ, List, [], ◌∷◌, Option, Result, sym, ap, subst, ◌∙◌}
 use Rattle.std.specs.Borrow.{MutBor}
 use Rattle.session_core.specs.declared.error.FrameError.{FrameError}

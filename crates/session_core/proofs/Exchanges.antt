@@ -36,7 +36,8 @@ told-append form es fs = flat_map-append (λ (e : Exchange). told_as form e.repl
 
 -- ---- the messages answered before
 
--- Messages at the front of the bytes were answered, the rest is left, and all replies were written and counted.
+-- Messages at the front of the bytes were answered, the rest is left, and all replies were written
+-- and counted.
 pub record HasAnswered {S : Type 0} (form : Form) (answers : S → MessageView → ReplyView → S → Type 0) (old : S) (bytes : List ℕ) (new : S) (rest : List ℕ)
     (output output_left : Option (List ℕ)) (count sum : ℕ) : Type 0 where
   pub exchanges : List Exchange

@@ -1,4 +1,5 @@
--- A whole frame at the front of bytes, and the message that its encoding gives: for `next_frame` and the laws.
+-- A whole frame at the front of bytes, and the message that its encoding gives: for `next_frame`
+-- and the laws.
 use Rattle.std.proofs.Common.{◌≡◌, ℕ, zero, suc, ◌+◌, ◌*◌, ◌-◌, ◌<◌, ◌≤◌, List, [], ◌∷◌, ◌++◌, ◌^◌, length, take, drop, get_or, slice_range, refl, sym, ap, ◌∙◌, arith, lit<, append_assoc, take-append-drop}
 use Rattle.std.proofs.lemmas.List.{get_or-take, length-take-le, length-drop, drop-drop, drop_more}
 use Rattle.std.proofs.lemmas.Nat.{be_bytes_4, be_bytes_8}

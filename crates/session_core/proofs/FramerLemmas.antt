@@ -1,4 +1,5 @@
--- A stream that comes in pieces: one more frame of a piece, and one more piece of a stream. For `Framer` and the laws.
+-- A stream that comes in pieces: one more frame of a piece, and one more piece of a stream. For
+-- `Framer` and the laws.
 use Rattle.std.proofs.Common.{◌≡◌, ℕ, ◌+◌, ◌≤◌, List, [], ◌∷◌, ◌++◌, length, drop, Option, Some, None, Vec, refl, sym, ap, subst, ◌∙◌, arith, append_assoc}
 use Rattle.std.proofs.lemmas.List.{append-nil, length-drop, drop-drop, map-append}
 use Rattle.session_core.specs.declared.error.FrameError.{FrameError}

@@ -1,4 +1,5 @@
--- Bytes are frames in at most one way: for the laws, and for the contracts of sessions and of `Framer`.
+-- Bytes are frames in at most one way: for the laws, and for the contracts of sessions and of
+-- `Framer`.
 use Rattle.std.proofs.Common.{◌≡◌, ℕ, ◌+◌, List, [], ◌∷◌, ◌++◌, length, take, drop, get_or, refl, sym, ap, subst, ◌∙◌, arith, append_assoc}
 use Rattle.std.proofs.lemmas.List.{length-append, take_at, drop_at}
 use Rattle.std.proofs.lemmas.Nat.{from_be_bytes-to_be_bytes_4, from_be_bytes-to_be_bytes_8}

@@ -1,4 +1,5 @@
--- The pieces that were answered one after the other are a session: for `serve_piece` and `serve_session`.
+-- The pieces that were answered one after the other are a session: for `serve_piece` and
+-- `serve_session`.
 use Rattle.std.proofs.Common.{◌≡◌, ℕ, ◌+◌, ◌<◌, ◌≤◌, List, [], ◌∷◌, ◌++◌, length, Option, Result, Ok, Err, IfOk, IfErr, refl, sym, ap, subst, ◌∙◌, arith, append_assoc}
 use Rattle.std.proofs.lemmas.List.{append-nil, length-append}
 use Rattle.std.proofs.lemmas.List.Folds.{concat-append}
@@ -91,7 +92,8 @@ pieces-append (p ∷ ps) qs a b = (a.0, pieces-append ps qs a.1 b)
 pub nothing_is_partial : IsPartial []
 nothing_is_partial = record { length_is_right = λ h. absurd (omega arith); kind_is_right = λ h. absurd (omega arith); incomplete = λ h. absurd (omega arith) }
 
--- At most this number of reads were made, all whole frames of their pieces were answered, and all replies were written.
+-- At most this number of reads were made, all whole frames of their pieces were answered, and all
+-- replies were written.
 pub record SoFar {S R : Type 0} (answers : S → MessageView → ReplyView → S → Type 0) (gives : R → List ℕ → R → Type 0) (service service_left : S) (source source_left : R) (inbox : List ℕ)
     (output output_left : Option (List ℕ)) (count turn : ℕ) : Type 0 where
   pub pieces : List (List ℕ)
@@ -268,7 +270,8 @@ module _ {S R : Type 0} (answers : S → MessageView → ReplyView → S → Typ
       partial = subst IsPartial (sym x.stops.left_is) x.stops.partial;
     }
 
-    -- what was written for two lists of exchanges is what was written for the last ones after all of the first
+    -- what was written for two lists of exchanges is what was written for the last ones after all
+    -- of the first
     both_told : (result : Result ℕ FrameError) (written : List ℕ) (es fs : List Exchange) → WritesReplies Frames result written fs → WritesReplies Frames result (reply_frames es ++ written) (es ++ fs)
     both_told (Ok n) written es fs told = ap (λ (w : List ℕ). reply_frames es ++ w) told ∙ sym (told-append Frames es fs)
     both_told (Err error.Length) written es fs told = ap (λ (w : List ℕ). reply_frames es ++ w) told ∙ sym (told-append Frames es fs)

@@ -27,7 +27,8 @@ pub record IsUnanswered {S : Type 0} (old : S) (bytes : List ℕ) (new : S) (res
   pub same : new ≡ old
   pub left : rest ≡ bytes
 
--- The first message was answered; or the bytes begin with less than a frame, or a faulty one, and nothing changed.
+-- The first message was answered; or the bytes begin with less than a frame, or a faulty one, and
+-- nothing changed.
 abbrev pub IsNextReply : {S : Type 0} → (S → MessageView → ReplyView → S → Type 0) → S → List ℕ → S → List ℕ → Result (Option Reply) FrameError → Type 0
 IsNextReply answers old bytes new rest (Ok (Some reply)) = IsFirstAnswered answers old bytes (reply_view reply) new rest
 IsNextReply answers old bytes new rest (Ok None) = IsPartial bytes × IsUnanswered old bytes new rest
@@ -39,13 +40,14 @@ pub record LeavesPartialFrame (count : ℕ) (exchanges : List Exchange) (rest le
   pub left_is : left ≡ rest
   pub counted : sum ≡ min (count + length exchanges) (2 ^ 64 - 1)
 
--- Why no more messages were answered: less than a frame is left, or a faulty one, or a write failed, or memory was refused.
+-- Why no more messages were answered: less than a frame is left, or a faulty one, or a write
+-- failed, or memory was refused.
 abbrev pub StopsFor : ℕ → List Exchange → List ℕ → List ℕ → Result ℕ FrameError → Type 0
 StopsFor count exchanges rest left (Ok sum) = LeavesPartialFrame count exchanges rest left sum
 StopsFor count exchanges rest left (Err e) = SessionEndsEarly ⊥ ⊥ rest e
 
--- Messages at the front of the bytes were answered, and this was written of their replies. The rest comes after their frames, and is
--- what is left unless there is an error.
+-- Messages at the front of the bytes were answered, and this was written of their replies. The rest
+-- comes after their frames, and is what is left unless there is an error.
 pub record AreFrontsAnswered {S : Type 0} (form : Form) (answers : S → MessageView → ReplyView → S → Type 0) (old : S) (bytes : List ℕ) (new : S) (left : List ℕ)
     (output output_left : Option (List ℕ)) (count : ℕ) (result : Result ℕ FrameError) : Type 0 where
   pub exchanges : List Exchange

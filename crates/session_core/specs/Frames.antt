@@ -1,4 +1,5 @@
--- A stream of frames: a length of four bytes, big-endian, and this number of bytes, which are a kind and a body.
+-- A stream of frames: a length of four bytes, big-endian, and this number of bytes, which are a
+-- kind and a body.
 use Rattle.std.specs.Prelude.{◌≡◌, ℕ, ◌+◌, ◌^◌, ◌<◌, ◌≤◌, List, ◌∷◌, ◌++◌, length, take, slice_index}
 use Rattle.std.specs.List.{flat_map, AllByRecursion}
 use Rattle.std.specs.Int.{w32, w64, to_be_bytes, from_be_bytes}
@@ -59,13 +60,14 @@ pub record AreWholeFrames (bytes : List ℕ) (messages : List MessageView) (rest
   pub joined : bytes ≡ flat_map message_frame messages ++ rest
   pub sized : AllByRecursion FitsFrame messages
 
--- Four bytes or more begin with the length of a frame, and, where the kind is there, of a frame of that kind.
+-- Four bytes or more begin with the length of a frame, and, where the kind is there, of a frame of
+-- that kind.
 pub record HasRightLength (bytes : List ℕ) : Type 0 where
   pub in_range : IsFrameLength (length_at bytes)
   pub of_kind : 5 ≤ length bytes → IsLengthOf (frame_kind_at bytes) (length_at bytes)
 
--- Less than a whole frame, without a fault: the length is checked once four bytes are there, and again
--- with the kind once five bytes are there.
+-- Less than a whole frame, without a fault: the length is checked once four bytes are there, and
+-- again with the kind once five bytes are there.
 pub record IsPartial (bytes : List ℕ) : Type 0 where
   pub length_is_right : 4 ≤ length bytes → HasRightLength bytes
   pub kind_is_right : 5 ≤ length bytes → IsMessageKind (frame_kind_at bytes)

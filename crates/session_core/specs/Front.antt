@@ -29,7 +29,8 @@ IsFaultAt bytes error.Read = ⊥
 IsFaultAt bytes error.Write = ⊥
 IsFaultAt bytes error.Turns = ⊥
 
--- The result of reading the front: a whole frame with its message, less than a frame, or the fault of the frame.
+-- The result of reading the front: a whole frame with its message, less than a frame, or the fault
+-- of the frame.
 abbrev pub IsFrontReading : List ℕ → Result (Option (Message (Bor (List ℕ)) × ℕ)) FrameError → Type 0
 IsFrontReading bytes (Ok None) = IsPartial bytes
 IsFrontReading bytes (Ok (Some next)) = BeginsWithFrame bytes (message_at next.0) next.1

@@ -19,8 +19,8 @@ abbrev pub EndsInLines : List Exchange → List ℕ → Result ℕ FrameError �
 EndsInLines exchanges rest (Ok count) = IsWholeCount exchanges rest count
 EndsInLines exchanges rest (Err e) = SessionEndsEarly (IsPartial rest) ⊥ rest e
 
--- The bytes are the frames of the messages that were answered, and a rest; the service answered them in order; and the lines of
--- those replies were written.
+-- The bytes are the frames of the messages that were answered, and a rest; the service answered
+-- them in order; and the lines of those replies were written.
 pub record IsServedInLines {S : Type 0} (answers : S → MessageView → ReplyView → S → Type 0) (bytes : List ℕ) (service service_left : S)
     (output output_left : Option (List ℕ)) (result : Result ℕ FrameError) : Type 0 where
   pub exchanges : List Exchange

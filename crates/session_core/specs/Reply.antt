@@ -39,7 +39,8 @@ reply_content (Refused code) = 0xff ∷ code ∷ []
 unfoldable pub reply_frame : ReplyView → List ℕ
 reply_frame reply = frame_encoding (reply_content reply)
 
--- how a reply is written: as its frame, or as a line of the frame's hexadecimal digits in lower case
+-- how a reply is written: as its frame, or as a line of the frame's hexadecimal digits in lower
+-- case
 abbrev pub told_as : Form → ReplyView → List ℕ
 told_as Frames reply = reply_frame reply
 told_as Lines reply = encode_lower (reply_frame reply) ++ 0x0a ∷ []

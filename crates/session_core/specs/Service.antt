@@ -46,7 +46,8 @@ all_told form exchanges = flat_map (λ e. told_as form e.reply) exchanges
 abbrev pub reply_frames : List Exchange → List ℕ
 reply_frames exchanges = all_told Frames exchanges
 
--- The service answered these messages with these replies, one after the other, each from the state after the one before.
+-- The service answered these messages with these replies, one after the other, each from the state
+-- after the one before.
 abbrev pub AreAnswered : {S : Type 0} → (S → MessageView → ReplyView → S → Type 0) → S → List Exchange → S → Type 0
 AreAnswered answers old exchanges new = FoldsTo (λ before e after. answers before e.message e.reply after) old exchanges new
 

@@ -25,7 +25,8 @@ pub record TellsAllBefore (form : Form) (written : List ℕ) (exchanges : List E
   pub one : length last ≤ 1
   pub written_is : written ≡ all_told form before
 
--- The replies to all messages but the last one, and a front of the last one's, which may be all of it.
+-- The replies to all messages but the last one, and a front of the last one's, which may be all of
+-- it.
 pub record TellsFrontOfLast (form : Form) (written : List ℕ) (exchanges : List Exchange) : Type 0 where
   pub before : List Exchange
   pub last : List Exchange
@@ -35,8 +36,9 @@ pub record TellsFrontOfLast (form : Form) (written : List ℕ) (exchanges : List
   pub begins : IsBeginningOf front (all_told form last)
   pub written_is : written ≡ all_told form before ++ front
 
--- What was written of the replies to the messages that were answered: all of them, except that after a failed write the last
--- one may be missing or cut, and where memory was refused the last one may be missing.
+-- What was written of the replies to the messages that were answered: all of them, except that
+-- after a failed write the last one may be missing or cut, and where memory was refused the last
+-- one may be missing.
 abbrev pub WritesReplies : Form → Result ℕ FrameError → List ℕ → List Exchange → Type 0
 WritesReplies form (Ok count) written exchanges = written ≡ all_told form exchanges
 WritesReplies form (Err error.NoMemory) written exchanges = TellsAllBefore form written exchanges
@@ -68,8 +70,8 @@ pub record EndsWell (input_left : Option (List ℕ)) (exchanges : List Exchange)
   pub whole : rest ≡ []
   pub counted : count ≡ min (length exchanges) (2 ^ 64 - 1)
 
--- The frame at the front of the rest has a fault; or a write failed or memory was refused, anywhere; or the input or
--- the reads came to their end, under these conditions.
+-- The frame at the front of the rest has a fault; or a write failed or memory was refused,
+-- anywhere; or the input or the reads came to their end, under these conditions.
 abbrev pub SessionEndsEarly : Type 0 → Type 0 → List ℕ → FrameError → Type 0
 SessionEndsEarly cut out_of_turns rest error.NoMemory = Unit {0}
 SessionEndsEarly cut out_of_turns rest error.Length = HasBadLength rest
@@ -78,15 +80,17 @@ SessionEndsEarly cut out_of_turns rest error.Read = cut
 SessionEndsEarly cut out_of_turns rest error.Write = Unit {0}
 SessionEndsEarly cut out_of_turns rest error.Turns = out_of_turns
 
--- The session ends at the end of the input, or early: at a failed read or within a frame, or when the allowed reads are made.
+-- The session ends at the end of the input, or early: at a failed read or within a frame, or when
+-- the allowed reads are made.
 abbrev pub EndsFor : Option (List ℕ) → ℕ → List (List ℕ) → List Exchange → List ℕ → Result ℕ FrameError → Type 0
 EndsFor input_left turns pieces exchanges rest (Ok count) = EndsWell input_left exchanges rest count
 EndsFor input_left turns pieces exchanges rest (Err e) = SessionEndsEarly (IsPartial rest) (IsPartial rest × (length pieces ≡ turns)) rest e
 
 -- ---- a session
 
--- At most `turns` reads gave these pieces. Joined, they are the frames of the messages that were answered, and a rest.
--- The service answered the messages in order, from its first state to its last; and the frames of those replies were written.
+-- At most `turns` reads gave these pieces. Joined, they are the frames of the messages that were
+-- answered, and a rest. The service answered the messages in order, from its first state to its
+-- last; and the frames of those replies were written.
 pub record IsServed {S R : Type 0} (answers : S → MessageView → ReplyView → S → Type 0) (gives : R → List ℕ → R → Type 0) (turns : ℕ)
     (service service_left : S) (source source_left : R) (input_left output output_left : Option (List ℕ)) (result : Result ℕ FrameError) : Type 0 where
   pub pieces : List (List ℕ)

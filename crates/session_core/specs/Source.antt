@@ -6,14 +6,15 @@ use Rattle.session_core.specs.declared.error.FrameError.{FrameError}
 use Rattle.session_core.specs.declared.error.FrameError.TheVariants as error
 use Rattle.session_core.specs.declared.source.TheConstants.{MOST_PIECE}
 
--- The source was read at most `turns` times. Each read gave one of these pieces, none of which is longer than `MOST_PIECE`. A read
--- that failed, and a read at the end, gave no bytes.
+-- The source was read at most `turns` times. Each read gave one of these pieces, none of which is
+-- longer than `MOST_PIECE`. A read that failed, and a read at the end, gave no bytes.
 pub record AreReads {R : Type 0} (gives : R → List ℕ → R → Type 0) (turns : ℕ) (old : R) (pieces : List (List ℕ)) (new : R) : Type 0 where
   pub made : FoldsTo gives old pieces new
   pub few : length pieces ≤ turns
   pub short : AllByRecursion (λ piece. length piece ≤ MOST_PIECE) pieces
 
--- All was read up to the end of the source; or a read failed, memory was refused, or all allowed reads were made.
+-- All was read up to the end of the source; or a read failed, memory was refused, or all allowed
+-- reads were made.
 abbrev pub EndsReading : {A : Type 0} → ℕ → Option (List ℕ) → List (List ℕ) → Result (Vec ℕ A) FrameError → Type 0
 EndsReading turns input_left pieces (Ok bytes) = IsAtEnd input_left × (bytes.items ≡ concat pieces)
 EndsReading turns input_left pieces (Err error.NoMemory) = Unit {0}

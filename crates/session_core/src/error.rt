@@ -2,14 +2,16 @@
 
 use thiserror::Error;
 
-/// Why a session ends. After each error but `Write` the replies to earlier messages are written whole, and nothing is written for
-/// the frame at which it happened; after `Write` a front of the replies' bytes is written.
+/// Why a session ends. After each error but `Write` the replies to earlier messages are written
+/// whole, and nothing is written for the frame at which it happened; after `Write` a front of the
+/// replies' bytes is written.
 #[derive(Clone, Copy, Debug, PartialEq, Eq, Error)]
 pub enum FrameError {
     /// Memory for a frame was refused.
     #[error("out of memory")]
     NoMemory = 0,
-    /// The length of a frame is 0 or above 131,073, or is not that of a purge's or a removal's frame.
+    /// The length of a frame is 0 or above 131,073, or is not that of a purge's or a removal's
+    /// frame.
     #[error("the length of a frame is out of range")]
     Length = 1,
     /// The kind of a frame is unknown.

@@ -14,9 +14,10 @@ use std::marker::Model;
 
 /// A stream of frames that comes in pieces.
 ///
-/// It returns each message as soon as the message's frame is whole, and the same messages however the stream is cut. Beside the
-/// messages it keeps less than a frame in memory, and the piece while it is read. After a fault of a frame it returns no more
-/// messages: the result for each later piece is the same fault.
+/// It returns each message as soon as the message's frame is whole, and the same messages however
+/// the stream is cut. Beside the messages it keeps less than a frame in memory, and the piece while
+/// it is read. After a fault of a frame it returns no more messages: the result for each later
+/// piece is the same fault.
 #[derive(Drop)]
 pub struct Framer {
     /// The bytes after the last whole frame.
@@ -56,7 +57,8 @@ impl Framer {
         }
     }
 
-    /// Takes the next piece of the stream. Where memory is refused, nothing changes, and the piece can be fed again.
+    /// Takes the next piece of the stream. Where memory is refused, nothing changes, and the piece
+    /// can be fed again.
     pub fn feed(&mut self, piece: &[u8]) -> Result<Fed, AllocError>
         ensures stream { IfOk result (λ fed. Continues self.old piece.now (message_views fed.messages.items) self.new) }
         ensures fault { IfOk result (λ fed. fed.fault ≡ ending_error self.new) }
@@ -88,7 +90,8 @@ impl Framer {
     }
 }
 
-/// The messages of the whole frames at the front, the fault after them, and how many bytes the frames have.
+/// The messages of the whole frames at the front, the fault after them, and how many bytes the
+/// frames have.
 fn whole_frames(alloc: Global, bytes: &[u8]) -> Result<(Fed, usize), AllocError>
     ensures within { IfOk result (λ r. r.1 ≤ length bytes.now) }
     ensures messages { IfOk result (λ r. AreWholeFrames bytes.now (message_views r.0.messages.items) (drop r.1 bytes.now)) }

@@ -1,4 +1,5 @@
-//! Frames: a length of four bytes, big-endian, and this number of bytes, which are a kind and a body.
+//! Frames: a length of four bytes, big-endian, and this number of bytes, which are a kind and a
+//! body.
 
 ghost use Rattle.std.specs.Prelude.{◌≡◌, ◌+◌, length, IsTrue, ◌↔◌};
 ghost use Rattle.session_core.specs.Frames.{message_kind, message_body, IsFrameLength, IsMessageKind, IsLengthOf, FitsFrame};
@@ -11,10 +12,11 @@ use crate::format::{
 use crate::message::Message;
 use byteorder::{BigEndian, ByteOrder};
 
-/// The message at the front of the bytes, and how many bytes its frame has. `None` means that the bytes are less than a frame.
+/// The message at the front of the bytes, and how many bytes its frame has. `None` means that the
+/// bytes are less than a frame.
 ///
-/// The length is checked once four bytes are there. Once five bytes are there, the kind is checked, and the length of a purge or a
-/// removal.
+/// The length is checked once four bytes are there. Once five bytes are there, the kind is checked,
+/// and the length of a purge or a removal.
 pub(crate) fn next_frame(bytes: &[u8]) -> Result<Option<(Message<&[u8]>, usize)>, FrameError>
     ensures { IsFrontReading bytes.now result }
 {
@@ -42,7 +44,8 @@ pub(crate) fn next_frame(bytes: &[u8]) -> Result<Option<(Message<&[u8]>, usize)>
     Ok(Some((message_of(kind, body), LENGTH_SIZE + len)))
 }
 
-/// Whether frames of this kind can have this length. Only purges and removals have a length of their own.
+/// Whether frames of this kind can have this length. Only purges and removals have a length of
+/// their own.
 fn is_length_of(kind: u8, len: usize) -> bool
     ensures { IsTrue result ↔ IsLengthOf kind len }
 {

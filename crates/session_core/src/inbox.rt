@@ -10,7 +10,8 @@ use byte_lists::drop_front;
 use std::alloc::{AllocError, Global};
 use std::marker::Model;
 
-/// Bytes of a stream of frames, from the first frame on that is not answered: less than a frame and one piece of input.
+/// Bytes of a stream of frames, from the first frame on that is not answered: less than a frame and
+/// one piece of input.
 #[derive(Drop)]
 pub(crate) struct Inbox {
     bytes: Vec<u8>,
@@ -62,7 +63,8 @@ impl Inbox {
         self.bytes.extend_from_slice(piece)
     }
 
-    /// The message whose frame is at the front, and how many bytes the frame has. `None` means that the bytes are less than a frame.
+    /// The message whose frame is at the front, and how many bytes the frame has. `None` means that
+    /// the bytes are less than a frame.
     pub(crate) fn front(&self) -> Result<Option<(Message<&[u8]>, usize)>, FrameError>
         ensures { IsFrontReading self.now result }
     {

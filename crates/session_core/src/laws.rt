@@ -1,4 +1,5 @@
-//! Laws of the definitions that the contracts cite. Each law is the contract of a function that does nothing.
+//! Laws of the definitions that the contracts cite. Each law is the contract of a function that
+//! does nothing.
 
 ghost use Rattle.std.specs.Prelude.{◌≡◌, ℕ, ◌<◌, List, [], ◌++◌, slice_index};
 ghost use Rattle.session_core.specs.Frames.{MessageView, Ending, Rest, BadLength, BadKind, AreFrames};

@@ -1,8 +1,9 @@
 //! Sessions: frames of messages are read, and frames of replies are written, over any service.
 //!
-//! To the layer above, `serve` makes at most a given number of reads. What it read is the frames of the messages that the service
-//! answered, in order, and what it writes are the frames of those replies and nothing else. `Framer` finds the
-//! same messages in a stream that comes in pieces, however the stream is cut.
+//! To the layer above, `serve` makes at most a given number of reads. What it read is the frames of
+//! the messages that the service answered, in order, and what it writes are the frames of those
+//! replies and nothing else. `Framer` finds the same messages in a stream that comes in pieces,
+//! however the stream is cut.
 #![tactic(auto)]
 
 mod error;

@@ -8,7 +8,8 @@ use crate::serving::new_piece;
 use crate::source::{MOST_PIECE, Source, read_once};
 use std::alloc::Global;
 
-/// Reads a source to its end, in at most `turns` reads. The error is `Read`, `NoMemory`, or `Turns` after the last allowed read.
+/// Reads a source to its end, in at most `turns` reads. The error is `Read`, `NoMemory`, or `Turns`
+/// after the last allowed read.
 pub fn read_all<R: Source>(alloc: Global, reader: &mut R, turns: u64) -> Result<Vec<u8>, FrameError>
     ensures { IsAllRead R.gives turns reader.old reader.new (R.remaining reader.new) result }
 {

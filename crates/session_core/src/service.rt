@@ -15,7 +15,8 @@ use std::alloc::Global;
 /// The most segments of an answer to a lookup.
 pub const MOST_SEGMENTS: usize = 64;
 
-/// The acknowledgement of a command: its place in the order of commands, counted from 0, and what the command did.
+/// The acknowledgement of a command: its place in the order of commands, counted from 0, and what
+/// the command did.
 #[derive(Clone, Copy)]
 pub struct Ack {
     pub place: u64,
@@ -28,7 +29,8 @@ pub struct Code(pub u8);
 
 /// Answers messages. Each message may change the state of the service.
 pub trait Service {
-    /// The service may answer the message with the reply in the first state, and is in the second state afterwards.
+    /// The service may answer the message with the reply in the first state, and is in the second
+    /// state afterwards.
     ghost answers: { Self → MessageView → ReplyView → Self → Type 0 };
 
     /// Answers the body of a registration.
@@ -41,7 +43,8 @@ pub trait Service {
         ensures few { IfOk result (λ found. length found.1.items ≤ MOST_SEGMENTS) }
         ensures whole { IfOk result (λ found. AllByRecursion IsSegment found.1.items) };
 
-    /// Answers a purge of the rows that expire at this moment or before, in half seconds since 1970.
+    /// Answers a purge of the rows that expire at this moment or before, in half seconds since
+    /// 1970.
     fn purge(&mut self, moment: u64) -> Result<Ack, Code>
         ensures { answers self.old (Purge moment) (reply_to_purge result) self.new };
 

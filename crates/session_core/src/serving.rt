@@ -13,12 +13,13 @@ use crate::writing::write_reply;
 use std::alloc::Global;
 use std::io::Write;
 
-/// Answers the messages of a reader, in at most `turns` reads. The result is the number of replies that were written,
-/// capped at 2^64 - 1.
+/// Answers the messages of a reader, in at most `turns` reads. The result is the number of replies
+/// that were written, capped at 2^64 - 1.
 ///
-/// At any time memory has one piece of the input, less than a frame before it, and one reply. The writer is flushed before
-/// each further read, and after a failed write no message is answered. The contract leaves open why a read
-/// or a write failed and when memory is refused, since no call of a reader, a writer or the allocator reports that.
+/// At any time memory has one piece of the input, less than a frame before it, and one reply. The
+/// writer is flushed before each further read, and after a failed write no message is answered. The
+/// contract leaves open why a read or a write failed and when memory is refused, since no call of a
+/// reader, a writer or the allocator reports that.
 pub fn serve<R: Source, W: Write, S: Service>(
     alloc: Global,
     reader: &mut R,
@@ -128,7 +129,8 @@ pub(crate) fn answer_and_flush<W: Write, S: Service>(
     }
 }
 
-/// Answers the messages whose frames are whole, and writes each reply. The result is the count plus the number of replies.
+/// Answers the messages whose frames are whole, and writes each reply. The result is the count plus
+/// the number of replies.
 fn answer_all<W: Write, S: Service>(
     alloc: Global,
     writer: &mut W,

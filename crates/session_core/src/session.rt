@@ -1,4 +1,5 @@
-//! The core of a session, which neither reads nor writes: it takes pieces of input, and returns replies.
+//! The core of a session, which neither reads nor writes: it takes pieces of input, and returns
+//! replies.
 
 ghost use Rattle.std.specs.Prelude.{◌≡◌, ◌++◌, [], OnOk, OnErr, IsTrue, ◌↔◌};
 ghost use Rattle.session_core.specs.Answered.{IsNextReply};
@@ -13,7 +14,8 @@ use crate::reply::Reply;
 use crate::service::Service;
 use std::alloc::{AllocError, Global};
 
-/// A service, and the input for it that is not answered yet. At the end of the session the service is taken out again.
+/// A service, and the input for it that is not answered yet. At the end of the session the service
+/// is taken out again.
 pub(crate) struct Session<S> {
     service: S,
     inbox: Inbox,
@@ -51,8 +53,9 @@ impl<S: Service> Session<S> {
         self.inbox.take_in(piece)
     }
 
-    /// Lets the service answer the message whose frame is whole at the front. `None` means that the input is less than a frame, an error
-    /// that the frame is faulty; in both cases nothing changes.
+    /// Lets the service answer the message whose frame is whole at the front. `None` means that the
+    /// input is less than a frame, an error that the frame is faulty; in both cases nothing
+    /// changes.
     pub(crate) fn next_reply(&mut self, alloc: Global) -> Result<Option<Reply>, FrameError>
         ensures { IsNextReply S.answers self.old.service self.old.inbox self.new.service self.new.inbox result }
     {

@@ -10,12 +10,14 @@ use std::io::Read;
 /// The most bytes of one read.
 pub const MOST_PIECE: usize = 65_536;
 
-/// A reader whose contract counts its reads: `piece` makes one read, and no other call is known to make one.
+/// A reader whose contract counts its reads: `piece` makes one read, and no other call is known to
+/// make one.
 ///
-/// Every `Read` is a `Source`. A caller that is generic over `Source` can read by `piece` alone, since its contract could not
-/// describe the effect of any other call on the reader.
+/// Every `Read` is a `Source`. A caller that is generic over `Source` can read by `piece` alone,
+/// since its contract could not describe the effect of any other call on the reader.
 pub trait Source: Read {
-    /// One read may give these bytes, and change the first state into the second. A read that fails gives no bytes.
+    /// One read may give these bytes, and change the first state into the second. A read that fails
+    /// gives no bytes.
     ghost gives: { Self → List ℕ → Self → Type 0 };
 
     /// Reads once, into `buf`, and returns the number of bytes that were read.
@@ -33,7 +35,8 @@ impl<R: Read> Source for R {
     }
 }
 
-/// Reads once, and returns the number of bytes that were read. The number is 0 at the end of the source only.
+/// Reads once, and returns the number of bytes that were read. The number is 0 at the end of the
+/// source only.
 pub(crate) fn read_once<R: Source>(reader: &mut R, piece: &mut [u8]) -> Result<usize, FrameError>
     requires { 0 < length piece.old }
     ensures ok { IfOk result (λ n. n ≤ length piece.new) }

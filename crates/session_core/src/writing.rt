@@ -54,7 +54,8 @@ fn line_of(alloc: Global, reply: &Reply) -> Result<String, AllocError>
     Ok(line)
 }
 
-/// Writes the frame of a reply. Memory is taken for a response alone, before its first byte is written.
+/// Writes the frame of a reply. Memory is taken for a response alone, before its first byte is
+/// written.
 #[tactic(auto, unfolding(crate::specs::Reply::reply_frame))]
 fn write_frame<W: Write>(alloc: Global, writer: &mut W, reply: &Reply) -> Result<(), FrameError>
     requires { HasReplySize (reply_view reply.now) }
@@ -97,7 +98,8 @@ fn write_both<W: Write>(writer: &mut W, head: &[u8], body: &[u8]) -> Result<(), 
     write_all(writer, body)
 }
 
-/// Writes all of the bytes. A write that takes no byte is an error, and no failed write is repeated.
+/// Writes all of the bytes. A write that takes no byte is an error, and no failed write is
+/// repeated.
 pub(crate) fn write_all<W: Write>(writer: &mut W, bytes: &[u8]) -> Result<(), FrameError>
     ensures ok { OnOk result (Appends (W.contents writer.old) (W.contents writer.new) bytes.now) }
     ensures err { IfErr result (ReplyWriteFails (W.contents writer.old) (W.contents writer.new) bytes.now) }

@@ -78,6 +78,7 @@ refusal_line refusal = labelled refusals (refusal_label refusal.code) refusal.co
 unfoldable pub refusals_text : List CodeCount → List ℕ
 refusals_text counted = type_line refusals (codes "counter") ++ flat_map refusal_line counted
 
--- The page: the numbers of a state, what the server has done, and how many messages it refused with which codes.
+-- The page: the numbers of a state, what the server has done, and how many messages it refused with
+-- which codes.
 abbrev pub page_text : Numbers → Counts → List CodeCount → List ℕ
 page_text numbers counts refused = store_metrics numbers ++ (work_text counts ++ refusals_text refused)

@@ -53,7 +53,8 @@ flush_ends now =
 unfoldable pub flush_lines : Flush → List ℕ
 flush_lines flush = type_line flusher (codes "gauge") ++ (flush_begins (flush_number flush) ++ flush_ends (flush_number flush))
 
--- the phases until a checkpoint is laid, those in which its half's gate is opened, and those after that
+-- the phases until a checkpoint is laid, those in which its half's gate is opened, and those after
+-- that
 unfoldable pub check_begins : ℕ → List ℕ
 check_begins now =
     phase_line checkpointer (codes "phase=\"ready\"") 0 now

@@ -24,8 +24,8 @@ pub record IsHeadOf (bytes : List ℕ) (asked : Asked) : Type 0 where
   pub reads : ReadsRequest bytes head rest
   pub judged : IsJudged head.method head.target asked
 
--- What is asked by the bytes of a peer: by the head of a request that is at the front; by none yet, which more bytes may make one; or by
--- what can be none of at most 64 fields.
+-- What is asked by the bytes of a peer: by the head of a request that is at the front; by none yet,
+-- which more bytes may make one; or by what can be none of at most 64 fields.
 abbrev pub IsAsked : List ℕ → Asked → Type 0
 IsAsked bytes Page = IsHeadOf bytes Page
 IsAsked bytes OtherPath = IsHeadOf bytes OtherPath

@@ -1,7 +1,9 @@
-//! The page of a server's numbers, as text in the exposition format of Prometheus, version 0.0.4, and how it is asked for by HTTP.
+//! The page of a server's numbers, as text in the exposition format of Prometheus, version 0.0.4,
+//! and how it is asked for by HTTP.
 //!
-//! To the layer above: `page` is the text of a state's numbers and of what the server has done, to the byte; `read_head` says what the bytes
-//! of a peer ask for, by the grammar of HTTP/1.1; and `response` is the response that carries a page.
+//! To the layer above: `page` is the text of a state's numbers and of what the server has done, to
+//! the byte; `read_head` says what the bytes of a peer ask for, by the grammar of HTTP/1.1; and
+//! `response` is the response that carries a page.
 #![tactic(auto)]
 
 mod answers;

@@ -29,8 +29,8 @@ pub enum Asked {
     Unreadable,
 }
 
-/// What a peer asks for by these bytes, which may be the head of a request of HTTP/1.1 or HTTP/1.0. What is after the head is not
-/// looked at. Methods and paths are compared to the byte.
+/// What a peer asks for by these bytes, which may be the head of a request of HTTP/1.1 or HTTP/1.0.
+/// What is after the head is not looked at. Methods and paths are compared to the byte.
 pub fn read_head(bytes: &[u8]) -> Asked
     ensures { IsAsked bytes.now result }
 {

@@ -15,8 +15,9 @@ const REPLIES: &str = "pathd_replies_total";
 /// The name of the metric of refusals.
 const REFUSALS: &str = "pathd_refusals_total";
 
-/// The page of a state's numbers, of what the server has done, and of how many messages it refused with which codes: for each metric a
-/// line with its type, and then its lines. It is text in the exposition format of Prometheus, version 0.0.4.
+/// The page of a state's numbers, of what the server has done, and of how many messages it refused
+/// with which codes: for each metric a line with its type, and then its lines. It is text in the
+/// exposition format of Prometheus, version 0.0.4.
 pub fn page(
     alloc: Global,
     numbers: &Numbers,

@@ -7,8 +7,8 @@ use group_core::Numbers;
 use status_page::{Asked, BAD_REQUEST, CodeCount, Counts, NOT_ALLOWED, NOT_FOUND, page, response};
 use std::alloc::{AllocError, Global};
 
-/// The text that a peer is sent for what it asks: the page of a state's numbers, of what the server has done and of what it has refused;
-/// or why it isn't sent.
+/// The text that a peer is sent for what it asks: the page of a state's numbers, of what the server
+/// has done and of what it has refused; or why it isn't sent.
 pub fn answer(
     alloc: Global,
     asked: Asked,

@@ -14,7 +14,8 @@ pub struct Deadline {
 }
 
 impl Deadline {
-    /// This time from now on. The error is that the clock can't be read. No clause can say which moment is now.
+    /// This time from now on. The error is that the clock can't be read. No clause can say which
+    /// moment is now.
     pub fn after(clock: &impl Clock, time: Duration) -> io::Result<Deadline>
         ensures { IfOk result (λ deadline. deadline.time ≡ time) }
     {
@@ -22,8 +23,8 @@ impl Deadline {
         Ok(Deadline { begun, time })
     }
 
-    /// The time that is left: some, and no more than there was at first. `None`: there is none, or the clock can't be read. No clause can
-    /// say how much has gone.
+    /// The time that is left: some, and no more than there was at first. `None`: there is none, or
+    /// the clock can't be read. No clause can say how much has gone.
     pub fn left(&self, clock: &impl Clock) -> Option<Duration>
         ensures some { IfSome result (λ left. 0 < as_nanos left) }
         ensures most { IfSome result (λ left. as_nanos left ≤ as_nanos self.now.time) }

@@ -10,8 +10,8 @@ use std::alloc::{AllocError, Global};
 use std::array;
 use std::sync::atomic::{AtomicU64, Ordering};
 
-/// How many replies of each kind there were. Threads share it, so that no clause says what a count is: the type has one for each kind, and
-/// for each code.
+/// How many replies of each kind there were. Threads share it, so that no clause says what a count
+/// is: the type has one for each kind, and for each code.
 #[derive(Drop)]
 pub struct Replies {
     registered: AtomicU64,
@@ -39,7 +39,8 @@ impl Replies {
         self.counter(kind).fetch_add(1, Ordering::SeqCst);
     }
 
-    /// How many replies of a kind there were, by one look at its count. No clause says which number that is.
+    /// How many replies of a kind there were, by one look at its count. No clause says which number
+    /// that is.
     pub fn of(&self, kind: ReplyKind) -> u64 {
         self.counter(kind).load(Ordering::SeqCst)
     }
@@ -55,7 +56,8 @@ impl Replies {
         }
     }
 
-    /// How many messages were refused with each code, for codes with which one was, in rising order. Which numbers the counts had is open.
+    /// How many messages were refused with each code, for codes with which one was, in rising
+    /// order. Which numbers the counts had is open.
     #[tactic(auto, using(crate::proofs::RefusalLemmas::are_refusals))]
     pub fn refusals(&self, alloc: Global) -> Result<Vec<CodeCount>, AllocError>
         ensures { IfOk result (λ refusals. AreRefusals CODES refusals.items) }

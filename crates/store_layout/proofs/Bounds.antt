@@ -1,4 +1,5 @@
--- The sector at which a journal ends, the places of its commands, and that its commands are allowed.
+-- The sector at which a journal ends, the places of its commands, and that its commands are
+-- allowed.
 use Rattle.std.proofs.Common.{ℕ, ◌+◌, ◌≤◌, List, [], ◌∷◌, ◌++◌, length, sym, ap, subst, arith, length-append}
 use Rattle.std.specs.List.{AllByRecursion}
 use Rattle.byte_lists.specs.Sectors.{whole_sectors}

@@ -1,4 +1,5 @@
--- How a journal is read: the reading depends on the bytes up to its end, one more group makes it longer, and the scan returns it.
+-- How a journal is read: the reading depends on the bytes up to its end, one more group makes it
+-- longer, and the scan returns it.
 use Rattle.std.proofs.Common.{◌≡◌, ℕ, suc, ◌+◌, ◌-◌, ◌*◌, ◌<◌, ◌≤◌, Bool, true, false, List, [], ◌∷◌, ◌++◌, length, get_or, Ok, Err, Result, refl, sym, ◌∙◌, ap, subst, arith, length-append, append_assoc}
 use Rattle.std.proofs.lemmas.List.{append-nil}
 use Rattle.byte_lists.specs.Content.{part}

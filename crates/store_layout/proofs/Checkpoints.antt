@@ -1,4 +1,5 @@
--- Whole checkpoints: a checkpoint at the front of an area is read, what is read is there, and what is written is there.
+-- Whole checkpoints: a checkpoint at the front of an area is read, what is read is there, and what
+-- is written is there.
 use Rattle.std.proofs.Common.{◌≡◌, ℕ, ◌+◌, ◌-◌, ◌*◌, ◌≤◌, Bool, true, cond, leb, List, [], ◌++◌, length, take, drop, replicate, Some, None, Option, Ok, Err, Result, refl, sym, ◌∙◌, ap, arith, append_assoc, length-append, le-leb, leb-true}
 use Rattle.std.proofs.lemmas.List.{get_or_past, take_at}
 use Rattle.std.proofs.lemmas.Nat.{from_be_bytes-to_be_bytes_4}

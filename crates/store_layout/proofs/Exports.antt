@@ -2,7 +2,8 @@
 
 -- the encoding of a group or a seal is read as one: its header and its records
 pub use Rattle.store_layout.proofs.Groups.{group_header_true, group_header_from, seal_header_true, seal_header_from, records_read, payload_group, payload_seal}
--- a chain of groups: it goes forward, depends on the bytes before its end, grows by one group, and reading continues after it
+-- a chain of groups: it goes forward, depends on the bytes before its end, grows by one group, and
+-- reading continues after it
 pub use Rattle.store_layout.proofs.Chains.{AgreeBefore, part_agrees, sector_agrees, chain_forward, chain_room, chain_agrees, chain_more, all_of_more, chain_scan, end_scan, journal_read}
 pub use Rattle.store_layout.proofs.Bounds.{chain_seal_room, chain_places, chain_allowed, stays_within_bounds}
 -- the payload after a gate that was read, and the meaning of a refusal there

@@ -1,4 +1,5 @@
--- A journal after its tail's gate was written, after other bytes were written, and under larger limits.
+-- A journal after its tail's gate was written, after other bytes were written, and under larger
+-- limits.
 use Rattle.std.proofs.Common.{◌≡◌, ℕ, ◌+◌, ◌*◌, ◌<◌, ◌≤◌, Bool, true, false, List, [], ◌∷◌, ◌++◌, length, take, get_or, sym, ◌∙◌, ap, subst, arith, length-append, get_or-take}
 use Rattle.std.specs.List.{AllByRecursion}
 use Rattle.byte_lists.specs.Content.{part, overwrite}

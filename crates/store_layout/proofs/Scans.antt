@@ -1,4 +1,5 @@
--- The scan returns exactly the journal of the bytes, and refuses them exactly where they are no journal.
+-- The scan returns exactly the journal of the bytes, and refuses them exactly where they are no
+-- journal.
 use Rattle.std.proofs.Common.{◌≡◌, ℕ, zero, suc, ◌+◌, ◌-◌, ◌<◌, ◌≤◌, Bool, true, false, List, [], ◌∷◌, ◌++◌, length, Ok, Err, Result, refl, ◌∙◌, ap, subst, arith, length-append}
 use Rattle.byte_lists.specs.Content.{AreBytes}
 use Rattle.byte_lists.specs.Sectors.{whole_sectors, sector_at, IsOpenGate, is_open_gate}

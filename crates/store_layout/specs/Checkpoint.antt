@@ -1,12 +1,13 @@
--- A checkpoint: a head, and the rows of a database. It is at the front of its area; the bytes after it are not used.
+-- A checkpoint: a head, and the rows of a database. It is at the front of its area; the bytes after
+-- it are not used.
 use Rattle.std.specs.Prelude.{◌≡◌, ℕ, ◌+◌, ◌^◌, ◌<◌, ◌≤◌, List, ◌++◌, length, take}
 use Rattle.std.specs.Int.{w32, w64, to_be_bytes}
 use Rattle.byte_lists.specs.Sectors.{padded}
 use Rattle.store_layout.specs.Group.{last_place}
 use Rattle.store_layout.specs.StoreFormat.{RowsFormat, IsStorable, StoreFormat}
 
--- the version of the format that counts for a half, the epoch, which is greater in the newer half, and the place: the number
--- of commands that are folded into the database
+-- the version of the format that counts for a half, the epoch, which is greater in the newer half,
+-- and the place: the number of commands that are folded into the database
 pub record Head : Type 0 where
   pub version : ℕ
   pub epoch : ℕ
@@ -25,7 +26,8 @@ abbrev pub checkpoint_head_encoding : Head → List ℕ
 checkpoint_head_encoding head =
     to_be_bytes w32 checkpoint_magic ++ (to_be_bytes w32 head.version ++ (to_be_bytes w64 head.epoch ++ to_be_bytes w64 head.place))
 
--- the bytes of a checkpoint: its head, the length of its rows in bytes (4), their number (4), and the rows
+-- the bytes of a checkpoint: its head, the length of its rows in bytes (4), their number (4), and
+-- the rows
 abbrev pub checkpoint_bytes : {Db : Type 0} → RowsFormat Db → Checkpoint Db → List ℕ
 checkpoint_bytes rows checkpoint =
     checkpoint_head_encoding checkpoint.head

@@ -42,15 +42,16 @@ IsCheckpointReadSo Db =
 abbrev pub BeginsWithItsHead : Type 0 → Type 0
 BeginsWithItsHead Db = (rows : RowsFormat Db) (area : List ℕ) (checkpoint : Checkpoint Db) → IsCheckpoint rows area checkpoint → IsHead area checkpoint.head
 
--- after a checkpoint is written to the front of an area, where it fits, the area begins with this checkpoint
+-- after a checkpoint is written to the front of an area, where it fits, the area begins with this
+-- checkpoint
 abbrev pub WrittenCheckpointIsThere : Type 0 → Type 0
 WrittenCheckpointIsThere Db =
     (rows : RowsFormat Db) (area : List ℕ) (checkpoint : Checkpoint Db) → CanBeCheckpoint rows checkpoint
     → length (checkpoint_encoding rows checkpoint) ≤ length area
     → IsCheckpoint rows (overwrite 0 (checkpoint_encoding rows checkpoint) area) checkpoint
 
--- A checkpoint can be written in pieces: where an area begins with a number of its first bytes, the area begins with more of them
--- once the next ones are written after these.
+-- A checkpoint can be written in pieces: where an area begins with a number of its first bytes, the
+-- area begins with more of them once the next ones are written after these.
 abbrev pub PiecesAreWritten : Type 0
 PiecesAreWritten =
     (bytes area : List ℕ) (at n : ℕ) → at + n ≤ length bytes → length bytes ≤ length area → take at area ≡ take at bytes

@@ -1,5 +1,5 @@
--- The reading of an area, as functions: its head and its checkpoint, or the first refusal. Version `latest` is the greatest
--- that is known.
+-- The reading of an area, as functions: its head and its checkpoint, or the first refusal. Version
+-- `latest` is the greatest that is known.
 use Rattle.std.specs.Prelude.{◌≡◌, ◌≢◌, ℕ, ◌+◌, ◌<◌, List, length, Result, Ok, Err, Option, Some, None, if◌then◌else◌, ◌==◌, nat_le}
 use Rattle.byte_lists.specs.Content.{part}
 use Rattle.byte_lists.specs.Numbers.{four_at, eight_at}
@@ -50,7 +50,8 @@ with_rows (Ok head) (Some db) = Ok (record { head = head; db = db })
 abbrev pub checkpoint_in : {Db : Type 0} → RowsFormat Db → ℕ → List ℕ → Result (Checkpoint Db) PairRefusal
 checkpoint_in rows latest area = with_rows (head_in latest area) (db_in rows area)
 
--- the definition of each refusal of a head: another magic or version 0, or a version that isn't known
+-- the definition of each refusal of a head: another magic or version 0, or a version that isn't
+-- known
 abbrev pub IsHeadRefusal : PairRefusal → ℕ → List ℕ → Type 0
 IsHeadRefusal NoHalf latest area = ⊥
 IsHeadRefusal SameEpoch latest area = ⊥

@@ -1,10 +1,12 @@
--- The encoding of the commands of a journal. A journal is defined for any format of commands that satisfies these laws.
+-- The encoding of the commands of a journal. A journal is defined for any format of commands that
+-- satisfies these laws.
 use Rattle.std.specs.Prelude.{◌≡◌, ℕ, List, Option, Some}
 use Rattle.byte_lists.specs.Content.{AreBytes}
 use Rattle.store_layout.specs.Limits.{Limits, AreAsLarge}
 
--- The encoding of a command, and the command that bytes are read as under limits, if any. The encoding of a command that is read
--- is the bytes, and the bytes are read as the same command under larger limits.
+-- The encoding of a command, and the command that bytes are read as under limits, if any. The
+-- encoding of a command that is read is the bytes, and the bytes are read as the same command under
+-- larger limits.
 pub record CommandFormat (C : Type 0) : Type 0 where
   pub encoding : C → List ℕ
   pub decoding : Limits → List ℕ → Option C

@@ -1,5 +1,5 @@
--- Sector 0 of an image: the name of the format, the number of its layout, and the sizes of the halves. All other bytes of it are
--- not used. Numbers are big-endian.
+-- Sector 0 of an image: the name of the format, the number of its layout, and the sizes of the
+-- halves. All other bytes of it are not used. Numbers are big-endian.
 use Rattle.std.specs.Prelude.{◌≡◌, ℕ, ◌≤◌, Bool, ◌&&◌, List, ◌++◌, take, Option, Some, None, if◌then◌else◌, ◌==◌, nat_le}
 use Rattle.std.specs.Int.{w32, w64, to_be_bytes}
 use Rattle.byte_lists.specs.Numbers.{four_at, eight_at}
@@ -23,7 +23,8 @@ title_encoding geometry =
 abbrev pub first_sector : Geometry → List ℕ
 first_sector geometry = padded (title_encoding geometry)
 
--- an image of a store with these sizes: it begins with the title, the sizes are allowed, and the image is large enough
+-- an image of a store with these sizes: it begins with the title, the sizes are allowed, and the
+-- image is large enough
 pub record IsStore (geometry : Geometry) (image : List ℕ) : Type 0 where
   pub title : take 20 image ≡ title_encoding geometry
   pub limits : IsGeometry geometry

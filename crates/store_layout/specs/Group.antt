@@ -1,4 +1,5 @@
--- The payloads after the gates of a journal: groups of commands, and seals. Lengths count bytes, sectors have 512.
+-- The payloads after the gates of a journal: groups of commands, and seals. Lengths count bytes,
+-- sectors have 512.
 use Rattle.std.specs.Prelude.{◌≡◌, ℕ, ◌+◌, ◌-◌, ◌^◌, ◌≤◌, List, [], ◌∷◌, ◌++◌, length}
 use Rattle.std.specs.List.{flat_map, AllByRecursion}
 use Rattle.std.specs.Int.{w32, w64, to_be_bytes}
@@ -22,7 +23,8 @@ record_encoding format command = to_be_bytes w32 (length (format.encoding comman
 abbrev pub records_of : {C : Type 0} → CommandFormat C → List C → List ℕ
 records_of format commands = flat_map (record_encoding format) commands
 
--- a header of 16 bytes, and the bytes after it: the kind, the count of commands, two zeros, the length of the records, the place
+-- a header of 16 bytes, and the bytes after it: the kind, the count of commands, two zeros, the
+-- length of the records, the place
 abbrev pub with_header : ℕ → ℕ → ℕ → ℕ → List ℕ → List ℕ
 with_header kind count size place behind = kind ∷ count ∷ 0 ∷ 0 ∷ (to_be_bytes w32 size ++ (to_be_bytes w64 place ++ behind))
 
@@ -42,7 +44,8 @@ payload_sectors size = sectors_of (16 + size)
 abbrev pub group_sectors : {C : Type 0} → CommandFormat C → List C → ℕ
 group_sectors format commands = payload_sectors (length (records_of format commands))
 
--- a journal has room for this number of sectors after the gate, and for two more: the gate after them, and a seal's
+-- a journal has room for this number of sectors after the gate, and for two more: the gate after
+-- them, and a seal's
 abbrev pub JournalHasRoom : ℕ → ℕ → ℕ → Type 0
 JournalHasRoom gate payload journal = gate + 1 + payload + 2 ≤ journal
 

@@ -1,4 +1,5 @@
--- The reading of the payload after an open gate, as a function: a group or a seal, or the first refusal.
+-- The reading of the payload after an open gate, as a function: a group or a seal, or the first
+-- refusal.
 use Rattle.std.specs.Prelude.{◌≡◌, ℕ, zero, suc, ◌+◌, ◌-◌, ◌*◌, ◌≤◌, Bool, true, false, ◌&&◌, List, [], ◌∷◌, length, drop, slice_index, Result, Ok, Err, Option, Some, None, if◌then◌else◌, ◌==◌, nat_le}
 use Rattle.std.specs.List.{list_all}
 use Rattle.byte_lists.specs.Content.{part}
@@ -30,8 +31,8 @@ size_in payload = four_at 4 payload
 abbrev pub place_in : List ℕ → ℕ
 place_in payload = eight_at 8 payload
 
--- a header of this kind, with `few` to `many` commands, two zeros, records of at most this number of bytes, and places for all of
--- the commands
+-- a header of this kind, with `few` to `many` commands, two zeros, records of at most this number
+-- of bytes, and places for all of the commands
 pub record IsHeader (wanted few many longest : ℕ) (payload : List ℕ) : Type 0 where
   pub kind : slice_index payload 0 ≡ wanted
   pub some : few ≤ count_in payload
@@ -89,7 +90,8 @@ commands_in format limits (suc count) bytes =
 abbrev pub are_zeros : List ℕ → Bool
 are_zeros bytes = list_all (λ byte. byte == 0) bytes
 
--- the payload after an open gate: a group of these commands, with the length of its records, or a seal
+-- the payload after an open gate: a group of these commands, with the length of its records, or a
+-- seal
 pub data Payload (C : Type 0) : Type 0 where
   Group : (commands : List C) (size : ℕ) → Payload C
   Seal : Payload C

@@ -1,4 +1,5 @@
--- A journal: gates, and after each open gate a group or a seal. Gates count sectors from the journal's start.
+-- A journal: gates, and after each open gate a group or a seal. Gates count sectors from the
+-- journal's start.
 use Rattle.std.specs.Prelude.{◌≡◌, ℕ, ◌+◌, ◌*◌, ◌≤◌, Bool, true, false, List, [], ◌∷◌, ◌++◌, length}
 use Rattle.byte_lists.specs.Content.{part}
 use Rattle.byte_lists.specs.Sectors.{whole_sectors, sector_at, IsOpenGate}
@@ -38,7 +39,8 @@ abbrev pub JournalEndsAs : Bool → List ℕ → ℕ → ℕ → Type 0
 JournalEndsAs false bytes gate place = ¬ IsOpenGate (sector_at gate bytes)
 JournalEndsAs true bytes gate place = IsOpenGate (sector_at gate bytes) × HasSeal bytes gate place
 
--- the reading of a journal: its commands, the gate at which it ends, whether it is sealed, and the place reached
+-- the reading of a journal: its commands, the gate at which it ends, whether it is sealed, and the
+-- place reached
 pub record Reading (C : Type 0) : Type 0 where
   pub commands : List C
   pub tail : ℕ
@@ -53,7 +55,8 @@ pub record IsJournal {C : Type 0} (format : CommandFormat C) (limits : Limits) (
   pub place : reading.place ≡ start + length reading.commands
   pub ends : JournalEndsAs reading.sealed bytes reading.tail reading.place
 
--- the number of sectors that count for a reading: those up to its last gate, and after a seal those of the seal
+-- the number of sectors that count for a reading: those up to its last gate, and after a seal those
+-- of the seal
 abbrev pub sectors_to : Bool → ℕ → ℕ
 sectors_to false tail = tail + 1
 sectors_to true tail = tail + 2

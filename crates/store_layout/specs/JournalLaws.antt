@@ -45,8 +45,9 @@ IsKeptByWritesBehind C =
     → IsJournal format limits bytes start reading → 512 * sectors_read reading ≤ at → at + length behind ≤ length bytes
     → IsJournal format limits (overwrite at behind bytes) start reading
 
--- A journal's last gate is one of its sectors, and the journal has room for a seal after it, if it has two sectors at all. The
--- place is at most the last place, if the first one was, and all commands are allowed.
+-- A journal's last gate is one of its sectors, and the journal has room for a seal after it, if it
+-- has two sectors at all. The place is at most the last place, if the first one was, and all
+-- commands are allowed.
 pub record IsWithinBounds {C : Type 0} (format : CommandFormat C) (limits : Limits) (bytes : List ℕ) (start : ℕ) (reading : Reading C) : Type 0 where
   pub tail : reading.tail < whole_sectors bytes
   pub seal : 2 ≤ whole_sectors bytes → reading.tail + 2 ≤ whole_sectors bytes
@@ -70,7 +71,8 @@ pub record IsReadyFor {C : Type 0} (format : CommandFormat C) (limits : Limits) 
   pub has : HasGroupAfterGate format limits bytes reading.tail reading.place group
   pub closed : ¬ IsOpenGate (sector_at (gate_behind format reading.tail group) bytes)
 
--- a group, and a gate that isn't open, are written after the tail's gate: the journal is unchanged, and ready for the group
+-- a group, and a gate that isn't open, are written after the tail's gate: the journal is unchanged,
+-- and ready for the group
 abbrev pub IsMadeReady : Type 0 → Type 0
 IsMadeReady C =
     (format : CommandFormat C) (limits : Limits) (bytes : List ℕ) (start : ℕ) (reading : Reading C) (group : List C) (gate : List ℕ)
@@ -89,8 +91,8 @@ IsMadeReadyForSeal C =
     → let written = overwrite (512 * (reading.tail + 1)) (seal_encoding reading.place) bytes in
     IsJournal format limits written start reading × HasSeal written reading.tail reading.place
 
--- The tail's gate is written with any bytes: where these open it, the journal has exactly one more group; else the journal is
--- unchanged.
+-- The tail's gate is written with any bytes: where these open it, the journal has exactly one more
+-- group; else the journal is unchanged.
 abbrev pub GrowsByItsGate : Type 0 → Type 0
 GrowsByItsGate C =
     (format : CommandFormat C) (limits : Limits) (bytes : List ℕ) (start : ℕ) (reading : Reading C) (group : List C) (gate : List ℕ)

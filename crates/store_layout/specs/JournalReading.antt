@@ -16,7 +16,8 @@ with_front commands (Err refusal) = Err refusal
 abbrev pub ends : {C : Type 0} → ℕ → ℕ → Bool → Result (Reading C) JournalRefusal
 ends gate place sealed = Ok (record { commands = []; tail = gate; sealed = sealed; place = place })
 
--- the reading at a gate: by whether the gate is open, the payload after it, and the reading after a group
+-- the reading at a gate: by whether the gate is open, the payload after it, and the reading after a
+-- group
 abbrev pub at_gate : {C : Type 0} → Bool → Result (Payload C) JournalRefusal → (List C → ℕ → Result (Reading C) JournalRefusal) → ℕ → ℕ
     → Result (Reading C) JournalRefusal
 at_gate false payload more gate place = ends gate place false
@@ -24,7 +25,8 @@ at_gate true (Err refusal) more gate place = Err refusal
 at_gate true (Ok Seal) more gate place = ends gate place true
 at_gate true (Ok (Group commands size)) more gate place = with_front commands (more commands size)
 
--- a journal from a gate on, where this place is expected, in this number of steps; there are never more groups than sectors
+-- a journal from a gate on, where this place is expected, in this number of steps; there are never
+-- more groups than sectors
 abbrev pub scan_from : {C : Type 0} → ℕ → CommandFormat C → Limits → List ℕ → ℕ → ℕ → Result (Reading C) JournalRefusal
 scan_from zero format limits bytes gate place = Err PastEnd
 scan_from (suc steps) format limits bytes gate place =

@@ -1,5 +1,5 @@
--- The definition of each refusal of a journal, in the order of the checks: the refusal comes at the first open gate after which
--- neither a group nor a seal is at the place reached.
+-- The definition of each refusal of a journal, in the order of the checks: the refusal comes at the
+-- first open gate after which neither a group nor a seal is at the place reached.
 use Rattle.std.specs.Prelude.{◌≡◌, ◌≢◌, ◌⊎◌, ℕ, ◌+◌, ◌*◌, ◌≤◌, List, length, drop}
 use Rattle.byte_lists.specs.Sectors.{whole_sectors, sector_at, IsOpenGate}
 use Rattle.store_layout.specs.Limits.{Limits}
@@ -26,9 +26,10 @@ HasSealHeader bytes gate = HasPayload bytes gate × IsSealHeader (payload_behind
 abbrev pub HasPromisedRoom : List ℕ → ℕ → Type 0
 HasPromisedRoom bytes gate = JournalHasRoom gate (payload_sectors (size_in (payload_behind bytes gate))) (whole_sectors bytes)
 
--- What is wrong after an open gate where this place is expected. `PastEnd` is a payload that would begin past the end, or
--- has no room; a bad header is neither a group's nor a seal's; a gap is another place than the one
--- expected; and bad records are those of a payload that is no group, or no seal, after a valid header.
+-- What is wrong after an open gate where this place is expected. `PastEnd` is a payload that would
+-- begin past the end, or has no room; a bad header is neither a group's nor a seal's; a gap is
+-- another place than the one expected; and bad records are those of a payload that is no group, or
+-- no seal, after a valid header.
 abbrev pub IsRefusedAt : {C : Type 0} → JournalRefusal → CommandFormat C → Limits → List ℕ → ℕ → ℕ → Type 0
 IsRefusedAt PastEnd format limits bytes gate place =
     ¬ HasPayload bytes gate ⊎ (HasGroupHeader limits bytes gate × (place_in (payload_behind bytes gate) ≡ place) × ¬ HasPromisedRoom bytes gate)

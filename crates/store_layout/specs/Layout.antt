@@ -1,4 +1,5 @@
--- Where the regions of an image are. Positions and sizes count sectors of 512 bytes; sector 0 has the sizes.
+-- Where the regions of an image are. Positions and sizes count sectors of 512 bytes; sector 0 has
+-- the sizes.
 use Rattle.std.specs.Prelude.{ℕ, ◌+◌, ◌*◌, ◌≤◌, List}
 use Rattle.byte_lists.specs.Content.{part}
 use Rattle.byte_lists.specs.Sectors.{sector_at}

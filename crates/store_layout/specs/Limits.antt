@@ -6,7 +6,8 @@ pub record Limits : Type 0 where
   pub most : ℕ
   pub removals : Bool
 
--- the limits of a version: 8 commands and no removal in version 1, from version 2 on 32 commands, removals among them
+-- the limits of a version: 8 commands and no removal in version 1, from version 2 on 32 commands,
+-- removals among them
 abbrev pub limits_of : ℕ → Limits
 limits_of version = if nat_le version 1 then record { most = 8; removals = false } else record { most = 32; removals = true }
 

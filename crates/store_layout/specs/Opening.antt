@@ -1,5 +1,5 @@
--- The value of an image: the database of the open half with the greater epoch, with the commands of its journal; and where that
--- journal is sealed, with those of the other half's journal too.
+-- The value of an image: the database of the open half with the greater epoch, with the commands of
+-- its journal; and where that journal is sealed, with those of the other half's journal too.
 use Rattle.std.specs.Prelude.{◌≡◌, ℕ, ◌<◌, ◌≤◌, true, false, List, [], Option, Some, None}
 use Rattle.byte_lists.specs.Sectors.{IsOpenGate}
 use Rattle.store_layout.specs.declared.half.Half.{Half}
@@ -11,8 +11,8 @@ use Rattle.store_layout.specs.FirstSector.{IsStore}
 use Rattle.store_layout.specs.StoreFormat.{StoreFormat, db_after}
 use Rattle.store_layout.specs.Checkpoint.{Head, Checkpoint, IsHead, IsCheckpoint}
 
--- The reading of an image that opens: the sizes, the half that is chosen, its checkpoint and its journal, and where that
--- journal is sealed, the journal of the other half, which continues it.
+-- The reading of an image that opens: the sizes, the half that is chosen, its checkpoint and its
+-- journal, and where that journal is sealed, the journal of the other half, which continues it.
 pub record Opening (Db C : Type 0) : Type 0 where
   pub geometry : Geometry
   pub chosen : Half
@@ -37,15 +37,15 @@ pub record ContinuesAfterSeal {C : Type 0} (format : CommandFormat C) (limits : 
   pub journal : IsJournal format limits bytes front.place behind
   pub unsealed : behind.sealed ≡ false
 
--- the journal after the chosen half's journal: none if that isn't sealed, and else the journal of the other half, which is closed,
--- from the place of the seal on
+-- the journal after the chosen half's journal: none if that isn't sealed, and else the journal of
+-- the other half, which is closed, from the place of the seal on
 abbrev pub IsTail : {C : Type 0} → CommandFormat C → Limits → Geometry → Half → List ℕ → Reading C → Option (Reading C) → Type 0
 IsTail format limits geometry half image journal None = journal.sealed ≡ false
 IsTail format limits geometry half image journal (Some behind) =
     (¬ IsOpenGate (gate_of geometry half image)) × ContinuesAfterSeal format limits (journal_of geometry half image) journal behind
 
--- A half of a store's image is chosen, and begins with this checkpoint: it is open, of a known version, and the other half is
--- closed or older.
+-- A half of a store's image is chosen, and begins with this checkpoint: it is open, of a known
+-- version, and the other half is closed or older.
 pub record IsChosen {Db C : Type 0} (format : StoreFormat Db C) (latest : ℕ) (image : List ℕ) (geometry : Geometry) (half : Half) (checkpoint : Checkpoint Db)
     : Type 0 where
   pub store : IsStore geometry image
@@ -75,7 +75,8 @@ abbrev pub last_journal : {C : Type 0} → Reading C → Option (Reading C) → 
 last_journal journal None = journal
 last_journal journal (Some behind) = behind
 
--- the value of a store: its database, and the place reached, which is the number of commands that made the database
+-- the value of a store: its database, and the place reached, which is the number of commands that
+-- made the database
 pub record StoreValue (Db : Type 0) : Type 0 where
   pub db : Db
   pub place : ℕ

@@ -1,4 +1,5 @@
--- Laws of openings: the function returns exactly what the relation defines. Each statement is the contract of a function.
+-- Laws of openings: the function returns exactly what the relation defines. Each statement is the
+-- contract of a function.
 use Rattle.std.specs.Prelude.{◌≡◌, ◌↔◌, ℕ, ◌≤◌, List, Ok, Err}
 use Rattle.byte_lists.specs.Content.{AreBytes}
 use Rattle.store_layout.specs.StoreFormat.{StoreFormat}

@@ -1,4 +1,5 @@
--- The opening of an image, as a function: what is read of it, or the first refusal. Each step is a case analysis on what was read.
+-- The opening of an image, as a function: what is read of it, or the first refusal. Each step is a
+-- case analysis on what was read.
 use Rattle.std.specs.Prelude.{ℕ, Bool, true, false, List, Result, Ok, Err, Option, Some, None, ◌==◌, nat_lt}
 use Rattle.byte_lists.specs.Sectors.{is_open_gate}
 use Rattle.store_layout.specs.declared.half.Half.{Half}
@@ -28,7 +29,8 @@ head_behind true (Ok head) = Ok (Some head)
 abbrev pub head_of : ℕ → Geometry → Half → List ℕ → Result (Option Head) PairRefusal
 head_of latest geometry half image = head_behind (is_open_gate (gate_of geometry half image)) (head_in latest (area_of geometry half image))
 
--- of two open halves the one with the greater epoch, by whether the epochs are equal, and whether the first is the smaller one
+-- of two open halves the one with the greater epoch, by whether the epochs are equal, and whether
+-- the first is the smaller one
 abbrev pub by_epochs : Bool → Bool → Result Half PairRefusal
 by_epochs true first_is_older = Err SameEpoch
 by_epochs false true = Ok Second
@@ -56,7 +58,8 @@ abbrev pub read_tail : {Db C : Type 0} → Opening Db C → Result (Reading C) J
 read_tail opening (Err refusal) = Err (BadJournal refusal)
 read_tail opening (Ok behind) = with_tail opening behind.sealed behind
 
--- the journal after the chosen half's journal, by whether that is sealed, and whether the other half is open
+-- the journal after the chosen half's journal, by whether that is sealed, and whether the other
+-- half is open
 abbrev pub behind_journal : {Db C : Type 0} → Bool → Bool → Opening Db C → Result (Reading C) JournalRefusal → Result (Opening Db C) OpenRefusal
 behind_journal false other_is_open opening behind = Ok opening
 behind_journal true true opening behind = Err (BadPair SealedNewer)

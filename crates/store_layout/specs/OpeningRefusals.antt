@@ -46,7 +46,8 @@ pub record HasOneEpoch (latest : ℕ) (geometry : Geometry) (image : List ℕ) :
   pub second : HasKnownHead latest (area_of geometry Second image)
   pub same : first.head.epoch ≡ second.head.epoch
 
--- a half is open, begins with a head of a known version, and the other half is closed or older; and the half has no valid rows
+-- a half is open, begins with a head of a known version, and the other half is closed or older; and
+-- the half has no valid rows
 pub record HasNoRows {Db C : Type 0} (format : StoreFormat Db C) (latest : ℕ) (geometry : Geometry) (image : List ℕ) : Type 0 where
   pub half : Half
   pub gate : IsOpenGate (gate_of geometry half image)
@@ -109,7 +110,8 @@ pub record IsRefusedStore {Db C : Type 0} (refusal : OpenRefusal) (format : Stor
   pub store : IsStore geometry image
   pub wrong : IsStoreRefusal refusal format latest geometry image
 
--- the definition of each refusal of an image: it is no store's, or it is a store's and this is wrong
+-- the definition of each refusal of an image: it is no store's, or it is a store's and this is
+-- wrong
 abbrev pub IsOpenRefusal : {Db C : Type 0} → OpenRefusal → StoreFormat Db C → ℕ → List ℕ → Type 0
 IsOpenRefusal NotAStore format latest image = (geometry : Geometry) → ¬ IsStore geometry image
 IsOpenRefusal (BadPair refusal) format latest image = IsRefusedStore (BadPair refusal) format latest image

@@ -1,5 +1,6 @@
--- How the value of an image grows: a group is written after the last gate of its last journal, and then that gate decides;
--- and that a seal does not change the value. Each statement is the contract of a function.
+-- How the value of an image grows: a group is written after the last gate of its last journal, and
+-- then that gate decides; and that a seal does not change the value. Each statement is the contract
+-- of a function.
 use Rattle.std.specs.Prelude.{◌≡◌, ℕ, ◌+◌, ◌*◌, ◌≤◌, false, List, ◌++◌, length, Option, Some, None}
 use Rattle.byte_lists.specs.Content.{overwrite}
 use Rattle.byte_lists.specs.Sectors.{sector_at, IsOpenGate}
@@ -18,8 +19,8 @@ abbrev pub FoldsInParts : Type 0 → Type 0 → Type 0
 FoldsInParts Db C =
     (format : StoreFormat Db C) (db : Db) (front behind : List C) → db_after format db (front ++ behind) ≡ db_after format (db_after format db front) behind
 
--- the half of an image's last journal, the reading of that journal, the place at which it starts, and the sector of the gate at
--- which it ends
+-- the half of an image's last journal, the reading of that journal, the place at which it starts,
+-- and the sector of the gate at which it ends
 abbrev pub last_half : {Db C : Type 0} → Opening Db C → Half
 last_half opening = tail_half opening.chosen opening.tail
 
@@ -41,7 +42,8 @@ abbrev pub with_last : {Db C : Type 0} → Option (Reading C) → Opening Db C �
 with_last None opening last = record opening { journal = last }
 with_last (Some behind) opening last = record opening { tail = Some last }
 
--- Bytes are written anywhere in the last journal: the image opens with the new reading of that journal, if it isn't sealed.
+-- Bytes are written anywhere in the last journal: the image opens with the new reading of that
+-- journal, if it isn't sealed.
 abbrev pub StoreGoesByItsLastJournal : Type 0 → Type 0 → Type 0
 StoreGoesByItsLastJournal Db C =
     (format : StoreFormat Db C) (latest : ℕ) (image : List ℕ) (opening : Opening Db C) (at : ℕ) (bytes : List ℕ) (last : Reading C)
@@ -51,8 +53,8 @@ StoreGoesByItsLastJournal Db C =
     → last.sealed ≡ false
     → IsOpening format latest (overwrite (512 * journal_at opening.geometry (last_half opening) + at) bytes image) (with_last opening.tail opening last)
 
--- A group that can be written and has room, and a gate that isn't open, are written after the last gate: the opening is unchanged,
--- and the last journal is ready for the group.
+-- A group that can be written and has room, and a gate that isn't open, are written after the last
+-- gate: the opening is unchanged, and the last journal is ready for the group.
 abbrev pub StoreIsMadeReady : Type 0 → Type 0 → Type 0
 StoreIsMadeReady Db C =
     (format : StoreFormat Db C) (latest : ℕ) (image : List ℕ) (opening : Opening Db C) (group : List C) (gate : List ℕ)
@@ -64,8 +66,9 @@ StoreIsMadeReady Db C =
     IsOpening format latest written opening
     × IsReadyFor format.commands (limits_in opening.checkpoint) (journal_of opening.geometry (last_half opening) written) (last_reading opening) group
 
--- The last journal is ready for a group, and its last gate is written with any bytes: where these open it, the value of the image
--- is the old value after the commands of the group; else the opening is unchanged.
+-- The last journal is ready for a group, and its last gate is written with any bytes: where these
+-- open it, the value of the image is the old value after the commands of the group; else the
+-- opening is unchanged.
 abbrev pub StoreGrowsByItsGate : Type 0 → Type 0 → Type 0
 StoreGrowsByItsGate Db C =
     (format : StoreFormat Db C) (latest : ℕ) (image : List ℕ) (opening : Opening Db C) (group : List C) (gate : List ℕ)
@@ -84,7 +87,8 @@ pub record IsOtherHalfClosed {Db C : Type 0} (opening : Opening Db C) (image : L
   pub gate : ¬ IsOpenGate (gate_of opening.geometry (other opening.chosen) image)
   pub journal : ¬ IsOpenGate (sector_at 0 (journal_of opening.geometry (other opening.chosen) image))
 
--- Where the other half is ready, a seal is written after the last gate: the opening is unchanged, and the seal is there.
+-- Where the other half is ready, a seal is written after the last gate: the opening is unchanged,
+-- and the seal is there.
 abbrev pub StoreIsMadeReadyForSeal : Type 0 → Type 0 → Type 0
 StoreIsMadeReadyForSeal Db C =
     (format : StoreFormat Db C) (latest : ℕ) (image : List ℕ) (opening : Opening Db C)
@@ -93,8 +97,9 @@ StoreIsMadeReadyForSeal Db C =
     IsOpening format latest written opening × IsOtherHalfClosed opening written
     × HasSeal (journal_of opening.geometry opening.chosen written) opening.journal.tail opening.journal.place
 
--- Then the last gate is written with any bytes: where these open it, the other half's journal continues, without a command
--- yet, and the value of the image is unchanged; else the opening is unchanged.
+-- Then the last gate is written with any bytes: where these open it, the other half's journal
+-- continues, without a command yet, and the value of the image is unchanged; else the opening is
+-- unchanged.
 abbrev pub StoreIsSealedByItsGate : Type 0 → Type 0 → Type 0
 StoreIsSealedByItsGate Db C =
     (format : StoreFormat Db C) (latest : ℕ) (image : List ℕ) (opening : Opening Db C) (gate : List ℕ)

@@ -1,5 +1,5 @@
--- How one half takes over from the other: its area is written, then its gate decides, and then the old half may be anything that
--- is older. Each statement is the contract of a function.
+-- How one half takes over from the other: its area is written, then its gate decides, and then the
+-- old half may be anything that is older. Each statement is the contract of a function.
 use Rattle.std.specs.Prelude.{◌≡◌, ℕ, ◌+◌, ◌*◌, ◌<◌, ◌≤◌, List, [], ◌∷◌, length, Some, None}
 use Rattle.std.specs.List.{AllByRecursion}
 use Rattle.byte_lists.specs.Content.{overwrite}
@@ -27,8 +27,8 @@ ClosedAreaMayChange Db C =
     → at + length bytes ≤ 512 * opening.geometry.checkpoint
     → IsOpening format latest (overwrite (512 * area_at opening.geometry (other opening.chosen) + at) bytes image) opening
 
--- The gate of the other half, whose journal is the tail, is written with any bytes: where these open it, that half is chosen,
--- and the value is the same; else the opening is unchanged.
+-- The gate of the other half, whose journal is the tail, is written with any bytes: where these
+-- open it, that half is chosen, and the value is the same; else the opening is unchanged.
 abbrev pub SwitchesByTheGate : Type 0 → Type 0 → Type 0
 SwitchesByTheGate Db C =
     (format : StoreFormat Db C) (latest : ℕ) (image : List ℕ) (opening : Opening Db C) (next : Checkpoint Db) (behind : Reading C) (gate : List ℕ)
@@ -38,7 +38,8 @@ SwitchesByTheGate Db C =
     × (¬ IsOpenGate gate → IsOpening format latest written opening)
     × (opening_value format (taken_over opening next behind) ≡ opening_value format opening)
 
--- The same without a tail, where no journal is sealed, and the first gate of the other half's journal is closed.
+-- The same without a tail, where no journal is sealed, and the first gate of the other half's
+-- journal is closed.
 abbrev pub SwitchesByTheGateAtRest : Type 0 → Type 0 → Type 0
 SwitchesByTheGateAtRest Db C =
     (format : StoreFormat Db C) (latest : ℕ) (image : List ℕ) (opening : Opening Db C) (next : Checkpoint Db) (gate : List ℕ)
@@ -50,8 +51,9 @@ SwitchesByTheGateAtRest Db C =
     × (¬ IsOpenGate gate → IsOpening format latest written opening)
     × (opening_value format fresh ≡ opening_value format opening)
 
--- Then the other half's head is older, and no journal is sealed: any write outside of that head, and outside of the bytes of the
--- chosen half that count, leaves the opening unchanged, such as a write over the gates of the other half.
+-- Then the other half's head is older, and no journal is sealed: any write outside of that head,
+-- and outside of the bytes of the chosen half that count, leaves the opening unchanged, such as a
+-- write over the gates of the other half.
 abbrev pub OlderHalfMayChange : Type 0 → Type 0 → Type 0
 OlderHalfMayChange Db C =
     (format : StoreFormat Db C) (latest : ℕ) (image : List ℕ) (opening : Opening Db C) (at : ℕ) (bytes : List ℕ)

@@ -1,5 +1,5 @@
--- When two images have the same value, as one half takes over from the other, and the value of a new store. Each statement is the
--- contract of a function.
+-- When two images have the same value, as one half takes over from the other, and the value of a
+-- new store. Each statement is the contract of a function.
 use Rattle.std.specs.Prelude.{◌≡◌, ℕ, ◌≤◌, false, List, [], Some, None}
 use Rattle.byte_lists.specs.Sectors.{sector_at, IsOpenGate}
 use Rattle.store_layout.specs.declared.half.Half.TheVariants.{First, Second}
@@ -10,8 +10,8 @@ use Rattle.store_layout.specs.StoreFormat.{StoreFormat}
 use Rattle.store_layout.specs.Checkpoint.{Checkpoint, IsCheckpoint, first_checkpoint}
 use Rattle.store_layout.specs.Opening.{Opening, limits_in, IsChosen, IsOpening, db_at_seal, opening_value, OpensTo}
 
--- A checkpoint for the other half with the value of the chosen half up to the end of its journal: this database, at the
--- place reached there, in the same version or a later one.
+-- A checkpoint for the other half with the value of the chosen half up to the end of its journal:
+-- this database, at the place reached there, in the same version or a later one.
 pub record FoldsJournal {Db C : Type 0} (format : StoreFormat Db C) (opening : Opening Db C) (next : Checkpoint Db) : Type 0 where
   pub db : next.db ≡ db_at_seal format opening
   pub place : next.head.place ≡ opening.journal.place
@@ -27,9 +27,9 @@ taken_over opening next behind = record {
   tail = None;
 }
 
--- The old half with its sealed journal and the tail, and the new half with that tail, have the same value: where one image
--- opens with the tail, and in another the new half is chosen and its journal is that tail under the old half's limits, the
--- other image opens too, and has the same value.
+-- The old half with its sealed journal and the tail, and the new half with that tail, have the same
+-- value: where one image opens with the tail, and in another the new half is chosen and its journal
+-- is that tail under the old half's limits, the other image opens too, and has the same value.
 abbrev pub TakesOverTheSame : Type 0 → Type 0 → Type 0
 TakesOverTheSame Db C =
     (format : StoreFormat Db C) (latest : ℕ) (old new : List ℕ) (opening : Opening Db C) (next : Checkpoint Db) (behind : Reading C)
@@ -43,7 +43,8 @@ TakesOverTheSame Db C =
 abbrev pub empty_journal : {C : Type 0} → ℕ → Reading C
 empty_journal place = record { commands = []; tail = 0; sealed = false; place = place }
 
--- Without a tail no journal is sealed: the new half's journal is empty, as its first gate is closed.
+-- Without a tail no journal is sealed: the new half's journal is empty, as its first gate is
+-- closed.
 abbrev pub TakesOverTheSameAtRest : Type 0 → Type 0 → Type 0
 TakesOverTheSameAtRest Db C =
     (format : StoreFormat Db C) (latest : ℕ) (new : List ℕ) (opening : Opening Db C) (next : Checkpoint Db)
@@ -53,8 +54,8 @@ TakesOverTheSameAtRest Db C =
     → IsOpening format latest new (taken_over opening next (empty_journal next.head.place))
     × (opening_value format (taken_over opening next (empty_journal next.head.place)) ≡ opening_value format opening)
 
--- A store as it is formatted: the first half is open without a row, and its journal's first gate is closed; the second
--- half is closed.
+-- A store as it is formatted: the first half is open without a row, and its journal's first gate is
+-- closed; the second half is closed.
 pub record IsFormatted {Db C : Type 0} (format : StoreFormat Db C) (version : ℕ) (geometry : Geometry) (image : List ℕ) : Type 0 where
   pub store : IsStore geometry image
   pub gate : IsOpenGate (gate_of geometry First image)

@@ -17,7 +17,8 @@ pub record CountedSpan : Type 0 where
 abbrev pub span : ℕ → ℕ → CountedSpan
 span at size = record { at = at; size = size }
 
--- of the half that isn't chosen: its head where it is open, and its journal where that continues after a seal
+-- of the half that isn't chosen: its head where it is open, and its journal where that continues
+-- after a seal
 abbrev pub head_spans : Geometry → Half → Bool → List CountedSpan → List CountedSpan
 head_spans geometry half false more = more
 head_spans geometry half true more = span (512 * area_at geometry half) 24 ∷ more
@@ -26,7 +27,8 @@ abbrev pub tail_spans : {C : Type 0} → Geometry → Half → Option (Reading C
 tail_spans geometry half None = []
 tail_spans geometry half (Some behind) = span (512 * journal_at geometry half) (512 * sectors_read behind) ∷ []
 
--- the title in sector 0; and of the chosen half byte 0 of its gate, its checkpoint, and its journal as far as it is read
+-- the title in sector 0; and of the chosen half byte 0 of its gate, its checkpoint, and its journal
+-- as far as it is read
 abbrev pub chosen_spans : {Db C : Type 0} → StoreFormat Db C → Opening Db C → List CountedSpan → List CountedSpan
 chosen_spans format opening more =
     span 0 20

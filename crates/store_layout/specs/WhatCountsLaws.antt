@@ -22,7 +22,8 @@ IsKeptByWritesElsewhere Db C =
     → at + length bytes ≤ length image → AllByRecursion (IsApart at (length bytes)) (spans_in format image opening)
     → IsOpening format latest image opening → IsOpening format latest (overwrite at bytes image) opening
 
--- where the chosen half's journal isn't sealed, all that counts of the other half is that it is closed, or has an older head
+-- where the chosen half's journal isn't sealed, all that counts of the other half is that it is
+-- closed, or has an older head
 abbrev pub GoesByTheChosenHalf : Type 0 → Type 0 → Type 0
 GoesByTheChosenHalf Db C =
     (format : StoreFormat Db C) (latest : ℕ) (one two : List ℕ) (opening : Opening Db C) → length two ≡ length one

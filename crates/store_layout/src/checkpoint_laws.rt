@@ -1,5 +1,5 @@
-//! Laws of first sectors and checkpoints, in any format of rows of databases of type `Db`. Each law is the contract of a function that
-//! does nothing.
+//! Laws of first sectors and checkpoints, in any format of rows of databases of type `Db`. Each law
+//! is the contract of a function that does nothing.
 
 ghost use Rattle.store_layout.specs.CheckpointLaws.{IsStoreReadSo, FirstSectorMakesStore, IsHeadReadSo, IsHeadRefusedSo, HeadGoesByItsFront, BeginsWithItsHead, IsCheckpointReadSo, WrittenCheckpointIsThere, PiecesAreWritten, WholeEncodingIsThere, FirstCheckpointCanBe};
 
@@ -9,15 +9,16 @@ pub fn first_sectors_are_read()
     ensures written { FirstSectorMakesStore }
 {}
 
-/// A head is read exactly where the area begins with it and its version is known, and is refused exactly where the definition of the
-/// refusal holds. It depends on the first 24 bytes alone.
+/// A head is read exactly where the area begins with it and its version is known, and is refused
+/// exactly where the definition of the refusal holds. It depends on the first 24 bytes alone.
 pub fn heads_are_read()
     ensures read { IsHeadReadSo }
     ensures refused { IsHeadRefusedSo }
     ensures front { HeadGoesByItsFront }
 {}
 
-/// A checkpoint is read exactly where the area begins with it and its version is known. It begins with its head.
+/// A checkpoint is read exactly where the area begins with it and its version is known. It begins
+/// with its head.
 pub fn checkpoints_are_read<Db>()
     ensures read { IsCheckpointReadSo Db }
     ensures head { BeginsWithItsHead Db }

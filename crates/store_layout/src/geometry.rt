@@ -8,7 +8,8 @@ ghost use Rattle.store_layout.specs.Geometry.{geometry_view};
 use crate::format::{LEAST_CHECKPOINT, LEAST_JOURNAL, MOST_SECTORS};
 use crate::half::Half;
 
-/// The sizes of both halves of a store, in sectors of 512 bytes: of the checkpoint area, and of the journal.
+/// The sizes of both halves of a store, in sectors of 512 bytes: of the checkpoint area, and of the
+/// journal.
 #[derive(Clone, Copy, Debug, PartialEq, Eq)]
 pub struct Geometry {
     pub checkpoint: u32,
@@ -16,7 +17,8 @@ pub struct Geometry {
 }
 
 impl Geometry {
-    /// Whether these sizes are allowed: 2 to 1,048,576 sectors of checkpoint area, 516 to 1,048,576 sectors of journal.
+    /// Whether these sizes are allowed: 2 to 1,048,576 sectors of checkpoint area, 516 to 1,048,576
+    /// sectors of journal.
     pub fn is_allowed(self) -> bool
         ensures { IsTrue result ↔ IsGeometry (geometry_view self) }
     {

@@ -1,19 +1,21 @@
-//! Laws of changes to an image and of its value after them, in any format of databases of type `Db` and commands of type
-//! `C`: groups and seals after the last gate, and one half that takes over from the other.
+//! Laws of changes to an image and of its value after them, in any format of databases of type `Db`
+//! and commands of type `C`: groups and seals after the last gate, and one half that takes over
+//! from the other.
 
 ghost use Rattle.store_layout.specs.StoreGrowth.{FoldsInParts, StoreGoesByItsLastJournal, StoreIsMadeReady, StoreGrowsByItsGate, StoreIsMadeReadyForSeal, StoreIsSealedByItsGate};
 ghost use Rattle.store_layout.specs.Switch.{ClosedAreaMayChange, SwitchesByTheGate, SwitchesByTheGateAtRest, OlderHalfMayChange};
 ghost use Rattle.store_layout.specs.TakeOver.{TakesOverTheSame, TakesOverTheSameAtRest};
 
-/// The opening of an image depends on the reading of its last journal, whatever bytes are written in it. The database after two
-/// lists of commands is the database after the first list and then the second.
+/// The opening of an image depends on the reading of its last journal, whatever bytes are written
+/// in it. The database after two lists of commands is the database after the first list and then
+/// the second.
 pub fn stores_go_by_their_last_journal<Db, C>()
     ensures last { StoreGoesByItsLastJournal Db C }
     ensures parts { FoldsInParts Db C }
 {}
 
-/// A group that is written after the last gate leaves the opening unchanged, and makes the image ready for that group. The value then
-/// grows by exactly that group, if the gate is opened.
+/// A group that is written after the last gate leaves the opening unchanged, and makes the image
+/// ready for that group. The value then grows by exactly that group, if the gate is opened.
 pub fn stores_grow_by_their_gate<Db, C>()
     ensures ready { StoreIsMadeReady Db C }
     ensures grown { StoreGrowsByItsGate Db C }

@@ -1,7 +1,7 @@
 //! The regions of a store's image, as relations and as functions, with their laws.
 //!
-//! Journals are defined for any format of commands (`CommandFormat`), and images for any format of rows and commands
-//! (`StoreFormat`). The crates above supply these formats.
+//! Journals are defined for any format of commands (`CommandFormat`), and images for any format of
+//! rows and commands (`StoreFormat`). The crates above supply these formats.
 #![tactic(auto)]
 
 mod checkpoint_laws;

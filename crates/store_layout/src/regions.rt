@@ -8,8 +8,8 @@ pub fn regions_are_apart()
     ensures inside { RegionsAreInside }
 {}
 
-/// A write within one region changes that region alone. Writes within several regions leave the regions that they don't meet
-/// unchanged.
+/// A write within one region changes that region alone. Writes within several regions leave the
+/// regions that they don't meet unchanged.
 pub fn writes_leave_other_regions()
     ensures beside { WritesLeaveRegionsApart }
     ensures others { WritesLeaveOtherRegions }

@@ -1,4 +1,5 @@
-//! Worked values of the definitions. Each function does nothing, and the values are in its contract.
+//! Worked values of the definitions. Each function does nothing, and the values are in its
+//! contract.
 
 ghost use Rattle.std.specs.Prelude.{◌≡◌, ◌++◌, ◌∷◌, [], true, false, Err, replicate};
 ghost use Rattle.store_layout.specs.Group.{JournalHasRoom, group_encoding, payload_sectors, seal_encoding};
@@ -11,7 +12,8 @@ pub fn worked_payloads()
     ensures seal { seal_encoding 257 ≡ seal_payload }
 {}
 
-/// The number of sectors of payloads, by the length of their records, and which payloads have room in a journal of 516 sectors.
+/// The number of sectors of payloads, by the length of their records, and which payloads have room
+/// in a journal of 516 sectors.
 pub fn worked_sizes()
     ensures few { payload_sectors 13 ≡ 1 }
     ensures full { payload_sectors 496 ≡ 1 }

@@ -1,5 +1,5 @@
-//! Worked values of regions, first sectors, checkpoints and openings. Each function does nothing, and the values are in its
-//! contract.
+//! Worked values of regions, first sectors, checkpoints and openings. Each function does nothing,
+//! and the values are in its contract.
 
 ghost use Rattle.std.specs.Prelude.{◌≡◌, ℕ, List, [], ◌∷◌, replicate, Ok, Err, Some, None};
 ghost use Rattle.store_layout.specs.declared.half.Half.TheVariants.{First, Second};

@@ -1,5 +1,5 @@
--- What is known through a lock of what the state's calls answer: nothing of the state, but what ticket, value and answer say of each
--- other.
+-- What is known through a lock of what the state's calls answer: nothing of the state, but what
+-- ticket, value and answer say of each other.
 use Rattle.std.specs.Prelude.{◌≡◌, ℕ, ◌<◌, List, Result, Ok, Err, MatchOption}
 use Rattle.path_rows.specs.Database.{RowView}
 use Rattle.path_rows.specs.declared.command.Command.{Command}
@@ -41,7 +41,8 @@ IsRedeemed tells ticket (redeemed.Waiting back) = back ≡ ticket
 IsRedeemed tells ticket (redeemed.Unknown place) = place ≡ ticket.place
 IsRedeemed tells ticket (redeemed.Stranger back) = back ≡ ticket
 
--- a step leads from a value to the next of the same group or plan; where it comes back, it comes back as it was
+-- a step leads from a value to the next of the same group or plan; where it comes back, it comes
+-- back as it was
 abbrev pub LeadsOn : {P Q : Type 0} → Commit P → Result (Commit Q) (StepError P) → Type 0
 LeadsOn value (Ok next) = IsSame value next
 LeadsOn value (Err (Stranger back)) = back ≡ value

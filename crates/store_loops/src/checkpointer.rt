@@ -5,8 +5,8 @@ use crate::steps::{Awaited, Steps};
 use group_core::{BeginError, Closing, Laid, Live, Plan, Switched};
 use std::sync::Wait;
 
-/// Folds each sealed journal into the other half. It ends once the state has stopped; where another refusal is met, the call is made
-/// again after a rest.
+/// Folds each sealed journal into the other half. It ends once the state has stopped; where another
+/// refusal is met, the call is made again after a rest.
 pub fn checkpointer_loop<R: Wait, S: Steps>(rt: &R, steps: &S) {
     for _ in rt.forever() {
         let seen = steps.changes(Awaited::Seal);

@@ -6,8 +6,8 @@ use group_core::{
 };
 use std::sync::Wait;
 
-/// Commits what is accepted, a group or a seal at a time. It ends once the state has stopped; where another refusal is met, the call
-/// is made again after a rest.
+/// Commits what is accepted, a group or a seal at a time. It ends once the state has stopped; where
+/// another refusal is met, the call is made again after a rest.
 pub fn flusher_loop<R: Wait, S: Steps>(rt: &R, steps: &S) {
     for _ in rt.forever() {
         let seen = steps.changes(Awaited::Work);

@@ -1,8 +1,9 @@
-//! The two actors of a store at work: a flusher that commits accepted commands in groups, and a checkpointer that folds a sealed
-//! journal into the other half.
+//! The two actors of a store at work: a flusher that commits accepted commands in groups, and a
+//! checkpointer that folds a sealed journal into the other half.
 //!
-//! To the layer above: the trait `Steps` has the guarded calls of a state that several threads work on, and what each of them answers;
-//! `flusher_loop` and `checkpointer_loop` make these calls until the state has stopped.
+//! To the layer above: the trait `Steps` has the guarded calls of a state that several threads work
+//! on, and what each of them answers; `flusher_loop` and `checkpointer_loop` make these calls until
+//! the state has stopped.
 #![tactic(auto)]
 
 mod checkpointer;

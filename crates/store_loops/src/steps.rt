@@ -21,9 +21,9 @@ pub enum Awaited {
     Outcome(u64),
 }
 
-/// A state that several threads work on. Each call but `changes` and `rest` is one call of the state's method of that name, made
-/// while no other thread makes one. Nothing is known of the state from one call to the next; a value that comes back comes back as it
-/// was.
+/// A state that several threads work on. Each call but `changes` and `rest` is one call of the
+/// state's method of that name, made while no other thread makes one. Nothing is known of the state
+/// from one call to the next; a value that comes back comes back as it was.
 pub trait Steps {
     ghost use Rattle.std.specs.Prelude.{List};
     ghost use Rattle.path_rows.specs.Database.{RowView};
@@ -82,10 +82,11 @@ pub trait Steps {
     fn sync_close(&self, value: Closing) -> Result<(), StepError<AtClosing>>
         ensures { LeadsOut value result };
 
-    /// How many changes there were of what is awaited; a stop of the state is a change of each kind. The count wraps.
+    /// How many changes there were of what is awaited; a stop of the state is a change of each
+    /// kind. The count wraps.
     fn changes(&self, awaited: Awaited) -> u64;
 
-    /// Waits until there are more changes than `seen`, at most 10 milliseconds. A change after the count was read ends the rest at once,
-    /// also where it came before the rest began.
+    /// Waits until there are more changes than `seen`, at most 10 milliseconds. A change after the
+    /// count was read ends the rest at once, also where it came before the rest began.
     fn rest(&self, awaited: Awaited, seen: u64);
 }

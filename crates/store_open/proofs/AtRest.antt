@@ -68,7 +68,8 @@ fits_area epoch place area rows bytes spelled counted fits =
     let size : length (checkpoint_bytes rows_format (written_checkpoint epoch place rows)) ≡ 32 + length (rows_encoding rows) = omega arith in
     omega (arith, long, size, counted rows, fits)
 
--- A store at rest that may make a checkpoint, and the bytes of the checkpoint. The store before is given as the view of its fields.
+-- A store at rest that may make a checkpoint, and the bytes of the checkpoint. The store before is
+-- given as the view of its fields.
 module _ (old : StoreView) (whole : IsStoreWhole old) (device : IsHonest old.disk → IsWhole old.disk) (view : StoreView) (view_is : old ≡ view) (may_view : MayCheckpoint view)
     (counted : WrittenRowsAreCounted) (bytes : List ℕ)
     (spelled : bytes ≡ checkpoint_encoding rows_format (written_checkpoint (old.head.epoch + 1) old.place old.rows))

@@ -54,7 +54,8 @@ pair_refused view pair.SealedNewer (Err refusal) so = (λ same. cc, record { ref
 pair_refused view (pair.NewerFormat version) (Err refusal) so = (λ same. cc, record { refusal = refusal; is = refl; told = so })
 pair_refused view e (Ok y) so = absurd so
 
--- `NoMemory` from a call that takes memory does not depend on the reading, and any other result is the reading
+-- `NoMemory` from a call that takes memory does not depend on the reading, and any other result is
+-- the reading
 pub pair_given : {X Y : Type 0} (view : X → Y) (e : PairError) (reading : Result Y PairRefusal) → (e ≢ pair.NoMemory → ReadsPair view (Err e) reading)
     → PairSo view (Err (error_of_pair e)) reading
 pair_given view pair.NoMemory reading so = tt

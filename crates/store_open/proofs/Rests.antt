@@ -1,4 +1,5 @@
--- A device that is opened: what a stop leaves while the device is brought to rest, and what the store then has.
+-- A device that is opened: what a stop leaves while the device is brought to rest, and what the
+-- store then has.
 use Rattle.std.proofs.Common.{◌≡◌, inl, inr, ℕ, ◌≤◌, Bool, true, false, List, [], Result, Ok, Err, Option, Some, None, OnOk, refl, sym, ◌∙◌, ap, subst, arith}
 use Rattle.byte_lists.specs.Content.{part}
 use Rattle.path_rows.specs.Database.{RowView}
@@ -32,7 +33,8 @@ use Rattle.store_open.specs.Behind.{SameBehind}
 use Rattle.store_open.proofs.Gates.{gates_inside}
 use Rattle.store_open.proofs.Kept.{kept_opening}
 
--- A device on which nothing is dirty was only read: what a stop leaves is the bytes that reads return.
+-- A device on which nothing is dirty was only read: what a stop leaves is the bytes that reads
+-- return.
 pub stretch_looked : (P : List ℕ → Type 0) (start mid : Disk) → Keeps start mid → (IsHonest start → mid.history ≡ start.history) → (IsHonest start → start.history.now.dirty ≡ [])
     → (IsHonest start → P (reads_of start)) → Stretch start mid P
 stretch_looked P start mid keeps same clean holds = record {

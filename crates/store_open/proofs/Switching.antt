@@ -1,4 +1,5 @@
--- At rest the other half takes over: the image after each write, torn or whole, opens to the same value.
+-- At rest the other half takes over: the image after each write, torn or whole, opens to the same
+-- value.
 use Rattle.std.proofs.Common.{◌≡◌, inl, inr, ℕ, ◌+◌, ◌*◌, ◌/◌, ◌<◌, ◌≤◌, List, length, get_or, refl, sym, ◌∙◌, ap, subst, arith, None, replicate}
 use Rattle.std.proofs.lemmas.Bool.{cases_eq}
 use Rattle.std.proofs.lemmas.List.{length-replicate}
@@ -17,7 +18,8 @@ use Rattle.store_open.specs.TakingOver.{laid, switched, taken, IsTakingOver}
 use Rattle.store_open.proofs.Gates.{gates_inside, first_gate, zero_there, closing_both}
 use Rattle.store_open.proofs.Kept.{kept_by_closing}
 
--- A store at rest: its image has this opening, no journal is sealed, and the half that isn't used is closed; and a checkpoint for that half.
+-- A store at rest: its image has this opening, no journal is sealed, and the half that isn't used
+-- is closed; and a checkpoint for that half.
 pub record MayTakeOver {Db C : Type 0} (format : StoreFormat Db C) (latest : ℕ) (image : List ℕ) (opening : Opening Db C) (next : Checkpoint Db) (bytes : List ℕ) : Type 0 where
   pub is : IsOpening format latest image opening
   pub none : opening.tail ≡ None

@@ -10,14 +10,15 @@ use Rattle.store_layout.specs.Layout.{other}
 use Rattle.store_layout.specs.Opening.{Opening, IsOpening}
 use Rattle.std.specs.Prelude.{None}
 
--- The gates of a half are being closed: all but the half gate and the journal's first gate, in the next sector, is unchanged, and
--- a half gate that was closed is unchanged too.
+-- The gates of a half are being closed: all but the half gate and the journal's first gate, in the
+-- next sector, is unchanged, and a half gate that was closed is unchanged too.
 pub record IsClosing (geometry : Geometry) (half : Half) (old new : List ℕ) : Type 0 where
   pub size : length new ≡ length old
   pub outside : (at n : ℕ) → (at + n ≤ 512 * gate_at geometry half) ⊎ (512 * (gate_at geometry half + 2) ≤ at) → part at n new ≡ part at n old
   pub gate : (¬ IsOpenGate (gate_of geometry half old)) → gate_of geometry half new ≡ gate_of geometry half old
 
--- The gates of the half that isn't used are being closed. After a seal this half is used, and nothing changes.
+-- The gates of the half that isn't used are being closed. After a seal this half is used, and
+-- nothing changes.
 abbrev pub IsClosingUnused : Bool → Geometry → Half → List ℕ → List ℕ → Type 0
 IsClosingUnused false geometry half old new = IsClosing geometry half old new
 IsClosingUnused true geometry half old new = new ≡ old
@@ -27,7 +28,8 @@ pub record HasClosedGates (geometry : Geometry) (half : Half) (content : List �
   pub gate : ¬ IsOpenGate (gate_of geometry half content)
   pub journal : ¬ IsOpenGate (sector_at 0 (journal_of geometry half content))
 
--- No gate of the half that isn't chosen has to be closed: both are closed, or the half is used, after a seal.
+-- No gate of the half that isn't chosen has to be closed: both are closed, or the half is used,
+-- after a seal.
 abbrev pub HasNoGateToClose : Bool → Geometry → Half → List ℕ → Type 0
 HasNoGateToClose false geometry half content = HasClosedGates geometry half content
 HasNoGateToClose true geometry half content = Unit {0}
@@ -37,7 +39,8 @@ abbrev pub synced_by : {T E : Type 0} → Result T E → History → History
 synced_by (Ok _) history = after_sync history
 synced_by (Err _) history = history
 
--- An image that opens without a tail has the same opening while the gates of the half that isn't chosen are being closed.
+-- An image that opens without a tail has the same opening while the gates of the half that isn't
+-- chosen are being closed.
 abbrev pub IsKeptByClosing : Type 0 → Type 0 → Type 0
 IsKeptByClosing Db C =
     (format : StoreFormat Db C) (latest : ℕ) (old new : List ℕ) (opening : Opening Db C) → opening.tail ≡ None

@@ -24,8 +24,9 @@ first_head = record { version = latest; epoch = 1; place = 0 }
 abbrev pub first_checkpoint_bytes : List ℕ
 first_checkpoint_bytes = checkpoint_head_encoding first_head ++ (to_be_bytes w32 0 ++ to_be_bytes w32 0)
 
--- A new store: the first half is open, without rows, and its journal's first gate is closed; both gates of the second half are closed.
--- Each of these sectors is as it was written, with zeros after the bytes that count.
+-- A new store: the first half is open, without rows, and its journal's first gate is closed; both
+-- gates of the second half are closed. Each of these sectors is as it was written, with zeros after
+-- the bytes that count.
 pub record IsNewStore (geometry : Geometry) (image : List ℕ) : Type 0 where
   pub store : IsStore geometry image
   pub title : sector_at 0 image ≡ first_sector geometry
@@ -55,8 +56,8 @@ pub record DeviceHasRoomFor (geometry : Geometry) (disk : Disk) : Type 0 where
   pub allowed : IsGeometry geometry
   pub room : image_sectors geometry ≤ disk.sectors
 
--- The result of making a store: the store is there; or the sizes aren't allowed, or they are and the device is too small, and nothing
--- was done; or the device failed.
+-- The result of making a store: the store is there; or the sizes aren't allowed, or they are and
+-- the device is too small, and nothing was done; or the device failed.
 abbrev pub Formats : Geometry → Result (Unit {0}) FormatError → Disk → Disk → Type 0
 Formats geometry (Ok done) old new = DeviceHasRoomFor geometry old × (new.faults ≡ old.faults) × (IsHonest old → HoldsNewStore geometry new)
 Formats geometry (Err BadGeometry) old new = (¬ IsGeometry geometry) × (new ≡ old)

@@ -61,7 +61,8 @@ pub record IsErrorOfReading {Y : Type 0} (e : OpenError) (reading : Result Y Ope
   pub is : reading ≡ Err refusal
   pub told : e ≡ open_error_of refusal
 
--- an error of the image is the refusal of its reading; an error of the device or of memory does not depend on the image
+-- an error of the image is the refusal of its reading; an error of the device or of memory does not
+-- depend on the image
 abbrev pub RefusesOpening : {Y : Type 0} → OpenError → Result Y OpenRefusal → Type 0
 RefusesOpening NotAStore reading = IsErrorOfReading NotAStore reading
 RefusesOpening Device reading = Unit {0}
@@ -90,8 +91,8 @@ pub record HasFront (geometry : Geometry) (image : List ℕ) : Type 0 where
   pub chosen : choice_by_heads geometry image ≡ Ok half
   pub front : IsOk (front_in latest (512 * geometry.checkpoint) (area_of geometry half image))
 
--- All that is checked without memory is valid: the image is a store's, a half is chosen by the heads, and the front of its
--- checkpoint is valid.
+-- All that is checked without memory is valid: the image is a store's, a half is chosen by the
+-- heads, and the front of its checkpoint is valid.
 pub record WantsMemoryToOpen (image : List ℕ) : Type 0 where
   pub geometry : Geometry
   pub store : geometry_in image ≡ Some geometry
@@ -106,17 +107,20 @@ pub record OpenWithTheSame (before behind : List ℕ) : Type 0 where
   pub opens_behind : IsOpening store_format latest behind opening
   pub beyond : SameBehind opening.geometry before behind
 
--- the image is unchanged, or opens with what it opened with before: an image that doesn't open isn't changed
+-- the image is unchanged, or opens with what it opened with before: an image that doesn't open
+-- isn't changed
 abbrev pub OpensAlike : List ℕ → List ℕ → Type 0
 OpensAlike before behind = (behind ≡ before) ⊎ OpenWithTheSame before behind
 
--- No gate has to be closed: for any opening of the image, the half that isn't chosen has both its gates closed, or is used.
+-- No gate has to be closed: for any opening of the image, the half that isn't chosen has both its
+-- gates closed, or is used.
 abbrev pub HasNothingToClose : List ℕ → Type 0
 HasNothingToClose image =
     (opening : Opening (List RowView) Command) → IsOpening store_format latest image opening
     → HasNoGateToClose opening.journal.sealed opening.geometry (other opening.chosen) image
 
--- Such an opening writes nothing: a device that is opened is synced twice, and one that isn't opened at most once.
+-- Such an opening writes nothing: a device that is opened is synced twice, and one that isn't
+-- opened at most once.
 abbrev pub OnlySyncs : {A E : Type 0} → Result A E → History → History → Type 0
 OnlySyncs (Ok _) old new = new ≡ after_sync (after_sync old)
 OnlySyncs (Err _) old new = (new ≡ old) ⊎ (new ≡ after_sync old)
@@ -130,7 +134,8 @@ pub record IsOpened (reads : List ℕ) (view : StoreView) : Type 0 where
   pub rest : IsAtRest view
   pub same : IsOpening store_format latest reads rest.opening
 
--- A device that isn't opened is returned with an error. An error of the image is that of the bytes that reads returned.
+-- A device that isn't opened is returned with an error. An error of the image is that of the bytes
+-- that reads returned.
 pub record ComesBack (e : OpenError) (old new : Disk) : Type 0 where
   pub refused : IsHonest old → RefusesOpening e (opening_of store_format latest (reads_of old))
   pub memory : IsHonest old → e ≡ NoMemory → WantsMemoryToOpen (reads_of old)

@@ -1,4 +1,5 @@
--- The contents of the stores of path segments: databases of rows, and the commands of their journals.
+-- The contents of the stores of path segments: databases of rows, and the commands of their
+-- journals.
 use Rattle.std.specs.Prelude.{◌≡◌, ℕ, List, [], Some}
 use Rattle.std.proofs.Common.{refl}
 use Rattle.path_rows.specs.Database.{RowView}

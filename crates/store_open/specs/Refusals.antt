@@ -1,4 +1,5 @@
--- Refusals of an opening: how the errors of lower layers become its own, and what each states of what is read.
+-- Refusals of an opening: how the errors of lower layers become its own, and what each states of
+-- what is read.
 use Rattle.std.specs.Prelude.{◌≡◌, ◌≢◌, ℕ, Result, Ok, Err}
 use Rattle.sector_dev.specs.Disk.{Disk, IsHonest}
 use Rattle.sector_dev.specs.Calls.{Keeps, one_more}
@@ -54,7 +55,8 @@ pub record Refused {Y : Type 0} (e : PairError) (reading : Result Y PairRefusal)
   pub is : reading ≡ Err refusal
   pub told : e ≡ error_of refusal
 
--- A journal is scanned: it has this reading, or this refusal, unless the device failed or memory was refused.
+-- A journal is scanned: it has this reading, or this refusal, unless the device failed or memory
+-- was refused.
 abbrev pub ScansSo : Result Scan OpenError → Result (Reading Command) JournalRefusal → Type 0
 ScansSo (Ok scan) reading = reading ≡ Ok (reading_of scan)
 ScansSo (Err NotAStore) reading = ⊥
@@ -63,7 +65,8 @@ ScansSo (Err (Pair e)) reading = ⊥
 ScansSo (Err (Journal e)) reading = (e ≢ journal.NoMemory) × Refuses e reading
 ScansSo (Err NoMemory) reading = Unit {0}
 
--- A part of a pair of halves has this reading, or this refusal, unless the device failed or memory was refused.
+-- A part of a pair of halves has this reading, or this refusal, unless the device failed or memory
+-- was refused.
 abbrev pub PairSo : {X Y : Type 0} → (X → Y) → Result X OpenError → Result Y PairRefusal → Type 0
 PairSo view (Ok x) reading = reading ≡ Ok (view x)
 PairSo view (Err NotAStore) reading = ⊥

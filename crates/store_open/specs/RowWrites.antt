@@ -10,7 +10,8 @@ abbrev pub record_if_any : Option RowView → List ℕ
 record_if_any None = []
 record_if_any (Some row) = row_record row
 
--- Of these bytes, which have to be written from a sector on, a front is written, up to this sector; the rest isn't written yet.
+-- Of these bytes, which have to be written from a sector on, a front is written, up to this sector;
+-- the rest isn't written yet.
 pub record IsWrittenUpTo (old new : Disk) (at sector : ℕ) (rest bytes : List ℕ) : Type 0 where
   pub front : List ℕ
   pub parts : front ++ rest ≡ bytes

@@ -1,4 +1,5 @@
--- The reading of a half whose journal ends with a seal: its checkpoint, with the commands of that journal folded into the rows.
+-- The reading of a half whose journal ends with a seal: its checkpoint, with the commands of that
+-- journal folded into the rows.
 use Rattle.std.specs.Prelude.{◌≡◌, ℕ, Bool, true, false, List, Option, Some, None, Result, Ok, Err}
 use Rattle.path_rows.specs.Database.{RowView}
 use Rattle.path_rows.specs.declared.command.Command.{Command}
@@ -20,7 +21,8 @@ use Rattle.store_open.specs.declared.error.OpenError.TheVariants as opening
 use Rattle.store_open.specs.declared.sealed.SealedError.{SealedError}
 use Rattle.store_open.specs.declared.sealed.SealedError.TheVariants.{Fault, NoMemory, Damaged}
 
--- the head of its checkpoint, the place that its journal reaches, and the rows with the commands of that journal
+-- the head of its checkpoint, the place that its journal reaches, and the rows with the commands of
+-- that journal
 pub record SealedHalf : Type 0 where
   pub head : Head
   pub place : ℕ
@@ -43,7 +45,8 @@ folded_in geometry half image (Err refusal) = None
 folded_in geometry half image (Ok checkpoint) =
     folded_behind checkpoint (journal_from store_format checkpoint geometry half image checkpoint.head.place)
 
--- the reading of a half of an image; `None` where its area is no checkpoint, or its journal is refused, or isn't sealed
+-- the reading of a half of an image; `None` where its area is no checkpoint, or its journal is
+-- refused, or isn't sealed
 abbrev pub sealed_half : Geometry → Half → List ℕ → Option SealedHalf
 sealed_half geometry half image = folded_in geometry half image (checkpoint_in rows_format latest (area_of geometry half image))
 

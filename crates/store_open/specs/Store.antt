@@ -16,9 +16,10 @@ use Rattle.store_open.specs.PathStores.{store_format, IsStoreOf}
 use Rattle.store_open.specs.declared.store_error.StoreError.{StoreError}
 use Rattle.store_open.specs.declared.store_error.StoreError.TheVariants.{Fault, Sealed, NoMemory, Exhausted, Unfit, Broken}
 
--- The device; the sizes; the half that is chosen, and its head; whether its journal is sealed, so that the tail is in the
--- other half; the gate at which the last journal ends, in sectors from that journal's start; the place reached, and the rows;
--- the bytes of the rows of the chosen half, up to the end of its journal; and whether a checkpoint has failed.
+-- The device; the sizes; the half that is chosen, and its head; whether its journal is sealed, so
+-- that the tail is in the other half; the gate at which the last journal ends, in sectors from that
+-- journal's start; the place reached, and the rows; the bytes of the rows of the chosen half, up to
+-- the end of its journal; and whether a checkpoint has failed.
 pub record StoreView : Type 0 where
   pub disk : Disk
   pub geometry : Geometry
@@ -50,8 +51,8 @@ pub record HasOpening (view : StoreView) (opening : Opening (List RowView) Comma
   pub value : opening_value store_format opening ≡ record { db = view.rows; place = view.place }
   pub sealed_len : counted_len (db_at_seal store_format opening) ≡ view.sealed_len
 
--- At rest nothing is dirty, each image that a stop may leave opens with what the store has, and the half that isn't used is closed,
--- and so is its journal's first gate.
+-- At rest nothing is dirty, each image that a stop may leave opens with what the store has, and the
+-- half that isn't used is closed, and so is its journal's first gate.
 pub record IsAtRest (view : StoreView) : Type 0 where
   pub opening : Opening (List RowView) Command
   pub tells : HasOpening view opening
@@ -64,8 +65,8 @@ pub record OpensToStore (view : StoreView) (image : List ℕ) : Type 0 where
   pub opens : IsStoreOf view.rows view.place image
   pub since : view.head.version ≤ opens.opening.checkpoint.head.version
 
--- What an honest device has of a store: it is at rest, unless a checkpoint has failed; and each image that a stop may leave opens to
--- the store's rows at its place.
+-- What an honest device has of a store: it is at rest, unless a checkpoint has failed; and each
+-- image that a stop may leave opens to the store's rows at its place.
 pub record IsSound (view : StoreView) : Type 0 where
   pub rest : view.broken ≡ false → IsAtRest view
   pub every : EveryImage view.disk.history.now (OpensToStore view)
@@ -74,14 +75,16 @@ pub record IsSound (view : StoreView) : Type 0 where
 abbrev pub HasNoRoomInArea : StoreView → Type 0
 HasNoRoomInArea view = 512 * view.geometry.checkpoint < 32 + rows_len view.rows
 
--- a store that may make a checkpoint: none has failed, no journal is sealed, a next epoch exists, and the rows fit the area
+-- a store that may make a checkpoint: none has failed, no journal is sealed, a next epoch exists,
+-- and the rows fit the area
 pub record MayCheckpoint (view : StoreView) : Type 0 where
   pub whole : view.broken ≡ false
   pub unsealed : view.sealed ≡ false
   pub epoch : view.head.epoch < 2 ^ 64 - 1
   pub fits : 32 + rows_len view.rows ≤ 512 * view.geometry.checkpoint
 
--- the same store, once the other half has its rows and an empty journal, in the version that is written
+-- the same store, once the other half has its rows and an empty journal, in the version that is
+-- written
 abbrev pub checkpointed : StoreView → Disk → StoreView
 checkpointed old disk = record old {
   disk = disk;
@@ -91,8 +94,8 @@ checkpointed old disk = record old {
   sealed_len = counted_len old.rows;
 }
 
--- The result of a checkpoint at rest. Where it is refused without a call of the device, nothing has changed; where the device
--- fails, the store is broken for good.
+-- The result of a checkpoint at rest. Where it is refused without a call of the device, nothing has
+-- changed; where the device fails, the store is broken for good.
 abbrev pub Checkpoints : Result (Unit {0}) StoreError → StoreView → StoreView → Type 0
 Checkpoints (Ok done) old new =
     MayCheckpoint old × (new ≡ checkpointed old new.disk) × (new.disk.faults ≡ old.disk.faults) × (IsHonest old.disk → IsAtRest new)

@@ -11,8 +11,9 @@ pub record IsSealWithin (journal last version : ℕ) : Type 0 where
   pub seal : last + 2 ≤ journal
   pub known : version ≤ latest
 
--- its rows are a database, its sizes are allowed and its device has room for them, its fields are within these sizes, its journal isn't
--- sealed where a checkpoint has failed, and an honest device has its contents
+-- its rows are a database, its sizes are allowed and its device has room for them, its fields are
+-- within these sizes, its journal isn't sealed where a checkpoint has failed, and an honest device
+-- has its contents
 pub record IsStoreWhole (view : StoreView) : Type 0 where
   pub rows : IsDatabase view.rows
   pub room : DeviceHasRoomFor view.geometry view.disk

@@ -11,8 +11,8 @@ pub record IsTornAt (at n : ℕ) (old content : List ℕ) : Type 0 where
   pub size : length torn ≡ n
   pub is : content ≡ overwrite at torn old
 
--- the other half's area is written; then its gate is open; and then the old half's gate is closed, and so is the first gate of
--- its journal, in the next sector
+-- the other half's area is written; then its gate is open; and then the old half's gate is closed,
+-- and so is the first gate of its journal, in the next sector
 abbrev pub laid : Geometry → Half → List ℕ → List ℕ → List ℕ
 laid geometry half bytes image = overwrite (512 * area_at geometry (other half)) bytes image
 

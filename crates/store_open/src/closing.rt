@@ -16,8 +16,8 @@ use byte_lists::{closed_gate, closed_gates, is_open};
 use sector_dev::{DevError, Device};
 use store_layout::{Geometry, Half};
 
-/// Closes those of a half's two gates that read open: both in one write where the half gate does, and else the journal's first gate
-/// alone. Nothing may be dirty before the call.
+/// Closes those of a half's two gates that read open: both in one write where the half gate does,
+/// and else the journal's first gate alone. Nothing may be dirty before the call.
 pub(crate) fn close_half<D: Device>(
     device: &mut D,
     geometry: Geometry,
@@ -27,7 +27,8 @@ pub(crate) fn close_half<D: Device>(
     requires room { image_sectors (geometry_view geometry) ≤ (D.disk device.old).sectors }
     requires clean { IsHonest (D.disk device.old) → (D.disk device.old).history.now.dirty ≡ [] }
 
-    // At every moment all but these gates is unchanged, and a half gate that is closed is unchanged too.
+    // At every moment all but these gates is unchanged, and a half gate that is closed is unchanged
+    // too.
     ensures any_moment { Stretch (D.disk device.old) (D.disk device.new) (IsClosing (geometry_view geometry) half (reads_of (D.disk device.old))) }
 
     ensures closed { OnOk result (IsHonest (D.disk device.old) → HasClosedGates (geometry_view geometry) half (reads_of (D.disk device.new))) }
@@ -50,8 +51,8 @@ pub(crate) fn close_half<D: Device>(
     Ok(())
 }
 
-/// Closes the gates that read open of the half that isn't chosen, unless this half has the tail, after a seal, and syncs. Nothing may be
-/// dirty before the call.
+/// Closes the gates that read open of the half that isn't chosen, unless this half has the tail,
+/// after a seal, and syncs. Nothing may be dirty before the call.
 pub(crate) fn close_unused<D: Device>(
     device: &mut D,
     geometry: Geometry,

@@ -17,8 +17,8 @@ use byte_lists::{read_u32, read_u64};
 use sector_dev::{DevError, Device, SECTOR};
 use store_layout::Geometry;
 
-/// The sizes of the store on a device, from its sector 0; `None` where the bytes that reads return are no store. The device is
-/// unchanged.
+/// The sizes of the store on a device, from its sector 0; `None` where the bytes that reads return
+/// are no store. The device is unchanged.
 pub fn read_geometry<D: Device>(device: &mut D) -> Result<Option<Geometry>, DevError>
     ensures keeps { Keeps (D.disk device.old) (D.disk device.new) }
     ensures faults { (D.disk device.new).faults ≡ count_after result (D.disk device.old).faults }

@@ -13,8 +13,9 @@ use path_db::PathDb;
 use std::alloc::AllocError;
 use store_layout::{Geometry, Half};
 
-/// A store but for its device: the sizes, the half that is chosen and its head, whether its journal is sealed, the gate at which
-/// the last journal ends, the place reached, all rows, and the bytes of the rows that the chosen half has.
+/// A store but for its device: the sizes, the half that is chosen and its head, whether its journal
+/// is sealed, the gate at which the last journal ends, the place reached, all rows, and the bytes
+/// of the rows that the chosen half has.
 #[derive(Drop)]
 pub struct Folded {
     pub geometry: Geometry,
@@ -28,7 +29,8 @@ pub struct Folded {
 }
 
 impl Folded {
-    /// Whether the last gate and a seal after it are inside their journal, and the version is one that is known.
+    /// Whether the last gate and a seal after it are inside their journal, and the version is one
+    /// that is known.
     pub(crate) fn is_within(&self) -> bool
         ensures { IsTrue result ↔ IsSealWithin self.now.geometry.journal self.now.gate self.now.head.version }
     {

@@ -32,8 +32,8 @@ const MOST_ROW: usize = ROW_HEAD + MOST_SEGMENT_BYTES;
 /// The length of the buffer in bytes: a piece and the seven greatest rows, in whole sectors.
 pub(crate) const BUFFER: usize = (WRITE_BYTES + 7 * MOST_ROW + (SECTOR - 1)) / SECTOR * SECTOR;
 
-/// Writes the front of a checkpoint and its rows from a sector on, padded with zeros to whole sectors, piece by piece from one
-/// buffer; then syncs. Nothing may be dirty before the call.
+/// Writes the front of a checkpoint and its rows from a sector on, padded with zeros to whole
+/// sectors, piece by piece from one buffer; then syncs. Nothing may be dirty before the call.
 pub(crate) fn lay<D: Device>(
     device: &mut D,
     at: u64,
@@ -62,8 +62,8 @@ pub(crate) fn lay<D: Device>(
     device.sync()
 }
 
-/// Writes the used part of the buffer, and rows after it, in whole pieces. Returns the sector from which the rest has to be written,
-/// and how many bytes of the buffer the rest has.
+/// Writes the used part of the buffer, and rows after it, in whole pieces. Returns the sector from
+/// which the rest has to be written, and how many bytes of the buffer the rest has.
 fn write_rows<D: Device>(
     device: &mut D,
     at: u64,
@@ -133,8 +133,9 @@ fn write_rest<D: Device>(
     device.write(sector, &buffer[..end])
 }
 
-/// Puts the records of a row and of the next six after the used part of the buffer, and returns the length of the used part then. All
-/// seven are read before any is copied, so that the processor waits for their memory at the same time.
+/// Puts the records of a row and of the next six after the used part of the buffer, and returns the
+/// length of the used part then. All seven are read before any is copied, so that the processor
+/// waits for their memory at the same time.
 fn put_seven(buffer: &mut [u8], used: usize, first: &Row, rows: &mut Rows<'_>) -> usize
     requires buffer { length buffer.old ≡ BUFFER }
     requires used { used < WRITE_BYTES }
@@ -171,7 +172,8 @@ fn next_seen<'a>(rows: &mut Rows<'a>) -> Option<(&'a Row, &'a [u8])>
     }
 }
 
-/// Puts the record of a row, where there is one, after the used part of the buffer, and returns the length of the used part then.
+/// Puts the record of a row, where there is one, after the used part of the buffer, and returns the
+/// length of the used part then.
 fn put_seen(buffer: &mut [u8], used: usize, seen: Option<(&Row, &[u8])>) -> usize
     requires room { used + 16389 ≤ length buffer.old }
     requires seen { ForSome seen (λ seen. seen.1.now ≡ segment_encoding seen.0.now.segment) }
@@ -185,7 +187,8 @@ fn put_seen(buffer: &mut [u8], used: usize, seen: Option<(&Row, &[u8])>) -> usiz
     }
 }
 
-/// Puts the record of a row after the used part of the buffer, and returns the length of the used part then.
+/// Puts the record of a row after the used part of the buffer, and returns the length of the used
+/// part then.
 fn put_row(buffer: &mut [u8], used: usize, row: &Row, encoding: &[u8]) -> usize
     requires room { used + 16389 ≤ length buffer.old }
     requires encoding { encoding.now ≡ segment_encoding row.now.segment }

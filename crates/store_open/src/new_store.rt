@@ -30,7 +30,8 @@ pub enum FormatError {
     Fault,
 }
 
-/// Makes a store of these sizes, without rows and at place 0, whatever was on the device before. The call takes no memory.
+/// Makes a store of these sizes, without rows and at place 0, whatever was on the device before.
+/// The call takes no memory.
 #[tactic(auto, using(crate::proofs::Behind::kept_here))]
 pub fn format<D: Device>(device: &mut D, geometry: Geometry) -> Result<(), FormatError>
     ensures keeps { Keeps (D.disk device.old) (D.disk device.new) }

@@ -20,21 +20,24 @@ use gate_journal::JournalError;
 use sector_dev::Device;
 use std::alloc::Global;
 
-/// Opens a device with a store, after any stop: syncs, reads what the image opens with, folds it, closes the gates that read open of
-/// the half that isn't used, and syncs. Only the parts of the device that count are read, in pieces of at most 1 MiB. A device that
-/// isn't opened is returned with the error.
+/// Opens a device with a store, after any stop: syncs, reads what the image opens with, folds it,
+/// closes the gates that read open of the half that isn't used, and syncs. Only the parts of the
+/// device that count are read, in pieces of at most 1 MiB. A device that isn't opened is returned
+/// with the error.
 pub fn open<D: Device>(alloc: Global, device: D) -> Result<Store<D>, (D, OpenError)>
     ensures opened { IfOk result (λ store. IsHonest (D.disk device) → IsOpened (reads_of (D.disk device)) store) }
     ensures faults { IfOk result (λ store. store.disk.faults ≡ (D.disk device).faults) }
     ensures whole { IfOk result (λ store. store.broken ≡ false) }
     ensures refused { IfErr result (λ back. ComesBack back.1 (D.disk device) (D.disk back.0)) }
 
-    // Nothing is written where no gate has to be closed, nor before a refusal that isn't the device's.
+    // Nothing is written where no gate has to be closed, nor before a refusal that isn't the
+    // device's.
     ensures unwritten { IsHonest (D.disk device) → HasNothingToClose (reads_of (D.disk device))
         → OnlySyncs result (D.disk device).history (disk_after D.disk result).history }
     ensures untouched { IfErr result (λ back. IsHonest (D.disk device) → IsNoFault back.1 → (D.disk back.0).history ≡ after_sync (D.disk device).history) }
 
-    // At every moment each image that a stop may leave is an image of the start, or opens with what an image of the start opens with.
+    // At every moment each image that a stop may leave is an image of the start, or opens with what
+    // an image of the start opens with.
     ensures any_moment { Stretch (D.disk device) (disk_after D.disk result) (IsFromImage (D.disk device).history.now OpensAlike) }
 {
     let mut device = device;
@@ -77,7 +80,8 @@ fn settle<D: Device>(alloc: Global, device: &mut D) -> Result<Folded, OpenError>
     bring_to_rest(alloc, device)
 }
 
-/// Reads what a device opens with on which nothing is dirty, folds it, and closes the half that isn't used.
+/// Reads what a device opens with on which nothing is dirty, folds it, and closes the half that
+/// isn't used.
 fn bring_to_rest<D: Device>(alloc: Global, device: &mut D) -> Result<Folded, OpenError>
     requires { IsHonest (D.disk device.old) → (D.disk device.old).history.now.dirty ≡ [] }
     ensures opened { IfOk result (λ folded. IsHonest (D.disk device.old) →

@@ -125,8 +125,8 @@ impl<D: Device> Store<D> {
         self.gate
     }
 
-    /// The bytes of the chosen half's rows as records, up to the end of its journal. The result is 2^64 - 1 for a greater
-    /// count.
+    /// The bytes of the chosen half's rows as records, up to the end of its journal. The result is
+    /// 2^64 - 1 for a greater count.
     pub fn sealed_len(&self) -> u64
         ensures { result ≡ self.now.sealed_len }
     {

@@ -2,11 +2,12 @@
 
 use thiserror::Error;
 
-/// Why no checkpoint is made at rest. The error is the first that applies, in this order: `Broken`, `Sealed`, `Exhausted`,
-/// `Unfit`, and then `Fault` or `NoMemory`.
+/// Why no checkpoint is made at rest. The error is the first that applies, in this order: `Broken`,
+/// `Sealed`, `Exhausted`, `Unfit`, and then `Fault` or `NoMemory`.
 #[derive(Clone, Copy, Debug, PartialEq, Eq, Error)]
 pub enum StoreError {
-    /// A call of the device failed. The store is broken for good: its device has to be opened again.
+    /// A call of the device failed. The store is broken for good: its device has to be opened
+    /// again.
     #[error("the device failed")]
     Fault = 1,
     /// The journal is sealed: only a checkpointer at work folds a sealed journal.

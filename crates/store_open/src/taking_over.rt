@@ -18,8 +18,9 @@ use path_db::PathDb;
 use sector_dev::{DevError, Device};
 use store_layout::{Geometry, Half};
 
-/// Writes a checkpoint to the other half's area, opens that half, and closes the old half and its journal in one write. Each of the
-/// three writes is synced before the next one. Nothing may be dirty before the call.
+/// Writes a checkpoint to the other half's area, opens that half, and closes the old half and its
+/// journal in one write. Each of the three writes is synced before the next one. Nothing may be
+/// dirty before the call.
 pub(crate) fn take_over<D: Device>(
     device: &mut D,
     geometry: Geometry,

@@ -47,7 +47,8 @@ fn done(ended: Result<MemDevice, (MemDevice, Fault)>) -> Result<MemDevice, Fault
     }
 }
 
-// The device in memory below one that failed, and the fault that the command reported. A command that succeeded is reported as a fault of a print.
+// The device in memory below one that failed, and the fault that the command reported. A command
+// that succeeded is reported as a fault of a print.
 fn failed(ended: Result<FaultDevice, (FaultDevice, Fault)>) -> Result<(MemDevice, Fault), Fault> {
     match ended {
         Ok(_device) => Err(Fault::Output),
@@ -273,7 +274,8 @@ fn is_printed(rt: &impl Abort, alloc: Global, device: &mut MemDevice) -> Result<
     Ok(true)
 }
 
-// The test is run with each of its allocations refused in turn. At most one is, so that of two statuses one is printed.
+// The test is run with each of its allocations refused in turn. At most one is, so that of two
+// statuses one is printed.
 #[test]
 fn refused_memory_of_a_status(rt: HostRuntime) -> Result<(), Fail> {
     let alloc = rt.alloc();

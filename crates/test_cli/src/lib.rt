@@ -1,5 +1,6 @@
-//! Tests of the command line: how its words are read, what each command over a store prints, byte for byte, the page of a server's
-//! numbers, and the error line and the status with which the program ends.
+//! Tests of the command line: how its words are read, what each command over a store prints, byte
+//! for byte, the page of a server's numbers, and the error line and the status with which the
+//! program ends.
 #![tactic(auto)]
 
 #[cfg(test)]

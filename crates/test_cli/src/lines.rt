@@ -1,4 +1,5 @@
-//! The last line of each way in which the program ends, as docs/OPERATING.md has it, and its status.
+//! The last line of each way in which the program ends, as docs/OPERATING.md has it, and its
+//! status.
 
 use ckpt_pair::PairError;
 use cli_once::Fault;

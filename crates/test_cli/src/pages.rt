@@ -5,7 +5,8 @@ use group_phases::{Check, Flush};
 use status_page::{CodeCount, Counts, page, response};
 use std::test::Fail;
 
-/// A state that has committed five commands and has two rows, while a group is being written and a journal is sealed.
+/// A state that has committed five commands and has two rows, while a group is being written and a
+/// journal is sealed.
 const NUMBERS: Numbers = Numbers {
     place: 5,
     rows: 2,

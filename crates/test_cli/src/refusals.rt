@@ -1,4 +1,5 @@
-//! Stores that aren't made or upgraded: sizes that are refused, devices that fail, and a journal that is sealed.
+//! Stores that aren't made or upgraded: sizes that are refused, devices that fail, and a journal
+//! that is sealed.
 
 use crate::commands::{LEAST, SECTORS, formatted_old};
 use crate::writers::{Room, with_room};
@@ -9,7 +10,8 @@ use std::process::Abort;
 use std::test::Fail;
 use store_open::{FormatError, Geometry, OpenError, StoreError};
 
-// Sizes in sectors of a checkpoint area, a journal and a device, on which no store of them is made, and why.
+// Sizes in sectors of a checkpoint area, a journal and a device, on which no store of them is made,
+// and why.
 const NO_STORES: [(u32, u32, u64, FormatError); 6] = [
     (1, 516, SECTORS, FormatError::BadGeometry),
     (2, 515, SECTORS, FormatError::BadGeometry),
@@ -58,7 +60,8 @@ fn sizes_that_are_not_allowed(rt: HostRuntime) -> Result<(), Fail> {
 // Above the number of calls that a command makes to a device here.
 const MANY: u64 = 100;
 
-// Makes a store on a device of which the call of this number fails: whether none does. The device is formatted again after a fault.
+// Makes a store on a device of which the call of this number fails: whether none does. The device
+// is formatted again after a fault.
 fn is_formatted(rt: &impl Abort, alloc: Global, number: u64) -> Result<bool, Fail> {
     let mut device = FaultDevice::new(MemDevice::new(alloc, SECTORS)?, number);
     let answer = format_answer(alloc, &mut device, LEAST);
@@ -106,7 +109,8 @@ fn assert_upgrade(
     Ok(())
 }
 
-// Has a store of version 1 upgraded whose device fails at the call of this number: what it answered. It is upgraded again after that.
+// Has a store of version 1 upgraded whose device fails at the call of this number: what it
+// answered. It is upgraded again after that.
 fn upgraded(rt: &impl Abort, alloc: Global, number: u64) -> Result<Result<(), Fault>, Fail> {
     let failing = FaultDevice::new(formatted_old(alloc)?, number);
     let (answer, output, device) = upgrade_answer(alloc, failing);

@@ -1,4 +1,5 @@
-//! The calls that the tests make of a device of four sectors, and the contents of the device after them.
+//! The calls that the tests make of a device of four sectors, and the contents of the device after
+//! them.
 use crate::same::assert_same;
 use sector_dev::{DevError, Device, SECTOR};
 use std::fmt::Debug;
@@ -32,7 +33,8 @@ pub(crate) fn assert_answer<D: Device, C: Debug>(
     assert_same(rt, &answer.is_ok(), &is_ok, case);
 }
 
-/// Makes one of the calls in a case, checks whether it succeeds, and checks how many faults the device then reports.
+/// Makes one of the calls in a case, checks whether it succeeds, and checks how many faults the
+/// device then reports.
 pub(crate) fn assert_call<D: Device, C: Debug>(
     rt: &impl Abort,
     device: &mut D,

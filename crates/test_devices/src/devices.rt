@@ -1,4 +1,5 @@
-//! A device over the system's `/dev/full`, whose writes fail, and over its `/dev/null`, which has no bytes to read.
+//! A device over the system's `/dev/full`, whose writes fail, and over its `/dev/null`, which has
+//! no bytes to read.
 ghost use Rattle.std.specs.Prelude.{◌≡◌};
 
 use crate::calls::assert_call;
@@ -39,7 +40,8 @@ impl PositionedFile for FourSectors {
     }
 }
 
-// Whether each call succeeds, and the number of faults then: the system has no sync of either device.
+// Whether each call succeeds, and the number of faults then: the system has no sync of either
+// device.
 const FULL: [(bool, u64); 6] = [
     (false, 1),
     (false, 2),
@@ -65,7 +67,8 @@ fn device_over(rt: &HostRuntime, path: &str) -> Result<FileDevice<FourSectors>, 
     Ok(FileDevice::new(FourSectors { file })?)
 }
 
-// Makes all calls, and checks the result of each, and that the file counts the same faults as the device.
+// Makes all calls, and checks the result of each, and that the file counts the same faults as the
+// device.
 fn assert_answers(rt: &impl Abort, mut device: FileDevice<FourSectors>, wanted: &[(bool, u64); 6]) {
     for (number, wanted) in wanted.iter().enumerate() {
         assert_call(rt, &mut device, number as u64, *wanted, &number);

@@ -15,7 +15,8 @@ const FAULTS: [(u64, [u8; 3]); 7] = [
     (6, [0x33, 0x22, 0x22]),
 ];
 
-// Makes the calls of a device of which this one fails, and checks the contents of the sectors 1, 2 and 3 then.
+// Makes the calls of a device of which this one fails, and checks the contents of the sectors 1, 2
+// and 3 then.
 fn assert_one_fails(rt: &impl Abort, mut device: FaultDevice, failing: u64, sectors: [u8; 3]) {
     for number in 0..CALLS {
         let wanted = (number != failing, u64::from(failing <= number));

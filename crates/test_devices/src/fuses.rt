@@ -7,8 +7,8 @@ use std::test::Fail;
 // The byte that fills the torn part of a write.
 const FILL: u8 = 0xFF;
 
-// After how many calls a fuse stops, how many bytes of a torn write it keeps, and the contents of the sectors 1, 2 and 3 then:
-// the first byte of each, and the byte that all others are.
+// After how many calls a fuse stops, how many bytes of a torn write it keeps, and the contents of
+// the sectors 1, 2 and 3 then: the first byte of each, and the byte that all others are.
 const STOPS: [(u64, usize, [(u8, u8); 3]); 21] = [
     (0, 0, [(FILL, FILL), (0, 0), (0, 0)]),
     (0, 1, [(0x11, FILL), (0, 0), (0, 0)]),
@@ -37,12 +37,14 @@ fn filled(byte: u8, fill: u8) -> u8 {
     if byte == FILL { fill } else { byte }
 }
 
-// The first byte of a sector and its others, where the torn part of a write is filled with this byte.
+// The first byte of a sector and its others, where the torn part of a write is filled with this
+// byte.
 fn torn((first, rest): (u8, u8), fill: u8) -> (u8, u8) {
     (filled(first, fill), filled(rest, fill))
 }
 
-// Makes the calls of a fuse that passes this number, and checks that the others fail, and the contents of the sectors 1, 2 and 3 then.
+// Makes the calls of a fuse that passes this number, and checks that the others fail, and the
+// contents of the sectors 1, 2 and 3 then.
 fn assert_stop(rt: &impl Abort, mut fuse: FuseDevice, calls: u64, wanted: [(u8, u8); 4]) {
     for number in 0..CALLS {
         assert_answer(rt, &mut fuse, number, number < calls, &(calls, wanted));

@@ -21,7 +21,8 @@ impl Gate for PassCounter {
     }
 }
 
-// Makes a call, of which the sixth one fails, and checks how many times the gate was passed by then.
+// Makes a call, of which the sixth one fails, and checks how many times the gate was passed by
+// then.
 fn assert_passes<D: Device>(
     rt: &impl Abort,
     device: &mut HeldDevice<D, PassCounter>,
@@ -104,7 +105,8 @@ impl<'a> Gate for Witness<'a> {
     }
 }
 
-// Checks that a sync succeeds, and that this number of syncs came before it when the gate was passed.
+// Checks that a sync succeeds, and that this number of syncs came before it when the gate was
+// passed.
 fn assert_sync<'a>(
     rt: &impl Abort,
     device: &mut HeldDevice<SyncCounter<'a, MemDevice>, Witness<'a>>,

@@ -1,4 +1,5 @@
-//! Scripts run on a device that fails at each of its calls in turn, and openings of what is left that fail again.
+//! Scripts run on a device that fails at each of its calls in turn, and openings of what is left
+//! that fail again.
 
 use crate::noted::{Calls, Noted};
 use crate::scripts::{Ending, Left, Script, calls_device, fronted, seen};
@@ -133,8 +134,9 @@ fn calls_of_run(
     ended(rt, held).into_parts()
 }
 
-/// Has the opening of a device with this image, which opens to this place, fail at its calls that the script has tried, one after the
-/// other: each time it opens to the same. How many times it failed.
+/// Has the opening of a device with this image, which opens to this place, fail at its calls that
+/// the script has tried, one after the other: each time it opens to the same. How many times it
+/// failed.
 fn failing_openings<F: Failure>(
     rt: &impl TestHost,
     alloc: Global,
@@ -174,8 +176,9 @@ fn assert_none_calls(rt: &impl TestHost, lines: &[Line], from: usize, to: usize)
     }
 }
 
-/// Sees that a failure is in the next event that calls the device, where the ones before it were before this event: the event
-/// after it. Beginning a checkpoint makes several calls, and each other step one.
+/// Sees that a failure is in the next event that calls the device, where the ones before it were
+/// before this event: the event after it. Beginning a checkpoint makes several calls, and each
+/// other step one.
 fn next_event(rt: &impl TestHost, lines: &[Line], next: usize, ending: Ending) -> usize {
     match ending {
         Ending::Unopened => {
@@ -194,7 +197,8 @@ fn next_event(rt: &impl TestHost, lines: &[Line], next: usize, ending: Ending) -
     }
 }
 
-/// Sees that the event of this number isn't before the next one; it may be that of beginning a checkpoint again.
+/// Sees that the event of this number isn't before the next one; it may be that of beginning a
+/// checkpoint again.
 fn assert_next(rt: &impl TestHost, lines: &[Line], next: usize, number: usize) {
     let behind = number.saturating_add(1);
     let is_begin = matches!(lines.get(number), Some((Act::Begin, _)));
@@ -202,7 +206,8 @@ fn assert_next(rt: &impl TestHost, lines: &[Line], next: usize, number: usize) {
     assert_same(rt, &is_next, &true, &(next, number));
 }
 
-/// What a run left on a device: the image, and the place to which it opens, which is in these bounds.
+/// What a run left on a device: the image, and the place to which it opens, which is in these
+/// bounds.
 fn opened_image(
     rt: &impl TestHost,
     alloc: Global,
@@ -217,8 +222,9 @@ fn opened_image(
     (image, place, device)
 }
 
-/// Has a script's run fail at its calls of the device that the script has tried, one after the other, and the openings of each image
-/// that it leaves: how many times each failed. An image that is left twice in a row is opened with failures once.
+/// Has a script's run fail at its calls of the device that the script has tried, one after the
+/// other, and the openings of each image that it leaves: how many times each failed. An image that
+/// is left twice in a row is opened with failures once.
 pub fn failing_runs<F: Failure>(
     rt: &impl TestHost,
     alloc: Global,

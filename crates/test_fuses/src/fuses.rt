@@ -1,4 +1,5 @@
-//! Runs on a device that stops at each of its calls in turn, and openings of what is left that are stopped again.
+//! Runs on a device that stops at each of its calls in turn, and openings of what is left that are
+//! stopped again.
 
 use crate::failures::failing_runs;
 use crate::host::Host;

@@ -1,5 +1,5 @@
-//! Tests of `group_core` by whole runs on a device that stops, or fails once, at each of its calls in turn: which replies the run
-//! gives then, and to what each image opens that it leaves.
+//! Tests of `group_core` by whole runs on a device that stops, or fails once, at each of its calls
+//! in turn: which replies the run gives then, and to what each image opens that it leaves.
 #![tactic(auto)]
 
 #[cfg(test)]

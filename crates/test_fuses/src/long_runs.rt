@@ -1,6 +1,7 @@
-//! Long runs, with each event's reply: groups, journals that fill, seals, and checkpoints of two chunks between the steps of groups.
-//! Checkpoint areas have 300 sectors and journals 516. A command of eight large segments takes 257 sectors of a journal, the ninth
-//! 33, and a group of small ones 1, each after its gate.
+//! Long runs, with each event's reply: groups, journals that fill, seals, and checkpoints of two
+//! chunks between the steps of groups. Checkpoint areas have 300 sectors and journals 516. A
+//! command of eight large segments takes 257 sectors of a journal, the ninth 33, and a group of
+//! small ones 1, each after its gate.
 
 use group_core::{BeginError, StageError, SubmitError};
 use path_db::Outcome;
@@ -14,7 +15,8 @@ const NINE_GONE: Outcome = Outcome {
     ..NOTHING
 };
 
-/// The moment up to which large segments expire that were made two seconds after the first of their kind.
+/// The moment up to which large segments expire that were made two seconds after the first of their
+/// kind.
 const TWO_LATER: u64 = 3_400_042_948;
 
 /// A store of version 2: three seals, and the three checkpoints after them.

@@ -12,7 +12,8 @@ pub struct Noted<D> {
     calls: Calls,
 }
 
-/// How many calls there were, and the numbers of those that wrote or synced, the first call being number 0.
+/// How many calls there were, and the numbers of those that wrote or synced, the first call being
+/// number 0.
 #[derive(Drop)]
 pub struct Calls {
     count: u64,
@@ -29,8 +30,8 @@ impl Calls {
         }
     }
 
-    /// Whether a call's number is tried: that of a write or a sync and of the call after it, each `apart`-th one, and what is beyond
-    /// the last one.
+    /// Whether a call's number is tried: that of a write or a sync and of the call after it, each
+    /// `apart`-th one, and what is beyond the last one.
     pub fn is_tried(&self, number: u64, apart: u64) -> bool {
         let is_apart = number.checked_rem(apart) == Some(0);
         is_apart
@@ -41,7 +42,8 @@ impl Calls {
 }
 
 impl<D> Noted<D> {
-    /// The device, with no calls noted. Where memory is refused for their numbers, it is asked for once more.
+    /// The device, with no calls noted. Where memory is refused for their numbers, it is asked for
+    /// once more.
     pub fn over(rt: &impl TestHost, alloc: Global, device: D) -> Noted<D> {
         let room = match Vec::with_capacity(alloc, MOST_CHANGES) {
             Err(_) => Vec::with_capacity(alloc, MOST_CHANGES),

@@ -19,8 +19,8 @@ const WIDE: Geometry = Geometry {
     journal: 516,
 };
 
-/// A script, its events, the rows after each of its accepted commands, and the store that it starts from: its place, its sizes, and
-/// its image. It has no rows.
+/// A script, its events, the rows after each of its accepted commands, and the store that it starts
+/// from: its place, its sizes, and its image. It has no rows.
 #[derive(Drop)]
 pub struct Script {
     pub lines: Vec<Line>,
@@ -138,7 +138,8 @@ fn apply(db: &mut PathDb, command: &Command) -> Result<(), Fail> {
     Ok(())
 }
 
-/// The script of these parts, which starts from this store, at this place. Of reads each `apart`-th one is tried.
+/// The script of these parts, which starts from this store, at this place. Of reads each `apart`-th
+/// one is tried.
 fn script_of(
     rt: &impl TestHost,
     alloc: Global,
@@ -176,7 +177,8 @@ pub fn long_script(rt: &impl TestHost, alloc: Global, version: u8) -> Result<Scr
     script_of(rt, alloc, parts, (WIDE, device), (0, 1))
 }
 
-/// The short script, which starts from a store of version 1 or 2 whose first journal is nearly full.
+/// The short script, which starts from a store of version 1 or 2 whose first journal is nearly
+/// full.
 pub fn short_script(rt: &impl TestHost, alloc: Global, version: u8) -> Result<Script, Fail> {
     let parts: &[&[Line]] = if version == 1 { &SHORT_OLD } else { &SHORT_NEW };
     let device = with_purges(new_store(rt, alloc, LEAST, version));
@@ -204,8 +206,8 @@ impl Script {
     }
 }
 
-/// Sees that a store holds the fold of as many of a script's commands as its place says, which is between these: the place, and
-/// the device.
+/// Sees that a store holds the fold of as many of a script's commands as its place says, which is
+/// between these: the place, and the device.
 pub fn fronted<D: Device>(
     rt: &impl TestHost,
     alloc: Global,
@@ -310,7 +312,8 @@ impl Out {
         }
     }
 
-    /// What is out after an event in which the device failed, or which was answered that the state had stopped: its value is spent.
+    /// What is out after an event in which the device failed, or which was answered that the state
+    /// had stopped: its value is spent.
     fn without(self, act: Act) -> Out {
         if is_group_step(act) {
             return Out {
@@ -324,8 +327,8 @@ impl Out {
         }
     }
 
-    /// The expected answer of an event where the state has stopped before it. The places of accepted commands are from `first` to
-    /// before `accepted`.
+    /// The expected answer of an event where the state has stopped before it. The places of
+    /// accepted commands are from `first` to before `accepted`.
     fn stopped(self, first: u64, accepted: u64, (act, wanted): Line) -> (Out, Said) {
         match act {
             Act::Stage => (self, Said::Stage(StageError::Stopped)),
@@ -358,7 +361,8 @@ impl Out {
         (out, said)
     }
 
-    /// The same of a lookup, which goes on. A script looks up between each two publishings of groups.
+    /// The same of a lookup, which goes on. A script looks up between each two publishings of
+    /// groups.
     fn stopped_lookup(self, wanted: Said) -> (Out, Said) {
         if self.published {
             return (self.after((Act::Lookup, wanted)), wanted);
@@ -417,7 +421,8 @@ impl Left {
     }
 }
 
-/// What is out after an event that the device failed in, or that was answered as the script says: whether it failed.
+/// What is out after an event that the device failed in, or that was answered as the script says:
+/// whether it failed.
 fn seen_before(
     rt: &impl TestHost,
     out: Out,
@@ -433,8 +438,8 @@ fn seen_before(
     (out.after((act, wanted)), false)
 }
 
-/// What is out after an event that is answered as by a state that has stopped. The places of accepted commands are from `first` to
-/// before `accepted`.
+/// What is out after an event that is answered as by a state that has stopped. The places of
+/// accepted commands are from `first` to before `accepted`.
 fn seen_behind(
     rt: &impl TestHost,
     out: Out,
@@ -448,7 +453,8 @@ fn seen_behind(
     out
 }
 
-/// Sees that replies are as the script says up to the event in which the device failed, and after it as those of a state that has stopped.
+/// Sees that replies are as the script says up to the event in which the device failed, and after
+/// it as those of a state that has stopped.
 pub fn seen(rt: &impl TestHost, script: &Script, replies: &[Reply]) -> Left {
     let mut left = script.none_left();
     let mut out = NONE_OUT;

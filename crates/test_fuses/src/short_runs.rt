@@ -1,5 +1,6 @@
-//! Short runs, with each event's reply, from a store of the least sizes whose first journal is nearly full: two groups, a seal, and two
-//! or three groups more, with the steps of a whole checkpoint between those of the flusher.
+//! Short runs, with each event's reply, from a store of the least sizes whose first journal is
+//! nearly full: two groups, a seal, and two or three groups more, with the steps of a whole
+//! checkpoint between those of the flusher.
 
 use group_core::SubmitError;
 use sector_dev::MemDevice;
@@ -9,7 +10,8 @@ use test_group_scripts::stores::change;
 /// How many groups of one purge the store has: the place that a run starts from.
 pub const FIRST: u64 = 255;
 
-/// How far the reads are apart that are tried: each is, and an opening makes three for each of those groups.
+/// How far the reads are apart that are tried: each is, and an opening makes three for each of
+/// those groups.
 pub const READS: u64 = 1;
 
 /// A group of one purge of what expires at moment 0, up to the place, and after it.
@@ -17,7 +19,8 @@ const BEFORE_PLACE: [u8; 8] = [1, 1, 0, 0, 0, 0, 0, 13];
 
 const AFTER_PLACE: [u8; 13] = [0, 0, 0, 9, 2, 0, 0, 0, 0, 0, 0, 0, 0];
 
-/// The sector of the first journal's first gate. A group of one purge takes one sector, which is after its gate.
+/// The sector of the first journal's first gate. A group of one purge takes one sector, which is
+/// after its gate.
 const FIRST_GATE: u64 = 4;
 
 /// A new store with the groups in its first journal.
@@ -59,7 +62,8 @@ const SEALED: &[Line] = &[
     (Act::Lookup, Said::Shows(0b110)),
 ];
 
-/// The first steps of the checkpoint, between those of the third segment's group: the checkpoint's half doesn't count yet.
+/// The first steps of the checkpoint, between those of the third segment's group: the checkpoint's
+/// half doesn't count yet.
 const LAID: &[Line] = &[
     (Act::Stage, Said::Done),
     (Act::Begin, Said::Done),

@@ -18,11 +18,13 @@ pub type Line = (Act, Said);
 pub enum Act {
     /// Registers the segment left by this interface.
     Put(u8),
-    /// Registers eight large segments, left by the interfaces 41 to 48, made this number of seconds after the first of their kind.
+    /// Registers eight large segments, left by the interfaces 41 to 48, made this number of seconds
+    /// after the first of their kind.
     Large(u8),
     /// Registers a ninth one, left by interface 49.
     Ninth,
-    /// Registers large segments left by interface 1, which are older than the one that `Put` registers: eight times the same.
+    /// Registers large segments left by interface 1, which are older than the one that `Put`
+    /// registers: eight times the same.
     Older,
     /// Purges what expires up to this moment.
     Purge(u64),
@@ -113,8 +115,8 @@ pub const EIGHT_NEWER: Outcome = Outcome {
 /// What they do where a later one is.
 pub const EIGHT_OLDER: Outcome = Outcome { kept: 8, ..NOTHING };
 
-/// The ids of segments by the interface by which they are left: SHA-256 over `0001ff0000000110 0000`, the interface, and
-/// `0001ff0000000111 0002 0000`.
+/// The ids of segments by the interface by which they are left: SHA-256 over `0001ff0000000110
+/// 0000`, the interface, and `0001ff0000000111 0002 0000`.
 const IDS: [(u8, [u8; 32]); 3] = [
     (1, ID),
     (

@@ -7,8 +7,8 @@ use std::alloc::{AllocError, Global};
 use store_open::{Geometry, OpenError, Store, format, open};
 use test_support::{TestHost, assert_same, assert_true, leaving_by};
 
-/// The least sizes that are allowed: sector 0, and then for each half two sectors of checkpoint area, a gate, and 516 sectors of
-/// journal.
+/// The least sizes that are allowed: sector 0, and then for each half two sectors of checkpoint
+/// area, a gate, and 516 sectors of journal.
 pub const LEAST: Geometry = Geometry {
     checkpoint: 2,
     journal: 516,
@@ -23,7 +23,8 @@ pub const GROUPS: u64 = 257;
 /// How many changes of a device are noted at most.
 pub const MOST_CHANGES: usize = 1000;
 
-/// A group of one command at place 0, which registers one segment as a down segment: what is before the segment.
+/// A group of one command at place 0, which registers one segment as a down segment: what is before
+/// the segment.
 pub const REGISTERED: [u8; 27] = [
     1, 1, 0, 0, 0, 0, 0, 99, 0, 0, 0, 0, 0, 0, 0, 0, // the header
     0, 0, 0, 95, 1, 1, 2, 0, 0, 0, 88, // the record up to the segment
@@ -32,7 +33,8 @@ pub const REGISTERED: [u8; 27] = [
 /// A seal at place 1.
 pub const SEAL: [u8; 16] = [2, 0, 0, 0, 0, 0, 0, 0, 0, 0, 0, 0, 0, 0, 0, 1];
 
-/// What becomes of a write at a stop: no byte of it, one byte or one sector lands, and its other bytes become zero or 0xa7.
+/// What becomes of a write at a stop: no byte of it, one byte or one sector lands, and its other
+/// bytes become zero or 0xa7.
 pub const TEARS: [Tear; 6] = [
     Tear { keep: 0, fill: 0 },
     Tear {
@@ -72,7 +74,8 @@ pub fn change(device: &mut MemDevice, at: u64, from: usize, bytes: &[u8]) {
     }
 }
 
-/// A new store of these sizes, on at most 4,096 sectors. Where memory is refused, it is asked for once more.
+/// A new store of these sizes, on at most 4,096 sectors. Where memory is refused, it is asked for
+/// once more.
 pub fn formatted(rt: &impl TestHost, alloc: Global, geometry: Geometry, sectors: u64) -> MemDevice {
     assert_true(rt, sectors <= 4096, "a store has at most 4,096 sectors");
     let made = match MemDevice::new(alloc, sectors) {
@@ -112,8 +115,8 @@ const LENGTH: usize = 2;
 /// How many bytes of extensions make a segment as large as it may be: 16,384 bytes.
 const EXTENSIONS: usize = 16_292;
 
-/// That segment, but with extensions in its last entry, unless memory is refused. It was made this number of seconds after the first of
-/// its kind, which was made 128 seconds before the other.
+/// That segment, but with extensions in its last entry, unless memory is refused. It was made this
+/// number of seconds after the first of its kind, which was made 128 seconds before the other.
 fn large_bytes(alloc: Global, egress: u8, later: u8) -> Result<Vec<u8>, AllocError> {
     let mut message = segment(egress);
     // The number of seconds, 7 bits in a byte, lowest first.
@@ -128,8 +131,8 @@ fn large_bytes(alloc: Global, egress: u8, later: u8) -> Result<Vec<u8>, AllocErr
     Ok(bytes)
 }
 
-/// The command that registers large segments as down segments, left by these interfaces. Where memory is refused, it is asked for
-/// once more.
+/// The command that registers large segments as down segments, left by these interfaces. Where
+/// memory is refused, it is asked for once more.
 pub fn large(rt: &impl TestHost, alloc: Global, egresses: &[u8], later: u8) -> Command {
     let made = match large_registration(alloc, egresses, later) {
         None => large_registration(alloc, egresses, later),
@@ -157,7 +160,8 @@ fn push_row(alloc: Global, rows: &mut Vec<(SegType, Segment)>, message: &[u8]) -
     rows.push((SegType::Down, segment)).ok()
 }
 
-/// The bytes of the first sectors of a device, at most 4,096 of them. Where memory is refused, it is asked for once more.
+/// The bytes of the first sectors of a device, at most 4,096 of them. Where memory is refused, it
+/// is asked for once more.
 pub fn bytes_of<D: Device>(
     rt: &impl TestHost,
     alloc: Global,
@@ -179,7 +183,8 @@ pub fn bytes_of<D: Device>(
     bytes
 }
 
-/// A store of version 1 or 2. The journal of its first half registers the segment left by interface 1, and is sealed at place 1.
+/// A store of version 1 or 2. The journal of its first half registers the segment left by interface
+/// 1, and is sealed at place 1.
 pub fn sealed_store(rt: &impl TestHost, alloc: Global, version: u8) -> MemDevice {
     let mut device = new_store(rt, alloc);
     change(&mut device, 1, 7, &[version]);
@@ -236,8 +241,8 @@ pub fn assert_half<D: Device>(rt: &impl TestHost, store: &Store<D>, wanted: (u64
     assert_same(rt, &half, &wanted, &"a half's epoch and seal");
 }
 
-/// The command that registers the segment as a down segment, its first AS being left by this interface, below 128, this number of times.
-/// Where memory is refused, it is asked for once more.
+/// The command that registers the segment as a down segment, its first AS being left by this
+/// interface, below 128, this number of times. Where memory is refused, it is asked for once more.
 pub fn register(rt: &impl TestHost, alloc: Global, egress: u8, times: usize) -> Command {
     let made = match registration(alloc, egress, times) {
         None => registration(alloc, egress, times),

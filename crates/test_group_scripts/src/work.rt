@@ -67,7 +67,8 @@ pub struct Work<D: Device> {
     pub round: Round,
 }
 
-/// A state of a store, of this home. Where memory is refused for a copy of the rows, it is asked for once more.
+/// A state of a store, of this home. Where memory is refused for a copy of the rows, it is asked
+/// for once more.
 pub fn state_of<D: Device>(
     rt: &impl TestHost,
     alloc: Global,

@@ -1,4 +1,5 @@
-//! An area that was worked through by hand: three rows under the types 1, 2 and 3, each of one segment.
+//! An area that was worked through by hand: three rows under the types 1, 2 and 3, each of one
+//! segment.
 
 use std::alloc::Global;
 use std::test::Fail;

@@ -1,4 +1,5 @@
-//! Checkpoints that are written and read: the worked bytes, and each refusal after one byte was changed.
+//! Checkpoints that are written and read: the worked bytes, and each refusal after one byte was
+//! changed.
 
 use crate::area::{END, FRESH, area, changed};
 use ckpt_pair::{Checkpoint, PairError, encode_checkpoint, read_half};
@@ -55,7 +56,8 @@ fn rows_are_read_and_written(rt: HostRuntime) -> Result<(), Fail> {
     Ok(())
 }
 
-// One byte of the head, the length, the count or the rows is changed. The bytes after the rows aren't read.
+// One byte of the head, the length, the count or the rows is changed. The bytes after the rows
+// aren't read.
 #[test]
 fn changed_areas(rt: HostRuntime) -> Result<(), Fail> {
     for (at, byte, expected) in [

@@ -27,7 +27,8 @@ fn head_of(gate: &[u8], area: &[u8]) -> Result<Option<Head>, PairError> {
     read_head(gate, area)
 }
 
-// The worked head, and each refusal after one byte was changed. After a closed gate nothing is checked.
+// The worked head, and each refusal after one byte was changed. After a closed gate nothing is
+// checked.
 #[test]
 fn heads_are_read(rt: HostRuntime) -> Result<(), Fail> {
     let older = Head {

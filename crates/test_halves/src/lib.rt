@@ -1,5 +1,6 @@
-//! Tests of the two parts of a half of a store: the checkpoint of `ckpt_pair` and the journal of `gate_journal`. They check what no
-//! clause states: values from outside, that calls succeed where memory suffices, and the results where memory is refused.
+//! Tests of the two parts of a half of a store: the checkpoint of `ckpt_pair` and the journal of
+//! `gate_journal`. They check what no clause states: values from outside, that calls succeed where
+//! memory suffices, and the results where memory is refused.
 #![tactic(auto)]
 
 #[cfg(test)]

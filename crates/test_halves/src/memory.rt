@@ -1,4 +1,5 @@
-//! Want of memory: a group is written whole or not at all, and a journal is read whole or not at all.
+//! Want of memory: a group is written whole or not at all, and a journal is read whole or not at
+//! all.
 
 use crate::worked::Part::{Closed, Open, Purges, Seal};
 use crate::worked::{Seen, bytes_of, many, read_as, seen};
@@ -6,8 +7,8 @@ use gate_journal::{JournalError, can_be_group, encode_group};
 use path_db::Command;
 use std::test::Fail;
 
-// It is run with each allocation refused in turn. Where that is one of the writing or of the reading, both succeed when they
-// are tried again.
+// It is run with each allocation refused in turn. Where that is one of the writing or of the
+// reading, both succeed when they are tried again.
 #[test]
 fn refused_calls_may_be_tried_again(rt: HostRuntime) -> Result<(), Fail> {
     // 16 bytes, 13, and 6 with 16 rows of 93
@@ -29,7 +30,8 @@ fn refused_calls_may_be_tried_again(rt: HostRuntime) -> Result<(), Fail> {
     Ok(())
 }
 
-// A seal, a closed gate and a header that is none take no memory: they are answered where there is none.
+// A seal, a closed gate and a header that is none take no memory: they are answered where there is
+// none.
 #[test]
 fn refusals_take_no_memory(rt: HostRuntime) -> Result<(), Fail> {
     let cases: [(Vec<u8>, Seen); 3] = [

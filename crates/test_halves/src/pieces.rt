@@ -8,7 +8,8 @@ use std::test::Fail;
 /// The error for bytes that are no rows, or are more or fewer rows.
 const BAD: PairError = PairError::BadCheckpoint;
 
-/// The number of rows that are read from bytes in pieces of this size, and the length of their records.
+/// The number of rows that are read from bytes in pieces of this size, and the length of their
+/// records.
 fn read(alloc: Global, bytes: &[u8], size: usize, count: u32) -> Result<(usize, u64), PairError> {
     let mut reader = RowsReader::new(alloc);
     if size > 0 {
@@ -102,7 +103,8 @@ fn front_of(bytes: &[u8], size: u64) -> Result<(u32, u32), PairError> {
     Ok((front.size, front.count))
 }
 
-// The front has the number of bytes that have to be read from an area, which may be larger than the bytes that are there.
+// The front has the number of bytes that have to be read from an area, which may be larger than the
+// bytes that are there.
 #[test]
 fn fronts_are_read(rt: HostRuntime) -> Result<(), Fail> {
     let area = area(rt.alloc())?;

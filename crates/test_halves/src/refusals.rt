@@ -6,7 +6,8 @@ use gate_journal::JournalError::{self, BadHeader, BadRecord, Gap, PastEnd};
 use std::alloc::Global;
 use std::test::Fail;
 
-/// A journal of seven sectors: a purge and a registration of the worked segment at place 0, and after them a seal.
+/// A journal of seven sectors: a purge and a registration of the worked segment at place 0, and
+/// after them a seal.
 pub(crate) fn journal(alloc: Global) -> Result<Vec<u8>, Fail> {
     let mut bytes = bytes_of(alloc, &[Open])?;
     bytes.extend_from_slice(&[1, 2, 0, 0, 0, 0, 0, 112, 0, 0, 0, 0, 0, 0, 0, 0])?;

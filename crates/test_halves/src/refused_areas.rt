@@ -1,5 +1,6 @@
-//! Refused memory while checkpoints are written or read. Each test is run with each of its allocations refused in turn: a
-//! refused call succeeds when it is tried again, and no other result depends on the refusal.
+//! Refused memory while checkpoints are written or read. Each test is run with each of its
+//! allocations refused in turn: a refused call succeeds when it is tried again, and no other result
+//! depends on the refusal.
 
 use crate::area::{area, changed, rows_of};
 use ckpt_pair::{
@@ -42,8 +43,9 @@ fn refused_memory_of_written_checkpoints(rt: HostRuntime) -> Result<(), Fail> {
     Ok(())
 }
 
-// The unchanged area, and areas with one byte changed: the version and the length, which are checked without memory, and the third
-// row's type and the count, which are checked after rows were read.
+// The unchanged area, and areas with one byte changed: the version and the length, which are
+// checked without memory, and the third row's type and the count, which are checked after rows were
+// read.
 #[test]
 fn refused_memory_of_read_checkpoints(rt: HostRuntime) -> Result<(), Fail> {
     for (at, byte, takes_memory, refusal) in [

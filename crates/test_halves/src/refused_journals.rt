@@ -1,5 +1,6 @@
-//! Want of memory while groups are written or journals read. Each test is run with each of its allocations refused in turn: a
-//! refused call succeeds when it is tried again, and no answer is another for the refusal.
+//! Want of memory while groups are written or journals read. Each test is run with each of its
+//! allocations refused in turn: a refused call succeeds when it is tried again, and no answer is
+//! another for the refusal.
 
 use crate::refusals::{WHOLE, journal};
 use crate::worked::{SEGMENT, Seen, drawn, purges, read_as, register, segment};
@@ -10,7 +11,8 @@ use std::alloc::Global;
 use std::process::Abort;
 use std::test::Fail;
 
-/// Sees that commands are written as this payload at place 0, and tried again where memory is refused.
+/// Sees that commands are written as this payload at place 0, and tried again where memory is
+/// refused.
 fn assert_written(
     rt: &impl Abort,
     alloc: Global,
@@ -40,8 +42,8 @@ fn refused_memory_of_written_groups(rt: HostRuntime) -> Result<(), Fail> {
     assert_written(&rt, rt.alloc(), &[Command::Purge(5), registration], payload)
 }
 
-/// The worked journal as it is, and with a byte changed: of the closed gate, of the header, of the registration's type and of
-/// the seal. Only from the records on memory may be wanted.
+/// The worked journal as it is, and with a byte changed: of the closed gate, of the header, of the
+/// registration's type and of the seal. Only from the records on memory may be wanted.
 const CHANGES: [(usize, u8, bool, Seen); 6] = [
     (1, 1, true, WHOLE),
     (0, 0, false, Ok((0, 0, false, 0))),
@@ -76,7 +78,8 @@ fn refused_memory_of_scans(rt: HostRuntime) -> Result<(), Fail> {
     Ok(())
 }
 
-/// What a journal reads as that is taken piece by piece. Only a group's payload may want memory, which is the third piece.
+/// What a journal reads as that is taken piece by piece. Only a group's payload may want memory,
+/// which is the third piece.
 fn taken(rt: &impl Abort, alloc: Global, bytes: &[u8]) -> Seen {
     let mut scanner = Scanner::new(alloc, 7, 0, 1);
     for number in 0..7u8 {

@@ -13,7 +13,8 @@ pub(crate) fn segment(alloc: Global) -> Result<Segment, Fail> {
     Ok(read_segment(alloc, &SEGMENT)?)
 }
 
-/// The worked segment with another timestamp and another segment id, both below 128. It has the same hops, and so that id.
+/// The worked segment with another timestamp and another segment id, both below 128. It has the
+/// same hops, and so that id.
 pub(crate) fn dated(alloc: Global, timestamp: u8, segment_id: u8) -> Result<Segment, Fail> {
     Ok(read_segment(alloc, &test_support::dated(timestamp, segment_id))?)
 }
@@ -113,7 +114,8 @@ fn pad(bytes: &mut Vec<u8>) -> Result<(), Fail> {
     Ok(())
 }
 
-/// What a journal reads as: how many commands, its tail, whether it is sealed, and the place reached.
+/// What a journal reads as: how many commands, its tail, whether it is sealed, and the place
+/// reached.
 pub(crate) type Seen = Result<(usize, u64, bool, u64), JournalError>;
 
 /// What these bytes read as, or want of memory.

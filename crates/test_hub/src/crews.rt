@@ -1,4 +1,5 @@
-//! Crews whose guests do the same, each in a thread of its own, and none of whom is waited for for ever.
+//! Crews whose guests do the same, each in a thread of its own, and none of whom is waited for for
+//! ever.
 
 use path_hub::{Crew, Hub, HubName, with_crew};
 use sector_dev::Device;
@@ -26,7 +27,8 @@ pub(crate) trait Errand {
     fn run<D: Device, N: HubName, R: Wait + Clock + Abort>(&self, hub: &Hub<D, N, R>, guest: u64);
 }
 
-/// Guests who run an errand, each with its number, counted from 0. Where they don't come to an end, the test does.
+/// Guests who run an errand, each with its number, counted from 0. Where they don't come to an end,
+/// the test does.
 #[derive(Drop)]
 pub(crate) struct Guests<E> {
     pub(crate) errand: E,

@@ -15,8 +15,8 @@ use test_hub_scripts::stores::{new_store, opens_to, query, register};
 /// How many segments are registered.
 const SEGMENTS: u8 = 4;
 
-/// Registers segments one after the other, learns each receipt, and looks all segments up. Counts the lookups that showed as many as
-/// were registered, up to one that did not.
+/// Registers segments one after the other, learns each receipt, and looks all segments up. Counts
+/// the lookups that showed as many as were registered, up to one that did not.
 #[derive(Drop)]
 struct Learns {
     alloc: Global,
@@ -38,7 +38,8 @@ impl Errand for Learns {
     }
 }
 
-/// Registers the segment that is left by an interface, and learns the receipt: how many segments are shown then.
+/// Registers the segment that is left by an interface, and learns the receipt: how many segments
+/// are shown then.
 fn shown_after<D: Device, N: HubName, R: Wait + Clock>(
     alloc: Global,
     hub: &Hub<D, N, R>,

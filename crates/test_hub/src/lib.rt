@@ -1,5 +1,6 @@
-//! Tests of `path_hub` with guests in threads, a module for each subject. They see what no clause says: that calls succeed and threads end, what another thread
-//! sees of a call, and what is there where memory or the device is refused.
+//! Tests of `path_hub` with guests in threads, a module for each subject. They see what no clause
+//! says: that calls succeed and threads end, what another thread sees of a call, and what is there
+//! where memory or the device is refused.
 #![tactic(auto)]
 
 #[cfg(test)]

@@ -12,8 +12,8 @@ use std::test::Fail;
 use std::time::Clock;
 use test_hub_scripts::stores::{assert_pair, new_store, opened};
 
-/// How many commands are registered. A journal of 516 sectors has room for 257 groups of one purge, and the second seal waits for the
-/// checkpoint after the first one.
+/// How many commands are registered. A journal of 516 sectors has room for 257 groups of one purge,
+/// and the second seal waits for the checkpoint after the first one.
 const PURGES: u64 = 600;
 
 /// Registers purges, and counts those whose receipts have the next place, up to one that has not.

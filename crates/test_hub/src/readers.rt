@@ -9,7 +9,8 @@ use std::test::Fail;
 use std::time::Clock;
 use test_hub_scripts::stores::{ended, new_store};
 
-/// Takes readers out until there is none, and gives one back. Comes to how many there were, and whether there is one then.
+/// Takes readers out until there is none, and gives one back. Comes to how many there were, and
+/// whether there is one then.
 #[derive(Drop)]
 struct TakesAll {
     alloc: Global,

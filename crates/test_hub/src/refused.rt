@@ -1,5 +1,5 @@
-//! Want of memory. The tests are run with each of their allocations refused in turn: a call that is refused changes nothing, and
-//! succeeds when it is made again.
+//! Want of memory. The tests are run with each of their allocations refused in turn: a call that is
+//! refused changes nothing, and succeeds when it is made again.
 
 use crate::crews::{Errand, Guests};
 use crate::host::Host;
@@ -141,7 +141,8 @@ fn learn<N: HubName, S: Steps<Note = HubNote<N>>>(
     receipt.place()
 }
 
-/// Registers two segments more in one group and one thread, with lookups between the calls. Comes to their places.
+/// Registers two segments more in one group and one thread, with lookups between the calls. Comes
+/// to their places.
 #[derive(Drop)]
 struct Adds {
     alloc: Global,
@@ -172,7 +173,8 @@ impl<D: Device, R: Wait + Clock + Abort> HubJob<D, R> for Adds {
     }
 }
 
-/// Sees that a hub was refused for want of memory, and that the store is as it was: the store that its device opens to.
+/// Sees that a hub was refused for want of memory, and that the store is as it was: the store that
+/// its device opens to.
 fn assert_kept<D: Device>(
     rt: &Host<impl Abort>,
     alloc: Global,
@@ -231,7 +233,8 @@ impl Errand for Joins {
     }
 }
 
-/// A hub with two guests, and once more where memory is refused for it: the device, and how many guests there were.
+/// A hub with two guests, and once more where memory is refused for it: the device, and how many
+/// guests there were.
 fn joined<R: Wait + Clock + Threads + Abort + Copy + Drop + Send + Sync>(
     rt: R,
     alloc: Global,

@@ -21,8 +21,8 @@ const SEGMENTS: u8 = 8;
 /// The least that the first AS of a guest's segments has beyond 1-ff00:0:100.
 const ORIGIN: u64 = 0x20;
 
-/// Registers segments of an AS that is the guest's own, and looks them up after each. Counts the lookups that showed as many as were
-/// registered by then, up to one that did not.
+/// Registers segments of an AS that is the guest's own, and looks them up after each. Counts the
+/// lookups that showed as many as were registered by then, up to one that did not.
 #[derive(Drop)]
 struct Serves {
     alloc: Global,

@@ -19,8 +19,8 @@ use test_hub_scripts::stores::{
     LEAST, change, formatted, opened, opens_to, pair_of, query, register, sealed_row,
 };
 
-/// A store whose journals are full, at place 514, and that has no epoch left for a checkpoint: a further command is accepted, and never
-/// committed.
+/// A store whose journals are full, at place 514, and that has no epoch left for a checkpoint: a
+/// further command is accepted, and never committed.
 fn full_store<R: Wait + Abort + Copy + Drop>(rt: R, alloc: Global) -> Store<MemDevice> {
     let host = Host(rt);
     let mut device = formatted(&host, alloc, LEAST);
@@ -34,7 +34,8 @@ fn full_store<R: Wait + Abort + Copy + Drop>(rt: R, alloc: Global) -> Store<MemD
 /// How long a command is waited for, in naps.
 const MOST_NAPS: u64 = 6000;
 
-/// The first guest registers a command twice; the second one stops the state once the command is accepted.
+/// The first guest registers a command twice; the second one stops the state once the command is
+/// accepted.
 #[derive(Drop)]
 struct Waits {
     answers: Mutex<[Option<HubError>; 2]>,
@@ -100,15 +101,16 @@ fn calls_to_open(rt: &impl Abort, alloc: Global, device: MemDevice) -> u64 {
     panic!(rt; "opening makes no end")
 }
 
-/// A new store on a device that fails in the sync of the second group's gate: each group takes a write and a sync, and these of its gate.
+/// A new store on a device that fails in the sync of the second group's gate: each group takes a
+/// write and a sync, and these of its gate.
 fn failing_store(rt: &Host<impl Abort>, alloc: Global) -> Store<FaultDevice> {
     let number = calls_to_open(&rt.0, alloc, formatted(rt, alloc, LEAST)).saturating_add(7);
     let device = formatted(rt, alloc, LEAST);
     opened(rt, alloc, FaultDevice::new(device, number))
 }
 
-/// What a guest sees of a device that fails in the second group: how many segments are shown before that, and after that to two
-/// readers; and what the second and the third command are answered.
+/// What a guest sees of a device that fails in the second group: how many segments are shown before
+/// that, and after that to two readers; and what the second and the third command are answered.
 type Seen = ([usize; 3], [Option<HubError>; 2]);
 
 /// Registers three segments, of which the second one meets the fault.
@@ -167,11 +169,12 @@ fn failed_gate_sync_stops(rt: HostRuntime) -> Result<(), Fail> {
     Ok(())
 }
 
-/// How many calls of the device the actors make at most until a checkpoint has ended and a few purges are committed.
+/// How many calls of the device the actors make at most until a checkpoint has ended and a few
+/// purges are committed.
 const ACTORS_CALLS: u64 = 30;
 
-/// Purges until the state has stopped, and looks up with two readers before that and after it. Comes to how many segments each lookup
-/// showed.
+/// Purges until the state has stopped, and looks up with two readers before that and after it.
+/// Comes to how many segments each lookup showed.
 #[derive(Drop)]
 struct Purges {
     shown: Mutex<Option<[usize; 4]>>,
@@ -209,7 +212,8 @@ impl Errand for Purges {
     }
 }
 
-/// Sees that readers go on where the call of this number fails, on a device of a store whose journal is sealed.
+/// Sees that readers go on where the call of this number fails, on a device of a store whose
+/// journal is sealed.
 fn assert_readers_go_on<R: Wait + Clock + Threads + Abort + Copy + Drop + Send + Sync>(
     rt: R,
     alloc: Global,
@@ -228,7 +232,8 @@ fn assert_readers_go_on<R: Wait + Clock + Threads + Abort + Copy + Drop + Send +
     let _device = store.into_device();
 }
 
-// The calls of the flusher's steps and of a whole checkpoint, in whichever order the two actors make them.
+// The calls of the flusher's steps and of a whole checkpoint, in whichever order the two actors
+// make them.
 #[test]
 fn readers_go_on_after_each_failed_call(rt: HostRuntime) -> Result<(), Fail> {
     let host = Host(&rt);

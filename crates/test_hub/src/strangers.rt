@@ -13,7 +13,8 @@ use std::time::Clock;
 use test_hub_scripts::acts::{Unwatched, keep, spend, submit};
 use test_hub_scripts::stores::{ended, new_store};
 
-/// Redeems another hub's ticket while a ticket of this one has the same place. Comes to that ticket.
+/// Redeems another hub's ticket while a ticket of this one has the same place. Comes to that
+/// ticket.
 struct Redeems {
     ticket: Ticket,
 }
@@ -74,7 +75,8 @@ fn strangers(rt: HostRuntime) -> Result<(), Fail> {
 /// How many commands may be pending.
 const MOST_PENDING: u64 = 256;
 
-/// Submits as many commands as may be pending, and a few more, before and after the state is stopped.
+/// Submits as many commands as may be pending, and a few more, before and after the state is
+/// stopped.
 #[derive(Drop)]
 struct Fills {
     alloc: Global,

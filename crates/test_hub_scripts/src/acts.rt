@@ -150,7 +150,8 @@ pub fn seal<S: Steps>(rt: &impl TestHost, steps: &S, watch: &mut impl Watch) -> 
     keep(rt, steps, watch, ticket)
 }
 
-/// Fills both journals of a new store with purges, a group for each: the first one, which is sealed then, and the second one.
+/// Fills both journals of a new store with purges, a group for each: the first one, which is sealed
+/// then, and the second one.
 pub fn fill<S: Steps>(rt: &impl TestHost, steps: &S, watch: &mut impl Watch) {
     commit_all(rt, steps, watch, GROUPS);
     let ticket = seal(rt, steps, watch);
@@ -159,7 +160,8 @@ pub fn fill<S: Steps>(rt: &impl TestHost, steps: &S, watch: &mut impl Watch) {
     commit_all(rt, steps, watch, GROUPS - 1);
 }
 
-/// Takes a checkpoint of one chunk through the checkpointer's steps; after each step but the last, nothing is staged.
+/// Takes a checkpoint of one chunk through the checkpointer's steps; after each step but the last,
+/// nothing is staged.
 pub fn fold<S: Steps>(rt: &impl TestHost, steps: &S, watch: &mut impl Watch) {
     let plan = match steps.begin() {
         Ok(plan) => plan,

@@ -18,7 +18,8 @@ use test_support::{TestHost, assert_true};
 /// More calls, and more rests, than are made of a state here: with more the test ends.
 const MANY: u64 = 10_000;
 
-/// A state that stops before the call of a number, counted from 1; a rest is no call, and ends at once.
+/// A state that stops before the call of a number, counted from 1; a rest is no call, and ends at
+/// once.
 pub struct Fake<R: Wait + TestHost> {
     rt: R,
     state: Mutex<State<MemDevice, PlainShow>>,

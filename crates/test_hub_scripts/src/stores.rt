@@ -19,7 +19,8 @@ const MOST_RESTS: u64 = 3000;
 /// Where in the segment the lowest seven bits of its first AS are, beside a bit that is set.
 const FIRST_AS: usize = 19;
 
-/// Sizes with room for 175 rows of the segments here, which take 93 bytes each. The least sizes have room for ten.
+/// Sizes with room for 175 rows of the segments here, which take 93 bytes each. The least sizes
+/// have room for ten.
 pub const WIDE: Geometry = Geometry {
     checkpoint: 32,
     journal: 516,
@@ -65,7 +66,8 @@ pub fn restored(rt: &impl TestHost, device: MemDevice, bytes: &[u8]) -> MemDevic
     device
 }
 
-/// A store of the least sizes whose first journal has one group: it registers the segment, so the store has one row, at place 1.
+/// A store of the least sizes whose first journal has one group: it registers the segment, so the
+/// store has one row, at place 1.
 pub fn one_row(rt: &impl TestHost, alloc: Global) -> MemDevice {
     let mut device = formatted(rt, alloc, LEAST);
     change(&mut device, 5, 0, &REGISTERED);
@@ -111,8 +113,9 @@ pub fn opens_to<D: Device>(rt: &impl TestHost, alloc: Global, device: D, wanted:
     store.into_device()
 }
 
-/// The command that registers the segment as a down segment, its first AS being 1-ff00:0:100 and `origin` more, and being left by
-/// the interface `egress`; both are below 128. None where memory is refused.
+/// The command that registers the segment as a down segment, its first AS being 1-ff00:0:100 and
+/// `origin` more, and being left by the interface `egress`; both are below 128. None where memory
+/// is refused.
 pub fn register(alloc: Global, origin: u8, egress: u8) -> Option<Command> {
     let mut message = leaving_by(egress);
     message[FIRST_AS] = 0x80 | origin;
@@ -133,8 +136,8 @@ pub fn ended<D: Device, J: Drop, T>(
     }
 }
 
-/// Waits until a ticket's command is committed: its receipt, or none where the state has stopped. Where neither comes about in time,
-/// the test ends.
+/// Waits until a ticket's command is committed: its receipt, or none where the state has stopped.
+/// Where neither comes about in time, the test ends.
 pub fn receipt_of<S: Steps>(
     rt: &impl TestHost,
     steps: &S,

@@ -173,8 +173,8 @@ fn answer_again(db: &PathDb, query: &Query) -> Result<Vec<Segment>, AllocError> 
     }
 }
 
-// Run with each allocation failing in turn: a lookup that is refused shows the same when it is made again, and one that shows nothing
-// takes no memory.
+// Run with each allocation failing in turn: a lookup that is refused shows the same when it is made
+// again, and one that shows nothing takes no memory.
 #[test]
 fn refused_memory_of_lookups(rt: HostRuntime) -> Result<(), Fail> {
     let cores = roster(rt.alloc(), &["1-ff00:0:110"])?;

@@ -49,7 +49,8 @@ fn members_are_counted_once(rt: HostRuntime) -> Result<(), Fail> {
     assert_member(&rt, &nobody, "1-0", false)
 }
 
-/// The source and the destination, the type of the segments, and the ASes from which and to which the segments lead.
+/// The source and the destination, the type of the segments, and the ASes from which and to which
+/// the segments lead.
 const SIDES: [(&str, &str, SegType, &str, &str); 10] = [
     (
         "1-ff00:0:110",
@@ -106,7 +107,8 @@ fn sides_are_classified(rt: HostRuntime) -> Result<(), Fail> {
     Ok(())
 }
 
-/// The source and the destination, and why they are refused. Of several refusals the first is the result.
+/// The source and the destination, and why they are refused. Of several refusals the first is the
+/// result.
 const REFUSED: [(&str, &str, LookupError); 7] = [
     ("0-0", "0-0", LookupError::NullDestination),
     ("0-ff00:0:110", "0-0", LookupError::IsdOnlyWildcard),

@@ -33,7 +33,8 @@ const SIDES: [u64; 9] = [
     0x0000_ff00_0000_0110, // that AS of any ISD
 ];
 
-/// The moment at which the rows with the interface 7 expire, in half seconds since 1970: 2 * 1,700,000,000 + 675.
+/// The moment at which the rows with the interface 7 expire, in half seconds since 1970: 2 *
+/// 1,700,000,000 + 675.
 const EARLY: u64 = 3_400_000_675;
 
 /// A segment of two entries from one end to another, with an egress below 128.
@@ -102,8 +103,8 @@ fn add_between(alloc: Global, db: &mut PathDb) -> Result<(), Fail> {
     Ok(())
 }
 
-/// 200 rows: from each of the ASes to each other one an up segment that expires early, and a core segment; and 14 down segments,
-/// from the first AS to each other one and back.
+/// 200 rows: from each of the ASes to each other one an up segment that expires early, and a core
+/// segment; and 14 down segments, from the first AS to each other one and back.
 fn rows(alloc: Global) -> Result<PathDb, Fail> {
     let mut db = PathDb::new(alloc);
     add_between(alloc, &mut db)?;
@@ -118,7 +119,8 @@ fn stands_for(side: IsdAs, ia: IsdAs) -> bool {
     (side.isd == 0 || side.isd == ia.isd) && (side.asn == 0 || side.asn == ia.asn)
 }
 
-/// Whether a row is of the query's type, goes from one side to the other, and each of its hop fields expires after `now`.
+/// Whether a row is of the query's type, goes from one side to the other, and each of its hop
+/// fields expires after `now`.
 fn is_wanted(row: &Row, query: &Query, now: u64) -> bool {
     let entries = row.segment.entries();
     let (Some(first), Some(last)) = (entries.first(), entries.last()) else {
@@ -177,7 +179,8 @@ fn assert_filtered(
     Ok(shown.len())
 }
 
-/// Checks the same for all queries of six ASes and three wildcards on either side. Returns the most segments that one shows.
+/// Checks the same for all queries of six ASes and three wildcards on either side. Returns the most
+/// segments that one shows.
 fn assert_all_filtered(
     rt: &impl Abort,
     alloc: Global,

@@ -1,5 +1,5 @@
-//! Tests of `seg_lookup`, a module for each subject. They check what no contract states: values from outside, and that calls
-//! succeed where memory suffices.
+//! Tests of `seg_lookup`, a module for each subject. They check what no contract states: values
+//! from outside, and that calls succeed where memory suffices.
 #![tactic(auto)]
 
 #[cfg(test)]

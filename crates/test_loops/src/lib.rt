@@ -1,5 +1,6 @@
-//! Tests of what `path_hub`'s two actors do: their loops over a state that stops before one of its calls, which changes wake whom, and the calls of a long
-//! run through a hub beside those of a run of an equal store.
+//! Tests of what `path_hub`'s two actors do: their loops over a state that stops before one of its
+//! calls, which changes wake whom, and the calls of a long run through a hub beside those of a run
+//! of an equal store.
 #![tactic(auto)]
 
 #[cfg(test)]

@@ -67,8 +67,9 @@ fn redeem_all<R: Wait + TestHost>(
 /// What comes of a run.
 type Counts = (u64, u64, u64);
 
-/// Runs both loops over a state that stops before a call: how many commands are committed, and of how many that isn't known, once all
-/// tickets are redeemed; and how many calls there were from that one on.
+/// Runs both loops over a state that stops before a call: how many commands are committed, and of
+/// how many that isn't known, once all tickets are redeemed; and how many calls there were from
+/// that one on.
 fn stopped_at<R: Wait + Abort + Copy + Drop>(
     rt: R,
     alloc: Global,
@@ -88,8 +89,9 @@ fn stopped_at<R: Wait + Abort + Copy + Drop>(
     (fake.into_device(), (committed, unknown, late))
 }
 
-/// Six calls commit the first group, and six more the second one. The sixth, which publishes, goes on where the state has stopped. The
-/// loop ends with the next staging: with the call of this number, where that is one.
+/// Six calls commit the first group, and six more the second one. The sixth, which publishes, goes
+/// on where the state has stopped. The loop ends with the next staging: with the call of this
+/// number, where that is one.
 fn counts_at(number: u64) -> Counts {
     let is_staging = number == 1 || number == 7 || 13 <= number;
     let calls = if is_staging { 1 } else { 2 };
@@ -125,7 +127,8 @@ fn full_device<R: Wait + Abort + Copy + Drop>(rt: R, alloc: Global) -> MemDevice
     fake.into_device()
 }
 
-/// What a store is found to be: how many rows it has, its place, the epoch of its half, and whether that half's journal is sealed.
+/// What a store is found to be: how many rows it has, its place, the epoch of its half, and whether
+/// that half's journal is sealed.
 type Found = (usize, u64, u64, bool);
 
 /// What a device opens to.
@@ -136,8 +139,8 @@ fn found_on(rt: &Host<impl Abort>, alloc: Global, device: MemDevice) -> (MemDevi
     (store.into_device(), found)
 }
 
-/// Runs the checkpointer's loop over a state with a sealed journal that stops before a call, before or after a purge is committed: what its
-/// device opens to.
+/// Runs the checkpointer's loop over a state with a sealed journal that stops before a call, before
+/// or after a purge is committed: what its device opens to.
 fn folded_at<R: Wait + Abort + Copy + Drop>(
     rt: R,
     alloc: Global,
@@ -157,8 +160,9 @@ fn folded_at<R: Wait + Abort + Copy + Drop>(
     found_on(&host, alloc, fake.into_device())
 }
 
-/// What is found of a store of these rows whose journal was sealed at a place. Seven calls make a checkpoint: after the fourth one, which
-/// writes the gate of the new half, the device opens with that half.
+/// What is found of a store of these rows whose journal was sealed at a place. Seven calls make a
+/// checkpoint: after the fourth one, which writes the gate of the new half, the device opens with
+/// that half.
 fn found_at(rows: usize, place: u64, number: u64, is_committed: bool) -> Found {
     let place = place.wrapping_add(u64::from(is_committed));
     if number <= 4 {
@@ -168,8 +172,8 @@ fn found_at(rows: usize, place: u64, number: u64, is_committed: bool) -> Found {
     }
 }
 
-/// Has the checkpointer's loop stopped before each of the first calls, over a device with a sealed journal: before and after a purge is
-/// committed, or by turns.
+/// Has the checkpointer's loop stopped before each of the first calls, over a device with a sealed
+/// journal: before and after a purge is committed, or by turns.
 fn fold_all<R: Wait + Abort + Copy + Drop>(
     rt: R,
     alloc: Global,

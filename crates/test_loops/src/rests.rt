@@ -13,8 +13,8 @@ use test_hub_scripts::acts::{
 };
 use test_hub_scripts::stores::{ended, new_store};
 
-/// How many changes there were of each kind after each call, beyond those that there were at first: of the outcomes, of that of one
-/// place, and of that of the next place.
+/// How many changes there were of each kind after each call, beyond those that there were at first:
+/// of the outcomes, of that of one place, and of that of the next place.
 #[derive(Drop)]
 struct Grown {
     work: Vec<u64>,
@@ -31,7 +31,8 @@ struct Counts<'a, S> {
     grown: Grown,
 }
 
-/// How many changes there were of each kind: of the outcomes, of that of this place, and of that of the next place.
+/// How many changes there were of each kind: of the outcomes, of that of this place, and of that of
+/// the next place.
 fn changes<S: Steps>(steps: &S, place: u64) -> [u64; 4] {
     [
         steps.changes(Awaited::Work),
@@ -84,7 +85,8 @@ fn assert_grown(rt: &Host<impl Abort>, kind: &str, grown: &[u64], wanted: &[u64]
     assert!(rt.0; *grown == *wanted, "{kind} {grown:?}");
 }
 
-/// A purge is submitted, staged, written, synced, its gate opened and synced, published, and redeemed.
+/// A purge is submitted, staged, written, synced, its gate opened and synced, published, and
+/// redeemed.
 fn assert_group<S: Steps>(rt: &Host<impl Abort>, alloc: Global, steps: &S) {
     let mut counts = Counts::new(alloc, steps, GROUPS - 1);
     commit(rt, steps, &mut counts);
@@ -117,8 +119,8 @@ fn assert_seal<S: Steps>(rt: &Host<impl Abort>, alloc: Global, steps: &S) {
     spend(rt, steps, &mut Unwatched, ticket);
 }
 
-/// A checkpoint is begun, written, synced, its gate opened and synced, the old half closed and synced, with a staging that is refused
-/// between two of these calls.
+/// A checkpoint is begun, written, synced, its gate opened and synced, the old half closed and
+/// synced, with a staging that is refused between two of these calls.
 fn assert_fold<S: Steps>(rt: &Host<impl Abort>, alloc: Global, steps: &S) {
     let mut counts = Counts::new(alloc, steps, GROUPS + 1);
     fold(rt, steps, &mut counts);
@@ -198,7 +200,8 @@ fn time_of<S: Steps, R: Clock + Abort>(
     }
 }
 
-/// Sees that a rest ends at once where there was a change since the count was read: a thousand rests would take ten seconds else.
+/// Sees that a rest ends at once where there was a change since the count was read: a thousand
+/// rests would take ten seconds else.
 fn assert_prompt<S: Steps, R: Clock + Abort>(rt: &R, steps: &S, awaited: Awaited, seen: u64) {
     let spent = time_of(rt, steps, awaited, seen, 1000);
     assert!(rt; spent < Duration::from_secs(5), "{spent:?}");

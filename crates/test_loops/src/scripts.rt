@@ -1,4 +1,5 @@
-//! One thread makes the calls of a long run through a hub: each is answered as by a run of an equal store, after as many syncs.
+//! One thread makes the calls of a long run through a hub: each is answered as by a run of an equal
+//! store, after as many syncs.
 
 use crate::host::Host;
 use group_core::StageError;
@@ -18,7 +19,8 @@ use test_hub_scripts::acts::{Answer, GROUPS, Watch, fill, fold, refuse_stage, sp
 use test_hub_scripts::fakes::state_of;
 use test_hub_scripts::stores::{LEAST, ended, formatted, opened, opens_to};
 
-/// How many lines the script has: 513 purges that are committed at once, the one that a seal is staged before, and the one that is left.
+/// How many lines the script has: 513 purges that are committed at once, the one that a seal is
+/// staged before, and the one that is left.
 const LINES: usize = 8 * 513 + 15 + 18;
 
 /// What is seen of an event: the answer, and how many syncs there were by then.
@@ -158,8 +160,8 @@ impl Script {
     }
 }
 
-/// The script: 257 groups fill the first journal, which a seal closes, and 257 groups more the second one; then the journals have no
-/// room until the checkpoint has ended.
+/// The script: 257 groups fill the first journal, which a seal closes, and 257 groups more the
+/// second one; then the journals have no room until the checkpoint has ended.
 fn whole_script(rt: &impl Abort, alloc: Global) -> Script {
     let mut script = Script {
         events: room(rt, alloc),

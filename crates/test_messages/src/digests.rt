@@ -1,4 +1,5 @@
-//! Ids of segments, and the digest that they are. The values are from Python's hashlib, and from FIPS 180-4's examples.
+//! Ids of segments, and the digest that they are. The values are from Python's hashlib, and from
+//! FIPS 180-4's examples.
 
 use crate::checked::{PEERED, SEGMENT};
 use seg_check::seg_id;
@@ -7,7 +8,8 @@ use sha2::{Digest, Sha256};
 use std::test::Fail;
 use test_support::{ID, leaving_by};
 
-// The id depends on the path alone: it is the same with another time and with other peers, and not with another egress.
+// The id depends on the path alone: it is the same with another time and with other peers, and not
+// with another egress.
 #[test]
 fn ids_tell_the_path(rt: HostRuntime) -> Result<(), Fail> {
     let id = hex::encode(rt.alloc(), &ID)?;

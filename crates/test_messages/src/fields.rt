@@ -57,8 +57,8 @@ fn varint_encodings(rt: HostRuntime) -> Result<(), Fail> {
     Ok(())
 }
 
-/// The example fields of protobuf's page on its encoding, each with a byte after it: a message, its field's number and
-/// value, and the bytes of the field.
+/// The example fields of protobuf's page on its encoding, each with a byte after it: a message, its
+/// field's number and value, and the bytes of the field.
 const FIELDS: [(&[u8], u32, Value<'static>, usize); 4] = [
     (&[0x08, 0x96, 1, 9], 1, Value::Varint(150), 3),
     (b"\x12\x07testing.", 2, Value::Bytes(b"testing"), 9),
@@ -134,7 +134,8 @@ fn encodings_that_are_put(rt: HostRuntime) -> Result<(), Fail> {
     Ok(())
 }
 
-// Run with each allocation failing in turn: a put that is refused adds nothing, and succeeds when it is tried again.
+// Run with each allocation failing in turn: a put that is refused adds nothing, and succeeds when
+// it is tried again.
 #[test]
 fn refused_memory_changes_nothing(rt: HostRuntime) -> Result<(), Fail> {
     let mut out = Vec::new(rt.alloc());

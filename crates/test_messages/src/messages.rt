@@ -174,7 +174,8 @@ fn answered_again(alloc: Global, rows: &[(SegType, Segment)]) -> Result<Vec<u8>,
     }
 }
 
-// Run with each allocation failing in turn: a call that is refused succeeds when it is tried again, and no answer is another for it.
+// Run with each allocation failing in turn: a call that is refused succeeds when it is tried again,
+// and no answer is another for it.
 #[test]
 fn refused_memory_is_told(rt: HostRuntime) -> Result<(), Fail> {
     let mut message = [0; 96];

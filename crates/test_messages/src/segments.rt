@@ -19,7 +19,8 @@ fn hop_of(entry: &Entry) -> (IsdAs, IsdAs, (u16, u16, u8)) {
     )
 }
 
-/// Checks that an entry has this AS, next AS, interfaces and expiry, and these signed bytes, and no other parts.
+/// Checks that an entry has this AS, next AS, interfaces and expiry, and these signed bytes, and no
+/// other parts.
 fn assert_entry(
     rt: &impl Abort,
     entry: &Entry,
@@ -81,7 +82,8 @@ fn assert_refused(rt: &impl Abort, alloc: Global, message: &[u8], error: SegErro
     assert_eq!(rt; read_segment(alloc, message).err(), Some(error));
 }
 
-// Segments with one byte changed, each at its place: the entries are no chain, or return to the first AS.
+// Segments with one byte changed, each at its place: the entries are no chain, or return to the
+// first AS.
 #[test]
 fn paths_are_refused(rt: HostRuntime) {
     let mut broken = SEGMENT;

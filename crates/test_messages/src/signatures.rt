@@ -42,7 +42,8 @@ fn keyed_signature_values(rt: HostRuntime) -> Result<(), Fail> {
     Ok(())
 }
 
-// Segments with one bit changed in the segment's information, in each MAC, in each signature and in both.
+// Segments with one bit changed in the segment's information, in each MAC, in each signature and in
+// both.
 #[test]
 fn keyed_signature_refused(rt: HostRuntime) -> Result<(), Fail> {
     let verifier = keyed(rt.alloc(), &KEY)?;

@@ -87,7 +87,8 @@ fn registration(rt: &impl Abort, alloc: Global, signed: &[u8]) -> String {
 /// The last byte of the second signature.
 const LAST: usize = SIGNED.len() - 1;
 
-/// Asserts what a registration is replied, and an empty one after it, where signatures are checked by this key.
+/// Asserts what a registration is replied, and an empty one after it, where signatures are checked
+/// by this key.
 fn assert_keyed(rt: &impl Abort, alloc: Global, key: &str, first: &str, wanted: &[&str]) {
     let checker = key_of(alloc, key).expect(rt, "no key");
     let frames = [first, "0000000101"];

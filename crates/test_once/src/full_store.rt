@@ -4,7 +4,8 @@ use crate::worked::*;
 use std::alloc::Global;
 use std::process::Abort;
 
-/// A registration of one segment of 16,384 bytes, up to the first of the two bytes of its first entry's egress.
+/// A registration of one segment of 16,384 bytes, up to the first of the two bytes of its first
+/// entry's egress.
 const BEFORE_EGRESS: &str =
     "0000400f010a8a80010802128480010a8080010a080880e2cfaa061007122a0a280a2612240890828080\
      80e07f109182808080e07f1a0f0a0d10";
@@ -16,7 +17,8 @@ const AFTER_EGRESS: &str =
 
 const SIGNATURE: usize = 16_290;
 
-/// How many such segments fit: each takes five bytes more, of 2,097,152 but for the 32 before the rows.
+/// How many such segments fit: each takes five bytes more, of 2,097,152 but for the 32 before the
+/// rows.
 const FIT: u8 = 127;
 
 /// Drops all of them.

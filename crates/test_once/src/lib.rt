@@ -1,5 +1,5 @@
-//! Tests of sessions over a store in memory, as `once` answers them: what no contract says of them. Values come from outside; readers
-//! and writers fail, and give and take in pieces.
+//! Tests of sessions over a store in memory, as `once` answers them: what no contract says of them.
+//! Values come from outside; readers and writers fail, and give and take in pieces.
 #![tactic(auto)]
 
 #[cfg(test)]

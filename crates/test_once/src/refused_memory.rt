@@ -1,6 +1,7 @@
-//! Want of memory in sessions. The test is run with each of its allocations refused in turn: the session ends for want of memory,
-//! or because its output has no room, after a front of its replies, or one reply is the code of want of memory. Then that message
-//! changed nothing, or its command was taken, and the later replies go on from there.
+//! Want of memory in sessions. The test is run with each of its allocations refused in turn: the
+//! session ends for want of memory, or because its output has no room, after a front of its
+//! replies, or one reply is the code of want of memory. Then that message changed nothing, or its
+//! command was taken, and the later replies go on from there.
 
 use crate::worked::{FOUND, LOOKUP, NONE_FOUND, REGISTER, session};
 use cli_once::cores_of;
@@ -36,7 +37,8 @@ fn push_ack(
     push(alloc, output, counts)
 }
 
-/// Appends the reply to the message of this number, at a place, where the segment is registered or not.
+/// Appends the reply to the message of this number, at a place, where the segment is registered or
+/// not.
 fn push_reply(
     alloc: Global,
     output: &mut Vec<u8>,
@@ -98,7 +100,8 @@ fn served(alloc: Global) -> Result<(Result<u64, FrameError>, Vec<u8>), Fail> {
     Ok((outcome, output))
 }
 
-/// Whether a session of the messages is replied as where no memory is refused. It is replied otherwise only for a refusal.
+/// Whether a session of the messages is replied as where no memory is refused. It is replied
+/// otherwise only for a refusal.
 fn is_whole(rt: &impl Abort, alloc: Global) -> Result<bool, Fail> {
     let (outcome, output) = served(alloc)?;
     let whole = replies_but(alloc, MESSAGES.len(), true)?;

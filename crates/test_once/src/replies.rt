@@ -68,7 +68,8 @@ fn seventeen_segments(rt: HostRuntime) {
     );
 }
 
-/// The message that registers the worked segment, made at this time, after a frame's length and kind.
+/// The message that registers the worked segment, made at this time, after a frame's length and
+/// kind.
 fn framed(rt: &impl Abort, alloc: Global, head: &str, timestamp: &str) -> String {
     let entries = REGISTER.split_at(46).1;
     text_of(

@@ -79,8 +79,9 @@ fn frame_faults(rt: HostRuntime) {
     }
 }
 
-/// Frames with a fault, the fault, the size of the pieces in which they come, and how many are read. The frame is after
-/// a lookup of 21 bytes, and its fault is seen once the four bytes of the length are there, or the kind after them.
+/// Frames with a fault, the fault, the size of the pieces in which they come, and how many are
+/// read. The frame is after a lookup of 21 bytes, and its fault is seen once the four bytes of the
+/// length are there, or the kind after them.
 const LAST_READS: [(&str, FrameError, usize, u64); 8] = [
     ("00000000", FrameError::Length, 1, 25),
     ("00000000", FrameError::Length, 4, 7),
@@ -258,7 +259,8 @@ fn held_until_flushed(rt: HostRuntime) {
     assert_flushed(&rt, alloc, "0000000105", Err(FrameError::Kind));
 }
 
-/// Asserts what is flushed and what is held where the flush of this number fails. Each frame comes in a piece of its own.
+/// Asserts what is flushed and what is held where the flush of this number fails. Each frame comes
+/// in a piece of its own.
 fn assert_failing_flush(rt: &impl Abort, alloc: Global, failing: u64, flushed: &str, held: &str) {
     let input = joined(rt, alloc, &[REGISTER, LOOKUP]);
     let size = joined(rt, alloc, &[REGISTER]).len();
@@ -285,7 +287,8 @@ fn flushed_before_the_next_read(rt: HostRuntime) {
     assert_failing_flush(&rt, alloc, 1, INSERTED, FOUND);
 }
 
-/// Asserts how a session of the worked frames, in 14 reads of at most ten bytes, ends after this number of reads.
+/// Asserts how a session of the worked frames, in 14 reads of at most ten bytes, ends after this
+/// number of reads.
 fn assert_turns(rt: &impl Abort, alloc: Global, turns: u64, ends: Result<u64, FrameError>) {
     let input = joined(rt, alloc, &[REGISTER, LOOKUP]);
     let mut reader = in_pieces(input.as_slice(), 10);

@@ -99,7 +99,8 @@ impl Write for FailsOnce {
     }
 }
 
-/// Takes all bytes, and keeps them apart until it is flushed. The flush of this number, from 0, fails.
+/// Takes all bytes, and keeps them apart until it is flushed. The flush of this number, from 0,
+/// fails.
 #[derive(Drop)]
 pub struct Holds {
     pub held: Vec<u8>,

@@ -126,8 +126,8 @@ pub fn assert_written(rt: &impl Abort, alloc: Global, name: &str, output: &[u8],
     assert_eq!(rt; digits.as_str(), wanted.as_str(), "{name}");
 }
 
-/// Asserts what a session like the worked one ends with where these bytes come in pieces of this size, and that these
-/// replies are written.
+/// Asserts what a session like the worked one ends with where these bytes come in pieces of this
+/// size, and that these replies are written.
 pub fn assert_in_pieces(
     rt: &impl Abort,
     alloc: Global,

@@ -8,7 +8,8 @@ use std::test::Fail;
 /// What a byte is changed by, bit for bit.
 const MASKS: [u8; 4] = [0x01, 0x02, 0x80, 0xa7];
 
-/// The bytes of a sector from one offset up to another, and what may be answered when one of them is changed.
+/// The bytes of a sector from one offset up to another, and what may be answered when one of them
+/// is changed.
 type Places = (u64, usize, usize, &'static [Answer]);
 
 /// It opens to the same rows and place.
@@ -43,14 +44,16 @@ const CHANGES: [Places; 51] = [
     // Sector 0: the name and number of the layout and the sizes; what isn't read.
     (0, 0, 20, &[NO_STORE]),
     (0, 20, 24, &[SAME]),
-    // The first half's checkpoint: the magic, the version, the epoch, the place, the length and the count.
+    // The first half's checkpoint: the magic, the version, the epoch, the place, the length and the
+    // count.
     (1, 0, 4, &[BAD_CHECKPOINT]),
     (1, 4, 7, &[NEWER]),
     (1, 7, 8, &[NEWER, BAD_CHECKPOINT]),
     (1, 8, 16, &[SAME]),
     (1, 16, 24, &[GAP]),
     (1, 24, 32, &[BAD_CHECKPOINT]),
-    // Its rows: of each the type and the length, and the segment, which may be another one; after them.
+    // Its rows: of each the type and the length, and the segment, which may be another one; after
+    // them.
     (1, 32, 37, &[BAD_CHECKPOINT]),
     (1, 37, 125, &[BAD_CHECKPOINT, SAME]),
     (1, 125, 130, &[BAD_CHECKPOINT]),
@@ -63,7 +66,8 @@ const CHANGES: [Places; 51] = [
     (3, 1, 4, &[SAME]),
     (4, 0, 1, &[NO_JOURNAL]),
     (4, 1, 4, &[SAME]),
-    // The purge: the kind, the count, zeros, the length, the place, the command and its moment, and the padding.
+    // The purge: the kind, the count, zeros, the length, the place, the command and its moment, and
+    // the padding.
     (5, 0, 1, &[BAD_HEADER]),
     (5, 1, 2, &[BAD_HEADER, BAD_RECORD]),
     (5, 2, 5, &[BAD_HEADER]),
@@ -81,11 +85,12 @@ const CHANGES: [Places; 51] = [
     (7, 8, 16, &[GAP]),
     (7, 16, 24, &[BAD_RECORD]),
     (8, 0, 2, &[SAME]),
-    // The second half's checkpoint, and its gate: where that opens, its rows are those up to the seal.
+    // The second half's checkpoint, and its gate: where that opens, its rows are those up to the
+    // seal.
     (520, 0, 8, &[SAME]),
     (522, 0, 4, &[SAME]),
-    // The tail's gate, and its group: the kind, the count, zeros, the length, the place, the command, the row's type, its length,
-    // the segment, and the padding.
+    // The tail's gate, and its group: the kind, the count, zeros, the length, the place, the
+    // command, the row's type, its length, the segment, and the padding.
     (523, 0, 1, &[NO_TAIL]),
     (523, 1, 4, &[SAME]),
     (524, 0, 1, &[BAD_HEADER]),

@@ -183,8 +183,8 @@ fn a_stop_at_any_call_keeps_rows_and_place(rt: HostRuntime) -> Result<(), Fail> 
     Ok(())
 }
 
-// It is run with each allocation refused in turn. Where that is one of the opening or of the checkpoint, nothing has changed, and
-// both succeed when they are tried again.
+// It is run with each allocation refused in turn. Where that is one of the opening or of the
+// checkpoint, nothing has changed, and both succeed when they are tried again.
 #[test]
 fn refused_calls_may_be_tried_again(rt: HostRuntime) -> Result<(), Fail> {
     let mut store = opened(rt.alloc(), worked_store(rt.alloc(), PLAIN)?)?;

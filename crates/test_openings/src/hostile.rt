@@ -1,4 +1,5 @@
-//! New stores in which some bytes are others: what opening them answers, and which refusal comes first.
+//! New stores in which some bytes are others: what opening them answers, and which refusal comes
+//! first.
 
 use crate::stores::{
     Answer, REGISTER, answer_of, change, new_store, opened, pair_of, put, state_of,
@@ -34,8 +35,8 @@ const CLOSED: &[u8] = &[0];
 
 const SEAL: &[u8] = &[2];
 
-/// Sector 1 is the first half's area, 3 its gate, 4 its journal's first gate, and 5 the payload after that; 520, 522, 523 and
-/// 524 are the same of the second half.
+/// Sector 1 is the first half's area, 3 its gate, 4 its journal's first gate, and 5 the payload
+/// after that; 520, 522, 523 and 524 are the same of the second half.
 const IMAGES: [Hostile; 18] = [
     Hostile {
         name: "wrong_layout_number",
@@ -274,7 +275,8 @@ fn new_stores_of_version_1_are_opened(rt: HostRuntime) -> Result<(), Fail> {
 /// By which interface the first AS of each segment is left, in the order of the ids.
 const BY_ID: [u8; 10] = [7, 2, 6, 5, 10, 1, 9, 3, 8, 4];
 
-// Ten rows of 93 bytes are the most that an area of two sectors has room for; the journal registers one more.
+// Ten rows of 93 bytes are the most that an area of two sectors has room for; the journal registers
+// one more.
 #[test]
 fn fold_larger_than_area(rt: HostRuntime) -> Result<(), Fail> {
     let mut device = new_store(rt.alloc())?;

@@ -1,5 +1,6 @@
-//! Tests of `store_open`, a module for each subject. They see what no clause says: the bytes of a new store, what images that were
-//! worked out by hand open to, what is answered where a call of the device fails or memory is refused, and that calls succeed.
+//! Tests of `store_open`, a module for each subject. They see what no clause says: the bytes of a
+//! new store, what images that were worked out by hand open to, what is answered where a call of
+//! the device fails or memory is refused, and that calls succeed.
 #![tactic(auto)]
 
 #[cfg(test)]

@@ -12,7 +12,8 @@ use store_open::{OpenError, open};
 /// More calls than it takes to open a store.
 const MANY: u64 = 200;
 
-/// What becomes of a write at a stop: no byte of it, one byte or one sector lands, and its other bytes become zero or 0xa7.
+/// What becomes of a write at a stop: no byte of it, one byte or one sector lands, and its other
+/// bytes become zero or 0xa7.
 const TEARS: [Tear; 6] = [
     Tear { keep: 0, fill: 0 },
     Tear {
@@ -35,9 +36,10 @@ const TEARS: [Tear; 6] = [
 #[derive(Clone, Copy)]
 struct Left {
     both_are_open: bool,
-    // A sync, sector 0, both half gates, and after each that is open a head; the front and the rows of the chosen half; a
-    // gate, a header and a payload for each group, and for a seal a gate and a header; the gate at the end; a sync. Where both
-    // halves are open, also the older one's gate, and the write that closes it.
+    // A sync, sector 0, both half gates, and after each that is open a head; the front and the rows
+    // of the chosen half; a gate, a header and a payload for each group, and for a seal a gate and
+    // a header; the gate at the end; a sync. Where both halves are open, also the older one's gate,
+    // and the write that closes it.
     calls: u64,
     state: (u64, u32, bool, bool),
     // How the first half's gate and its journal's first gate begin then.
@@ -69,7 +71,8 @@ fn left_again(mut device: MemDevice) -> Result<MemDevice, Fail> {
     Ok(device)
 }
 
-/// Opens a device that stops after this number of calls: whether that succeeds, and what is there then.
+/// Opens a device that stops after this number of calls: whether that succeeds, and what is there
+/// then.
 fn stopped(
     rt: &impl Abort,
     alloc: Global,
@@ -108,7 +111,8 @@ fn assert_opens(
     Ok(device)
 }
 
-/// Stops the first opening after this number of calls, and the second one at every call; the third one isn't stopped.
+/// Stops the first opening after this number of calls, and the second one at every call; the third
+/// one isn't stopped.
 fn assert_opens_after_two(
     rt: &impl Abort,
     alloc: Global,

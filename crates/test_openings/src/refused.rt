@@ -1,5 +1,6 @@
-//! Want of memory while a store is opened. Each test is run with each of its allocations refused in turn: an opening that is
-//! refused gives the device back and succeeds when it is tried again, and no answer is another for the refusal.
+//! Want of memory while a store is opened. Each test is run with each of its allocations refused in
+//! turn: an opening that is refused gives the device back and succeeds when it is tried again, and
+//! no answer is another for the refusal.
 
 use crate::stopped::{PAIR, stopped_store};
 use crate::stores::{Answer, answer_of, change};
@@ -11,9 +12,9 @@ use std::test::Fail;
 /// The numbers of want of memory.
 const NO_MEMORY: Answer = Err((5, 0));
 
-/// A byte of a sector that is another one, whether memory may be wanted before the refusal, and the refusal: sector 0, the first
-/// half's gate, the version, length and count of its checkpoint, its third row's type, the header of the purge, the seal's
-/// padding, and the type of the tail's row.
+/// A byte of a sector that is another one, whether memory may be wanted before the refusal, and the
+/// refusal: sector 0, the first half's gate, the version, length and count of its checkpoint, its
+/// third row's type, the header of the purge, the seal's padding, and the type of the tail's row.
 const CHANGES: [(u64, usize, u8, bool, Answer); 9] = [
     (0, 11, 2, false, Err((1, 0))),
     (3, 0, 0, false, Err((3, 1))),

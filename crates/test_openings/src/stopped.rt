@@ -12,9 +12,10 @@ pub(crate) const PAIR: (usize, u64, u64) = (4, 372, 260);
 /// The header of a group at place 259 of one command, whose record has 99 bytes.
 const ONE: [u8; 16] = [1, 1, 0, 0, 0, 0, 0, 99, 0, 0, 0, 0, 0, 0, 1, 3];
 
-/// A store whose first half, of epoch 7, has three rows at place 258, and a journal that purges none of them and is sealed at
-/// place 259. The tail in the second half's journal registers a fourth row. The second half's area has the checkpoint of the
-/// three rows, of epoch 8 at place 259; its gate is open too or is still closed. It takes memory twice.
+/// A store whose first half, of epoch 7, has three rows at place 258, and a journal that purges
+/// none of them and is sealed at place 259. The tail in the second half's journal registers a
+/// fourth row. The second half's area has the checkpoint of the three rows, of epoch 8 at place
+/// 259; its gate is open too or is still closed. It takes memory twice.
 pub(crate) fn stopped_store(alloc: Global, both_are_open: bool) -> Result<MemDevice, Fail> {
     let sealed = Worked {
         sealed: true,

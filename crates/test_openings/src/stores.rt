@@ -7,8 +7,8 @@ use store_layout::{LEAST_CHECKPOINT, LEAST_JOURNAL};
 use store_open::{Geometry, OpenError, Store, format, open};
 use test_support::{SEGMENT, leaving_by};
 
-/// The least sizes that are allowed: sector 0, and then for each half two sectors of checkpoint area, a gate, and 516 sectors of
-/// journal.
+/// The least sizes that are allowed: sector 0, and then for each half two sectors of checkpoint
+/// area, a gate, and 516 sectors of journal.
 pub(crate) const LEAST: Geometry = Geometry {
     checkpoint: LEAST_CHECKPOINT,
     journal: LEAST_JOURNAL,
@@ -40,8 +40,8 @@ pub(crate) const REGISTER: [u8; 11] = [0, 0, 0, 95, 1, 1, 2, 0, 0, 0, 88];
 /// A seal at place 259.
 const SEAL: [u8; 16] = [2, 0, 0, 0, 0, 0, 0, 0, 0, 0, 0, 0, 0, 0, 1, 3];
 
-/// What is in a store's first half besides its three rows: the head's version and epoch, and whether the journal is sealed,
-/// or goes on with the registration of twelve segments more.
+/// What is in a store's first half besides its three rows: the head's version and epoch, and
+/// whether the journal is sealed, or goes on with the registration of twelve segments more.
 #[derive(Clone, Copy)]
 pub(crate) struct Worked {
     pub(crate) version: u8,

@@ -1,7 +1,8 @@
 //! The system of one command line.
 //!
-//! Its words are given, what it says on standard error goes to standard output, and at one address a listener is bound already, so that
-//! a peer may connect before the server listens. All else is that of the system below, to which `passed` hands it on.
+//! Its words are given, what it says on standard error goes to standard output, and at one address
+//! a listener is bound already, so that a peer may connect before the server listens. All else is
+//! that of the system below, to which `passed` hands it on.
 
 ghost use Rattle.std.specs.Io.{WritesAtMost};
 
@@ -104,7 +105,8 @@ impl<R: Print + AllocGlobal> Eprint for Given<'_, R> {
 }
 
 impl<R: Print> Given<'_, R> {
-    /// Prints a text that goes to standard error, with `ADDRESS` in the place of the address, and its end.
+    /// Prints a text that goes to standard error, with `ADDRESS` in the place of the address, and
+    /// its end.
     fn say(&self, text: &str, end: &str) -> io::Result<()> {
         match text.split_once(self.bound.text.as_str()) {
             Some((before, after)) => self

@@ -1,4 +1,5 @@
-//! Where the regions are of a store with two sectors for a checkpoint and 516 for a journal, and bytes that may be there.
+//! Where the regions are of a store with two sectors for a checkpoint and 516 for a journal, and
+//! bytes that may be there.
 
 /// A sector, and the bytes with which it begins from now on.
 pub(crate) type Change = (u64, &'static [u8]);
@@ -56,8 +57,9 @@ pub(crate) const PURGE_AT_1: &[u8] =
 pub(crate) const LARGE_AT_1: &[u8] =
     b"\x01\x01\x00\x00\x00\x04\x00\x00\x00\x00\x00\x00\x00\x00\x00\x01";
 
-/// The first bytes of a group at place 0 whose one command registers a down segment of 1,075 bytes. In the segment's information is an
-/// unknown field of 983 zeros, which end where the group's third sector begins: the entries are there.
+/// The first bytes of a group at place 0 whose one command registers a down segment of 1,075 bytes.
+/// In the segment's information is an unknown field of 983 zeros, which end where the group's third
+/// sector begins: the entries are there.
 pub(crate) const REGISTRATION: &[u8] =
     b"\x01\x01\x00\x00\x00\x00\x04\x3e\x00\x00\x00\x00\x00\x00\x00\x00\
 \x00\x00\x04\x3a\x01\x01\x02\x00\x00\x04\x33\

@@ -1,6 +1,7 @@
-//! Whole command lines of `pathd`, each with what it prints, on standard output and on standard error, and its status: words that are
-//! refused, help, `once`, the commands over the file of a store, of damaged ones too, and a server with its peers in the same process.
-//! The files are made in the folder that the program runs in.
+//! Whole command lines of `pathd`, each with what it prints, on standard output and on standard
+//! error, and its status: words that are refused, help, `once`, the commands over the file of a
+//! store, of damaged ones too, and a server with its peers in the same process. The files are made
+//! in the folder that the program runs in.
 #![tactic(auto)]
 
 mod given;
@@ -48,7 +49,8 @@ fn main(rt: HostRuntime) -> io::Result<()> {
             let (status, met) = thread::join(
                 &rt,
                 || {
-                    // The prover takes the handles of a runtime from the types that the closure names.
+                    // The prover takes the handles of a runtime from the types that the closure
+                    // names.
                     let none: Handles = (None, None, None);
                     drop(none);
                     carry_out(&given, &mut input.as_bytes(), output)

@@ -23,7 +23,8 @@ pub(crate) enum Before {
     Changes(&'static [Change]),
 }
 
-/// Command lines, and the sessions that are held while each of them is carried out, by the frames that they ask, as hexadecimal text.
+/// Command lines, and the sessions that are held while each of them is carried out, by the frames
+/// that they ask, as hexadecimal text.
 pub(crate) struct Part {
     pub(crate) what: &'static str,
     pub(crate) before: Before,

@@ -9,7 +9,8 @@ use std::net::{Net, Shutdown, SocketAddr, TcpListener, TcpStream};
 /// What follows the replies of a session.
 const END: &str = "; the session has ended\n";
 
-/// Holds these sessions, one after the other: what each was replied, a line each. Where one fails, nobody waits for the others.
+/// Holds these sessions, one after the other: what each was replied, a line each. Where one fails,
+/// nobody waits for the others.
 pub(crate) fn meet<R: Net<Listener = TcpListener, Stream = TcpStream>>(
     rt: &R,
     alloc: Global,
@@ -39,7 +40,8 @@ fn replies_of<R: Net<Listener = TcpListener, Stream = TcpStream>>(
     Ok(all)
 }
 
-/// Asks in a session of its own: what the server replies until it has ended the session, as hexadecimal text.
+/// Asks in a session of its own: what the server replies until it has ended the session, as
+/// hexadecimal text.
 fn ask<R: Net<Listener = TcpListener, Stream = TcpStream>>(
     rt: &R,
     alloc: Global,

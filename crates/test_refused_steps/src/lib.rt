@@ -1,4 +1,5 @@
-//! Tests of steps of `group_core` that are refused: for want of memory, with a value of another state, and while a value is out.
+//! Tests of steps of `group_core` that are refused: for want of memory, with a value of another
+//! state, and while a value is out.
 #![tactic(auto)]
 
 #[cfg(test)]

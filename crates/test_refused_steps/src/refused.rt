@@ -1,5 +1,5 @@
-//! Want of memory. The test is run with each of its allocations refused in turn: a call that is refused changes nothing, and
-//! succeeds when it is tried again.
+//! Want of memory. The test is run with each of its allocations refused in turn: a call that is
+//! refused changes nothing, and succeeds when it is tried again.
 
 use crate::host::Host;
 use group_core::{BeginError, StageError, SubmitError};
@@ -35,7 +35,8 @@ fn assert_waiting(rt: &Host<impl Abort>, work: &mut Work<MemDevice>) {
     assert!(rt.0; matches!(work.redeem(rt, 0), Paid::Waiting(_)));
 }
 
-/// The flusher's next step, and once more where memory was refused, which is so where a group is staged or published.
+/// The flusher's next step, and once more where memory was refused, which is so where a group is
+/// staged or published.
 fn flush_again(
     rt: &Host<impl Abort>,
     work: Work<MemDevice>,
@@ -53,7 +54,8 @@ fn flush_again(
     work.flush(rt)
 }
 
-/// The checkpointer's next step, and once more where memory was refused, which is so where a checkpoint is begun.
+/// The checkpointer's next step, and once more where memory was refused, which is so where a
+/// checkpoint is begun.
 fn check_again(rt: &Host<impl Abort>, work: Work<MemDevice>) -> (Work<MemDevice>, Told) {
     let (work, first) = work.check(rt);
     if first != Told::Begin(BeginError::NoMemory) {

@@ -140,7 +140,8 @@ fn assert_unknown(rt: &Host<impl Abort>, answer: Redeemed<()>) {
     }
 }
 
-/// Makes the steps of a group and of a round but the last one, each value being handed to two other states between them.
+/// Makes the steps of a group and of a round but the last one, each value being handed to two other
+/// states between them.
 fn all_handed(
     rt: &Host<impl Abort>,
     work: Work<MemDevice>,
@@ -213,7 +214,8 @@ fn begins_none(rt: &Host<impl Abort>, work: &mut Work<MemDevice>, wanted: BeginE
     assert_eq!(rt.0; refusal, wanted);
 }
 
-/// Makes all steps of a group and of a round but the last ones, and sees that neither is begun twice.
+/// Makes all steps of a group and of a round but the last ones, and sees that neither is begun
+/// twice.
 fn one_of_each(rt: &Host<impl Abort>, work: Work<MemDevice>) -> Work<MemDevice> {
     let mut work = work;
     for _step in 0..5 {
@@ -261,7 +263,8 @@ fn steps_of_both(rt: &Host<impl Abort>, work: Work<MemDevice>, steps: usize) -> 
     work
 }
 
-/// Stops a state after this number of steps, and sees that nothing is staged or begun, and what is shown and left then.
+/// Stops a state after this number of steps, and sees that nothing is staged or begun, and what is
+/// shown and left then.
 fn assert_halted(rt: &Host<impl Abort>, alloc: Global, steps: usize) {
     let mut work = sealed_work(rt, alloc);
     work.purge(rt, steps);
@@ -290,7 +293,8 @@ fn stopped_states_stage_and_begin_nothing(rt: HostRuntime) -> Result<(), Fail> {
     Ok(())
 }
 
-/// Sees that no checkpoint is begun of a store at the last epoch, and that a group is committed to it.
+/// Sees that no checkpoint is begun of a store at the last epoch, and that a group is committed to
+/// it.
 fn assert_last_epoch(rt: &Host<impl Abort>, alloc: Global, device: MemDevice, wanted: BeginError) {
     let mut device = device;
     change(&mut device, 1, 8, &[0xff; 8]);

@@ -42,8 +42,8 @@ fn assert_drops(
     assert_each(rt, &mut database, name, commands)
 }
 
-// A database of the worked segment, which is valid until its expiry, and has this type: each command, how
-// many rows it drops, and how many are left.
+// A database of the worked segment, which is valid until its expiry, and has this type: each
+// command, how many rows it drops, and how many are left.
 #[test]
 fn rows_are_dropped(rt: HostRuntime) -> Result<(), Fail> {
     let purges = [

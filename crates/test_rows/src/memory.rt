@@ -18,7 +18,8 @@ fn sixteen(alloc: Global) -> Result<Command, Fail> {
     Ok(Command::Register(Registration::new(rows)))
 }
 
-/// How many rows there are, their bytes, and whether the worked segment is there as a down and as a core segment.
+/// How many rows there are, their bytes, and whether the worked segment is there as a down and as a
+/// core segment.
 fn shown(database: &PathDb) -> (usize, u64, bool, bool) {
     (
         count_rows(database),
@@ -28,7 +29,8 @@ fn shown(database: &PathDb) -> (usize, u64, bool, bool) {
     )
 }
 
-/// Applies a command to a database of which this is shown. Where it is refused, the same is shown, and the command is applied again.
+/// Applies a command to a database of which this is shown. Where it is refused, the same is shown,
+/// and the command is applied again.
 fn apply_again(
     rt: &impl Abort,
     database: &mut PathDb,
@@ -64,8 +66,8 @@ fn assert_sixteen(
     Ok(())
 }
 
-// Run with each allocation refused in turn. Where an allocation of the registration is refused, the database is unchanged, and the
-// registration succeeds when it is tried again.
+// Run with each allocation refused in turn. Where an allocation of the registration is refused, the
+// database is unchanged, and the registration succeeds when it is tried again.
 #[test]
 fn refused_registration_changes_nothing(rt: HostRuntime) -> Result<(), Fail> {
     let mut database = row_of(rt.alloc(), SegType::Core)?;
@@ -73,7 +75,8 @@ fn refused_registration_changes_nothing(rt: HostRuntime) -> Result<(), Fail> {
     Ok(assert_sixteen(&rt, &mut database, &command)?)
 }
 
-/// The command that registers eight newer segments with the ids of eight that are there, and eight with other ids.
+/// The command that registers eight newer segments with the ids of eight that are there, and eight
+/// with other ids.
 fn eight_and_eight(alloc: Global) -> Result<Command, Fail> {
     let mut rows = Vec::new(alloc);
     for egress in 1..=16 {
@@ -103,7 +106,8 @@ fn count(database: &PathDb, start: u64, end: u64) -> Result<usize, Fail> {
     Ok(shown.len())
 }
 
-/// The records of all rows, and the number of down segments that are shown by the index of each end and by neither.
+/// The records of all rows, and the number of down segments that are shown by the index of each end
+/// and by neither.
 fn whole(alloc: Global, database: &PathDb) -> Result<(Vec<u8>, [usize; 3]), Fail> {
     let rows = written(alloc, database)?;
     let by_first = count(database, 0x0001_ff00_0000_0110, 0)?;
@@ -125,7 +129,8 @@ fn assert_whole(
     Ok(())
 }
 
-/// Applies a command. Where it is refused, the database is unchanged, and the command is applied again.
+/// Applies a command. Where it is refused, the database is unchanged, and the command is applied
+/// again.
 fn replace_again(
     rt: &impl Abort,
     alloc: Global,
@@ -162,7 +167,8 @@ fn assert_replaced(
     Ok(())
 }
 
-// Run with each allocation refused in turn, as the test above. All rows and both indexes are compared.
+// Run with each allocation refused in turn, as the test above. All rows and both indexes are
+// compared.
 #[test]
 fn refused_replacement_changes_nothing(rt: HostRuntime) -> Result<(), Fail> {
     let mut database = eight(rt.alloc())?;

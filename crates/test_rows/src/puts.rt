@@ -32,7 +32,8 @@ fn assert_put(
     Ok(())
 }
 
-// One segment with the timestamps 10, 11, 11 and 9, each time with another segment id, by which the row is recognized.
+// One segment with the timestamps 10, 11, 11 and 9, each time with another segment id, by which the
+// row is recognized.
 #[test]
 fn newer_timestamp_wins(rt: HostRuntime) -> Result<(), Fail> {
     let mut database = no_rows(rt.alloc());
@@ -94,7 +95,8 @@ fn apply_within(
     database.apply_within(command, most)
 }
 
-/// Checks that a command whose rows take this number of bytes is refused by a limit of one byte less, and applied within the limit.
+/// Checks that a command whose rows take this number of bytes is refused by a limit of one byte
+/// less, and applied within the limit.
 fn assert_within(
     rt: &impl Abort,
     database: &mut PathDb,
@@ -109,7 +111,8 @@ fn assert_within(
     Ok(())
 }
 
-/// Checks that a purge of nothing is applied with a limit of 0 bytes, and leaves this number of bytes.
+/// Checks that a purge of nothing is applied with a limit of 0 bytes, and leaves this number of
+/// bytes.
 fn assert_purged(rt: &impl Abort, database: &mut PathDb, len: u64) -> Result<(), Fail> {
     let found = apply_within(database, &Command::Purge(0), 0)?;
     assert_eq!(rt; found, done(0, 0, 0));
@@ -117,7 +120,8 @@ fn assert_purged(rt: &impl Abort, database: &mut PathDb, len: u64) -> Result<(),
     Ok(())
 }
 
-// A registration may reach the limit, and isn't applied one byte above it. A purge is applied with any limit.
+// A registration may reach the limit, and isn't applied one byte above it. A purge is applied with
+// any limit.
 #[test]
 fn rows_stay_within_the_limit(rt: HostRuntime) -> Result<(), Fail> {
     let command = register(rt.alloc(), SegType::Down, dated(rt.alloc(), 10, 1)?)?;

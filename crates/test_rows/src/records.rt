@@ -1,4 +1,5 @@
-//! Rows and commands as records: the worked row and others like it, and the refusals after one byte was changed.
+//! Rows and commands as records: the worked row and others like it, and the refusals after one byte
+//! was changed.
 
 use crate::worked::{ID, SEGMENT, count_rows, is_there, len_of};
 use path_db::{Command, DbError, PathDb, read_command, read_rows, write_command, write_rows};
@@ -11,7 +12,8 @@ use test_support::leaving_by;
 /// The error for bytes that are no record.
 const BAD: DbError = DbError::BadRecord;
 
-/// Appends the row of the worked segment under the type of this number. It leaves its first AS by this interface, below 128.
+/// Appends the row of the worked segment under the type of this number. It leaves its first AS by
+/// this interface, below 128.
 fn put_row(bytes: &mut Vec<u8>, kind: u8, egress: u8) -> Result<(), Fail> {
     bytes.extend_from_slice(&[kind, 0, 0, 0, 88])?;
     bytes.extend_from_slice(&leaving_by(egress))?;
@@ -77,7 +79,8 @@ fn assert_three(rt: &impl Abort, database: &PathDb) {
     }
 }
 
-// The worked row under each type: it is read, its id is computed again, and it is written as it was.
+// The worked row under each type: it is read, its id is computed again, and it is written as it
+// was.
 #[test]
 fn rows_are_read_and_written(rt: HostRuntime) -> Result<(), Fail> {
     let bytes = rows_of(rt.alloc(), &[1, 2, 3])?;
@@ -98,8 +101,8 @@ const KINDS: [([u8; 3], Result<usize, DbError>); 8] = [
     ([0, 1, 1], Err(BAD)),
 ];
 
-/// The interfaces by which two rows leave their first AS, and how many rows are read. The ids of the worked segment with the
-/// interfaces 2, 1 and 3 begin with 19, 8a and be.
+/// The interfaces by which two rows leave their first AS, and how many rows are read. The ids of
+/// the worked segment with the interfaces 2, 1 and 3 begin with 19, 8a and be.
 const EGRESSES: [(u8, u8, Result<usize, DbError>); 4] = [
     (2, 1, Ok(2)),
     (1, 3, Ok(2)),
@@ -165,7 +168,8 @@ const CHANGED_ROWS: [(usize, u8, Result<usize, DbError>); 17] = [
     (278, 0x0c, Ok(3)), // the last row's
 ];
 
-// Three rows with one byte changed: each begins 93 bytes after the one before, its segment 5 bytes later.
+// Three rows with one byte changed: each begins 93 bytes after the one before, its segment 5 bytes
+// later.
 #[test]
 fn changed_rows(rt: HostRuntime) -> Result<(), Fail> {
     let bytes = rows_of(rt.alloc(), &[1, 2, 3])?;
@@ -187,8 +191,8 @@ pub(crate) fn registration(alloc: Global, count: u8) -> Result<Vec<u8>, Fail> {
     Ok(bytes)
 }
 
-/// Appends a down row of 8,192 bytes, or of one more, after its head: the worked segment with a signature of 8,099 bytes or of one
-/// more.
+/// Appends a down row of 8,192 bytes, or of one more, after its head: the worked segment with a
+/// signature of 8,099 bytes or of one more.
 fn put_long_row(bytes: &mut Vec<u8>, is_longer: bool) -> Result<(), Fail> {
     // The lengths of the row, of the first entry, of its signed message and of the signature.
     let [row, entry, signed, signature] = match is_longer {
@@ -227,8 +231,8 @@ fn told(command: &Command) -> (u8, u64) {
     }
 }
 
-/// The kind and the number of the command that is read; kind 0 where it isn't written as it was read. Where memory is refused, the
-/// bytes are read again.
+/// The kind and the number of the command that is read; kind 0 where it isn't written as it was
+/// read. Where memory is refused, the bytes are read again.
 fn command_of(alloc: Global, bytes: &[u8], version: u32) -> Result<(u8, u64), DbError> {
     let command = match read_command(alloc, bytes, version) {
         Err(DbError::NoMemory) => read_command(alloc, bytes, version)?,
@@ -308,7 +312,8 @@ const CHANGED_REGISTRATIONS: [(usize, u8, Result<(u8, u64), DbError>); 18] = [
     (187, 0x8b, Err(BAD)), // the last MTU, which goes on past the end
 ];
 
-// Two segments with one byte changed: their rows begin at 2 and at 95, their segments 5 bytes later.
+// Two segments with one byte changed: their rows begin at 2 and at 95, their segments 5 bytes
+// later.
 #[test]
 fn changed_registrations(rt: HostRuntime) -> Result<(), Fail> {
     let bytes = registration(rt.alloc(), 2)?;

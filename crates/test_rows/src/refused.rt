@@ -1,5 +1,6 @@
-//! Refused memory while records are written or read. Each test is run with each of its allocations refused in turn: the bytes from
-//! before the refused call stay, the call succeeds when it is tried again, and no other result depends on the refusal.
+//! Refused memory while records are written or read. Each test is run with each of its allocations
+//! refused in turn: the bytes from before the refused call stay, the call succeeds when it is tried
+//! again, and no other result depends on the refusal.
 
 use crate::records::{assert_written_as, changed, read_again, registration, rows_of};
 use path_db::{
@@ -51,8 +52,8 @@ fn refused_memory_of_written_rows(rt: HostRuntime) -> Result<(), Fail> {
     assert_appended(&rt, rt.alloc(), &database, &bytes)
 }
 
-/// Checks that a database is written as these bytes, or that reading was refused with this error, where there is one. `NoMemory` is
-/// not accepted as a result.
+/// Checks that a database is written as these bytes, or that reading was refused with this error,
+/// where there is one. `NoMemory` is not accepted as a result.
 fn assert_rows(
     rt: &impl Abort,
     alloc: Global,
@@ -141,8 +142,8 @@ fn refused_memory_of_written_commands(rt: HostRuntime) -> Result<(), Fail> {
     assert_written(&rt, rt.alloc(), &REMOVAL)
 }
 
-/// Checks that a command is read and written as these bytes, or refused as a bad record, and that only reads that may take memory
-/// are refused it.
+/// Checks that a command is read and written as these bytes, or refused as a bad record, and that
+/// only reads that may take memory are refused it.
 fn assert_read(
     rt: &impl Abort,
     alloc: Global,

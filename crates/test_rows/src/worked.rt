@@ -11,7 +11,8 @@ pub(crate) fn segment(alloc: Global) -> Result<Segment, Fail> {
     Ok(read_segment(alloc, &SEGMENT)?)
 }
 
-/// The worked segment with another timestamp and another segment id, both below 128. It has the same hops, and so the same id.
+/// The worked segment with another timestamp and another segment id, both below 128. It has the
+/// same hops, and so the same id.
 pub(crate) fn dated(alloc: Global, timestamp: u8, segment_id: u8) -> Result<Segment, Fail> {
     Ok(read_segment(alloc, &test_support::dated(timestamp, segment_id))?)
 }
@@ -21,7 +22,8 @@ pub(crate) fn leaving_by(alloc: Global, egress: u8) -> Result<Segment, Fail> {
     Ok(read_segment(alloc, &test_support::leaving_by(egress))?)
 }
 
-/// The worked segment with another timestamp, below 128, which leaves its first AS by this interface, below 128.
+/// The worked segment with another timestamp, below 128, which leaves its first AS by this
+/// interface, below 128.
 pub(crate) fn dated_by(alloc: Global, timestamp: u8, egress: u8) -> Result<Segment, Fail> {
     Ok(read_segment(alloc, &test_support::dated_by(timestamp, egress))?)
 }

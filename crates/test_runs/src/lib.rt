@@ -1,4 +1,5 @@
-//! Tests of `group_recovery`: the reply to each event, lists of events that are cut in two, the ends of runs, and what is left where memory is refused.
+//! Tests of `group_recovery`: the reply to each event, lists of events that are cut in two, the
+//! ends of runs, and what is left where memory is refused.
 #![tactic(auto)]
 
 #[cfg(test)]

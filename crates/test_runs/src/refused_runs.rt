@@ -1,5 +1,5 @@
-//! Want of memory in runs. The tests are run with each of their allocations refused in turn: an event that is refused changes
-//! nothing, and is answered as it was to be when it is tried again.
+//! Want of memory in runs. The tests are run with each of their allocations refused in turn: an
+//! event that is refused changes nothing, and is answered as it was to be when it is tried again.
 
 use crate::host::Host;
 use crate::runs::{rested, sealed_run};
@@ -14,8 +14,8 @@ use test_group_scripts::runs::{done, ended};
 use test_group_scripts::stores::{assert_pair, opens_to, pair_of};
 use test_support::assert_same;
 
-/// The events and answers of a state whose store was sealed at place 1, after the segment left by interface 1: a group, a round, and a
-/// further group that is written.
+/// The events and answers of a state whose store was sealed at place 1, after the segment left by
+/// interface 1: a group, a round, and a further group that is written.
 const STEPS: [Line; 26] = [
     (Act::Lookup, Said::Shows(0b10)),
     (Act::Put(2), Said::Accepted(1)),

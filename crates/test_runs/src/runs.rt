@@ -17,7 +17,8 @@ use test_group_scripts::stores::{SECTORS, bytes_of, opened, sealed_store};
 use test_group_scripts::work::state_of;
 use test_support::assert_same;
 
-/// What a state is given and answers whose store was sealed at place 1, after the segment left by interface 1.
+/// What a state is given and answers whose store was sealed at place 1, after the segment left by
+/// interface 1.
 const TOLD: [&[Line]; 8] = [
     // Nothing is out. Then a group is staged and written.
     &[
@@ -63,7 +64,8 @@ const TOLD: [&[Line]; 8] = [
         (Act::WriteGroup, Said::Done),
         (Act::SyncGroup, Said::Done),
     ],
-    // Tickets are redeemed in any order. What is large fits only where it is kept out by a later one.
+    // Tickets are redeemed in any order. What is large fits only where it is kept out by a later
+    // one.
     &[
         (Act::OpenGate, Said::Done),
         (Act::SyncGate, Said::Done),
@@ -141,8 +143,8 @@ const TOLD: [&[Line]; 8] = [
     ],
 ];
 
-/// For each number of events, and those above the one before it: the place to which the device opens after them, and the interfaces
-/// by which the segments of its rows are left, a bit for each.
+/// For each number of events, and those above the one before it: the place to which the device
+/// opens after them, and the interfaces by which the segments of its rows are left, a bit for each.
 const PLACES: [(usize, u64, u64); 5] = [
     (24, 1, 0b10),
     (38, 2, 0b110),

@@ -10,10 +10,12 @@ use std::net::SocketAddr;
 use std::test::Fail;
 use std::time::Duration;
 
-/// Ends sessions by faults of their frames: by no kind, by a length that no frame has, and within a frame.
+/// Ends sessions by faults of their frames: by no kind, by a length that no frame has, and within a
+/// frame.
 struct Faults;
 
-/// The replies before a fault arrive, and nothing for the fault: an empty registration, and then a kind that is none.
+/// The replies before a fault arrive, and nothing for the fault: an empty registration, and then a
+/// kind that is none.
 const BEFORE_A_FAULT: &str = "0000000101000000020400";
 
 /// What is replied before the fault.
@@ -81,7 +83,8 @@ fn bytes_may_come_one_by_one(rt: HostRuntime) -> Result<(), Fail> {
     Ok(())
 }
 
-/// Two peers: the first one is silent until the server ends its session, and the second one is served meanwhile.
+/// Two peers: the first one is silent until the server ends its session, and the second one is
+/// served meanwhile.
 struct Silent;
 
 impl Clients for Silent {

@@ -1,5 +1,6 @@
-//! Tests of `path_server`, a module for each subject. Both ends of each connection are in one process, over the loopback: the tests see
-//! what no clause says of sockets, of threads and of the time that passes.
+//! Tests of `path_server`, a module for each subject. Both ends of each connection are in one
+//! process, over the loopback: the tests see what no clause says of sockets, of threads and of the
+//! time that passes.
 #![tactic(auto)]
 
 #[cfg(test)]

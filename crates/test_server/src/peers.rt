@@ -100,7 +100,8 @@ pub(crate) fn replies<R: Outside>(
     peer.end()
 }
 
-/// A peer that has a seat. An earlier session may not have left its own yet, so the peer asks again.
+/// A peer that has a seat. An earlier session may not have left its own yet, so the peer asks
+/// again.
 pub(crate) fn seated<R: Outside>(rt: R, alloc: Global, to: SocketAddr) -> io::Result<Peer> {
     for _ in 0..MOST_ASKED {
         let mut peer = Peer::connect(rt, alloc, to)?;

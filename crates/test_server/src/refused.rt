@@ -1,5 +1,6 @@
-//! Want of memory for the threads of a server. Each test is run with each of its allocations refused in turn: a server whose actors aren't
-//! given, or the thread of its second listener, ends by that, and reports no fault of its device.
+//! Want of memory for the threads of a server. Each test is run with each of its allocations
+//! refused in turn: a server whose actors aren't given, or the thread of its second listener, ends
+//! by that, and reports no fault of its device.
 
 use crate::stores::{LEAST, formatted, opened, opens_to};
 use crate::worlds::{Counts, World};
@@ -22,7 +23,8 @@ impl OpenListener for Broken {
     }
 }
 
-/// Has a server begin over a new store, with a second listener or without one: whether its threads were given.
+/// Has a server begin over a new store, with a second listener or without one: whether its threads
+/// were given.
 fn has_threads<R: World>(rt: R, alloc: Global, status: Option<Broken>) -> bool {
     let store = opened(&rt, alloc, formatted(&rt, alloc, LEAST));
     let options = Options {

@@ -22,7 +22,8 @@ const NO_SIGNATURE: &str = "00000002ff31";
 /// A purge of what expired by 1970.
 pub(crate) const PURGE: &str = "00000009030000000000000000";
 
-/// Registers in one session and looks up in another; asks for nothing, and registers nothing; and purges three times.
+/// Registers in one session and looks up in another; asks for nothing, and registers nothing; and
+/// purges three times.
 struct Talks;
 
 impl Clients for Talks {

@@ -11,8 +11,8 @@ use std::io;
 use std::net::SocketAddr;
 use std::test::Fail;
 
-/// One session registers while a sync of its group is held, and another looks up meanwhile; then the first one gets its receipt, and
-/// both see the segment.
+/// One session registers while a sync of its group is held, and another looks up meanwhile; then
+/// the first one gets its receipt, and both see the segment.
 #[derive(Drop)]
 struct Holding<'a> {
     door: &'a Door,
@@ -73,7 +73,8 @@ fn held_sync_lookup(rt: HostRuntime) -> Result<(), Fail> {
     Ok(())
 }
 
-/// A command before the device fails, one that meets the fault, one after it in another session, and lookups of both.
+/// A command before the device fails, one that meets the fault, one after it in another session,
+/// and lookups of both.
 struct Failing;
 
 impl Clients for Failing {

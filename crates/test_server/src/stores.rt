@@ -6,7 +6,8 @@ use std::process::Abort;
 use store_layout::{LEAST_CHECKPOINT, LEAST_JOURNAL};
 use store_open::{Geometry, OpenError, Store, format, open};
 
-/// The least sizes that are allowed: there is room for ten rows of the segments here, which take 93 bytes each.
+/// The least sizes that are allowed: there is room for ten rows of the segments here, which take 93
+/// bytes each.
 pub(crate) const LEAST: Geometry = Geometry {
     checkpoint: LEAST_CHECKPOINT,
     journal: LEAST_JOURNAL,
@@ -69,8 +70,8 @@ fn calls_to_open(rt: &impl Abort, alloc: Global) -> u64 {
     panic!(rt; "opening makes no end")
 }
 
-/// A new store on a device that fails, once the store was opened, in the sync of the second group's gate: each group takes a write and a
-/// sync, and these of its gate.
+/// A new store on a device that fails, once the store was opened, in the sync of the second group's
+/// gate: each group takes a write and a sync, and these of its gate.
 pub(crate) fn failing(rt: &impl Abort, alloc: Global) -> FaultDevice {
     let number = calls_to_open(rt, alloc).saturating_add(7);
     FaultDevice::new(formatted(rt, alloc, LEAST), number)

@@ -282,7 +282,8 @@ fn other_requests_are_refused(rt: HostRuntime) -> Result<(), Fail> {
     Ok(())
 }
 
-/// One peer is silent at the listener for requests, while a session is served; another one asks for the numbers after it.
+/// One peer is silent at the listener for requests, while a session is served; another one asks for
+/// the numbers after it.
 #[derive(Drop)]
 struct Hushed {
     at: SocketAddr,
@@ -350,7 +351,8 @@ impl Clients for Twice {
     }
 }
 
-// The second listener is shut down before the server begins, so that its first accept says that it is broken.
+// The second listener is shut down before the server begins, so that its first accept says that it
+// is broken.
 #[test]
 fn a_broken_second_listener_ends_its_thread_alone(rt: HostRuntime) -> Result<(), Fail> {
     let alloc = rt.alloc();

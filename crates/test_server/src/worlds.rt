@@ -89,7 +89,8 @@ pub(crate) fn options(rt: &impl Abort, alloc: Global, sessions: u64) -> Options 
     }
 }
 
-/// What comes of a server and its clients: the device, the server's answer, and what the clients saw.
+/// What comes of a server and its clients: the device, the server's answer, and what the clients
+/// saw.
 pub(crate) type Met<D, T> = (D, Result<u64, RunError>, io::Result<T>);
 
 /// A listener at a free port, and its address.
@@ -103,8 +104,8 @@ pub(crate) fn listen<R: World>(rt: R) -> (TcpListener, SocketAddr) {
     (listener, to)
 }
 
-/// Serves clients from the store of a device at a free port. Once they have ended, the listener is shut down, so that a server which
-/// waits for more sessions ends, by `Net`.
+/// Serves clients from the store of a device at a free port. Once they have ended, the listener is
+/// shut down, so that a server which waits for more sessions ends, by `Net`.
 pub(crate) fn serve_clients<R: World, D: Device + Drop + Send, C: Clients + Sync>(
     rt: R,
     alloc: Global,

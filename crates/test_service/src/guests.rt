@@ -1,4 +1,5 @@
-//! A crew of one guest, who talks to a hub in a thread beside its actors, and is not waited for for ever.
+//! A crew of one guest, who talks to a hub in a thread beside its actors, and is not waited for for
+//! ever.
 
 use crate::clocks::Counts;
 use crate::stores::opened;
@@ -83,8 +84,8 @@ impl<T> Guest<T> {
     }
 }
 
-/// Has a guest talk to a hub over a store: the device, and what was replied. Where memory is refused for the hub or the guest's thread,
-/// it is asked for once more.
+/// Has a guest talk to a hub over a store: the device, and what was replied. Where memory is
+/// refused for the hub or the guest's thread, it is asked for once more.
 pub(crate) fn talked<
     D: Device + Send,
     T: Talk + Drop + Sync,
@@ -108,7 +109,8 @@ pub(crate) fn talked<
     (device, replies)
 }
 
-/// Serves the frames of an input, and adds what is written to `replies`. `None` is a session that doesn't end well.
+/// Serves the frames of an input, and adds what is written to `replies`. `None` is a session that
+/// doesn't end well.
 pub(crate) fn session<D: Device, N: HubName, R: Wait + Clock, I: Read>(
     hub: &Hub<D, N, R>,
     alloc: Global,

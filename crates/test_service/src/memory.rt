@@ -1,5 +1,6 @@
-//! Want of memory. The tests are run with each of their allocations refused in turn: a message that is refused for it changes nothing,
-//! and is answered when it comes again; lookups show no less after it than before; and a session goes on after it.
+//! Want of memory. The tests are run with each of their allocations refused in turn: a message that
+//! is refused for it changes nothing, and is answered when it comes again; lookups show no less
+//! after it than before; and a session goes on after it.
 
 use crate::clocks::Counts;
 use crate::frames::{FOUND, LOOKUP, REGISTER, joined};
@@ -109,7 +110,8 @@ fn assert_found(
     assert_eq!(rt; count, wanted);
 }
 
-/// What a command is answered, which is made once more where memory is refused. The lookup finds as many segments in between as before.
+/// What a command is answered, which is made once more where memory is refused. The lookup finds as
+/// many segments in between as before.
 fn answer_again(
     rt: &impl Abort,
     alloc: Global,
@@ -188,7 +190,8 @@ const NO_MEMORY: &str = "00000002ff01";
 /// How many lookups a session has.
 const LOOKUPS: usize = 4;
 
-/// The replies to the lookups of a session of which the one of this number is refused, if there is one.
+/// The replies to the lookups of a session of which the one of this number is refused, if there is
+/// one.
 fn replies_but(rt: &impl Abort, alloc: Global, refused: usize) -> Vec<u8> {
     let mut replies = [FOUND; LOOKUPS];
     if let Some(reply) = replies.get_mut(refused) {
@@ -197,8 +200,8 @@ fn replies_but(rt: &impl Abort, alloc: Global, refused: usize) -> Vec<u8> {
     joined(rt, alloc, &replies)
 }
 
-/// Sees that a session of the lookups was replied rightly: all of them, all but one that was refused, or a front of them where it
-/// ended for want of memory. Whether it was all of them.
+/// Sees that a session of the lookups was replied rightly: all of them, all but one that was
+/// refused, or a front of them where it ended for want of memory. Whether it was all of them.
 fn is_whole(
     rt: &impl Abort,
     alloc: Global,

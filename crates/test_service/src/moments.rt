@@ -12,8 +12,9 @@ use std::sync::Wait;
 use std::time::Clock;
 use test_support::EXPIRY;
 
-/// A session whose segment expires between two lookups. The clock gives a moment for the registration and for each lookup, and none
-/// for a purge, a removal, a registration that can't be read, or a lookup that can't be read or asks for nothing.
+/// A session whose segment expires between two lookups. The clock gives a moment for the
+/// registration and for each lookup, and none for a purge, a removal, a registration that can't be
+/// read, or a lookup that can't be read or asks for nothing.
 const FRAMES: [&str; 8] = [
     REGISTER,
     PURGE,

@@ -22,7 +22,8 @@ const MOST_PENDING: u64 = 256;
 /// How many rows of the segments here a store has room for.
 const MOST_ROWS: u8 = 10;
 
-/// How many purges seal a journal of 516 sectors, and are committed after the seal: there is room for 257 groups of one purge.
+/// How many purges seal a journal of 516 sectors, and are committed after the seal: there is room
+/// for 257 groups of one purge.
 const PURGES: u64 = 300;
 
 /// How often a removal is tried.
@@ -40,7 +41,8 @@ fn reply<D: Device, N: HubName, R: Wait + Clock>(
     session(hub, alloc, cores, Counts::after(0), &mut input, replies)
 }
 
-/// Has as many commands pending as may be, over a hub that commits nothing, and then stops it. Comes to what purges are replied.
+/// Has as many commands pending as may be, over a hub that commits nothing, and then stops it.
+/// Comes to what purges are replied.
 #[derive(Drop)]
 struct Fills {
     alloc: Global,

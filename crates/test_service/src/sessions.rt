@@ -67,7 +67,8 @@ impl Talk for Frames {
     }
 }
 
-/// Sees what a session over a new store is replied, and how many rows and which place its device opens to.
+/// Sees what a session over a new store is replied, and how many rows and which place its device
+/// opens to.
 fn assert_session<R: Wait + Clock + Threads + Abort + Copy + Drop + Send + Sync>(
     rt: R,
     alloc: Global,
@@ -122,7 +123,8 @@ fn three_equal_purges(rt: HostRuntime) {
     assert_session(&rt, rt.alloc(), &[PURGE, PURGE, PURGE], 0, &replies, 0, 3);
 }
 
-// A registration with more segments than a command may have can't be read, so the hub's refusal of such a command is never replied.
+// A registration with more segments than a command may have can't be read, so the hub's refusal of
+// such a command is never replied.
 #[test]
 fn seventeen_segments(rt: HostRuntime) {
     let (_head, segment) = REGISTER.split_at(22);

@@ -8,7 +8,8 @@ use std::process::Abort;
 use store_layout::{LEAST_CHECKPOINT, LEAST_JOURNAL};
 use store_open::{Geometry, OpenError, Store, format, open};
 
-/// The least sizes that are allowed. There is room for ten rows of the segments here, which take 93 bytes each.
+/// The least sizes that are allowed. There is room for ten rows of the segments here, which take 93
+/// bytes each.
 const LEAST: Geometry = Geometry {
     checkpoint: LEAST_CHECKPOINT,
     journal: LEAST_JOURNAL,
@@ -91,8 +92,8 @@ fn calls_to_open(rt: &impl Abort, alloc: Global) -> u64 {
     panic!(rt; "opening makes no end")
 }
 
-/// A new store on a device that fails in the sync of the second group's gate: each group takes a write and a sync, and these of its
-/// gate.
+/// A new store on a device that fails in the sync of the second group's gate: each group takes a
+/// write and a sync, and these of its gate.
 pub(crate) fn failing_store(rt: &impl Abort, alloc: Global) -> Store<FaultDevice> {
     let number = calls_to_open(rt, alloc).saturating_add(7);
     opened(rt, alloc, FaultDevice::new(formatted(rt, alloc), number))

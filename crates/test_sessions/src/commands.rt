@@ -47,7 +47,8 @@ impl Service for Counter {
         Ok(self.ack(0, (moment & 0xffff_ffff) as u32))
     }
 
-    /// Refuses a byte that is no type, and reports the last byte of the id as the count of kept rows.
+    /// Refuses a byte that is no type, and reports the last byte of the id as the count of kept
+    /// rows.
     fn remove(&mut self, kind: u8, id: &[u8; 32]) -> Result<Ack, Code> {
         if kind < 1 || kind > 3 {
             return Err(Code(0x29));
@@ -70,7 +71,8 @@ fn removal(kind: u8) -> [u8; 38] {
     frame
 }
 
-/// A purge, the removals of a down segment and of a segment of no type, and a registration of nothing.
+/// A purge, the removals of a down segment and of a segment of no type, and a registration of
+/// nothing.
 fn input(alloc: Global) -> Result<Vec<u8>, AllocError> {
     let mut bytes = Vec::from_slice(alloc, &PURGE)?;
     bytes.extend_from_slice(&removal(2))?;
@@ -79,7 +81,8 @@ fn input(alloc: Global) -> Result<Vec<u8>, AllocError> {
     Ok(bytes)
 }
 
-/// The replies: acknowledgements at the places 0 and 1, a refusal, and an acknowledgement at the place 2.
+/// The replies: acknowledgements at the places 0 and 1, a refusal, and an acknowledgement at the
+/// place 2.
 const OUTPUT: [u8; 93] = [
     0x00, 0x00, 0x00, 0x19, 0x83, // the purge's, of 25 bytes
     0x00, 0x00, 0x00, 0x00, 0x00, 0x00, 0x00, 0x00, // its place

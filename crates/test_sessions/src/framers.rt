@@ -118,7 +118,8 @@ const FAULTS: [(&[u8], FrameError); 13] = [
     (b"\0\x02\0\x01\x04", FrameError::Length),
 ];
 
-/// Takes a frame byte by byte and two more pieces, and checks where the fault is reported, and that there is no message.
+/// Takes a frame byte by byte and two more pieces, and checks where the fault is reported, and that
+/// there is no message.
 fn assert_fault(
     rt: &impl Abort,
     taker: &mut Taker,
@@ -139,7 +140,8 @@ fn assert_fault(
     Ok(())
 }
 
-// A fault is reported at the byte that shows it, and again for each piece from then on, without a message.
+// A fault is reported at the byte that shows it, and again for each piece from then on, without a
+// message.
 #[test]
 fn frame_faults(rt: HostRuntime) -> Result<(), Fail> {
     for (frame, fault) in &FAULTS {
@@ -240,7 +242,8 @@ fn fed_again(framer: &mut Framer, piece: &[u8]) -> Result<Fed, AllocError> {
     }
 }
 
-/// Checks that messages are those of the worked stream from this place on, and returns the place after them.
+/// Checks that messages are those of the worked stream from this place on, and returns the place
+/// after them.
 fn assert_worked(rt: &impl Abort, messages: &[Message], from: u8) -> u8 {
     let mut place = from;
     for message in messages {
@@ -250,7 +253,8 @@ fn assert_worked(rt: &impl Abort, messages: &[Message], from: u8) -> u8 {
     place
 }
 
-// Run with each allocation failing in turn: a piece that was refused is fed again, and each message comes once.
+// Run with each allocation failing in turn: a piece that was refused is fed again, and each message
+// comes once.
 #[test]
 fn refused_memory_keeps_the_stream(rt: HostRuntime) -> Result<(), Fail> {
     let bytes = stream();

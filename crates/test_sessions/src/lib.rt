@@ -1,5 +1,5 @@
-//! Tests of `session_core`, a module for each subject. They check what no contract states: values from outside, that calls
-//! succeed where memory suffices, and the state where memory is refused.
+//! Tests of `session_core`, a module for each subject. They check what no contract states: values
+//! from outside, that calls succeed where memory suffices, and the state where memory is refused.
 #![tactic(auto)]
 
 #[cfg(test)]

@@ -9,8 +9,8 @@ use test_group_scripts::acts::NOTHING;
 use test_group_scripts::stores::{new_store, old_store, opened, opens_to, read_sector};
 use test_group_scripts::work::{Paid, Work, work_of};
 
-/// A version, how many commands a group takes at most, and how the payloads of two groups begin: of this number of purges, whose records
-/// have 13 bytes each, and of one more.
+/// A version, how many commands a group takes at most, and how the payloads of two groups begin: of
+/// this number of purges, whose records have 13 bytes each, and of one more.
 const VERSIONS: [(u32, usize, [u8; 16], [u8; 16]); 2] = [
     (
         1,
@@ -75,7 +75,8 @@ fn assert_begins(rt: &Host<impl Abort>, device: &mut MemDevice, at: u64, wanted:
     assert!(rt.0; sector.starts_with(wanted), "{at}");
 }
 
-/// Sees that this number of purges is in one group and one more is in another, and how their payloads begin.
+/// Sees that this number of purges is in one group and one more is in another, and how their
+/// payloads begin.
 fn assert_groups(
     rt: &Host<impl Abort>,
     alloc: Global,

@@ -50,7 +50,8 @@ fn assert_begin(rt: &Host<impl Abort>, device: MemDevice, sectors: &[(u64, &[u8]
     device
 }
 
-/// What is on the device where the first journal is sealed and the second one is full, with a checkpoint between them.
+/// What is on the device where the first journal is sealed and the second one is full, with a
+/// checkpoint between them.
 const FULL: [(u64, &[u8]); 8] = [
     (3, &[]),
     (4, &[]),

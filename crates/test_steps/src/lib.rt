@@ -1,5 +1,6 @@
-//! Tests of the steps of `group_core`, a module for each subject. They see what no clause says: that calls succeed, the bytes that groups, seals and checkpoints
-//! leave on a device, and what a stop or a fault at a call leaves.
+//! Tests of the steps of `group_core`, a module for each subject. They see what no clause says:
+//! that calls succeed, the bytes that groups, seals and checkpoints leave on a device, and what a
+//! stop or a fault at a call leaves.
 #![tactic(auto)]
 
 #[cfg(test)]

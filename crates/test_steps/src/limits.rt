@@ -54,7 +54,8 @@ fn fill(rt: &Host<impl Abort>, alloc: Global, work: &mut Work<MemDevice>) {
     }
 }
 
-/// What the command at a place does: one of ten new segments, a purge of nothing, and one of them again.
+/// What the command at a place does: one of ten new segments, a purge of nothing, and one of them
+/// again.
 fn outcome_at(place: u64) -> Outcome {
     Outcome {
         inserted: u32::from(place < 10),
@@ -103,7 +104,8 @@ fn command_of(rt: &Host<impl Abort>, alloc: Global, kind: Kind) -> Command {
     }
 }
 
-/// A store's version and place, how many purges are pending, whether the state has stopped, the command, and the answer.
+/// A store's version and place, how many purges are pending, whether the state has stopped, the
+/// command, and the answer.
 type Case = (u8, u64, usize, bool, Kind, Result<u64, SubmitError>);
 
 /// The last place.

@@ -27,7 +27,8 @@ fn with_round(rt: &Host<impl Abort>, work: Work<MemDevice>, before: u64) -> Work
     work
 }
 
-/// Commits a segment to the sealed store with a round before this step, and sees what is there then.
+/// Commits a segment to the sealed store with a round before this step, and sees what is there
+/// then.
 fn assert_round(rt: &Host<impl Abort>, alloc: Global, before: u64) {
     let store = opened(rt, alloc, sealed_store(rt, alloc, 2));
     assert_half(rt, &store, (1, true));
@@ -60,7 +61,8 @@ fn removes(rt: &Host<impl Abort>, work: &mut Work<MemDevice>, wanted: Result<u64
     work.submits(rt, Command::Remove(SegType::Down, ID), wanted);
 }
 
-/// Makes the checkpointer's steps before which no removal is accepted: begin, write_chunk, sync_chunks, open_half, sync_half.
+/// Makes the checkpointer's steps before which no removal is accepted: begin, write_chunk,
+/// sync_chunks, open_half, sync_half.
 fn check_without(rt: &Host<impl Abort>, work: Work<MemDevice>) -> Work<MemDevice> {
     let mut work = work;
     for _step in 0..5 {

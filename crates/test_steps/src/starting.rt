@@ -18,7 +18,8 @@ use test_support::assert_same;
 /// More calls than it takes to open a store and to make a checkpoint.
 const MANY: u64 = 200;
 
-/// Submits a removal to a store of this version, which is answered so, and makes a checkpoint: the store then.
+/// Submits a removal to a store of this version, which is answered so, and makes a checkpoint: the
+/// store then.
 fn upgraded(
     rt: &Host<impl Abort>,
     alloc: Global,
@@ -85,7 +86,8 @@ fn ten_rows(rt: &Host<impl Abort>, alloc: Global) -> MemDevice {
     checkpointed(rt, opened(rt, alloc, work.device(rt))).into_device()
 }
 
-/// A store whose second half has ten rows at place 0 in its checkpoint, and an eleventh one in its journal.
+/// A store whose second half has ten rows at place 0 in its checkpoint, and an eleventh one in its
+/// journal.
 fn overfull_store(rt: &Host<impl Abort>, alloc: Global) -> MemDevice {
     let mut device = ten_rows(rt, alloc);
     change(&mut device, 520, 16, &[0; 8]);
@@ -141,7 +143,8 @@ fn assert_broken(rt: &Host<impl Abort>, alloc: Global, store: Store<FaultDevice>
     let _device = opens_to(rt, alloc, device.into_mem(), (0, 0, 0));
 }
 
-/// Makes a checkpoint of a store, and sees that a state of the store has stopped where that failed: whether it did.
+/// Makes a checkpoint of a store, and sees that a state of the store has stopped where that failed:
+/// whether it did.
 fn breaks(rt: &Host<impl Abort>, alloc: Global, store: Store<FaultDevice>) -> bool {
     let mut store = store;
     let answer = store.checkpoint();

@@ -1,4 +1,5 @@
-//! Stops of a device within the steps of an actor, and one call that fails, at each of them in turn.
+//! Stops of a device within the steps of an actor, and one call that fails, at each of them in
+//! turn.
 
 use crate::host::Host;
 use group_core::BeginError;
@@ -18,8 +19,8 @@ use test_support::assert_same;
 /// More calls of the device than any of these stores takes to be opened and worked with.
 const MANY: u64 = 200;
 
-/// Opens a device, and makes the steps of a flusher for Purge(5): how many were made before the one that failed; none where
-/// opening failed already.
+/// Opens a device, and makes the steps of a flusher for Purge(5): how many were made before the one
+/// that failed; none where opening failed already.
 fn stopped_group(
     rt: &Host<impl Abort>,
     alloc: Global,
@@ -55,7 +56,8 @@ fn flushed(rt: &Host<impl Abort>, work: Work<FuseDevice>) -> (Work<FuseDevice>, 
     (work, made)
 }
 
-/// The place that a stop leaves within the step after this number of steps: the group counts once its gate is open.
+/// The place that a stop leaves within the step after this number of steps: the group counts once
+/// its gate is open.
 fn place_after(made: u64, tear: Tear) -> u64 {
     match made {
         0..=2 => 0,
@@ -64,7 +66,8 @@ fn place_after(made: u64, tear: Tear) -> u64 {
     }
 }
 
-/// Sees where a group's stop is with this tear, which lets this number of calls pass: in the step after how many.
+/// Sees where a group's stop is with this tear, which lets this number of calls pass: in the step
+/// after how many.
 fn stopped_group_at(rt: &Host<impl Abort>, alloc: Global, calls: u64, tear: Tear) -> Option<u64> {
     let fuse = FuseDevice::new(new_store(rt, alloc), calls, tear);
     let (made, device) = stopped_group(rt, alloc, fuse);
@@ -117,8 +120,8 @@ fn with_two_groups(rt: &Host<impl Abort>, alloc: Global) -> MemDevice {
     work.device(rt)
 }
 
-/// Opens a device, and makes the steps of a checkpointer: how many were made before the one that failed; none where opening
-/// failed already.
+/// Opens a device, and makes the steps of a checkpointer: how many were made before the one that
+/// failed; none where opening failed already.
 fn stopped_round(
     rt: &Host<impl Abort>,
     alloc: Global,
@@ -163,7 +166,8 @@ fn is_made(rt: &Host<impl Abort>, step: Told) -> bool {
     false
 }
 
-/// The epoch that a stop leaves within the step after this number of steps: the new half counts once its gate is open.
+/// The epoch that a stop leaves within the step after this number of steps: the new half counts
+/// once its gate is open.
 fn epoch_after(made: u64, tear: Tear) -> u64 {
     match made {
         0..=2 => 1,
@@ -179,7 +183,8 @@ fn assert_opens(rt: &Host<impl Abort>, alloc: Global, device: MemDevice, epoch: 
     opens_to(rt, alloc, store.into_device(), PAIR)
 }
 
-/// Sees where a round's stop is with this tear, which lets this number of calls pass: in the step after how many.
+/// Sees where a round's stop is with this tear, which lets this number of calls pass: in the step
+/// after how many.
 fn stopped_round_at(rt: &Host<impl Abort>, alloc: Global, calls: u64, tear: Tear) -> Option<u64> {
     let fuse = FuseDevice::new(with_two_groups(rt, alloc), calls, tear);
     let (made, device) = stopped_round(rt, alloc, fuse);
@@ -240,7 +245,8 @@ fn opened_or_not(rt: &Host<impl Abort>, alloc: Global, fuse: FuseDevice) -> (boo
     }
 }
 
-/// Stops a round where the old half is closed, and the opening after this number of calls: whether that was done.
+/// Stops a round where the old half is closed, and the opening after this number of calls: whether
+/// that was done.
 fn is_recovered(
     rt: &Host<impl Abort>,
     alloc: Global,
@@ -279,8 +285,9 @@ fn stop_within_old_half_closing_and_recovery(rt: HostRuntime) -> Result<(), Fail
 /// How many steps a group, a round and a further group take: 6, 7 and 6.
 const STEPS: u64 = 19;
 
-/// Of the sealed store, commits a segment, lays the sealed half's checkpoint, and commits a further segment, on a device of which
-/// the call of this number fails: how many steps were made before that. None where opening failed already.
+/// Of the sealed store, commits a segment, lays the sealed half's checkpoint, and commits a further
+/// segment, on a device of which the call of this number fails: how many steps were made before
+/// that. None where opening failed already.
 fn failed(rt: &Host<impl Abort>, alloc: Global, number: u64) -> Option<(u64, Work<FaultDevice>)> {
     let store = match open(alloc, FaultDevice::new(sealed_store(rt, alloc, 2), number)) {
         Ok(store) => store,
@@ -323,7 +330,8 @@ fn has_failed(rt: &Host<impl Abort>, made: u64, step: Told) -> bool {
     true
 }
 
-/// Makes the steps of a group, a round and a further group: how many were made before the one that failed.
+/// Makes the steps of a group, a round and a further group: how many were made before the one that
+/// failed.
 fn steps_made(
     rt: &Host<impl Abort>,
     alloc: Global,
@@ -341,7 +349,8 @@ fn steps_made(
     (STEPS, work)
 }
 
-/// After how many steps the next one is that makes a call of the device: staging and publishing make none.
+/// After how many steps the next one is that makes a call of the device: staging and publishing
+/// make none.
 fn next_call(made: u64) -> u64 {
     match made {
         4 => 6,
@@ -351,7 +360,8 @@ fn next_call(made: u64) -> u64 {
     }
 }
 
-/// Sees what is left of a run of which the step after this number of steps failed, or none: whether one did.
+/// Sees what is left of a run of which the step after this number of steps failed, or none: whether
+/// one did.
 fn assert_left(rt: &Host<impl Abort>, alloc: Global, made: u64, work: Work<FaultDevice>) -> bool {
     if made < STEPS {
         assert_failed(rt, alloc, made, work);
@@ -384,7 +394,8 @@ fn each_failed_call_stops(rt: HostRuntime) -> Result<(), Fail> {
     Ok(())
 }
 
-/// Sees which commands are known of a state that has stopped in the step after this number of steps.
+/// Sees which commands are known of a state that has stopped in the step after this number of
+/// steps.
 fn assert_known(rt: &Host<impl Abort>, work: &mut Work<FaultDevice>, made: u64) {
     if made < 6 {
         work.redeems(rt, 0, Paid::Unknown(1));
@@ -396,13 +407,15 @@ fn assert_known(rt: &Host<impl Abort>, work: &mut Work<FaultDevice>, made: u64) 
     }
 }
 
-/// What a state shows: a bit for each interface by which a segment is left. None where memory is refused.
+/// What a state shows: a bit for each interface by which a segment is left. None where memory is
+/// refused.
 fn shown_by(work: &Work<FaultDevice>) -> Option<u64> {
     let segments = work.state.look_up(&query(), 0).ok()?;
     Some(shown(&segments))
 }
 
-/// Sees that lookups go on in a state that has stopped in the step after this number of steps: they show what was published before.
+/// Sees that lookups go on in a state that has stopped in the step after this number of steps: they
+/// show what was published before.
 fn assert_shown(rt: &Host<impl Abort>, work: &Work<FaultDevice>, made: u64) {
     let wanted = if made < 6 { 0b10 } else { 0b110 };
     assert_same(rt, &shown_by(work), &Some(wanted), &made);

@@ -13,7 +13,8 @@ const IN_FIRST: usize = 27;
 
 const IN_SECOND: usize = 62;
 
-/// The segment to the AS of this number, below 16,384 and not 272, and made this number of seconds after it, below 128.
+/// The segment to the AS of this number, below 16,384 and not 272, and made this number of seconds
+/// after it, below 128.
 fn message_of(number: u16, later: u8) -> [u8; 88] {
     let mut message = SEGMENT;
     message[3] = 0x80 | later;
@@ -36,7 +37,8 @@ fn kind_of(number: u16) -> SegType {
     }
 }
 
-/// The moment up to which a segment expires that was made this number of seconds after the worked one.
+/// The moment up to which a segment expires that was made this number of seconds after the worked
+/// one.
 pub fn moment(later: u64) -> u64 {
     EXPIRY.saturating_add(later.saturating_mul(2))
 }
@@ -52,7 +54,8 @@ fn push_row(
     rows.push((kind_of(number), segment)).ok()
 }
 
-/// The registration of the segments of this many numbers from one on, unless memory is refused. They were made at moments that differ.
+/// The registration of the segments of this many numbers from one on, unless memory is refused.
+/// They were made at moments that differ.
 fn registration(alloc: Global, from: u16, count: u16, salt: u16) -> Option<Registration> {
     let mut rows = Vec::new(alloc);
     for each in 0..count {
@@ -63,8 +66,8 @@ fn registration(alloc: Global, from: u16, count: u16, salt: u16) -> Option<Regis
     Some(Registration::new(rows))
 }
 
-/// The command that registers the segments of this many numbers from one on. By the salt go the moments at which they were made. Where
-/// memory is refused, it is asked for once more.
+/// The command that registers the segments of this many numbers from one on. By the salt go the
+/// moments at which they were made. Where memory is refused, it is asked for once more.
 pub fn register(rt: &impl TestHost, alloc: Global, from: u16, count: u16, salt: u16) -> Command {
     let made = match registration(alloc, from, count, salt) {
         None => registration(alloc, from, count, salt),
@@ -121,7 +124,8 @@ pub fn registrations(rt: &impl TestHost, alloc: Global, from: u16, count: u16) -
     commands
 }
 
-/// Appends what is between two registrations: after some of them the removal of their first segment, and after others a purge.
+/// Appends what is between two registrations: after some of them the removal of their first
+/// segment, and after others a purge.
 fn add_between(rt: &impl TestHost, commands: &mut Vec<Command>, block: u16) {
     if block % 9 == 4 {
         let removal = removal_of_last(rt, commands);
@@ -140,7 +144,8 @@ fn removal_of_last(rt: &impl TestHost, commands: &[Command]) -> Command {
     }
 }
 
-/// The same, with other moments at which the segments were made, and with removals and purges between the registrations.
+/// The same, with other moments at which the segments were made, and with removals and purges
+/// between the registrations.
 pub fn mixed(rt: &impl TestHost, alloc: Global, from: u16, count: u16) -> Vec<Command> {
     let mut commands = room(rt, alloc, 400);
     for block in 0..count.div_ceil(MOST) {

@@ -1,4 +1,5 @@
-//! Calls of the device that fail while a checkpoint of several pieces is begun and written, each of them in turn.
+//! Calls of the device that fail while a checkpoint of several pieces is begun and written, each of
+//! them in turn.
 
 use crate::host::Host;
 use crate::large_rows::{LARGE_PAIR, large_half};
@@ -27,8 +28,8 @@ enum Failed {
     None,
 }
 
-/// Begins a checkpoint of a device of which the call of this number fails, and writes it up to its last sector: where the device
-/// failed. A state of which it did has stopped.
+/// Begins a checkpoint of a device of which the call of this number fails, and writes it up to its
+/// last sector: where the device failed. A state of which it did has stopped.
 fn failed_at(
     rt: &Host<impl Abort>,
     alloc: Global,
@@ -79,7 +80,8 @@ fn written(rt: &Host<impl Abort>, work: Work<FaultDevice>) -> (Failed, MemDevice
     (Failed::None, work.ends(rt, LARGE_PAIR).into_mem())
 }
 
-/// How many calls of `begin` and of `write_chunk` fail in turn. Each time the device opens to the same.
+/// How many calls of `begin` and of `write_chunk` fail in turn. Each time the device opens to the
+/// same.
 fn failures(rt: &Host<impl Abort>, alloc: Global, device: MemDevice) -> (u64, u64) {
     let mut device = device;
     let mut begins = 0u64;
@@ -98,8 +100,9 @@ fn failures(rt: &Host<impl Abort>, alloc: Global, device: MemDevice) -> (u64, u6
     rt.fail("the calls make no end")
 }
 
-/// Of `begin`: the front, a group's gate, its first sector and its payload, the gate and the sector of the seal, the old area in three pieces, and
-/// then two pieces of it again for the first 256 sectors. Of two chunks: two writes, and one piece of the old area between them.
+/// Of `begin`: the front, a group's gate, its first sector and its payload, the gate and the sector
+/// of the seal, the old area in three pieces, and then two pieces of it again for the first 256
+/// sectors. Of two chunks: two writes, and one piece of the old area between them.
 const FAILED: (u64, u64) = (11, 3);
 
 #[test]

@@ -1,7 +1,7 @@
 //! A half of large rows, whose area has several pieces, with a sealed journal.
 //!
-//! A large segment has 16,384 bytes and its record 16,389. It was made some seconds after the first of its kind, which was made 128 seconds before
-//! the worked one.
+//! A large segment has 16,384 bytes and its record 16,389. It was made some seconds after the first
+//! of its kind, which was made 128 seconds before the worked one.
 
 use crate::commands::{add, fold, removal_of, room};
 use crate::sealed::sealed_half;
@@ -11,7 +11,8 @@ use std::alloc::Global;
 use test_group_scripts::stores::{Pair, large};
 use test_support::{EXPIRY, TestHost};
 
-/// The rows of 1 to 20, of which those of 9 to 16 were made earlier: 327,780 bytes, in 641 sectors with what is before them.
+/// The rows of 1 to 20, of which those of 9 to 16 were made earlier: 327,780 bytes, in 641 sectors
+/// with what is before them.
 pub fn large_olds(rt: &impl TestHost, alloc: Global) -> Vec<Command> {
     let mut commands = room(rt, alloc, 3);
     add(

@@ -13,8 +13,9 @@ use test_group_scripts::stores::opened;
 use test_group_scripts::work::{Told, work_of};
 use test_support::assert_same;
 
-/// What changes a device in a round over the half of large rows: 213,089 bytes are written to the second half's area in two chunks, then
-/// that half's gate, and then the first half's gate with the first one of its journal.
+/// What changes a device in a round over the half of large rows: 213,089 bytes are written to the
+/// second half's area in two chunks, then that half's gate, and then the first half's gate with the
+/// first one of its journal.
 const CHANGES: [Change; 7] = [
     Change::Write {
         at: 1702,
@@ -74,7 +75,8 @@ fn assert_differ(
     assert_same(rt, &differ, &wanted, &from);
 }
 
-/// From which sector on, in how many of them, a lie may be seen: in the rows that were read after `begin`.
+/// From which sector on, in how many of them, a lie may be seen: in the rows that were read after
+/// `begin`.
 const SECTORS_THAT_DIFFER: [(usize, usize, bool); 3] = [
     (0, 1958, false),
     (1958, 161, true),

@@ -1,5 +1,6 @@
-//! Want of memory. The test is run with each of its allocations refused in turn: where one of `begin` is refused, nothing has changed, and the
-//! same call succeeds when it is made again, with the same bytes.
+//! Want of memory. The test is run with each of its allocations refused in turn: where one of
+//! `begin` is refused, nothing has changed, and the same call succeeds when it is made again, with
+//! the same bytes.
 
 use crate::commands::{add, fold, moment, register, registrations, removal_of};
 use crate::host::Host;
@@ -45,8 +46,9 @@ fn round_over(rt: &Host<impl Abort>, alloc: Global, device: MemDevice) -> MemDev
     memory
 }
 
-/// Commands after the segments of 1,000 to 1,019, the first of which are in two registrations: those of 1,016 to 1,023, those of 1,004 to 1,011 as they
-/// were made one second later, the removals of 1,000 and 1,016, and a purge that drops 1,001 to 1,003.
+/// Commands after the segments of 1,000 to 1,019, the first of which are in two registrations:
+/// those of 1,016 to 1,023, those of 1,004 to 1,011 as they were made one second later, the
+/// removals of 1,000 and 1,016, and a purge that drops 1,001 to 1,003.
 fn commands_after(rt: &Host<impl Abort>, alloc: Global, olds: &[Command]) -> Vec<Command> {
     let mut commands = registrations(rt, alloc, 1016, 8);
     add(rt, &mut commands, register(rt, alloc, 1004, 8, 1));
@@ -60,7 +62,8 @@ fn commands_after(rt: &Host<impl Abort>, alloc: Global, olds: &[Command]) -> Vec
 /// How many rows are left then, of 24.
 const LEFT: usize = 19;
 
-/// Makes the checkpoint of rows with a sealed journal, and sees that it is that of the rows after the commands.
+/// Makes the checkpoint of rows with a sealed journal, and sees that it is that of the rows after
+/// the commands.
 fn assert_begun(rt: &Host<impl Abort>, alloc: Global, olds: &[Command], commands: &[Command]) {
     let mut db = PathDb::new(alloc);
     fold(rt, &mut db, olds);

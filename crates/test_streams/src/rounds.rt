@@ -11,7 +11,8 @@ use test_support::{TestHost, assert_same, assert_true};
 /// More steps than a round here has.
 const STEPS: u64 = 20;
 
-/// The window into the old area, and what is made and not written: a piece of 256 sectors, and the greatest record of a row beside one.
+/// The window into the old area, and what is made and not written: a piece of 256 sectors, and the
+/// greatest record of a row beside one.
 pub const BUFFERS: (usize, usize) = (131_072, 147_461);
 
 /// A step of a round, after which the two buffers have these bytes: whether it is the last one.
@@ -48,7 +49,8 @@ fn assert_begins(rt: &impl TestHost, area: &[u8], wanted: &[u8]) {
     assert_true(rt, is_zero, "zeros are after it");
 }
 
-/// Sees that the second half's area has the checkpoint of rows at a place, byte for byte, as `ckpt_pair` makes it of them at once.
+/// Sees that the second half's area has the checkpoint of rows at a place, byte for byte, as
+/// `ckpt_pair` makes it of them at once.
 pub fn assert_area(
     rt: &impl TestHost,
     alloc: Global,

@@ -41,7 +41,8 @@ pub fn put(rt: &impl TestHost, device: &mut MemDevice, at: u64, bytes: &[u8]) {
     assert_true(rt, device.write(at, bytes).is_ok(), "they are written");
 }
 
-/// Rows as the checkpoint of an epoch and a place. Where memory is refused, it is asked for once more.
+/// Rows as the checkpoint of an epoch and a place. Where memory is refused, it is asked for once
+/// more.
 pub fn checkpoint_of(
     rt: &impl TestHost,
     alloc: Global,
@@ -98,7 +99,8 @@ fn put_journal(
     let _next = put_payload(rt, device, gate, &encode_seal(place));
 }
 
-/// A store whose first half has these rows, with a sealed journal of these commands. Where memory is refused, it is asked for once more.
+/// A store whose first half has these rows, with a sealed journal of these commands. Where memory
+/// is refused, it is asked for once more.
 pub fn sealed_half(
     rt: &impl TestHost,
     alloc: Global,
@@ -117,7 +119,8 @@ pub fn sealed_half(
     device
 }
 
-/// The bytes of some sectors, at most 4,096, from one on. Where memory is refused, it is asked for once more.
+/// The bytes of some sectors, at most 4,096, from one on. Where memory is refused, it is asked for
+/// once more.
 pub fn sectors_from(
     rt: &impl TestHost,
     alloc: Global,

@@ -25,8 +25,8 @@ fn sizes(db: &PathDb) -> (usize, u64) {
     (db.rows().count(), db.encoded_len())
 }
 
-/// Sees that the checkpoint of rows with a sealed journal of these commands is that of the rows after the commands, which are so many
-/// and have this number of bytes.
+/// Sees that the checkpoint of rows with a sealed journal of these commands is that of the rows
+/// after the commands, which are so many and have this number of bytes.
 fn assert_streamed(
     rt: &Host<impl Abort>,
     alloc: Global,
@@ -45,8 +45,9 @@ fn assert_streamed(
     let _device = assert_opens(rt, alloc, device, &db, place);
 }
 
-/// What is left of 2,000 rows and 3,000 registrations: of these 2,084 are of new keys, 351 replace older rows, and 565 are older than what
-/// was there; 21 rows are removed, and five purges drop 690. A row has 93 bytes.
+/// What is left of 2,000 rows and 3,000 registrations: of these 2,084 are of new keys, 351 replace
+/// older rows, and 565 are older than what was there; 21 rows are removed, and five purges drop
+/// 690. A row has 93 bytes.
 const LEFT: (usize, u64) = (3373, 3373 * 93);
 
 #[test]

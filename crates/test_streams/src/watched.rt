@@ -12,8 +12,8 @@ pub enum Change {
     Sync,
 }
 
-/// A device that counts its reads and notes its changes. After this number of reads it lies: all bits that are read are
-/// inverted. So it isn't known to be honest.
+/// A device that counts its reads and notes its changes. After this number of reads it lies: all
+/// bits that are read are inverted. So it isn't known to be honest.
 #[derive(Drop)]
 pub struct Watched<D> {
     device: D,
@@ -23,7 +23,8 @@ pub struct Watched<D> {
 }
 
 impl<D> Watched<D> {
-    /// The device, which lies after this number of reads. Where memory is refused for its changes, it is asked for once more.
+    /// The device, which lies after this number of reads. Where memory is refused for its changes,
+    /// it is asked for once more.
     pub fn over(rt: &impl TestHost, alloc: Global, device: D, honest: u64) -> Watched<D> {
         let room = match Vec::with_capacity(alloc, MOST_CHANGES) {
             Err(_) => Vec::with_capacity(alloc, MOST_CHANGES),

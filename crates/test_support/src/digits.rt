@@ -1,7 +1,9 @@
-//! Frames of the worked segment as hexadecimal digits, which tables of texts can hold, and frames that differ from them.
+//! Frames of the worked segment as hexadecimal digits, which tables of texts can hold, and frames
+//! that differ from them.
 
-/// The frame of this kind with the one segment as a down segment: with this timestamp, with these first bytes of the AS that its first
-/// entry leads to and of its second AS, and with this interface of entry there.
+/// The frame of this kind with the one segment as a down segment: with this timestamp, with these
+/// first bytes of the AS that its first entry leads to and of its second AS, and with this
+/// interface of entry there.
 macro_rules! segment_frame {
     ($kind:literal, $timestamp:literal, $next:literal, $second:literal, $ingress:literal) => {
         concat!(
@@ -27,7 +29,8 @@ pub const REGISTER: &str = segment_frame!("01", "80e2cfaa06", "91", "91", "02");
 /// The response in which `SEGMENT` is found.
 pub const FOUND: &str = segment_frame!("82", "80e2cfaa06", "91", "91", "02");
 
-/// The registration of a segment that was made in the year 2096, at 4,000,000,000, and is `SEGMENT` for the rest.
+/// The registration of a segment that was made in the year 2096, at 4,000,000,000, and is `SEGMENT`
+/// for the rest.
 pub const REGISTER_2096: &str = segment_frame!("01", "80d0acf30e", "91", "91", "02");
 
 /// The response in which that segment is found.

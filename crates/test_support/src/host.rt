@@ -1,10 +1,11 @@
-//! What a library of scripts calls where something isn't as a test expects it. A library may not end a process, so the crate of tests says how
-//! a test is ended.
+//! What a library of scripts calls where something isn't as a test expects it. A library may not
+//! end a process, so the crate of tests says how a test is ended.
 ghost use Rattle.std.specs.Prelude.{◌≡◌, true};
 
 use std::fmt::{Debug, Display};
 
-/// The runtime of a test. Each crate of tests has a type of its own with this trait, over a runtime that may end the process.
+/// The runtime of a test. Each crate of tests has a type of its own with this trait, over a runtime
+/// that may end the process.
 pub trait TestHost {
     /// Ends the test, and says why. It doesn't return.
     fn fail<D: Display + Drop>(&self, why: D) -> !;

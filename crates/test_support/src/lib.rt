@@ -1,5 +1,5 @@
-//! What crates of tests share: segments that were worked through by hand, byte by byte, with frames of them, and how a library of
-//! scripts ends a test.
+//! What crates of tests share: segments that were worked through by hand, byte by byte, with frames
+//! of them, and how a library of scripts ends a test.
 #![tactic(auto)]
 
 mod core_segment;

@@ -40,13 +40,15 @@ pub const ID: [u8; 32] = [
 /// The moment at which `SEGMENT` expires, in half seconds since 1970: 2 * 1,700,000,000 + 64 * 675.
 pub const EXPIRY: u64 = 3_400_043_200;
 
-/// The offset in `SEGMENT` of the interface by which it leaves its first AS. With another interface its id is another.
+/// The offset in `SEGMENT` of the interface by which it leaves its first AS. With another interface
+/// its id is another.
 pub const EGRESS: usize = 39;
 
 /// The offset in `SEGMENT` of the exp_time of its first hop entry.
 pub const EXP_TIME: usize = 41;
 
-/// The frame of the registration of `SEGMENT` as a down segment. It has a length of 97; the message is one segment, of 94 bytes with its type.
+/// The frame of the registration of `SEGMENT` as a down segment. It has a length of 97; the message
+/// is one segment, of 94 bytes with its type.
 pub const REGISTER: [u8; 101] = segment!(
     0x00, 0x00, 0x00, 0x61, 0x01, 0x0a, 0x5e, 0x08, 0x02, 0x12, 0x5a, 0x0a, 0x58
 );
@@ -68,12 +70,14 @@ pub fn leaving_by(egress: u8) -> [u8; 88] {
     message
 }
 
-/// `SEGMENT` with another timestamp and another segment id, both below 128. It has the same hops, and so the same id.
+/// `SEGMENT` with another timestamp and another segment id, both below 128. It has the same hops,
+/// and so the same id.
 pub fn dated(timestamp: u8, segment_id: u8) -> [u8; 84] {
     entries!(0x0a, 0x04, 0x08, timestamp, 0x10, segment_id)
 }
 
-/// `SEGMENT` with another timestamp, below 128, and its first AS is left by this interface, below 128.
+/// `SEGMENT` with another timestamp, below 128, and its first AS is left by this interface, below
+/// 128.
 pub fn dated_by(timestamp: u8, egress: u8) -> [u8; 84] {
     let mut message = dated(timestamp, 7);
     message[EGRESS - SAVED] = egress;

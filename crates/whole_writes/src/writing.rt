@@ -9,8 +9,8 @@ use std::io::Write;
 /// A write failed, or took no byte.
 pub struct WriteFailed;
 
-/// Writes all of the bytes. A write that takes no byte is a failure, and no failed write is repeated. After an error a front of
-/// the bytes, perhaps of no byte, is written.
+/// Writes all of the bytes. A write that takes no byte is a failure, and no failed write is
+/// repeated. After an error a front of the bytes, perhaps of no byte, is written.
 pub fn write_all<W: Write>(writer: &mut W, bytes: &[u8]) -> Result<(), WriteFailed>
     ensures ok { OnOk result (Appends (W.contents writer.old) (W.contents writer.new) bytes.now) }
     ensures err { OnErr result (IsWrittenInPart (W.contents writer.old) (W.contents writer.new) bytes.now) }

@@ -8,7 +8,8 @@ use Rattle.row_edits.specs.Pouring.{untaken, untaken_len, edits_end, left_to_kee
 use Rattle.ckpt_stream.specs.Making.{reads_left}
 use Rattle.ckpt_stream.proofs.making.make_piece.Given as goal
 
--- The device is as it was, as many bytes are not taken as before, and making stopped for one of these reasons.
+-- The device is as it was, as many bytes are not taken as before, and making stopped for one of
+-- these reasons.
 abbrev pub invariant-pieces : goal.invariant-pieces
 invariant-pieces g l = record {
   keeps : Keeps (g.D.Device.disk l.fn.device) (g.D.Device.disk l.device);

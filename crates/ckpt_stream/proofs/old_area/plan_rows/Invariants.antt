@@ -7,7 +7,8 @@ use Rattle.ckpt_pair.specs.Stream.{HasStreamed}
 use Rattle.row_edits.specs.Planner.{HasSeen}
 use Rattle.ckpt_stream.proofs.old_area.plan_rows.Given as goal
 
--- The device is as it was, the sectors up to here were pushed to the stream, and the rows that it gave are noted and planned.
+-- The device is as it was, the sectors up to here were pushed to the stream, and the rows that it
+-- gave are noted and planned.
 abbrev pub invariant-rows : goal.invariant-rows
 invariant-rows g l = record {
   keeps : Keeps (g.D.Device.disk l.fn.device) (g.D.Device.disk l.device);

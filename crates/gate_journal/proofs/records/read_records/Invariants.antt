@@ -6,7 +6,8 @@ use Rattle.gate_journal.specs.Reading.{FirstWantsMemory}
 use Rattle.gate_journal.proofs.Found.{appended}
 use Rattle.gate_journal.proofs.records.read_records.Given as goal
 
--- What is left, after the commands that were read so far, gives what all of it gives. The first record was read, if one was.
+-- What is left, after the commands that were read so far, gives what all of it gives. The first
+-- record was read, if one was.
 abbrev pub invariant-loop : goal.invariant-loop
 invariant-loop l = record {
   reading : appended l.fn.commands.items (commands_in command_format (limits_of l.version) l.count l.bytes)

@@ -1,4 +1,5 @@
--- Decimal digits denote a decimal AS, which fits where the digits are parsed, and is too large otherwise.
+-- Decimal digits denote a decimal AS, which fits where the digits are parsed, and is too large
+-- otherwise.
 use Rattle.std.proofs.Common.{refl, arith}
 use Rattle.std.specs.Str.Parse.{digits_value}
 use Rattle.isd_as.specs.Text.{Decimal, Groups}

@@ -2,7 +2,8 @@ use Rattle.std.proofs.Common.{◌≡◌, ◌≤◌, ◌++◌, length, take}
 use Rattle.path_db.specs.RowRecord.{rows_encoding}
 use Rattle.path_db.proofs.row_records.put_rows.Given as goal
 
--- The records that were put and the rows that are left are all rows, after the bytes that were there.
+-- The records that were put and the rows that are left are all rows, after the bytes that were
+-- there.
 abbrev pub invariant-loop-row : goal.invariant-loop-row
 invariant-loop-row l = record {
   rest : l.out.items ++ rows_encoding l.row-iterator ≡ l.fn.out.items ++ rows_encoding l.fn.rows;

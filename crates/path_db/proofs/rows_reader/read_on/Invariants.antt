@@ -4,7 +4,8 @@ use Rattle.path_rows.specs.Row.{row_views}
 use Rattle.path_db.specs.RowRecord.{rows_encoding}
 use Rattle.path_db.proofs.rows_reader.read_on.Given as goal
 
--- The rows read before are a database, and with the bytes that are left they have the same records as at the start.
+-- The rows read before are a database, and with the bytes that are left they have the same records
+-- as at the start.
 abbrev pub invariant-loop-alloc : goal.invariant-loop-alloc
 invariant-loop-alloc l = record {
   database : IsDatabase (row_views l.rows.items);

@@ -12,7 +12,8 @@ use Rattle.seg_core.specs.Encoding.{entries_encoding}
 use Rattle.seg_core.proofs.PiecesKept.{AllWithin}
 use Rattle.seg_core.proofs.segment.read_entries.Given as goal
 
--- The messages that were read and those that are left are all of them; the entries read were put, and there is room for the others.
+-- The messages that were read and those that are left are all of them; the entries read were put,
+-- and there is room for the others.
 abbrev pub invariant-loop-message : goal.invariant-loop-message
 invariant-loop-message l = record {
   decoding :

@@ -8,7 +8,8 @@ use Rattle.store_open.specs.RowWrites.{IsWrittenUpTo}
 use Rattle.store_open.specs.TakingOver.{IsTornAt}
 use Rattle.store_open.proofs.laying.write_rows.Given as goal
 
--- The used part of the buffer, and the rows that are left, have to be written after the bytes that are written.
+-- The used part of the buffer, and the rows that are left, have to be written after the bytes that
+-- are written.
 abbrev pub invariant-loop-row : goal.invariant-loop-row
 invariant-loop-row g l = record {
   poured : IsWrittenUpTo (g.D.Device.disk l.fn.device) (g.D.Device.disk l.device) l.fn.at l.sector (take l.used l.buffer ++ rows_encoding l.rows)

@@ -1,4 +1,5 @@
--- The effect of a write of the file on the device, and that bytes which are clean in the device are clean in the file.
+-- The effect of a write of the file on the device, and that bytes which are clean in the device are
+-- clean in the file.
 use Rattle.std.proofs.Common.{◌*◌, Bool, IsTrue, refl, sym, subst, arith, Err}
 use Rattle.sector_dev.specs.Disk.{Disk}
 use Rattle.sector_dev.specs.Calls.{WriteCall}
