@@ -6,18 +6,18 @@ use Rattle.std.specs.Cmp.Lexicographic.{slice_cmp}
 use Rattle.std.specs.declared.cmp.Ordering.{Ordering}
 use Rattle.end_index.specs.declared.index_key.IndexKey.{IndexKey}
 
--- the order of index keys: by type, then by ISD-AS, then by the bytes of the id
+-- The order of index keys: by type, then by ISD-AS, then by the bytes of the id.
 abbrev pub index_key_cmp : IndexKey → IndexKey → Ordering
 index_key_cmp p q = ordering_then (nat_cmp p.kind q.kind) (ordering_then (nat_cmp p.isd_as q.isd_as) (slice_cmp nat_cmp p.id q.id))
 
--- two index keys are the same
+-- Two index keys are the same.
 abbrev pub is_same : IndexKey → IndexKey → Bool
 is_same p q = is_eq (index_key_cmp p q)
 
--- an index key is in this list
+-- An index key is in this list.
 abbrev pub has : List IndexKey → IndexKey → Bool
 has index_keys q = list_any (is_same q) index_keys
 
--- an index key is of this type and this ISD-AS
+-- An index key is of this type and of this ISD-AS.
 abbrev pub stands_at : ℕ → ℕ → IndexKey → Bool
 stands_at kind isd_as index_key = index_key.kind == kind && index_key.isd_as == isd_as

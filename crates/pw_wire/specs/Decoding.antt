@@ -2,11 +2,11 @@
 use Rattle.std.specs.Prelude.{ℕ, ◌<◌, List, Result, Ok, Err, slice_index}
 use Rattle.pw_wire.specs.declared.error.WireError.{WireError}
 
--- each number is that of a byte
+-- Each number is a byte.
 abbrev pub IsBytes : List ℕ → Type 0
 IsBytes bytes = (i : ℕ) → slice_index bytes i < 256
 
--- the value that was read goes into the next reading; the first fault is the result
+-- The next reading, given the value that was read; the first fault is the result.
 infixl 10 ◌>>=◌
 abbrev pub ◌>>=◌ : {A B : Type 0} → Result A WireError → (A → Result B WireError) → Result B WireError
 (Ok x) >>= f = f x

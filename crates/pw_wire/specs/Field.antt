@@ -6,35 +6,36 @@ use Rattle.pw_wire.specs.declared.error.WireError.TheVariants.{Truncated, LongVa
 use Rattle.pw_wire.specs.Decoding.{◌>>=◌}
 use Rattle.pw_wire.specs.Varint.{IsVarint, IsVarintFault, BeginsWithVarint, varint_at, varint_encoding}
 
--- what a field contains
+-- The content of a field.
 pub data FieldValue : Type 0 where
   Varint : (n : ℕ) → FieldValue
   Fixed64 : (n : ℕ) → FieldValue
   Bytes : (bytes : List ℕ) → FieldValue
   Fixed32 : (n : ℕ) → FieldValue
 
--- a field without where it lies in memory
+-- A field without its location in memory.
 pub record FieldView : Type 0 where
   pub number : ℕ
   pub value : FieldValue
 
--- a field of a number, and one of bytes
+-- A field of wire type 0.
 abbrev pub varint_field : ℕ → ℕ → FieldView
 varint_field field_number n = record { number = field_number; value = Varint n }
 
+-- A field of wire type 2.
 abbrev pub bytes_field : ℕ → List ℕ → FieldView
 bytes_field field_number bytes = record { number = field_number; value = Bytes bytes }
 
 -- ---- what a field is
 
--- the number by which a tag gives the kind of its value
+-- The number by which a tag gives the kind of its value.
 abbrev pub wire_type : FieldValue → ℕ
 wire_type (Varint n) = 0
 wire_type (Fixed64 n) = 1
 wire_type (Bytes bytes) = 2
 wire_type (Fixed32 n) = 5
 
--- the bytes of a value, after its tag; fixed numbers have their lowest byte first
+-- The bytes of a value, after its tag; fixed numbers have their lowest byte first.
 abbrev pub IsValue : List ℕ → FieldValue → Type 0
 IsValue encoding (Varint n) = IsVarint encoding n
 IsValue encoding (Fixed64 n) = (length encoding ≡ 8) × (n ≡ from_le_bytes w64 encoding)
@@ -54,7 +55,7 @@ pub record IsField (bytes : List ℕ) (field_number : ℕ) (value : FieldValue) 
   pub tag_is : IsVarint tag (field_number * 8 + wire_type value)
   pub content_is : IsValue content value
 
--- the bytes begin with some field
+-- The bytes begin with some field.
 pub record BeginsWithField (bytes : List ℕ) : Type 0 where
   pub field_number : ℕ
   pub value : FieldValue
@@ -63,7 +64,7 @@ pub record BeginsWithField (bytes : List ℕ) : Type 0 where
 
 -- ---- what is wrong where there is no field
 
--- a tag of at most 32 bits, whose number is not 0
+-- A tag of at most 32 bits, whose number is not 0.
 abbrev pub HasNumber : ℕ → Type 0
 HasNumber tag = (8 ≤ tag) × (tag < 2 ^ 32)
 
@@ -91,33 +92,33 @@ pub data IsFieldFault (bytes : List ℕ) (error : WireError) : Type 0 where
   at_tag : (tag : ℕ) (rest : List ℕ) → BeginsWithVarint bytes tag rest → IsTagFault tag error → IsFieldFault bytes error
   in_value : (tag : ℕ) (rest : List ℕ) → BeginsWithVarint bytes tag rest → HasNumber tag → IsValueFault (tag % 8) rest error → IsFieldFault bytes error
 
--- some check of the first field fails
+-- Some check of the first field fails.
 abbrev pub HasFieldFault : List ℕ → Type 0
 HasFieldFault bytes = (error : WireError) × IsFieldFault bytes error
 
 -- ---- reading one
 
--- a number of eight bytes, the lowest first
+-- A number of eight bytes, the lowest first.
 abbrev pub fixed64_at : List ℕ → Result (FieldValue × ℕ) WireError
 fixed64_at bytes = if nat_lt (length bytes) 8 then Err Truncated else Ok (Fixed64 (from_le_bytes w64 (take 8 bytes)), 8)
 
--- a number of four bytes, the lowest first
+-- A number of four bytes, the lowest first.
 abbrev pub fixed32_at : List ℕ → Result (FieldValue × ℕ) WireError
 fixed32_at bytes = if nat_lt (length bytes) 4 then Err Truncated else Ok (Fixed32 (from_le_bytes w32 (take 4 bytes)), 4)
 
--- a length, and this number of bytes
+-- A length, and this number of bytes.
 unfoldable pub bytes_at : List ℕ → Result (FieldValue × ℕ) WireError
 bytes_at bytes = do
   len ← varint_at bytes
   if nat_lt (length (drop len.1 bytes)) len.0 then Err Truncated else Ok (Bytes (take len.0 (drop len.1 bytes)), len.1 + len.0)
 
--- a number as a varint
+-- A number as a varint.
 unfoldable pub number_at : List ℕ → Result (FieldValue × ℕ) WireError
 number_at bytes = do
   n ← varint_at bytes
   Ok (Varint n.0, n.1)
 
--- the value of a wire type at the front, and how many bytes it took
+-- The value of a wire type at the front, and how many bytes it took.
 unfoldable pub value_at : ℕ → List ℕ → Result (FieldValue × ℕ) WireError
 value_at kind bytes =
     if kind == 0 then number_at bytes
@@ -127,13 +128,13 @@ value_at kind bytes =
     else if kind == 5 then fixed32_at bytes
     else Err BadWire
 
--- the value after a tag, and how many bytes the tag and the value took
+-- The value after a tag, and how many bytes the tag and the value took.
 unfoldable pub field_behind : ℕ × ℕ → List ℕ → Result (FieldView × ℕ) WireError
 field_behind tag bytes = if nat_lt tag.0 8 then Err BadField else if nat_lt tag.0 (2 ^ 32) then (do
   value ← value_at (tag.0 % 8) (drop tag.1 bytes)
   Ok (record { number = tag.0 / 8; value = value.0 }, tag.1 + value.1)) else Err BadField
 
--- the field at the front and its length, or the first check that fails
+-- The field at the front and its length, or the first check that fails.
 unfoldable pub field_at : List ℕ → Result (FieldView × ℕ) WireError
 field_at bytes = do
   tag ← varint_at bytes
@@ -141,10 +142,10 @@ field_at bytes = do
 
 -- ---- the shortest encodings
 
--- a field of wire type 0
+-- A field of wire type 0.
 unfoldable pub varint_field_encoding : ℕ → ℕ → List ℕ
 varint_field_encoding field_number n = varint_encoding (field_number * 8) ++ varint_encoding n
 
--- a field of wire type 2
+-- A field of wire type 2.
 unfoldable pub bytes_field_encoding : ℕ → List ℕ → List ℕ
 bytes_field_encoding field_number bytes = varint_encoding (field_number * 8 + 2) ++ (varint_encoding (length bytes) ++ bytes)

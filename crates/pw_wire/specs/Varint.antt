@@ -31,7 +31,7 @@ pub record IsVarint (bytes : List ℕ) (n : ℕ) : Type 0 where
   pub short : length bytes ≤ 10
   pub fits : n < 2 ^ 64
 
--- each byte is a continuation byte
+-- Each byte is a continuation byte.
 abbrev pub AllGoOn : List ℕ → Type 0
 AllGoOn bytes = AllByRecursion (λ b. 128 ≤ b) bytes
 
@@ -43,7 +43,7 @@ IsVarintFault bytes BadField = ⊥
 IsVarintFault bytes GroupWire = ⊥
 IsVarintFault bytes BadWire = ⊥
 
--- bytes that begin with the varint of a number, followed by the rest
+-- Bytes that begin with the varint of a number, followed by the rest.
 pub record BeginsWithVarint (bytes : List ℕ) (n : ℕ) (rest : List ℕ) : Type 0 where
   pub front : List ℕ
   pub varint : IsVarint front n
@@ -60,7 +60,7 @@ varint_within (suc left) (b ∷ bytes) = if nat_lt b 128 then Ok (b, 1) else do
   high ← varint_within left bytes
   Ok (b - 128 + 128 * high.0, suc high.1)
 
--- the varint at the front, and its length
+-- The varint at the front, and its length.
 abbrev pub varint_at : List ℕ → Result (ℕ × ℕ) WireError
 varint_at bytes = varint_within 9 bytes
 
@@ -71,6 +71,6 @@ unfoldable pub encoding_within : ℕ → ℕ → List ℕ
 encoding_within zero n = n ∷ []
 encoding_within (suc left) n = if nat_lt n 128 then n ∷ [] else ((n % 128 + 128) ∷ encoding_within left (n / 128))
 
--- the shortest encoding of a number below 2 ^ 64
+-- The shortest encoding of a number below 2 ^ 64.
 unfoldable pub varint_encoding : ℕ → List ℕ
 varint_encoding n = encoding_within 9 n

@@ -7,38 +7,40 @@ use Rattle.pw_wire.specs.declared.field.Value.TheVariants as values
 use Rattle.pw_wire.specs.Field.{FieldValue, Varint, Fixed64, Bytes, Fixed32, FieldView}
 use Rattle.pw_wire.specs.Fields.{fields, fault}
 
--- a value, and a field, without their location in memory
+-- A value without its location in memory.
 abbrev pub value_view : Value → FieldValue
 value_view (values.Varint n) = Varint n
 value_view (values.Fixed64 n) = Fixed64 n
 value_view (values.Bytes bytes) = Bytes bytes.now
 value_view (values.Fixed32 n) = Fixed32 n
 
+-- A field without its location in memory.
 abbrev pub field_view : Field → FieldView
 field_view f = record { number = f.number; value = value_view f.value }
 
--- what a call read, as these views
+-- The result of reading a value, without the value's location in memory.
 abbrev pub value_read : Result (Value × ℕ) WireError → Result (FieldValue × ℕ) WireError
 value_read (Ok found) = Ok (value_view found.0, found.1)
 value_read (Err e) = Err e
 
+-- The result of reading a field, without the field's location in memory.
 abbrev pub field_read : Result (Field × ℕ) WireError → Result (FieldView × ℕ) WireError
 field_read (Ok found) = Ok (field_view found.0, found.1)
 field_read (Err e) = Err e
 
--- what was found is the field of this number and value, and has this length
+-- What was found is the field of this number and value, of this length.
 pub record IsFoundField (found : Field × ℕ) (field_number : ℕ) (value : FieldValue) (len : ℕ) : Type 0 where
   pub number_is : found.0.number ≡ field_number
   pub value_is : value_view found.0.value ≡ value
   pub len_is : found.1 ≡ len
 
--- a call found this field, of this length
+-- A call returned the field of this number and value, of this length.
 abbrev pub Finds : Result (Option (Field × ℕ)) WireError → ℕ → FieldValue → ℕ → Type 0
 Finds (Ok (Some next)) field_number value len = IsFoundField next field_number value len
 Finds (Ok None) field_number value len = ⊥
 Finds (Err e) field_number value len = ⊥
 
--- nothing is left of the message
+-- Nothing is left of the message.
 pub record IsEnd (bytes : List ℕ) : Type 0 where
   pub nothing : bytes ≡ []
   pub no_fields : fields bytes ≡ []

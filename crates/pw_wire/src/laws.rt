@@ -8,7 +8,7 @@ ghost use Rattle.pw_wire.specs.Varint.{EncodesNumber, IsVarint, varint_encoding}
 ghost use Rattle.pw_wire.specs.Field.{FieldValue, FieldView, IsField, IsFieldFault, BeginsWithField, HasFieldFault, varint_field, bytes_field, varint_field_encoding, bytes_field_encoding};
 ghost use Rattle.pw_wire.specs.Fields.{AreFields, AreFieldsUntil, fields, fault, IsDecodedAs};
 
-/// Bytes that aren't empty begin with exactly one field, of one length, or have exactly one fault.
+/// Bytes that are not empty begin with exactly one field, of one length, or have exactly one fault.
 pub fn field_or_fault()
     ensures one { (bytes : List ℕ) → IsBytes bytes → bytes ≢ []
         → BeginsWithField bytes ⊎ HasFieldFault bytes }

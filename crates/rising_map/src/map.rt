@@ -12,15 +12,16 @@ use std::marker::Model;
 
 /// A map from numbers to values, made for numbers that mostly rise: its entries by rising number.
 ///
-/// To insert above all numbers and to remove take constant time on the average, as looking up does
-/// where no number is missing between the first and the one that is asked for; else a look-up takes
-/// time by the logarithm of the entries, and an insertion between them moves all that are above.
-/// The memory stays in proportion to the most entries that the map had at once.
+/// An insertion above all numbers and a removal take constant time on the average. So does a
+/// look-up where no number is missing between the first one and the one that is asked for; any
+/// other look-up takes time by the logarithm of the number of entries. An insertion between entries
+/// moves all entries above it. The memory stays in proportion to the most entries that the map had
+/// at once.
 #[derive(Drop)]
 pub struct RisingMap<V: Copy> {
     /// The entries by rising number, and holes where entries were removed.
     slots: Vec<Slot<V>>,
-    /// How many slots are holes: at most half of them.
+    /// The number of slots that are holes: at most half of them.
     holes: usize,
 }
 
@@ -63,7 +64,7 @@ impl<V: Copy> RisingMap<V> {
         }
     }
 
-    /// Puts a value at a number, and returns the value that it replaces, if any. To replace a value
+    /// Puts a value at a number, and returns the value that it replaces, if any. Replacing a value
     /// takes no memory. Where memory is refused, the map is unchanged.
     pub fn insert(&mut self, number: u64, value: V) -> Result<Option<V>, AllocError>
         ensures entries { OnOk result (self.new ≡ insert_entry nat_cmp self.old number value) }

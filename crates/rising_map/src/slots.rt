@@ -13,9 +13,10 @@ pub(crate) struct Slot<V: Copy> {
     pub(crate) value: Option<V>,
 }
 
-/// The index of the slot that has a number, or as an error how many slots are below it where none
-/// has it. Where the number is above all slots', or the slots from the first one to it have no gap,
-/// this takes constant time, and else time by the logarithm of their number.
+/// The index of the slot that has a number, or as an error the number of slots below it where no
+/// slot has it. This takes constant time where the number is above all slots', or where the slots
+/// from the first one to it have no gap; else it takes time by the logarithm of the number of
+/// slots.
 pub(crate) fn find<V: Copy>(slots: &[Slot<V>], number: u64) -> Result<usize, usize>
     requires { AreRisingSlots slots.now }
     ensures { IsFoundSlot slots.now number result }

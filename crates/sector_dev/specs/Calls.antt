@@ -4,44 +4,50 @@ use Rattle.std.specs.Prelude.{◌≡◌, ℕ, ◌+◌, ◌-◌, ◌*◌, ◌^◌
 use Rattle.byte_lists.specs.Content.{part}
 use Rattle.sector_dev.specs.Disk.{Disk, IsHonest, History, reads_of, after_write, after_sync}
 
--- a count of failures plus one; 2^64 - 1 stays
+-- A count of failures plus one. The count stays at 2^64 - 1.
 abbrev pub one_more : ℕ → ℕ
 one_more count = min (count + 1) (2 ^ 64 - 1)
 
--- the count of failed calls after a call with this result
+-- The count of failed calls after a call with this result.
 abbrev pub count_after : {T E : Type 0} → Result T E → ℕ → ℕ
 count_after (Ok _) faults = faults
 count_after (Err _) faults = one_more faults
 
--- the fields that no call changes
+-- The fields of a device that no call changes are the same.
 pub record Keeps (old new : Disk) : Type 0 where
   pub is_honest : new.is_honest ≡ old.is_honest
   pub sectors : new.sectors ≡ old.sectors
 
--- a read at a sector: nothing changes, and the bytes that are read are those at the sector
+-- A read of bytes at a sector.
 pub record ReadCall {T E : Type 0} (sector : ℕ) (into : List ℕ) (result : Result T E) (old new : Disk) : Type 0 where
+  -- A read changes the count of failed calls at most.
   pub keeps : Keeps old new
   pub faults : new.faults ≡ count_after result old.faults
   pub history : IsHonest old → new.history ≡ old.history
+  -- The bytes that are read are those at the sector.
   pub bytes : IsHonest old → OnOk result (into ≡ part (512 * sector) (length into) (reads_of old))
 
--- some bytes landed in the range of a write, and nothing else changed; after a write that
--- succeeded, they are the given bytes
+-- What a write leaves in its range.
 pub record Lands {T E : Type 0} (sector : ℕ) (bytes : List ℕ) (result : Result T E) (old new : History) : Type 0 where
+  -- The bytes that landed; a write that failed may leave any bytes.
   pub landed : List ℕ
   pub size : length landed ≡ length bytes
+  -- The given bytes landed where the write succeeded.
   pub done : OnOk result (landed ≡ bytes)
+  -- Nothing else changed.
   pub history : new ≡ after_write (512 * sector) landed old
 
--- a write at a sector
+-- A write of bytes at a sector.
 pub record WriteCall {T E : Type 0} (sector : ℕ) (bytes : List ℕ) (result : Result T E) (old new : Disk) : Type 0 where
   pub keeps : Keeps old new
   pub faults : new.faults ≡ count_after result old.faults
   pub lands : IsHonest old → Lands sector bytes result old.history new.history
 
--- a sync: where it succeeds nothing is dirty any more, and where it fails nothing changes
+-- A sync.
 pub record SyncCall {T E : Type 0} (result : Result T E) (old new : Disk) : Type 0 where
   pub keeps : Keeps old new
   pub faults : new.faults ≡ count_after result old.faults
+  -- Nothing is dirty after a sync that succeeded.
   pub done : IsHonest old → OnOk result (new.history ≡ after_sync old.history)
+  -- Nothing changed where the sync failed.
   pub unchanged : IsHonest old → OnErr result (new.history ≡ old.history)

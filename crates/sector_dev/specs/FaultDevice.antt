@@ -5,11 +5,11 @@ use Rattle.sector_dev.specs.declared.fault_device.FaultDevice.{FaultDevice}
 use Rattle.sector_dev.specs.declared.mem_device.MemDevice.{MemDevice}
 use Rattle.sector_dev.specs.MemDevice.{memory_disk}
 
--- the device within
+-- The device in memory whose calls are passed on.
 abbrev pub fault_memory : FaultDevice → MemDevice
 fault_memory device = device.memory
 
--- how many calls succeed before the one that fails; `None` once it has failed
+-- The number of calls that succeed before the one that fails; `None` once it has failed.
 abbrev pub calls_before_fault : FaultDevice → Option ℕ
 calls_before_fault device = device.before
 
@@ -17,17 +17,17 @@ abbrev fault_count : Option ℕ → ℕ
 fault_count (Some _) = 0
 fault_count None = 1
 
--- the memory within, with a count of one failure once the call has failed
+-- The device in memory, with a count of one failure once the call has failed.
 abbrev pub fault_disk : FaultDevice → Disk
 fault_disk device = record (memory_disk device.memory) { faults = fault_count device.before }
 
--- how many calls are left before the failure, after one more call
+-- The number of calls before the failure, after one more call.
 abbrev pub one_call_less : Option ℕ → Option ℕ
 one_call_less (Some (suc n)) = Some n
 one_call_less (Some zero) = None
 one_call_less None = None
 
--- one call: it fails exactly where no call was left before the failure
+-- One call counts down: it fails exactly where no call was left before the failure.
 pub record CountsDown {T E : Type 0} (result : Result T E) (old new : FaultDevice) : Type 0 where
   pub fails : IsErr result ↔ (calls_before_fault old ≡ Some 0)
   pub left : calls_before_fault new ≡ one_call_less (calls_before_fault old)

@@ -7,45 +7,50 @@ use Rattle.sector_dev.specs.PositionedFile.{FileState, IsHonestFile, DirtiesOnly
 use Rattle.sector_dev.specs.declared.positioned_file.PositionedFile.{Ghosts}
 use Rattle.sector_dev.specs.declared.file_device.FileDevice.{FileDevice}
 
--- the bytes of a file in its first sectors
+-- The bytes of a file in its first sectors.
 abbrev pub front : ℕ → List ℕ → List ℕ
 front sectors bytes = take (512 * sectors) bytes
 
--- a new device over a file: the whole sectors of the file, with the dirty ranges of the file
+-- A device is made over a file.
 pub record IsMadeOver (file : FileState) (disk : Disk) : Type 0 where
+  -- The device is honest where the file is.
   pub is_honest : disk.is_honest ≡ file.is_honest
+  -- The device has the whole sectors of the file.
   pub sectors : IsHonestFile file → disk.sectors ≡ length file.bytes / 512
   pub faults : disk.faults ≡ 0
+  -- The device returns the bytes of the file, and has its dirty ranges.
   pub history : IsHonestFile file → disk.history ≡ record { past = []; now = record { reads = front disk.sectors file.bytes; dirty = file.dirty } }
 
--- all transfers of a write: some bytes landed, as many as were given, and exactly these where no
--- transfer failed
+-- What all transfers of one write leave.
 pub record LandsWhole {T E : Type 0} (offset : ℕ) (bytes : List ℕ) (result : Result T E) (old new : List ℕ) : Type 0 where
+  -- The bytes that landed, of the number that was given.
   pub landed : List ℕ
   pub size : length landed ≡ length bytes
+  -- The given bytes landed where no transfer failed.
   pub done : OnOk result (landed ≡ bytes)
+  -- Nothing else changed.
   pub is : new ≡ overwrite offset landed old
 
--- a write to a file in any number of transfers
+-- A write to a file, in any number of transfers.
 pub record WritesWhole {T E : Type 0} (offset : ℕ) (bytes : List ℕ) (result : Result T E) (old new : FileState) : Type 0 where
   pub is_honest : new.is_honest ≡ old.is_honest
   pub lands : IsHonestFile old → offset + length bytes ≤ length old.bytes → LandsWhole offset bytes result old.bytes new.bytes
   pub dirty : IsHonestFile old → DirtiesOnly offset (length bytes) old.dirty new.dirty
 
--- a call fails exactly where a call of its file fails: the file's count of failures grows by one,
--- and stays where no call fails
+-- A call fails exactly where a call of its file fails: the file's count of failures grows by one.
+-- The count is unchanged where no call fails.
 abbrev pub FailsWithFile : {T E : Type 0} → Result T E → FileState → FileState → Type 0
 FailsWithFile result old new = new.failures ≡ count_after result old.failures
 
--- the file under a device
+-- The file of a device.
 abbrev pub file_of : {F : Type 0} {G : Ghosts F} → FileDevice F G → F
 file_of device = device.file
 
--- the file under a device, as contracts see it
+-- The file of a device, as contracts see it.
 abbrev pub file_state : {F : Type 0} {G : Ghosts F} → FileDevice F G → FileState
 file_state {F} {G} device = G.state device.file
 
--- the whole sectors of the file, with the past moments of the device
+-- The whole sectors of the file, with the past moments of the device.
 abbrev pub file_disk : {F : Type 0} {G : Ghosts F} → FileDevice F G → Disk
 file_disk {F} {G} device = record {
   is_honest = (G.state device.file).is_honest;

@@ -5,7 +5,7 @@ use Rattle.std.proofs.lemmas.Bool.{cases_lt}
 use Rattle.std.proofs.lemmas.List.{length-take-le, get_or_past}
 use Rattle.byte_lists.specs.Content.{AreBytes}
 
--- bytes, 512 for each sector
+-- The first bytes of a file that has the sectors: bytes, 512 for each sector.
 pub whole_front : (sectors : ℕ) (bytes : List ℕ) → 512 * sectors ≤ length bytes → AreBytes bytes → (length (take (512 * sectors) bytes) ≡ 512 * sectors) × AreBytes (take (512 * sectors) bytes)
 whole_front sectors bytes covered each = (size, λ i. entry i)
   where

@@ -7,34 +7,34 @@ use Rattle.sector_dev.specs.declared.fuse_device.Tear.{Tear}
 use Rattle.sector_dev.specs.declared.mem_device.MemDevice.{MemDevice}
 use Rattle.sector_dev.specs.MemDevice.{memory_disk}
 
--- the device within
+-- The device in memory whose calls are passed on.
 abbrev pub fuse_memory : FuseDevice → MemDevice
 fuse_memory fuse = fuse.memory
 
--- how many more calls succeed
+-- The number of calls that still succeed.
 abbrev pub calls_left : FuseDevice → ℕ
 calls_left fuse = fuse.left
 
--- how the write at which it stops is torn
+-- How the write at which the device stops is torn.
 abbrev pub fuse_tear : FuseDevice → Tear
 fuse_tear fuse = fuse.tear
 
--- the memory within, with the count of calls that failed
+-- The device in memory, with the count of calls that failed.
 abbrev pub fuse_disk : FuseDevice → Disk
 fuse_disk fuse = record (memory_disk fuse.memory) { faults = fuse.faults }
 
--- the first bytes land, and all others become one fill byte
+-- The first bytes land, and all others become one fill byte.
 abbrev pub torn_bytes : Tear → List ℕ → List ℕ
 torn_bytes tear bytes = take tear.keep bytes ++ replicate (length bytes - tear.keep) tear.fill
 
--- one call of a fuse: it succeeds as long as some calls are left
+-- One call of a fuse: it succeeds as long as some calls are left.
 pub record BurnsOne {T E : Type 0} (result : Result T E) (old new : FuseDevice) : Type 0 where
   pub passes : IsOk result ↔ (0 < calls_left old)
   pub left : calls_left new ≡ calls_left old - 1
   pub tear : fuse_tear new ≡ fuse_tear old
 
--- the history after a failed write: the write is torn where it is the first call that failed, and
--- else nothing lands
+-- The history after a failed write: the write is torn where it is the first call that failed, and
+-- else nothing lands.
 abbrev pub after_stopped_write : FuseDevice → ℕ → List ℕ → History
 after_stopped_write fuse sector bytes =
     let history = (fuse_disk fuse).history in

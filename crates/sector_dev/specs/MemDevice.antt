@@ -3,7 +3,7 @@ use Rattle.std.specs.Prelude.{ℕ, ◌*◌, true, [], replicate}
 use Rattle.sector_dev.specs.Disk.{Disk}
 use Rattle.sector_dev.specs.declared.mem_device.MemDevice.{MemDevice}
 
--- an honest device whose calls never failed
+-- An honest device whose calls never failed.
 abbrev pub memory_disk : MemDevice → Disk
 memory_disk device = record {
   is_honest = true;
@@ -12,7 +12,7 @@ memory_disk device = record {
   history = record { past = device.trail.past; now = record { reads = device.bytes.items; dirty = device.trail.dirty } };
 }
 
--- an honest device of zeros, before any call
+-- An honest device of zeros, before any call.
 abbrev pub zeroed_disk : ℕ → Disk
 zeroed_disk sectors = record {
   is_honest = true;

@@ -3,14 +3,14 @@ use Rattle.std.specs.Prelude.{ℕ, ◌-◌, min, true, [], length}
 use Rattle.sector_dev.specs.PositionedFile.{FileState}
 use Rattle.sector_dev.specs.declared.mem_file.MemFile.{MemFile}
 
--- an honest file of these bytes, whose writes are never lost
+-- An honest file of these bytes, whose writes are never lost.
 abbrev pub memory_state : MemFile → FileState
 memory_state file = record { is_honest = true; bytes = file.bytes.items; dirty = []; failures = file.failures }
 
--- the most bytes that one transfer moves
+-- The most bytes that one transfer moves.
 abbrev pub transfer_limit : MemFile → ℕ
 transfer_limit file = file.at_most
 
--- how many bytes one transfer moves at an offset, where this number of bytes is asked for
+-- The number of bytes that one transfer moves at an offset, where `asked` bytes are asked for.
 abbrev pub transfer_length : MemFile → ℕ → ℕ → ℕ
 transfer_length file offset asked = min asked (min (length file.bytes.items - offset) file.at_most)

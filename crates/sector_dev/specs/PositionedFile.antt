@@ -6,32 +6,34 @@ use Rattle.sector_dev.specs.Disk.{ByteRange}
 use Rattle.sector_dev.specs.Image.{IsClean}
 use Rattle.sector_dev.specs.Calls.{count_after, one_more}
 
--- a file as contracts see it: whether it is honest, its bytes, the ranges written since the last
--- sync that succeeded, in which a stop may leave any bytes, and how many of its transfers and syncs
--- have failed
+-- A file as contracts see it.
 pub record FileState : Type 0 where
+  -- Whether the file is honest, as `IsHonestFile` says.
   pub is_honest : Bool
+  -- The bytes of the file.
   pub bytes : List ℕ
+  -- The ranges written since the last sync that succeeded, in which a stop may leave any bytes.
   pub dirty : List ByteRange
+  -- The number of transfers and syncs that have failed.
   pub failures : ℕ
 
--- the file keeps the bytes that are written to it, and nothing else writes to it
+-- The file keeps the bytes that are written to it, and nothing else writes to it.
 abbrev pub IsHonestFile : FileState → Type 0
 IsHonestFile file = IsTrue file.is_honest
 
--- a call that does not change the bytes of an honest file
+-- A call does not change the bytes of an honest file.
 pub record LeavesFile (old new : FileState) : Type 0 where
   pub is_honest : new.is_honest ≡ old.is_honest
   pub bytes : IsHonestFile old → new.bytes ≡ old.bytes
   pub dirty : IsHonestFile old → new.dirty ≡ old.dirty
 
--- the count of failures after a transfer of this number of bytes: one more where it failed, or
--- moved none of them
+-- The count of failures after a transfer of `asked` bytes: one more where it failed, or moved none
+-- of them.
 abbrev pub failures_after_transfer : {E : Type 0} → ℕ → Result ℕ E → ℕ → ℕ
 failures_after_transfer asked (Ok moved) failures = if nat_lt 0 asked && moved == 0 then one_more failures else failures
 failures_after_transfer asked (Err _) failures = one_more failures
 
--- a sync; after one that succeeds, a stop leaves the bytes of an honest file unchanged
+-- A sync of a file. After one that succeeds, a stop leaves the bytes of an honest file unchanged.
 pub record SyncsFile {T E : Type 0} (result : Result T E) (old new : FileState) : Type 0 where
   pub is_honest : new.is_honest ≡ old.is_honest
   pub failures : new.failures ≡ count_after result old.failures
@@ -39,34 +41,34 @@ pub record SyncsFile {T E : Type 0} (result : Result T E) (old new : FileState) 
   pub done : IsHonestFile old → OnOk result (new.dirty ≡ [])
   pub unchanged : IsHonestFile old → OnErr result (new.dirty ≡ old.dirty)
 
--- nothing is dirty but what was dirty before, and the n bytes at an offset
+-- Nothing is dirty but what was dirty before, and the n bytes at an offset.
 abbrev pub DirtiesOnly : ℕ → ℕ → List ByteRange → List ByteRange → Type 0
 DirtiesOnly offset n old new = (i : ℕ) → IsClean old i → (offset ≤ i → offset + n ≤ i) → IsClean new i
 
--- bytes that are clean in the device are clean in the file
+-- Bytes that are clean in a device are clean in its file.
 abbrev pub CoversDirty : List ByteRange → FileState → Type 0
 CoversDirty dirty file = (i : ℕ) → IsClean dirty i → IsClean file.dirty i
 
--- one transfer out of the file, of the number of bytes that it returns, at most those asked for
+-- One transfer out of a file, of the number of bytes that it returns, at most those asked for.
 pub record TransfersOut {E : Type 0} (offset : ℕ) (into : List ℕ) (result : Result ℕ E) (old new : FileState) : Type 0 where
   pub same : LeavesFile old new
   pub failures : new.failures ≡ failures_after_transfer (length into) result old.failures
   pub most : IfOk result (λ n. n ≤ length into)
   pub bytes : IsHonestFile old → IfOk result (λ n. take n into ≡ part offset n old.bytes)
 
--- some bytes landed at an offset, as many as were given
+-- Some bytes landed at an offset, of the length of the given ones, and nothing else changed.
 pub record LandsAny (offset : ℕ) (bytes old new : List ℕ) : Type 0 where
   pub landed : List ℕ
   pub size : length landed ≡ length bytes
   pub is : new ≡ overwrite offset landed old
 
--- the bytes of an honest file after a transfer into it: the number that it returns landed, and any
--- bytes where it failed
+-- The bytes of an honest file after a transfer into it. The bytes whose number it returns landed;
+-- where it failed, any bytes may have landed.
 abbrev pub LandsTransfer : {E : Type 0} → ℕ → List ℕ → Result ℕ E → List ℕ → List ℕ → Type 0
 LandsTransfer offset bytes (Ok n) old new = new ≡ overwrite offset (take n bytes) old
 LandsTransfer offset bytes (Err _) old new = LandsAny offset bytes old new
 
--- one transfer into the file, of at most the given bytes
+-- One transfer into a file, of at most the given bytes.
 pub record TransfersIn {E : Type 0} (offset : ℕ) (bytes : List ℕ) (result : Result ℕ E) (old new : FileState) : Type 0 where
   pub is_honest : new.is_honest ≡ old.is_honest
   pub failures : new.failures ≡ failures_after_transfer (length bytes) result old.failures

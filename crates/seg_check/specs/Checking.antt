@@ -33,21 +33,21 @@ pub record HasExpired (verifies : Verdicts) (now : ℕ) (s : SegmentView) : Type
 
 -- ---- the test of these definitions
 
--- the index of the first of the entries whose signature is not good; the earlier entries come
--- before them
+-- The index of the first of the entries whose signature is not good, after the entries `earlier`.
 abbrev pub first_bad_behind : List EntryView → Verdicts → List ℕ → List EntryView → Option ℕ
 first_bad_behind earlier verifies info [] = None
 first_bad_behind earlier verifies info (e ∷ entries) =
     if is_verified verifies info earlier e then first_bad_behind (earlier ++ e ∷ []) verifies info entries else Some (length earlier)
 
+-- The index of the first entry whose signature is not good.
 abbrev pub first_bad : Verdicts → List ℕ → List EntryView → Option ℕ
 first_bad = first_bad_behind []
 
--- a bad signature is the refusal, else the expiry
+-- The first refusal of a segment, given its first bad entry, and whether it has expired.
 abbrev pub check_error_of : Option ℕ → Bool → Option CheckError
 check_error_of (Some at) expired = Some (BadSignature at)
 check_error_of None expired = if expired then Some Expired else None
 
--- the first refusal of a segment: the entries in order, then its expiry
+-- The first refusal of a segment: the signatures of its entries in order, then its expiry.
 unfoldable pub check_refusal : Verdicts → ℕ → SegmentView → Option CheckError
 check_refusal verifies now s = check_error_of (first_bad verifies s.info s.entries) (nat_le (expiry_of s) now)

@@ -6,14 +6,14 @@ use Rattle.std.specs.Str.{bytes_eq}
 use Rattle.sha2.specs.Sha256.{sha256}
 use Rattle.seg_check.specs.Signatures.{Verdicts}
 
--- a piece after its length, which has 8 bytes, big-endian
+-- A piece after its length, which has 8 bytes, big-endian.
 abbrev pub piece_encoding : List ℕ → List ℕ
 piece_encoding piece = to_be_bytes w64 (length piece) ++ piece
 
--- the digest of the key, the signed bytes and the associated pieces, each after its length
+-- The digest of the key, the signed bytes and the associated pieces, each after its length.
 unfoldable pub keyed_signature : List ℕ → List ℕ → List (List ℕ) → List ℕ
 keyed_signature key signed associated = sha256 (flat_map piece_encoding (key ∷ signed ∷ associated))
 
--- the signature by this key is good, and no other is, for any ISD-AS
+-- By this key exactly one signature is good, for any ISD-AS.
 abbrev pub keyed_verdicts : List ℕ → Verdicts
 keyed_verdicts key ia signed signature associated = bytes_eq signature (keyed_signature key signed associated)

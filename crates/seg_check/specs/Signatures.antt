@@ -4,12 +4,12 @@ use Rattle.std.specs.List.{flat_map}
 use Rattle.std.specs.Borrow.{Bor}
 use Rattle.seg_core.specs.SegmentView.{EntryView}
 
--- a verifier's answers: whether a signature is good, by the ISD-AS, the signed bytes, the signature
--- and the associated pieces
+-- A verifier's answers: whether a signature is good, by the ISD-AS, the signed bytes, the signature
+-- and the associated pieces.
 abbrev pub Verdicts : Type 0
 Verdicts = ℕ → List ℕ → List ℕ → List (List ℕ) → Bool
 
--- a list of references as the pieces that they refer to
+-- A list of references as the pieces that they refer to.
 abbrev pub referred_pieces : List (Bor (List ℕ)) → List (List ℕ)
 referred_pieces pieces = map (λ piece. piece.now) pieces
 
@@ -18,11 +18,11 @@ referred_pieces pieces = map (λ piece. piece.now) pieces
 abbrev pub associated_pieces : List ℕ → List EntryView → List (List ℕ)
 associated_pieces info earlier = info ∷ flat_map (λ e. e.signed ∷ e.signature ∷ []) earlier
 
--- whether the signature of an entry is good, given the entries before it
+-- The signature of an entry is good, given the entries before it.
 abbrev pub is_verified : Verdicts → List ℕ → List EntryView → EntryView → Bool
 is_verified verifies info earlier e = verifies e.ia e.signed e.signature (associated_pieces info earlier)
 
--- the signature of each entry is good, given the entries before it
+-- The signature of each entry is good, given the entries before it.
 abbrev pub AllVerified : Verdicts → List ℕ → List EntryView → Type 0
 AllVerified verifies info entries =
     (earlier later : List EntryView) (e : EntryView) → entries ≡ earlier ++ e ∷ later → IsTrue (is_verified verifies info earlier e)

@@ -11,7 +11,7 @@ use Rattle.seg_core.specs.Steps.{must_hold, at_most, each}
 use Rattle.seg_slots.specs.Message.{message_fields, required_message, number_field, last_bytes_field, bytes_fields, bytes_field_or_empty}
 use Rattle.seg_core.specs.SegmentView.{EntryView}
 
--- where a segment enters and leaves an AS, and how long the hop field is valid
+-- A hop field: where a segment enters and leaves an AS, and how long the hop field is valid.
 unfoldable pub hop_field_decoding : List ℕ → Result Hop SegError
 hop_field_decoding message = do
   fs ← message_fields hop_field_shape message
@@ -21,6 +21,7 @@ hop_field_decoding message = do
   _ ← must_hold (length (bytes_field_or_empty 4 fs) == 6) Range
   Ok (record { ingress = ingress; egress = egress; exp_time = exp_time })
 
+-- A hop entry: its hop field, and an MTU, which is not kept.
 unfoldable pub hop_entry_decoding : List ℕ → Result Hop SegError
 hop_entry_decoding message = do
   fs ← message_fields hop_entry_shape message
@@ -28,6 +29,7 @@ hop_entry_decoding message = do
   _ ← at_most (2 ^ 32 - 1) (number_field 2 fs)
   hop_field_decoding hop_field
 
+-- A peer entry: its hop field, and numbers, which are not kept.
 unfoldable pub peer_entry_decoding : List ℕ → Result Hop SegError
 peer_entry_decoding message = do
   fs ← message_fields peer_entry_shape message
@@ -35,7 +37,7 @@ peer_entry_decoding message = do
   _ ← at_most (2 ^ 32 - 1) (number_field 3 fs)
   hop_field_decoding hop_field
 
--- the numbers in the signed body of an entry
+-- The numbers in the signed body of an entry.
 unfoldable pub body_decoding : List ℕ → Result Body SegError
 body_decoding message = do
   fs ← message_fields body_shape message
@@ -46,13 +48,13 @@ body_decoding message = do
   _ ← each peer_entry_decoding (bytes_fields 4 fs)
   Ok (record { ia = number_field 1 fs; next = number_field 2 fs; hop = hop })
 
--- a header, which is kept but not read, and a body
+-- A header, which is kept but not read, and a body.
 unfoldable pub header_and_body_decoding : List ℕ → Result Body SegError
 header_and_body_decoding message = do
   fs ← message_fields header_and_body_shape message
   body_decoding (bytes_field_or_empty 2 fs)
 
--- a signed message, and extensions that are not signed, which are kept but not read
+-- An entry: a signed message, and extensions that are not signed, which are kept but not read.
 unfoldable pub as_entry_decoding : List ℕ → Result EntryView SegError
 as_entry_decoding message = do
   fs ← message_fields as_entry_shape message

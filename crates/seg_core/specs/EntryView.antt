@@ -11,6 +11,7 @@ use Rattle.seg_core.specs.declared.segment.Parts.{Parts}
 use Rattle.seg_core.specs.SegmentView.{EntryView, PiecesView, SegmentView}
 use Rattle.seg_core.specs.Pieces.{piece_at, pieces_at}
 
+-- An entry as contracts see it.
 abbrev pub entry_view : Entry → EntryView
 entry_view e = record {
   ia = isd_as_number e.ia;
@@ -23,10 +24,11 @@ entry_view e = record {
   unsigned = e.pieces.unsigned;
 }
 
+-- The entries of a list, as contracts see them.
 abbrev pub entry_views : List Entry → List EntryView
 entry_views entries = map entry_view entries
 
--- the entry with the numbers of this body and with these pieces
+-- The entry with the numbers of this body and with these pieces.
 abbrev pub entry_of : Body → PiecesView → EntryView
 entry_of body pieces = record {
   ia = body.ia;
@@ -39,20 +41,23 @@ entry_of body pieces = record {
   unsigned = pieces.unsigned;
 }
 
--- the pieces of an entry, unchanged
+-- The pieces of an entry as received.
 abbrev pub borrowed_pieces : BorrowedEntry → PiecesView
 borrowed_pieces e = record { signed = e.signed.now; signature = e.signature.now; unsigned = option_map (λ s. s.now) e.unsigned }
 
+-- An entry as received.
 abbrev pub borrowed_view : BorrowedEntry → EntryView
 borrowed_view e = entry_of e.body (borrowed_pieces e)
 
--- an entry whose pieces are in these bytes
+-- An entry whose pieces are in these bytes.
 abbrev pub marked_view : List ℕ → MarkedEntry → EntryView
 marked_view bytes e = entry_of e.body (pieces_at bytes e.spans)
 
+-- The entries of a list, whose pieces are in these bytes.
 abbrev pub marked_views : List ℕ → List MarkedEntry → List EntryView
 marked_views bytes entries = map (λ e. marked_view bytes e) entries
 
+-- A segment as contracts see it. Its information and its pieces are in its encoding.
 abbrev pub segment_view : Parts → SegmentView
 segment_view parts = record {
   timestamp = parts.timestamp;

@@ -19,7 +19,7 @@ options_decide None (Some y) = (λ h. cc, λ same. cc)
 options_decide (Some x) None = (λ h. cc, λ same. cc)
 options_decide (Some x) (Some y) = (λ h. ap (λ t. Some t) ((bytes_decide x y).0 h), λ same. (bytes_decide x y).1 cc)
 
--- two tests at once
+-- Both of two tests hold where their conjunction does.
 both : (a b : Bool) → (a && b) ≡ true → (a ≡ true) × (b ≡ true)
 both true b h = (refl, h)
 both false b h = absurd cc
@@ -68,7 +68,7 @@ segments_decide s t =
 pub same_segment-iff : (s t : SegmentView) → (IsTrue (same_segment s t)) ↔ (s ≡ t)
 same_segment-iff s t = segments_decide s t
 
--- the test with its sides exchanged decides the same
+-- The test with its sides exchanged decides the same.
 decides_back : (s t : SegmentView) → Decides (same_segment t s) (s ≡ t)
 decides_back s t = (λ h. sym ((segments_decide t s).0 h), λ same. (segments_decide t s).1 (sym same))
 

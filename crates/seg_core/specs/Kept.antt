@@ -7,10 +7,13 @@ use Rattle.seg_core.specs.EntryView.{segment_view}
 use Rattle.seg_core.specs.Digest.{segment_digest}
 use Rattle.seg_core.specs.Encoding.{segment_encoding, IsSegment}
 
--- The parts are those of a whole segment, with its digest; the bytes are its one encoding, which
--- contains its information.
+-- What holds of the parts that a segment keeps.
 pub record IsKept (parts : Parts) : Type 0 where
+  -- They are those of a whole segment.
   pub whole : IsSegment (segment_view parts)
+  -- The bytes are the segment's one encoding.
   pub encoded : (arc_value parts.encoding).items ≡ segment_encoding (segment_view parts)
+  -- The information is a part of these bytes.
   pub info : IsSpanWithin (arc_value parts.encoding).items parts.info
+  -- The digest is the segment's.
   pub digest : parts.digest ≡ segment_digest (segment_view parts)

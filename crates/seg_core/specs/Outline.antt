@@ -4,6 +4,7 @@ use Rattle.seg_core.specs.declared.outline.Outline.{Outline}
 use Rattle.seg_slots.specs.Message.{bytes_fields}
 use Rattle.seg_core.specs.Segment.{SegmentOutline}
 
+-- A segment up to its entries, without its location in memory.
 abbrev pub outline_view : Outline → SegmentOutline
 outline_view o = record {
   timestamp = o.info.timestamp;

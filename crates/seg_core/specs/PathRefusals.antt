@@ -6,19 +6,19 @@ use Rattle.seg_core.specs.Entry.{as_entry_decoding}
 use Rattle.seg_core.specs.Segment.{SegmentOutline, segment_outline}
 use Rattle.seg_core.specs.WellFormed.{IsEntryChain, HasNoLoop}
 
--- a message whose outline is valid, and whose entries are read as these
+-- The outline of a message is valid, and the entries in it are read as these.
 pub record HasEntries (message : List ℕ) (entries : List EntryView) : Type 0 where
   pub outline : SegmentOutline
   pub outline_is : segment_outline message ≡ Ok outline
   pub entries_are : each as_entry_decoding outline.entries ≡ Ok entries
 
--- The entries are no chain.
+-- The entries of a message are read, and they are no chain.
 pub record HasNoChain (message : List ℕ) : Type 0 where
   pub entries : List EntryView
   pub read : HasEntries message entries
   pub no_chain : ¬ IsEntryChain entries
 
--- The entries are a chain, and an AS occurs twice in it.
+-- The entries of a message are read, and they are a chain in which an AS occurs twice.
 pub record HasLoop (message : List ℕ) : Type 0 where
   pub entries : List EntryView
   pub read : HasEntries message entries

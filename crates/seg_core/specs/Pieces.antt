@@ -9,16 +9,16 @@ use Rattle.seg_core.specs.declared.pieces.Span.{Span}
 use Rattle.seg_core.specs.declared.pieces.Spans.{Spans}
 use Rattle.seg_core.specs.declared.pieces.Pieces.TheInside.{Inside}
 
--- the bytes of this range
+-- The bytes of this range.
 abbrev pub piece_at : List ℕ → Span → List ℕ
 piece_at bytes span = between span.start span.end bytes
 
--- the range is within the bytes
+-- A range is within the bytes.
 pub record IsSpanWithin (bytes : List ℕ) (span : Span) : Type 0 where
   pub ordered : span.start ≤ span.end
   pub within : span.end ≤ length bytes
 
--- the pieces of an entry in these ranges
+-- The pieces of an entry in these ranges.
 abbrev pub pieces_at : List ℕ → Spans → PiecesView
 pieces_at bytes spans = record {
   signed = piece_at bytes spans.signed;
@@ -26,18 +26,20 @@ pieces_at bytes spans = record {
   unsigned = option_map (λ span. piece_at bytes span) spans.unsigned;
 }
 
--- all of these ranges are within the bytes
+-- The ranges of an entry's pieces are within the bytes.
 pub record AreWithin (bytes : List ℕ) (spans : Spans) : Type 0 where
   pub signed : IsSpanWithin bytes spans.signed
   pub signature : IsSpanWithin bytes spans.signature
   pub unsigned : ForSome spans.unsigned (λ span. IsSpanWithin bytes span)
 
--- the encoding that contains the pieces
+-- The encoding that contains the pieces.
 abbrev encoding_of : Inside → List ℕ
 encoding_of p = (arc_value p.encoding).items
 
+-- The pieces of an entry in their encoding.
 abbrev pub pieces_view : Inside → PiecesView
 pieces_view p = pieces_at (encoding_of p) p.spans
 
+-- The ranges of an entry's pieces are within their encoding.
 abbrev pub ArePieces : Inside → Type 0
 ArePieces p = AreWithin (encoding_of p) p.spans

@@ -13,13 +13,13 @@ use Rattle.seg_slots.specs.Message.{message_fields, number_field, bytes_fields, 
 use Rattle.seg_core.specs.SegmentView.{SegmentView}
 use Rattle.seg_core.specs.Segment.{segment_decoding}
 
--- the number of a type
+-- The number of a type.
 abbrev pub type_number : SegType → ℕ
 type_number Up = 1
 type_number Down = 2
 type_number Core = 3
 
--- the type with this number; the whole number is checked, not its low bits
+-- The type with this number; the whole number is checked, not its low bits.
 abbrev pub type_of : ℕ → Result SegType SegError
 type_of zero = Err BadType
 type_of (suc zero) = Ok Up
@@ -27,24 +27,24 @@ type_of (suc (suc zero)) = Ok Down
 type_of (suc (suc (suc zero))) = Ok Core
 type_of (suc (suc (suc (suc n)))) = Err BadType
 
--- each of the segments with its type
+-- The rows of segments of one type.
 abbrev pub typed_segments : SegType → List SegmentView → List (SegType × SegmentView)
 typed_segments kind segments = map (λ s. (kind, s)) segments
 
--- an entry of the map: a type, and its segments
+-- An entry of the map: a type, and the segments of that type.
 abbrev pub MapEntry : Type 0
 MapEntry = SegType × List SegmentView
 
--- the segments of all entries, each with its type
+-- The segments of all entries, each with its type.
 abbrev pub entry_rows : List MapEntry → List (SegType × SegmentView)
 entry_rows entries = flat_map (λ entry. typed_segments entry.0 entry.1) entries
 
--- one of the entries is of this type
+-- One of the entries is of this type.
 abbrev pub has_type : List MapEntry → SegType → Bool
 has_type entries kind = list_any (λ entry. type_number entry.0 == type_number kind) entries
 
--- The segments of one type, after this number of segments of the registration: the 17th is refused
--- before it is read.
+-- The segments of one type, after `count` segments of the registration: the 17th is refused before
+-- it is read.
 unfoldable pub segments_decoding : ℕ → List (List ℕ) → Result (List SegmentView) SegError
 segments_decoding count [] = Ok []
 segments_decoding count (message ∷ messages) = do
@@ -69,7 +69,7 @@ map_entry_decoding earlier message = do
   segments ← segments_decoding (length (entry_rows earlier)) (bytes_fields 1 value)
   Ok (kind, segments)
 
--- all entries of the map: the earlier ones, and the entries of these messages
+-- All entries of the map: those that were read, and the ones of these messages.
 unfoldable pub map_decoding : List MapEntry → List (List ℕ) → Result (List MapEntry) SegError
 map_decoding earlier [] = Ok earlier
 map_decoding earlier (message ∷ messages) = do
@@ -84,7 +84,7 @@ registration_outline message = do
   fs ← message_fields map_shape message
   Ok (bytes_fields 1 fs)
 
--- the segments with their types, in the order of the message
+-- The segments with their types, in the order of the message.
 unfoldable pub registration_decoding : List ℕ → Result (List (SegType × SegmentView)) SegError
 registration_decoding message = do
   messages ← registration_outline message

@@ -5,7 +5,7 @@ use Rattle.seg_core.specs.Shapes.{request_shape}
 use Rattle.seg_slots.specs.Steps.{◌>>=◌}
 use Rattle.seg_slots.specs.Message.{message_fields, number_field}
 
--- the ISD-AS numbers of the source and of the destination
+-- The ISD-AS numbers of the source and of the destination.
 unfoldable pub request_decoding : List ℕ → Result (ℕ × ℕ) SegError
 request_decoding message = do
   fs ← message_fields request_shape message

@@ -12,7 +12,7 @@ use Rattle.seg_core.specs.SegmentView.{SegmentView}
 use Rattle.seg_core.specs.Entry.{as_entry_decoding}
 use Rattle.seg_core.specs.WellFormed.{is_entry_count, is_chain, has_no_loop}
 
--- when the segment was made, in seconds since 1970, and its id
+-- A segment's information: when the segment was made, in seconds since 1970, and its id.
 unfoldable pub info_decoding : List ℕ → Result Info SegError
 info_decoding message = do
   fs ← message_fields segment_information_shape message

@@ -4,15 +4,15 @@ use Rattle.seg_slots.specs.declared.error.SegError.{SegError}
 use Rattle.seg_slots.specs.declared.error.SegError.TheVariants.{NoMemory, Range}
 use Rattle.seg_slots.specs.Steps.{◌>>=◌}
 
--- continues where the test holds, and is refused for this reason where the test fails
+-- Goes on where the test holds; a test that fails is refused for this reason.
 abbrev pub must_hold : Bool → SegError → Result (Unit {0}) SegError
 must_hold holds reason = if holds then Ok tt else Err reason
 
--- a number that is at most the limit
+-- The number, where it is at most the limit.
 abbrev pub at_most : ℕ → ℕ → Result ℕ SegError
 at_most limit n = if nat_le n limit then Ok n else Err Range
 
--- the reading of each, in order
+-- The readings of the items of a list, in order.
 abbrev pub each : {A B : Type 0} → (A → Result B SegError) → List A → Result (List B) SegError
 each read [] = Ok []
 each read (x ∷ xs) = do
@@ -20,7 +20,7 @@ each read (x ∷ xs) = do
   others ← each read xs
   Ok (first ∷ others)
 
--- a reading whose value is seen by another view
+-- The result of a reading, with its value mapped by a function.
 abbrev pub result_map : {A B : Type 0} → (A → B) → Result A SegError → Result B SegError
 result_map view (Ok x) = Ok (view x)
 result_map view (Err e) = Err e

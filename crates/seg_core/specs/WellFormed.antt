@@ -23,19 +23,19 @@ pub record IsEntryChain (entries : List EntryView) : Type 0 where
   pub joined : (before after : List EntryView) (e f : EntryView) → entries ≡ before ++ e ∷ f ∷ after → LeadsTo e f
   pub last : (before : List EntryView) (e : EntryView) → entries ≡ before ++ e ∷ [] → EndsAt e
 
--- no number occurs twice in the list
+-- No number occurs twice in the list.
 abbrev pub HasNoRepeats : List ℕ → Type 0
 HasNoRepeats ns = AllPairs (λ m n. m ≢ n) ns
 
--- no AS occurs twice
+-- No AS occurs twice in the entries.
 abbrev pub HasNoLoop : List EntryView → Type 0
 HasNoLoop entries = HasNoRepeats (map (λ e. e.ia) entries)
 
--- 1 to 64
+-- There are 1 to 64 entries.
 abbrev pub HasEntryCount : List EntryView → Type 0
 HasEntryCount entries = (1 ≤ length entries) × (length entries ≤ MOST_ENTRIES)
 
--- an entry of an ISD and an AS that aren't 0, with numbers of their widths
+-- The numbers of an entry have their widths, and neither its ISD nor its AS is 0.
 pub record IsEntryInRange (e : EntryView) : Type 0 where
   pub ia : e.ia < 2 ^ 64
   pub isd : e.ia / 2 ^ 48 ≢ 0
@@ -45,7 +45,7 @@ pub record IsEntryInRange (e : EntryView) : Type 0 where
   pub egress : e.egress < 2 ^ 16
   pub exp_time : e.exp_time < 2 ^ 8
 
--- numbers of their widths
+-- The numbers of a segment have their widths.
 pub record IsInRange (s : SegmentView) : Type 0 where
   pub timestamp : s.timestamp < 2 ^ 32
   pub segment_id : s.segment_id < 2 ^ 16
@@ -61,7 +61,7 @@ pub record IsWellFormed (s : SegmentView) : Type 0 where
 
 -- ---- the tests of these definitions
 
--- 1 to 64
+-- `HasEntryCount` as a test of the number of entries.
 abbrev pub is_entry_count : ℕ → Bool
 is_entry_count n = nat_le 1 n && nat_le n MOST_ENTRIES
 
@@ -71,12 +71,12 @@ is_linked [] = true
 is_linked (e ∷ []) = e.next == 0 && e.egress == 0
 is_linked (e ∷ f ∷ es) = (e.next == f.ia && (not (e.egress == 0) && not (f.ingress == 0))) && is_linked (f ∷ es)
 
--- `is_linked`, and the first entry has no ingress
+-- `IsChain` as a test: the entries are linked, and the first one has no ingress.
 abbrev pub is_chain : List EntryView → Bool
 is_chain [] = true
 is_chain (e ∷ es) = e.ingress == 0 && is_linked (e ∷ es)
 
--- no AS occurs twice
+-- `HasNoLoop` as a test.
 abbrev pub has_no_loop : List EntryView → Bool
 has_no_loop [] = true
 has_no_loop (e ∷ es) = not (list_any (λ f. f.ia == e.ia) es) && has_no_loop es

@@ -12,31 +12,31 @@ use Rattle.seg_slots.specs.Steps.{◌>>=◌, unless_refused}
 
 -- ---- the values under a field number
 
--- the number that a value is, if it is one
+-- The number that a value is, in a list; the list is empty where the value is none.
 abbrev pub varint_in : FieldValue → List ℕ
 varint_in (Varint n) = n ∷ []
 varint_in (Fixed64 n) = []
 varint_in (Bytes bytes) = []
 varint_in (Fixed32 n) = []
 
--- the bytes that a value is, if it is bytes
+-- The bytes that a value is, in a list; the list is empty where the value is none.
 abbrev pub bytes_of_value : FieldValue → List (List ℕ)
 bytes_of_value (Varint n) = []
 bytes_of_value (Fixed64 n) = []
 bytes_of_value (Bytes bytes) = bytes ∷ []
 bytes_of_value (Fixed32 n) = []
 
--- the numbers under a field number, in the order of the message
+-- The numbers under a field number, in the order of the message.
 abbrev pub number_fields : ℕ → List FieldView → List ℕ
 number_fields k [] = []
 number_fields k (f ∷ fs) = (if f.number == k then varint_in f.value else []) ++ number_fields k fs
 
--- the byte strings under a field number, in the order of the message
+-- The byte strings under a field number, in the order of the message.
 abbrev pub bytes_fields : ℕ → List FieldView → List (List ℕ)
 bytes_fields k [] = []
 bytes_fields k (f ∷ fs) = (if f.number == k then bytes_of_value f.value else []) ++ bytes_fields k fs
 
--- the last of a list
+-- The last item of a list.
 abbrev pub last_of : {A : Type 0} → List A → Option A
 last_of [] = None
 last_of (x ∷ xs) = option_or (last_of xs) (Some x)
@@ -49,7 +49,7 @@ number_field k fs = unwrap_or (last_of (number_fields k fs)) 0
 abbrev pub last_bytes_field : ℕ → List FieldView → Option (List ℕ)
 last_bytes_field k fs = last_of (bytes_fields k fs)
 
--- the last occurrence of bytes, and empty bytes where there is none
+-- The last occurrence of bytes, and empty bytes where there is none.
 abbrev pub bytes_field_or_empty : ℕ → List FieldView → List ℕ
 bytes_field_or_empty k fs = unwrap_or (last_bytes_field k fs) []
 
@@ -63,13 +63,14 @@ required_message k fs = ok_or (last_bytes_field k fs) error.MissingField
 abbrev pub field_kind : List FieldKind → ℕ → FieldKind
 field_kind shape k = slice_index_or shape k kind.Unknown
 
+-- A value has the wire type of bytes.
 abbrev pub is_bytes : FieldValue → Bool
 is_bytes (Varint n) = false
 is_bytes (Fixed64 n) = false
 is_bytes (Bytes bytes) = true
 is_bytes (Fixed32 n) = false
 
--- a message that may occur once
+-- A field of this kind is a message that may occur once.
 abbrev pub is_single : FieldKind → Bool
 is_single kind.Unknown = false
 is_single kind.Number = false
@@ -77,8 +78,7 @@ is_single kind.Bytes = false
 is_single kind.Message = true
 is_single kind.Messages = false
 
--- whether a value has the wire type of its kind: a varint for a number, and bytes for all other
--- kinds
+-- A value has the wire type of its kind: a varint for a number, and bytes for all other kinds.
 abbrev pub suits : FieldKind → FieldValue → Bool
 suits kind.Unknown value = true
 suits kind.Number (Varint n) = true
@@ -97,11 +97,11 @@ misfit_at shape before f =
     else if is_single (field_kind shape f.number) && is_some (last_bytes_field f.number before) then Some error.RepeatedMessage
     else None
 
--- nothing is wrong with any of these fields, each after the fields before it
+-- Nothing is wrong with any of these fields, each after the fields before it.
 abbrev pub AllFit : List FieldKind → List FieldView → Type 0
 AllFit shape fs = (before after : List FieldView) (f : FieldView) → fs ≡ before ++ f ∷ after → misfit_at shape before f ≡ None
 
--- This is wrong with one of the fields, and nothing is wrong with the fields before it.
+-- The first of the fields with which something is wrong is refused for this reason.
 pub record HasFirstMisfit (shape : List FieldKind) (fs : List FieldView) (refusal : SegError) : Type 0 where
   pub before : List FieldView
   pub field : FieldView
@@ -112,18 +112,18 @@ pub record HasFirstMisfit (shape : List FieldKind) (fs : List FieldView) (refusa
 
 -- ---- the fields of a message
 
--- what is wrong with the first of the fields that doesn't fit, after these earlier fields
+-- What is wrong with the first of the fields that does not fit, after the fields `before`.
 abbrev pub misfit_after : List FieldKind → List FieldView → List FieldView → Option SegError
 misfit_after shape before [] = None
 misfit_after shape before (f ∷ fs) = option_or (misfit_at shape before f) (misfit_after shape (before ++ f ∷ []) fs)
 
--- what is wrong with the first field that doesn't fit: `first_misfit_is_exact` relates this to
--- `HasFirstMisfit`
+-- What is wrong with the first field that does not fit. `first_misfit_is_exact` relates this to
+-- `HasFirstMisfit`.
 abbrev pub first_misfit : List FieldKind → List FieldView → Option SegError
 first_misfit shape fs = misfit_after shape [] fs
 
 -- The fields of a message. It is refused where its wire format has a fault anywhere, and then where
--- a field doesn't fit.
+-- a field does not fit.
 unfoldable pub message_fields : List FieldKind → List ℕ → Result (List FieldView) SegError
 message_fields shape bytes = do
   _ ← unless_refused (option_map error.Wire (fault bytes))

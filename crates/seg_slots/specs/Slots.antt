@@ -8,20 +8,27 @@ use Rattle.seg_slots.specs.declared.error.SegError.{SegError}
 use Rattle.seg_slots.specs.declared.shape.FieldKind.{FieldKind}
 use Rattle.seg_slots.specs.Message.{number_field, last_bytes_field, misfit_at, misfit_after}
 
--- the last number and the last bytes under each field number that a message may know
+-- The last number and the last bytes under each field number that a message may have are noted.
 pub record AreNoted (fs : List FieldView) (last_numbers : List ℕ) (last_bytes : List (Option (Bor (List ℕ)))) : Type 0 where
+  -- The last number under each field number.
   pub number_is : (k : ℕ) → k < 7 → slice_index last_numbers k ≡ number_field k fs
+  -- The last bytes under each field number.
   pub bytes_are : (k : ℕ) → k < 7 → option_map (λ s. s.now) (slice_index_or last_bytes k None) ≡ last_bytes_field k fs
   pub width : length last_bytes ≡ 7
 
--- After some fields of a message, their values are noted, and so is the first misfit among them.
+-- What is noted after some fields of a message.
 pub record IsMidway (shape : List FieldKind) (message rest : List ℕ) (misfit : Option SegError) (ns : List ℕ) (ts : List (Option (Bor (List ℕ)))) : Type 0 where
+  -- The fields that were read.
   pub before : List FieldView
+  -- They are the message's first fields, and `rest` has the others.
   pub parts : fields message ≡ before ++ fields rest
+  -- A fault of the message is one of the rest.
   pub same_fault : fault message ≡ fault rest
+  -- The values of the fields that were read are noted.
   pub noted : AreNoted before ns ts
+  -- The first misfit is the one that is noted, or else one of the rest.
   pub misfits : misfit_after shape [] (fields message) ≡ option_or misfit (misfit_after shape before (fields rest))
 
--- any byte string that comes next under this field number fits
+-- Any byte string that comes next under this field number fits.
 abbrev pub TakesBytes : List FieldKind → ℕ → List ℕ → List (Option (Bor (List ℕ))) → Type 0
 TakesBytes shape k ns ts = (before : List FieldView) (bytes : List ℕ) → AreNoted before ns ts → misfit_at shape before (record { number = k; value = Bytes bytes }) ≡ None

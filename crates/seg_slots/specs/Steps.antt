@@ -2,13 +2,13 @@
 use Rattle.std.specs.Prelude.{◌≡◌, Option, Some, None, Result, Ok, Err}
 use Rattle.seg_slots.specs.declared.error.SegError.{SegError}
 
--- one step, and then the next steps with its value
+-- One step, and then the next steps with its value.
 infixl 10 ◌>>=◌
 abbrev pub ◌>>=◌ : {A B : Type 0} → Result A SegError → (A → Result B SegError) → Result B SegError
 (Ok x) >>= rest = rest x
 (Err e) >>= rest = Err e
 
--- continues where there is no refusal
+-- Goes on where there is no refusal.
 abbrev pub unless_refused : Option SegError → Result (Unit {0}) SegError
 unless_refused None = Ok tt
 unless_refused (Some refusal) = Err refusal

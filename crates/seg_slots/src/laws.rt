@@ -1,4 +1,4 @@
-//! The law of the first field that doesn't fit its shape: the contract of a function that does
+//! The law of the first field that does not fit its shape: the contract of a function that does
 //! nothing, so that the law is proved with the crate.
 
 ghost use Rattle.std.specs.Prelude.{◌≡◌, ◌↔◌, List, Some, None};
@@ -7,7 +7,7 @@ ghost use Rattle.seg_slots.specs.declared.error.SegError.{SegError};
 ghost use Rattle.seg_slots.specs.declared.shape.FieldKind.{FieldKind};
 ghost use Rattle.seg_slots.specs.Message.{AllFit, HasFirstMisfit, first_misfit};
 
-/// `first_misfit` is exactly what is wrong with the first field that doesn't fit its shape.
+/// `first_misfit` is exactly what is wrong with the first field that does not fit its shape.
 pub fn first_misfit_is_exact()
     ensures misfit { (shape : List FieldKind) (fs : List FieldView) (refusal : SegError)
         → (first_misfit shape fs ≡ Some refusal) ↔ HasFirstMisfit shape fs refusal }
