@@ -14,25 +14,25 @@ use Rattle.path_rows.specs.Database.{RowView}
 use Rattle.path_db.specs.RecordSteps.{◌>>=◌, demand}
 use Rattle.path_db.specs.RowRecord.{rows_encoding, row_decoding, row_size, record_of, HasOutline}
 
--- the bytes of the segments' encodings alone
+-- The number of bytes of the segments' encodings alone.
 abbrev pub segments_len : List RowView → ℕ
 segments_len rows = sum_by (λ row. length (segment_encoding row.1)) rows
 
--- A command's limits: at most 16 segments, of at most 131,072 bytes together.
+-- A command is within its limits: at most 16 segments, of at most 131,072 bytes together.
 abbrev pub IsWithinLimits : Command → Type 0
 IsWithinLimits (Register rows) = (length rows ≤ MOST_REGISTERED) × (segments_len rows ≤ MOST_REGISTERED_BYTES)
 IsWithinLimits (Purge moment) = Unit {0}
 IsWithinLimits (Remove kind id) = Unit {0}
 
--- the record of a command: its kind (1 byte); after it, for a registration, a count (1) and the
--- records of the rows; for a purge, a moment (8); for a removal, a type (1) and an id (32). Numbers
--- are big-endian.
+-- The record of a command. It begins with the kind (1 byte). A registration has a count (1) after
+-- it and the records of the rows, a purge a moment (8), and a removal a type (1) and an id (32).
+-- Numbers are big-endian.
 unfoldable pub command_encoding : Command → List ℕ
 command_encoding (Register rows) = 1 ∷ length rows ∷ rows_encoding rows
 command_encoding (Purge moment) = 2 ∷ to_be_bytes w64 moment
 command_encoding (Remove kind id) = 3 ∷ type_number kind ∷ id
 
--- this number of rows in any order, whose records are all of the bytes
+-- Rows of this number in any order, whose records are all of the bytes.
 unfoldable pub items_decoding : ℕ → List ℕ → Result (List RowView) DbError
 items_decoding zero [] = Ok []
 items_decoding zero (b ∷ bytes) = Err BadRecord
@@ -41,8 +41,8 @@ items_decoding (suc count) bytes = do
   rows ← items_decoding count (drop (row_size bytes) bytes)
   Ok (row ∷ rows)
 
--- a count of at most 16, and this number of rows: each takes five bytes beside its segment's, which
--- are at most 131,072 together
+-- The command of a registration: a count of at most 16, and rows of this number. Each row takes
+-- five bytes beside its segment's, which are at most 131,072 together.
 unfoldable pub registration_record_decoding : List ℕ → Result Command DbError
 registration_record_decoding [] = Err BadRecord
 registration_record_decoding (count ∷ items) = do
@@ -51,13 +51,13 @@ registration_record_decoding (count ∷ items) = do
   rows ← items_decoding count items
   Ok (Register rows)
 
--- a moment
+-- The command of a purge: a moment.
 unfoldable pub purge_decoding : List ℕ → Result Command DbError
 purge_decoding body = do
   _ ← demand (length body == 8) BadRecord
   Ok (Purge (eight_at 0 body))
 
--- a type and an id
+-- The command of a removal: a type and an id.
 unfoldable pub removal_decoding : List ℕ → Result Command DbError
 removal_decoding [] = Err BadRecord
 removal_decoding (kind ∷ id) = do
@@ -65,7 +65,7 @@ removal_decoding (kind ∷ id) = do
   _ ← demand (length id == 32) BadRecord
   Ok (Remove kind id)
 
--- the command whose record these bytes are; a removal only where removals are allowed
+-- The command whose record these bytes are. A removal is read only where removals are allowed.
 unfoldable pub command_decoding : Bool → List ℕ → Result Command DbError
 command_decoding removals [] = Err BadRecord
 command_decoding removals (kind ∷ body) =
@@ -74,18 +74,20 @@ command_decoding removals (kind ∷ body) =
     else if kind == 3 then (if removals then removal_decoding body else Err BadRecord)
     else Err BadRecord
 
--- To read a registration takes memory if it has 1 to 16 segments, no more bytes than the limit, and
--- its first segment has an outline.
+-- Reading a registration takes memory.
 pub record WantsItems (body : List ℕ) : Type 0 where
+  -- It has 1 to 16 segments.
   pub some : 1 ≤ slice_index body 0
   pub most : slice_index body 0 ≤ MOST_REGISTERED
+  -- It has no more bytes than the limit.
   pub short : length (drop 1 body) ≤ MOST_REGISTERED_BYTES + 5 * slice_index body 0
+  -- Its first segment has an outline.
   pub outline : HasOutline (drop 1 body)
 
--- To read the command takes memory if it is such a registration.
+-- Reading a command takes memory: it is a registration of which `WantsItems` holds.
 abbrev pub CommandWantsMemory : List ℕ → Type 0
 CommandWantsMemory bytes = (slice_index bytes 0 ≡ 1) × WantsItems (drop 1 bytes)
 
--- removals are allowed from version 2 on
+-- A format version allows removals: version 2 and later ones do.
 abbrev pub allows_removals : ℕ → Bool
 allows_removals version = nat_le 2 version

@@ -14,20 +14,20 @@ ReadCommandsAreSpelled =
     (removals : Bool) (bytes : List ℕ) (command : Command) → AreBytes bytes
     → command_decoding removals bytes ≡ Ok command → command_encoding command ≡ bytes
 
--- Bytes that are read as a command are read as the same command where as many kinds or more are
+-- Bytes that are read as a command are read as the same command where the same or more kinds are
 -- allowed.
 abbrev pub CommandsAreReadOn : Type 0
 CommandsAreReadOn =
     (small large : Bool) (bytes : List ℕ) (command : Command) → (small ≡ true → large ≡ true)
     → command_decoding small bytes ≡ Ok command → command_decoding large bytes ≡ Ok command
 
--- the numbers and the id of a command fit their fields
+-- The numbers and the id of a command fit their fields.
 abbrev pub HasWidths : Command → Type 0
 HasWidths (Register rows) = Unit {0}
 HasWidths (Purge moment) = moment < 2 ^ 64
 HasWidths (Remove kind id) = length id ≡ 32
 
--- the command is no removal, or removals are allowed
+-- A command is no removal, or removals are allowed.
 abbrev pub IsAllowedBy : Bool → Command → Type 0
 IsAllowedBy removals (Register rows) = Unit {0}
 IsAllowedBy removals (Purge moment) = Unit {0}
@@ -39,7 +39,7 @@ WrittenCommandsAreRead =
     (removals : Bool) (command : Command) → IsWithinLimits command → HasWholeSegments command → HasWidths command → IsAllowedBy removals command
     → command_decoding removals (command_encoding command) ≡ Ok command
 
--- The command has a record that is read as this command.
+-- A command has a record that is read as this command.
 pub record HasCommandRecord (removals : Bool) (command : Command) : Type 0 where
   pub limits : IsWithinLimits command
   pub whole : HasWholeSegments command

@@ -3,13 +3,13 @@ use Rattle.std.specs.Prelude.{◌≡◌, ◌≢◌, Bool, Result, Ok, Err, if◌
 use Rattle.path_db.specs.declared.error.DbError.{DbError}
 use Rattle.path_db.specs.declared.error.DbError.TheVariants.{NoMemory}
 
--- one step, and then the next steps with its value
+-- One step, and then the next steps with its value.
 infixl 10 ◌>>=◌
 abbrev pub ◌>>=◌ : {A B : Type 0} → Result A DbError → (A → Result B DbError) → Result B DbError
 (Ok x) >>= rest = rest x
 (Err e) >>= rest = Err e
 
--- continues where the test holds, and is refused for this reason where the test fails
+-- Goes on where the test holds; a test that fails is refused for this reason.
 abbrev pub demand : Bool → DbError → Result (Unit {0}) DbError
 demand holds reason = if holds then Ok tt else Err reason
 

@@ -18,38 +18,38 @@ use Rattle.path_db.specs.RecordSteps.{◌>>=◌, demand}
 
 -- ---- writing
 
--- the record of a row: its type (1 byte), the length of its segment's encoding (4, big-endian), and
--- the encoding
+-- The record of a row: its type (1 byte), the length of its segment's encoding (4, big-endian), and
+-- the encoding.
 unfoldable pub row_record : RowView → List ℕ
 row_record row = type_number row.0 ∷ (to_be_bytes w32 (length (segment_encoding row.1)) ++ segment_encoding row.1)
 
--- the records of rows, one after the other
+-- The records of rows, one after the other.
 abbrev pub rows_encoding : List RowView → List ℕ
 rows_encoding rows = flat_map row_record rows
 
 -- ---- reading one
 
--- the length of the record at the front, by the length field of its segment
+-- The length of the record at the front, by the length field of its segment.
 abbrev pub row_size : List ℕ → ℕ
 row_size bytes = 5 + four_at 1 bytes
 
--- the whole record at the front is there
+-- The whole record at the front is present.
 abbrev pub has_row : List ℕ → Bool
 has_row bytes = if nat_le 5 (length bytes) then nat_le (row_size bytes) (length bytes) else false
 
--- a message that is refused is refused with BadRecord
+-- The result of reading a message in a record: a message that is refused is refused with BadRecord.
 abbrev pub record_of : {A : Type 0} → Result A SegError → Result A DbError
 record_of (Ok x) = Ok x
 record_of (Err e) = Err BadRecord
 
--- the segment of a message, which has to be the segment's one encoding
+-- The segment of a message, which has to be the segment's one encoding.
 unfoldable pub spelled_segment : List ℕ → Result SegmentView DbError
 spelled_segment message = do
   segment ← record_of (segment_decoding message)
   _ ← demand (same_bytes message (segment_encoding segment)) BadRecord
   Ok segment
 
--- the row at the front
+-- The row at the front.
 unfoldable pub row_decoding : List ℕ → Result RowView DbError
 row_decoding bytes = do
   _ ← demand (has_row bytes) BadRecord
@@ -57,21 +57,23 @@ row_decoding bytes = do
   segment ← spelled_segment (part 5 (four_at 1 bytes) bytes)
   Ok (kind, segment)
 
--- The record at the front is whole, it has a type, and its segment has an outline: to read such a
--- record takes memory.
+-- Reading the record at the front takes memory.
 pub record HasOutline (bytes : List ℕ) : Type 0 where
+  -- The record is whole.
   pub there : has_row bytes ≡ true
+  -- It has a type.
   pub kind : IsOk (type_of (slice_index bytes 0))
+  -- Its segment has an outline.
   pub outline : IsOk (segment_outline (part 5 (four_at 1 bytes) bytes))
 
 -- ---- reading all
 
--- the row is the first, or its key is strictly above that of the row before
+-- The row is the first, or its key is strictly above that of the row before.
 abbrev pub is_row_above : Option RowView → RowView → Bool
 is_row_above None row = true
 is_row_above (Some before) row = is_lt (key_order before row)
 
--- the rows of all bytes after a row, where `most` is at least the number of rows
+-- The rows of all bytes after a row, where `most` is at least the number of rows.
 unfoldable pub rows_within : ℕ → Option RowView → List ℕ → Result (List RowView) DbError
 rows_within zero before bytes = Ok []
 rows_within (suc most) before [] = Ok []
@@ -81,6 +83,6 @@ rows_within (suc most) before (b ∷ bytes) = do
   rows ← rows_within most (Some row) (drop (row_size (b ∷ bytes)) (b ∷ bytes))
   Ok (row ∷ rows)
 
--- the rows of all bytes, with strictly rising keys
+-- The rows of all bytes, with strictly rising keys.
 unfoldable pub rows_decoding : List ℕ → Result (List RowView) DbError
 rows_decoding bytes = rows_within (length bytes) None bytes

@@ -19,10 +19,10 @@ use path_rows::{Command, ROW_HEAD, Registration, type_byte};
 use seg_core::{MOST_REGISTERED, MOST_REGISTERED_BYTES, SegType, Segment};
 use std::alloc::{AllocError, Global};
 
-/// Appends the record of a command: its kind (1 byte); after it, for a registration, the count of
-/// its segments (1) and the record of a row for each; for a purge, a moment (8); for a removal, a
-/// type (1) and an id (32). Numbers are big-endian. Where memory is refused, the vector keeps its
-/// items.
+/// Appends the record of a command. It begins with the kind (1 byte). A registration has the count
+/// of its segments (1) after it and the record of a row for each, a purge a moment (8), and a
+/// removal a type (1) and an id (32). Numbers are big-endian. Where memory is refused, the vector
+/// keeps its items.
 pub fn write_command(command: &Command, out: &mut Vec<u8>) -> Result<(), AllocError>
     requires { IsWithinLimits command.now }
     ensures ok { OnOk result (out.new.items ≡ out.old.items ++ command_encoding command.now) }

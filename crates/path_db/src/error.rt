@@ -12,11 +12,11 @@ pub enum DbError {
     /// Memory was refused. The bytes may be valid or not.
     #[error("out of memory")]
     NoMemory,
-    /// Bytes are missing or left over, a number is out of its range, or a segment's bytes can't be
+    /// Bytes are missing or left over, a number is out of its range, or a segment's bytes cannot be
     /// read or are not its one encoding.
     #[error("a record is not well-formed")]
     BadRecord,
-    /// The key of a row isn't strictly above the key of the row before.
+    /// The key of a row is not strictly above the key of the row before.
     #[error("rows are not in the order of their keys")]
     Order,
 }

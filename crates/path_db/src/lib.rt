@@ -2,7 +2,7 @@
 //!
 //! To the layer above: the rows of `path_rows`, and the calls that write rows and commands as
 //! records and read these. What was written is read back unchanged, bytes that are read are the
-//! record of the result, and each refusal comes exactly where the definitions have it.
+//! record of the result, and each refusal is exactly that of the definitions.
 #![tactic(auto)]
 
 mod command_records;

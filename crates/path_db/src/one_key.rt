@@ -14,9 +14,9 @@ use seg_check::expiry;
 use seg_core::{SegType, Segment};
 use std::alloc::AllocError;
 
-/// The row under a key after commands, where `found` is the row under it before: the row that a
-/// database has there after them. A new row shares its segment with the command. The call takes no
-/// memory. An error means that 2^63 rows share a segment already.
+/// The row under a key after commands, where `found` is the row under it before. It is the row that
+/// a database has there after the commands. A new row shares its segment with the command. The call
+/// takes no memory. An error means that 2^63 rows share a segment already.
 pub fn row_after(
     key: &Key,
     found: Option<Row>,

@@ -129,7 +129,7 @@ pub(crate) fn read_row(alloc: Global, bytes: &[u8]) -> Result<((SegType, Segment
 
 /// Reads the records of rows, which have to be all of the bytes. The ids are computed again. The
 /// error is the first that applies: `BadRecord` for bytes that are no record, `Order` for a row
-/// whose key isn't strictly above the key of the row before. No bytes are an empty database. The
+/// whose key is not strictly above the key of the row before. No bytes are an empty database. The
 /// call takes memory from the first row on whose segment has an outline.
 pub fn read_rows(alloc: Global, bytes: &[u8]) -> Result<PathDb, DbError>
     ensures decoding { GivesRecord (λ rows. rows) result (rows_decoding bytes.now) }

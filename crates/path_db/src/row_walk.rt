@@ -71,7 +71,7 @@ impl RowWalk {
 
     /// The next row, where its whole record is there; `None` where it is not. Bytes that are no
     /// record are `BadRecord`, as is a segment of more than 16,384 bytes as soon as its length is
-    /// there. A row whose key isn't strictly above the key of the row before is `Order`. The
+    /// there. A row whose key is not strictly above the key of the row before is `Order`. The
     /// refusal does not depend on later bytes. The call takes memory only where the row's segment
     /// has an outline. After an error the walk is unchanged.
     pub fn next(&mut self) -> Result<Option<Row>, DbError>

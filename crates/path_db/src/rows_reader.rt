@@ -15,8 +15,8 @@ use std::alloc::{AllocError, Global};
 use std::marker::Model;
 
 /// Reads the records of rows from pieces of their bytes, cut anywhere. It keeps the rows that were
-/// read, and beside them only the bytes of a record that isn't whole yet. In contracts its value is
-/// all of the bytes that were fed.
+/// read, and beside them only the bytes of a record that is not whole yet. In contracts its value
+/// is all of the bytes that were fed.
 #[derive(Drop)]
 pub struct RowsReader {
     alloc: Global,

@@ -10,33 +10,33 @@ use Rattle.path_rows.specs.Database.{RowView, key, key_of, is_under, row_under, 
 use Rattle.path_rows.specs.Put.{is_newer}
 use Rattle.path_rows.specs.Command.{is_valid_beyond, database_after, database_after_all, HasWholeSegments}
 
--- the row under a key after a put: the new row, where there was none or the new one is newer, else
--- the old one
+-- The row under a key after a put: the new row where there was none or the new one is newer, else
+-- the old one.
 abbrev pub winner : RowView → Option RowView → RowView
 winner row None = row
 winner row (Some old) = if is_newer row old then row else old
 
--- the row under a key after a put, given the row before
+-- The row under a key after a put, given the row before.
 abbrev pub left_by_put : List ℕ → Option RowView → RowView → Option RowView
 left_by_put k found row = if is_under k row then Some (winner row found) else found
 
--- the row under a key after several puts in order, given the row before
+-- The row under a key after several puts in order, given the row before.
 abbrev pub left_by_puts : List ℕ → Option RowView → List RowView → Option RowView
 left_by_puts k found [] = found
 left_by_puts k found (row ∷ new) = left_by_puts k (left_by_put k found row) new
 
--- the row, if there is one that passes the test
+-- The row, where there is one and it passes the test.
 abbrev pub kept_if : (RowView → Bool) → Option RowView → Option RowView
 kept_if p None = None
 kept_if p (Some row) = if p row then Some row else None
 
--- the row under a key after a command, given the row before
+-- The row under a key after a command, given the row before.
 abbrev pub left_under : List ℕ → Option RowView → Command → Option RowView
 left_under k found (Register new) = left_by_puts k found new
 left_under k found (Purge moment) = kept_if (is_valid_beyond moment) found
 left_under k found (Remove kind id) = kept_if (λ row. not (is_under (key kind id) row)) found
 
--- the row under a key after several commands in order, given the row before
+-- The row under a key after several commands in order, given the row before.
 abbrev pub left_under_all : List ℕ → Option RowView → List Command → Option RowView
 left_under_all k found [] = found
 left_under_all k found (command ∷ commands) = left_under_all k (left_under k found command) commands
@@ -70,17 +70,20 @@ DatabaseIsCanonical =
     (rows others : List RowView) → IsRising rows → IsRising others
     → ((k : List ℕ) → row_under k rows ≡ row_under k others) → rows ≡ others
 
--- the candidates of a key: the row that was under it, and then the rows registered under it, in
--- order
+-- The candidates of a key: the row that was under it, and then the rows registered under it, in
+-- order.
 abbrev pub candidates : List ℕ → List RowView → List RowView → List RowView
 candidates k rows new = option_to_list (row_under k rows) ++ filter (is_under k) new
 
--- The newest of rows: all rows before it are strictly older, and no row after it is newer.
+-- A row is the newest of a list.
 pub record IsNewest (rows : List RowView) (row : RowView) : Type 0 where
   pub before : List RowView
   pub after : List RowView
+  -- The row is in the list.
   pub split : rows ≡ before ++ row ∷ after
+  -- All rows before it are strictly older.
   pub older : AllByRecursion (λ other. other.1.timestamp < row.1.timestamp) before
+  -- No row after it is newer.
   pub no_newer : AllByRecursion (λ other. other.1.timestamp ≤ row.1.timestamp) after
 
 -- After a registration the row under a key is the newest of its candidates, the first of them where

@@ -11,7 +11,7 @@ use Rattle.seg_core.specs.Registration.{type_number}
 use Rattle.seg_core.specs.Encoding.{IsSegment, segment_encoding}
 use Rattle.seg_core.specs.Digest.{segment_digest}
 
--- a segment and its type
+-- A row as contracts see it: a type and a segment.
 abbrev pub RowView : Type 0
 RowView = SegType × SegmentView
 
@@ -20,20 +20,20 @@ RowView = SegType × SegmentView
 abbrev pub key : SegType → List ℕ → List ℕ
 key kind id = type_number kind ∷ id
 
--- the key of a row
+-- The key of a row.
 unfoldable pub key_of : RowView → List ℕ
 key_of row = key row.0 (segment_digest row.1)
 
--- the order of two rows' keys
+-- The order of two rows' keys.
 abbrev pub key_order : RowView → RowView → Ordering
 key_order row other = slice_cmp nat_cmp (key_of row) (key_of other)
 
--- the keys rise, so no key occurs twice
+-- The keys of the rows rise, so that no key occurs twice.
 abbrev pub IsRising : List RowView → Type 0
 IsRising [] = Unit {0}
 IsRising (row ∷ rows) = AllByRecursion (λ later. key_order row later ≡ Less) rows × IsRising rows
 
--- the segments are whole
+-- The segments of the rows are whole.
 abbrev pub AreWhole : List RowView → Type 0
 AreWhole rows = AllByRecursion (λ row. IsSegment row.1) rows
 
@@ -42,19 +42,19 @@ pub record IsDatabase (rows : List RowView) : Type 0 where
   pub rising : IsRising rows
   pub whole : AreWhole rows
 
--- a row is under this key
+-- A row is under this key.
 abbrev pub is_under : List ℕ → RowView → Bool
 is_under k row = is_eq (slice_cmp nat_cmp k (key_of row))
 
--- the row under a key, if there is one
+-- The row under a key, where there is one.
 abbrev pub row_under : List ℕ → List RowView → Option RowView
 row_under k [] = None
 row_under k (row ∷ rows) = if is_under k row then Some row else row_under k rows
 
--- the bytes of a row's record: the type (1), the length (4), and the segment's encoding
+-- The number of bytes of a row's record: the type (1), the length (4), and the segment's encoding.
 abbrev pub row_len : RowView → ℕ
 row_len row = 5 + length (segment_encoding row.1)
 
--- the bytes of the records of all rows
+-- The number of bytes of the records of all rows.
 abbrev pub rows_len : List RowView → ℕ
 rows_len rows = sum_by row_len rows

@@ -5,7 +5,7 @@ use Rattle.path_rows.specs.declared.command.Command.TheVariants.{Register, Purge
 use Rattle.path_rows.specs.Database.{RowView, IsRising}
 use Rattle.path_rows.specs.Command.{database_after, outcome_of}
 
--- a command registers fewer than 2^32 segments
+-- A command registers fewer than 2^32 segments.
 abbrev pub RegistersFew : Command → Type 0
 RegistersFew (Register new) = length new < 2 ^ 32
 RegistersFew (Purge moment) = Unit {0}

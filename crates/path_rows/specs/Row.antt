@@ -8,18 +8,20 @@ use Rattle.std.specs.declared.cmp.Ordering.TheVariants.{Less, Equal, Greater}
 use Rattle.path_rows.specs.declared.row.Row.{Row}
 use Rattle.path_rows.specs.Database.{RowView, key_of}
 
+-- A row as contracts see it.
 abbrev pub row_view : Row → RowView
 row_view row = (row.kind, row.segment)
 
+-- Rows as contracts see them.
 abbrev pub row_views : List Row → List RowView
 row_views rows = map row_view rows
 
--- the row at this index has the key
+-- The row at this index has the key.
 abbrev pub IsIndexOfKey : List Row → List ℕ → ℕ → Type 0
 IsIndexOfKey rows k at = (at < length rows) × HoldsAt (λ row. slice_cmp nat_cmp (key_of (row_view row)) k ≡ Equal) rows at
 
--- the index where the key would be inserted: the keys before the index are lower, the keys from it
--- on are greater
+-- The index at which the key would be inserted: the keys before the index are lower, and the keys
+-- from it on are greater.
 abbrev pub IsGap : List Row → List ℕ → ℕ → Type 0
 IsGap rows k at =
     (at ≤ length rows)

@@ -8,32 +8,34 @@ use Rattle.path_rows.specs.declared.row_key.RowKey.{RowKey}
 use Rattle.path_rows.specs.Database.{RowView, key_of, IsRising, is_under, row_under, row_len}
 use Rattle.path_rows.specs.Row.{row_view, row_views}
 
--- the bytes of a key
+-- The bytes of a key.
 abbrev pub bytes_of : RowKey → List ℕ
 bytes_of k = k.kind ∷ k.id
 
--- the rows of the entries of a map
+-- The rows of the entries of a map.
 abbrev pub views_of : List (RowKey × Row) → List RowView
 views_of entries = row_views (values_of entries)
 
--- each row is under its own key
+-- Each row is under its own key.
 abbrev pub AreUnderTheirKeys : List (RowKey × Row) → Type 0
 AreUnderTheirKeys entries = AllByRecursion (λ entry. bytes_of entry.0 ≡ key_of (row_view entry.1)) entries
 
--- Each row is under its own key, and the keys rise.
+-- The entries of a map of rows.
 pub record AreKeyed (entries : List (RowKey × Row)) : Type 0 where
+  -- Each row is under its own key.
   pub own : AreUnderTheirKeys entries
+  -- The keys rise.
   pub rising : IsRising (views_of entries)
 
--- the row is under its key, and under each other key is the row that was there before
+-- After a put, the row is under its key, and the row under each other key is the one before.
 abbrev pub HasRowPut : List RowView → RowView → List RowView → Type 0
 HasRowPut old row new = (k : List ℕ) → row_under k new ≡ (if is_under k row then Some row else row_under k old)
 
--- the key of the row at an index key
+-- The key of the row at an index key.
 abbrev pub indexed_key : IndexKey → List ℕ
 indexed_key index_key = index_key.kind ∷ index_key.id
 
--- the bytes of a row, 0 where there is none
+-- The number of bytes of a row's record, 0 where there is no row.
 abbrev pub len_if_any : Option RowView → ℕ
 len_if_any None = 0
 len_if_any (Some row) = row_len row

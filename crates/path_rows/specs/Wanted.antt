@@ -5,10 +5,11 @@ use Rattle.path_rows.specs.declared.answers.Wanted.{Wanted}
 use Rattle.path_rows.specs.Database.{RowView}
 use Rattle.path_rows.specs.Answer.{answer_of, is_shown}
 
--- the first rows by key that the lookup asks for, at most this number
+-- The first rows by key that a lookup asks for, at most `limit` of them.
 abbrev pub answer_to_wanted : ℕ → List RowView → Wanted → List RowView
 answer_to_wanted limit rows wanted = answer_of limit rows wanted.kind (isd_as_number wanted.start) (isd_as_number wanted.end) wanted.moment
 
--- a row is of the type, its ends are covered, and it expires after the moment
+-- A lookup asks for a row: the row is of the type, its ends are covered, and it expires after the
+-- moment.
 abbrev pub is_wanted : Wanted → RowView → Bool
 is_wanted wanted = is_shown wanted.kind (isd_as_number wanted.start) (isd_as_number wanted.end) wanted.moment

@@ -86,7 +86,7 @@ fn covers_entry(pattern: IsdAs, entry: Option<&Entry>) -> bool
 }
 
 /// Whether the rows for a pattern are found by the index keys of its ISD-AS: no part of the pattern
-/// is 0, and the pattern isn't 2^64 - 1.
+/// is 0, and the pattern is not 2^64 - 1.
 pub(crate) fn is_indexed(pattern: IsdAs) -> bool
     ensures { IsTrue result → IsExact (isd_as_number pattern) }
 {

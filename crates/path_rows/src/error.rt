@@ -1,4 +1,4 @@
-//! Why a command isn't applied.
+//! Why a command is not applied.
 
 ghost use Rattle.std.specs.Prelude.{◌≡◌};
 ghost use Rattle.path_rows.specs.declared.error.ApplyError.TheVariants.{NoMemory};
@@ -6,7 +6,7 @@ ghost use Rattle.path_rows.specs.declared.error.ApplyError.TheVariants.{NoMemory
 use std::alloc::AllocError;
 use thiserror::Error;
 
-/// Why a command isn't applied. The variants are numbered from 0 in this order.
+/// Why a command is not applied. The variants are numbered from 0 in this order.
 #[derive(Clone, Copy, Debug, PartialEq, Eq, Error)]
 pub enum ApplyError {
     /// Memory was refused. The command may be applied later.

@@ -6,19 +6,19 @@ use Rattle.path_rows.specs.declared.command.Command.TheVariants.{Register}
 use Rattle.path_rows.specs.Database.{RowView, key_of, AreWhole, IsDatabase}
 use Rattle.path_rows.specs.Command.{database_after, database_after_all}
 
--- the commands of registrations, each of some rows
+-- The commands of registrations, each of some rows.
 abbrev pub register_commands : List (List RowView) → List Command
 register_commands registrations = map (λ rows. Register rows) registrations
 
--- all rows of the registrations, in order
+-- All rows of the registrations, in order.
 abbrev pub all_rows_of : List (List RowView) → List RowView
 all_rows_of registrations = flat_map (λ rows. rows) registrations
 
--- each row of one list is in the other, in any order and any number of times
+-- Each row of one list is in the other, in any order and any number of times.
 abbrev pub HaveSameRows : List RowView → List RowView → Type 0
 HaveSameRows one other = (row : RowView) → Contains one row ↔ Contains other row
 
--- no two different rows of one key have one timestamp
+-- No two different rows of one key have the same timestamp.
 abbrev pub HaveDistinctTimestamps : List RowView → Type 0
 HaveDistinctTimestamps rows =
     (row other : RowView) → Contains rows row → Contains rows other → key_of row ≡ key_of other → row.1.timestamp ≡ other.1.timestamp → row ≡ other

@@ -13,31 +13,32 @@ use Rattle.row_edits.specs.Edits.{edited}
 use Rattle.row_edits.specs.Planning.{is_beyond, MakesAll}
 use Rattle.row_edits.specs.Merging.{keys_named_by, has_key, KeysRise, Includes, outlives, rows_left, merged}
 
--- what commands leave under a key of these rows
+-- The row that commands leave under a key of these rows.
 abbrev pub left_of : List RowView → List Command → List ℕ → Option RowView
 left_of rows commands k = left_under_all k (row_under k rows) commands
 
--- The rows after commands are the rows before, without those that a purge drops, merged with what
--- is left under keys: those that the commands name, and perhaps others.
+-- The rows after commands are the rows before, without those that a purge drops, merged with the
+-- rows that are left under keys: under the keys that the commands name, and perhaps under others.
 abbrev pub MergesAreFolds : Type 0
 MergesAreFolds =
     (rows : List RowView) (commands : List Command) (keys : List (List ℕ)) → IsDatabase rows → AllByRecursion HasWholeSegments commands
     → KeysRise keys → Includes keys (keys_named_by commands)
     → merged (left_of rows commands) (outlives commands) keys rows ≡ database_after_all rows commands
 
--- the key of each row is among keys
+-- The keys of all rows are in the list of keys.
 abbrev pub AreUnder : List (List ℕ) → List RowView → Type 0
 AreUnder keys rows = (k : List ℕ) (row : RowView) → row_under k rows ≡ Some row → has_key keys k ≡ true
 
--- What is left under the keys of both sides, in the order of the keys, is the rows after commands.
+-- The rows that are left under the keys of both sides, in the order of the keys, are the rows after
+-- commands.
 abbrev pub KeysMakeFolds : Type 0
 KeysMakeFolds =
     (rows : List RowView) (commands : List Command) (keys : List (List ℕ)) → IsDatabase rows → AllByRecursion HasWholeSegments commands
     → KeysRise keys → Includes keys (keys_named_by commands) → AreUnder keys rows
     → rows_left (left_of rows commands) keys ≡ database_after_all rows commands
 
--- Edits that were planned of rows make the records of the rows after commands, where each `Put` has
--- what is left under its key.
+-- Edits that were planned for rows turn their records into the records of the rows after commands,
+-- where each `Put` writes the row that is left under its key.
 abbrev pub PlansMakeFolds : Type 0
 PlansMakeFolds =
     (rows : List RowView) (commands : List Command) (keys : List Key) (purged : Option ℕ) (edits : List Edit) (kept : ℕ) (olds : List RowView)

@@ -1,4 +1,4 @@
--- The planner: what it has seen, and what it hands out.
+-- The planner: the rows that it has seen, and the plan that it returns.
 use Rattle.std.specs.Prelude.{◌≡◌, ℕ, ◌-◌, ◌^◌, ◌≤◌, List, [], ◌∷◌, ◌++◌, length, map, min, Bool}
 use Rattle.path_rows.specs.declared.command.Command.{Command}
 use Rattle.path_rows.specs.Database.{RowView, rows_len, IsDatabase}
@@ -11,36 +11,47 @@ use Rattle.row_edits.specs.Merging.{keys_named_by, KeysRise, Includes, outlives}
 use Rattle.row_edits.specs.Edits.{views_if_any, edited, bytes_in, bytes_out}
 use Rattle.row_edits.specs.Planning.{is_beyond, IsPlanned, IsAfterKeyPuts}
 
--- The edits of a planner are those of these rows, and it has counted the rows that are kept.
+-- A planner has planned the rows that it has seen.
 pub record HasPlanned (seen : List RowView) (planner : Planner) : Type 0 where
+  -- The number of rows that are kept.
   pub count : ℕ
+  -- The planner has counted them.
   pub counted : planner.kept ≡ min count (2 ^ 64 - 1)
+  -- The planner's edits are those of the rows.
   pub planned : IsPlanned planner.keys.items (is_beyond planner.purged) seen planner.at planner.edits.items count planner.olds.items
 
--- A planner for commands has seen these rows: it has the keys that the commands name and the
--- greatest of their purges, and has planned the rows.
+-- A planner for commands has seen these rows.
 pub record HasSeen (commands : List Command) (seen : List RowView) (planner : Planner) : Type 0 where
+  -- The planner has the keys that the commands name, in their order.
   pub rise : KeysRise (map key_bytes planner.keys.items)
   pub covers : Includes (map key_bytes planner.keys.items) (keys_named_by commands)
+  -- The planner has the greatest purge of the commands.
   pub purges : (row : RowView) → is_beyond planner.purged row ≡ outlives commands row
+  -- The planner has planned the rows.
   pub planned : HasPlanned seen planner
 
--- What the edit of a row does to a planner, once it is known whether the row's key is one of the
--- planner's: the row is planned too.
+-- What the edit of a row does to a planner, where `found` is whether the row's key is one of the
+-- planner's.
 pub record PlansOn (found : Bool) (row : RowView) (old new : Planner) : Type 0 where
+  -- The keys and the greatest purge are unchanged.
   pub keys : new.keys.items ≡ old.keys.items
   pub purged : new.purged ≡ old.purged
+  -- The row is planned too.
   pub more : (seen : List RowView) (count : ℕ) → old.kept ≡ min count (2 ^ 64 - 1)
       → IsAfterKeyPuts found row old.keys.items (is_beyond old.purged) seen old.at old.edits.items count old.olds.items
       → HasPlanned (seen ++ row ∷ []) new
 
--- By a plan these rows become those after commands: its edits, with the rows that they put, make
--- the records after of the records before, and its size and count are those of the rows after.
+-- The plan of rows for commands.
 pub record IsPlanOf (rows : List RowView) (commands : List Command) (plan : Plan) : Type 0 where
+  -- The edits turn the records of the rows into those of the rows after the commands.
   pub makes : edited plan.edits.items (views_if_any plan.rows.items) (rows_encoding rows) ≡ rows_encoding (database_after_all rows commands)
+  -- The edits read exactly the records of the rows.
   pub bytes : bytes_in plan.edits.items ≡ rows_len rows
+  -- The edits write the records of the rows after.
   pub out : bytes_out plan.edits.items (views_if_any plan.rows.items) ≡ rows_len (database_after_all rows commands)
+  -- The plan's size and count are those of the rows after.
   pub size : plan.size ≡ min (rows_len (database_after_all rows commands)) (2 ^ 64 - 1)
   pub count : plan.count ≡ min (length (database_after_all rows commands)) (2 ^ 64 - 1)
+  -- The rows after are a database, and there are no more of them than bytes.
   pub database : IsDatabase (database_after_all rows commands)
   pub few : length (database_after_all rows commands) ≤ rows_len (database_after_all rows commands)

@@ -6,16 +6,16 @@ use Rattle.path_db.specs.declared.key.Key.{Key}
 use Rattle.path_db.specs.Key.{key_bytes}
 use Rattle.row_edits.specs.Merging.{order_of}
 
--- no key is above the one after it
+-- No key is above the one after it.
 abbrev pub IsKeyOrder : List Key → Type 0
 IsKeyOrder keys = IsSortedByKey key_bytes order_of keys
 
--- a key is above the last one, where there is one
+-- A key is above the last one, where there is one.
 abbrev pub is_key_above : Option (List ℕ) → List ℕ → Bool
 is_key_above None k = true
 is_key_above (Some last) k = is_lt (order_of last k)
 
--- the keys that are above all those before them, after a last one
+-- The keys that are above all those before them, after a last one.
 abbrev pub risen : Option (List ℕ) → List (List ℕ) → List (List ℕ)
 risen last [] = []
 risen last (k ∷ ks) = if is_key_above last k then k ∷ risen (Some k) ks else risen last ks

@@ -12,7 +12,7 @@ pub enum Edit {
     Keep(u32),
     /// The next bytes are left out: this number of them.
     Pass(u32),
-    /// The record of the row that is left under the next key is put here, where there is one.
+    /// The record of the row that is left under the next key is written here, where there is one.
     Put,
 }
 

@@ -1,4 +1,4 @@
-//! Laws of what commands make of rows: the functions do nothing, and their contracts say the laws.
+//! Laws of the rows after commands. Each law is the contract of a function that does nothing.
 
 ghost use Rattle.row_edits.specs.Laws.{MergesAreFolds, KeysMakeFolds, PlansMakeFolds};
 ghost use Rattle.row_edits.specs.Chunks.{PiecesFollow, LastPieceEnds};
@@ -25,7 +25,7 @@ pub fn keys_make_folds()
     commands_keep_database();
 }
 
-/// Edits that were planned of rows make the records of the rows after commands.
+/// Edits that were planned for rows turn their records into the records of the rows after commands.
 pub fn plans_make_folds()
     ensures { PlansMakeFolds }
 {
@@ -33,8 +33,8 @@ pub fn plans_make_folds()
 }
 
 /// Of bytes that are written in pieces of 256 sectors, the first 131,072 bytes that are made and
-/// not written are the next piece, and all of them, where nothing is left to be made, filled up
-/// with zeros, are the last.
+/// not written are the next piece. Where nothing is left to be made, all bytes that are made,
+/// filled up with zeros, are the last piece.
 pub fn pieces_follow()
     ensures next { PiecesFollow }
     ensures last { LastPieceEnds }

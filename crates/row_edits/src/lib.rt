@@ -1,4 +1,4 @@
-//! The records of a database after commands, made of the records before piece by piece.
+//! The records of a database after commands, made piece by piece from the records before.
 //!
 //! To the layer above: a `Planner` sees each row once and makes a `Plan`, which has a small edit
 //! for each run of rows and a row for each key that the commands name. A `Pour` follows the plan:

@@ -1,4 +1,4 @@
-//! Rows that only contracts have: a note takes no memory, and its functions do nothing.
+//! Rows that only contracts name. A note takes no memory, and its functions do nothing.
 
 ghost use Rattle.std.specs.Prelude.{◌≡◌, List, [], ◌∷◌, ◌++◌};
 ghost use Rattle.std.specs.Borrow.{ftrue};
@@ -9,7 +9,7 @@ ghost use Rattle.path_rows.specs.Command.{database_after_all};
 use path_db::{Command, Row};
 use std::marker::Model;
 
-/// What a note is made from.
+/// The source of a note's rows.
 trait NoteSource {
     ghost use Rattle.std.specs.Prelude.{List};
     ghost use Rattle.path_rows.specs.Database.{RowView};
@@ -46,7 +46,7 @@ impl<'a> NoteSource for AfterCommands<'a> {
     ghost rows = { λ step. database_after_all step.note.now.rows step.commands.now };
 }
 
-/// Rows that contracts name and that no code keeps. A note has no bytes.
+/// Rows that contracts name and that no code keeps. A note has no bytes in memory.
 #[derive(Drop)]
 pub struct RowsNote {
     pub ghost rows: { List RowView },
@@ -62,7 +62,7 @@ unsafe impl Send for RowsNote {}
 const _: () = prove!(size_of::<RowsNote>() == 0);
 
 impl RowsNote {
-    // A note of the rows that a source says. Its proof is written by hand.
+    // A note of the rows of a source. Its proof is written by hand.
     fn of<T: NoteSource>(_source: &T) -> RowsNote
         ensures { result.rows ≡ T.rows _source.now }
     {

@@ -20,8 +20,8 @@ use seg_check::expiry;
 use seg_core::{SegType, Segment, encoded_len};
 use std::alloc::{AllocError, Global};
 
-/// Plans what commands make of rows, which it sees one after the other in the order of their keys.
-/// It keeps the keys that the commands name, an edit for each run of rows, and the rows under those
+/// Plans how commands change rows, which it sees one after the other in the order of their keys. It
+/// keeps the keys that the commands name, an edit for each run of rows, and the rows under those
 /// keys, which share their segments.
 #[derive(Drop)]
 pub struct Planner {
@@ -53,7 +53,7 @@ impl Planner {
         })
     }
 
-    /// Sees the next row. Where memory is refused the planner is of no more use.
+    /// Sees the next row. Where memory is refused, the planner cannot be used any more.
     pub fn see(&mut self, row: Row) -> Result<(), AllocError>
         ensures { OnOk result ((commands : List Command) (seen : List RowView)
             → HasSeen commands seen self.old → HasSeen commands (seen ++ row_view row ∷ []) self.new) }
@@ -72,7 +72,7 @@ impl Planner {
         Ok(())
     }
 
-    /// The plan, once all rows were seen: for the commands that the planner was made for.
+    /// The plan, once all rows were seen. The commands are those for which the planner was made.
     pub fn finish(self, alloc: Global, commands: &[Command]) -> Result<Plan, AllocError>
         ensures { IfOk result (λ plan. (rows : List RowView) → HasSeen commands.now rows self → IsDatabase rows → IsPlanOf rows commands.now plan) }
     {
@@ -96,7 +96,7 @@ impl Planner {
 }
 
 impl Planner {
-    /// A row whose key is named is left out, and kept for the commands.
+    /// Leaves out a row whose key is named, and keeps the row for the commands.
     fn take_out(&mut self, row: Row) -> Result<(), AllocError>
         ensures { OnOk result (PlansOn true (row_view row) self.old self.new) }
     {
@@ -105,7 +105,7 @@ impl Planner {
         Ok(())
     }
 
-    /// A row of another key that no purge drops stays.
+    /// Keeps a row of another key that no purge drops.
     fn keep(&mut self, row: &Row) -> Result<(), AllocError>
         requires { is_beyond self.old.purged (row_view row.now) ≡ true }
         ensures { OnOk result (PlansOn false (row_view row.now) self.old self.new) }
@@ -115,7 +115,7 @@ impl Planner {
         Ok(())
     }
 
-    /// A row of another key that a purge drops is left out.
+    /// Leaves out a row of another key that a purge drops.
     fn leave_out(&mut self, row: &Row) -> Result<(), AllocError>
         requires { is_beyond self.old.purged (row_view row.now) ≡ false }
         ensures { OnOk result (PlansOn false (row_view row.now) self.old self.new) }
@@ -125,7 +125,7 @@ impl Planner {
     }
 }
 
-/// The bytes of a row's record.
+/// The number of bytes of a row's record.
 fn row_size(row: &Row) -> u32
     ensures { result ≡ row_len (row_view row.now) }
 {

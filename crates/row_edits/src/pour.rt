@@ -16,9 +16,9 @@ pub const PIECE: usize = 256 * SECTOR;
 /// The bytes of the buffer: a piece, and the greatest record of a row.
 const BUFFER: usize = PIECE + MOST_ROW_BYTES;
 
-/// Makes the records after commands of the records before. Both go through it in pieces: the
-/// records before are given in windows, which may be cut anywhere, and what was made is taken. It
-/// has a buffer of 147,461 bytes, and takes no memory once it is made.
+/// Turns the records before commands into the records after them, in pieces. The records before are
+/// given in windows, which may be cut anywhere, and the bytes that are made are taken from the
+/// buffer. The buffer has 147,461 bytes; after `new` a pour takes no memory.
 #[derive(Drop)]
 pub struct Pour {
     edits: Vec<Edit>,
@@ -47,8 +47,8 @@ impl Pour {
     ghost use Rattle.row_edits.specs.Edits.{bytes_in, views_if_any};
     ghost use Rattle.row_edits.specs.Pouring.{Pours, WhyStopped, IsOutside, left_to_keep, with_edit, with_next_row, untaken, untaken_len, edits_end, steps_left};
 
-    /// A pour of the 32 bytes of a head, and of what edits make with the rows that they put. It
-    /// takes the memory of its buffer.
+    /// A pour of the 32 bytes of a head, and of what the edits write with the rows that they put.
+    /// It takes the memory of its buffer.
     pub fn new(
         alloc: Global,
         head: &[u8; 32],
@@ -72,9 +72,9 @@ impl Pour {
         })
     }
 
-    /// Makes what it can of a window: the bytes of the records before from offset `from` on. It
+    /// Makes what it can from a window: the bytes of the records before from offset `from` on. It
     /// stops where a piece or more is made and not taken, where nothing is left to be made, or
-    /// where it wants a byte that isn't in the window.
+    /// where it needs a byte that is not in the window.
     pub fn pour(&mut self, from: u64, window: &[u8])
         ensures pours { Pours from window.now self.old self.new }
         ensures stops { WhyStopped from (length window.now) self.new }
@@ -94,21 +94,21 @@ impl Pour {
         None
     }
 
-    /// The bytes that the buffer has in memory.
+    /// The length of the buffer in bytes.
     pub fn buffer_len(&self) -> usize
         ensures { result ≡ 147461 }
     {
         self.buffer.len()
     }
 
-    /// What was made and is not taken.
+    /// The bytes that are made and not taken.
     pub fn made(&self) -> &[u8]
         ensures { result.now ≡ self.now.out }
     {
         &self.buffer[..self.used]
     }
 
-    /// Takes bytes from the front of what was made.
+    /// Takes this number of bytes from the front of those that are made.
     pub fn take(&mut self, count: usize)
         requires { count ≤ length self.old.out }
         ensures { self.new ≡ record self.old { out = drop count self.old.out } }
@@ -116,7 +116,7 @@ impl Pour {
         self.used = cut_front(&mut self.buffer, self.used, count);
     }
 
-    /// One step. The answer is whether another one may follow.
+    /// Takes one step, and returns whether another one may follow.
     fn step(&mut self, from: u64, window: &[u8]) -> bool
         ensures pours { Pours from window.now self.old self.new }
         ensures goes_on { result ≡ true → steps_left self.new < steps_left self.old }
@@ -135,7 +135,8 @@ impl Pour {
         true
     }
 
-    /// Keeps the bytes of the window that are to be kept now, as many as there is room for.
+    /// Keeps bytes of the window: as many as the edit that was begun, the window and the room
+    /// allow. Returns whether another step may follow.
     fn keep(&mut self, from: u64, window: &[u8]) -> bool
         requires room { length self.old.out < 131072 }
         requires some { 0 < left_to_keep self.old }
@@ -160,7 +161,7 @@ impl Pour {
         true
     }
 
-    /// Begins the next edit, where no bytes are to be kept of the last one.
+    /// Begins the next edit, where no bytes are left to be kept of the last one.
     fn next_edit(&mut self)
         requires room { length self.old.out < 131072 }
         requires none { left_to_keep self.old ≡ 0 }

@@ -8,7 +8,8 @@ ghost use Rattle.row_edits.specs.Edits.{record_if_any};
 use byte_lists::put;
 use path_db::{ROW_HEAD, Row, row_head};
 
-/// Appends the record of a row, where there is one. The answer is how many bytes are in use then.
+/// Appends the record of a row, where there is one, and returns the number of bytes that are in use
+/// then.
 pub(crate) fn put_if_any(buffer: &mut [u8], used: usize, row: &Option<Row>) -> usize
     requires { used + 16389 ≤ length buffer.old }
     ensures put { take result buffer.new ≡ take used buffer.old ++ record_if_any (option_map row_view row.now) }
@@ -26,7 +27,7 @@ pub(crate) fn put_if_any(buffer: &mut [u8], used: usize, row: &Option<Row>) -> u
     }
 }
 
-/// Appends bytes of a window. The answer is how many bytes are in use then.
+/// Appends bytes of a window, and returns the number of bytes that are in use then.
 pub(crate) fn put_part(
     buffer: &mut [u8],
     used: usize,
@@ -44,8 +45,8 @@ pub(crate) fn put_part(
     used + count
 }
 
-/// Takes bytes from the front: the others in use are moved there. The answer is how many bytes are
-/// in use then.
+/// Removes bytes from the front, moves the others in use there, and returns the number of bytes
+/// that are in use then.
 pub(crate) fn cut_front(buffer: &mut [u8], used: usize, count: usize) -> usize
     requires used { used ≤ length buffer.old }
     requires count { count ≤ used }

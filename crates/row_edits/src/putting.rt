@@ -12,9 +12,9 @@ use path_db::{Key, Row};
 use std::alloc::AllocError;
 use std::cmp::Ordering;
 
-/// Appends a `Put` for each key from an index on that is below a row's, and for the row's own,
-/// where it is one of them. The answer is the index of the next key, and whether the row's is one
-/// of them.
+/// Appends a `Put` for each key from an index on that is below a row's, and for the row's own key
+/// where it is one of them. Returns the index of the next key, and whether the row's key is one of
+/// them.
 pub(crate) fn put_up_to(
     keys: &[Key],
     at: usize,
@@ -40,7 +40,7 @@ pub(crate) fn put_up_to(
     Ok((at, false))
 }
 
-/// How a key compares to a row's.
+/// The order of a key and a row's key.
 fn order_to(key: &Key, row: &Row) -> Ordering
     ensures { result ≡ order_of (key_bytes key.now) (key_of (row_view row.now)) }
 {
@@ -60,7 +60,7 @@ pub(crate) fn put_rest(keys: &[Key], at: usize, edits: &mut Vec<Edit>) -> Result
     Ok(())
 }
 
-/// Appends an edit: it and the last one are one edit, where they can be.
+/// Appends an edit. It and the last one become one edit, where they can.
 pub(crate) fn push_edit(edits: &mut Vec<Edit>, edit: Edit) -> Result<(), AllocError>
     ensures { OnOk result (SameEdits (edits.old.items ++ edit ∷ []) edits.new.items) }
 {

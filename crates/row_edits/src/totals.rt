@@ -1,4 +1,4 @@
-//! How many bytes and rows a plan makes. A number above 2^64 - 1 is given as 2^64 - 1.
+//! The numbers of bytes and rows after a plan. A number above 2^64 - 1 is given as 2^64 - 1.
 
 ghost use Rattle.std.specs.Prelude.{◌≡◌, ◌^◌, ◌-◌, length, min};
 ghost use Rattle.std.specs.Option.{option_map, option_to_list};
@@ -9,7 +9,7 @@ use crate::edit::Edit;
 use path_db::{ROW_HEAD, Row};
 use seg_core::encoded_len;
 
-/// How many bytes edits keep.
+/// The number of bytes that edits keep.
 pub(crate) fn kept_bytes(edits: &[Edit]) -> u64
     ensures { result ≡ min (bytes_kept edits.now) (2 ^ 64 - 1) }
 {
@@ -20,7 +20,7 @@ pub(crate) fn kept_bytes(edits: &[Edit]) -> u64
     size
 }
 
-/// How many bytes an edit keeps.
+/// The number of bytes that an edit keeps.
 fn bytes_of(edit: Edit) -> u64
     ensures { result ≡ kept_by edit }
 {
@@ -31,7 +31,7 @@ fn bytes_of(edit: Edit) -> u64
     }
 }
 
-/// How many bytes the records of rows have.
+/// The number of bytes of the records of rows.
 pub(crate) fn put_bytes(rows: &[Option<Row>]) -> u64
     ensures { result ≡ min (bytes_put (views_if_any rows.now)) (2 ^ 64 - 1) }
 {
@@ -42,7 +42,7 @@ pub(crate) fn put_bytes(rows: &[Option<Row>]) -> u64
     size
 }
 
-/// The bytes of the record of a row, where there is one.
+/// The number of bytes of the record of a row, 0 where there is no row.
 fn record_len(row: &Option<Row>) -> u64
     ensures { result ≡ len_if_any (option_map row_view row.now) }
 {
@@ -52,7 +52,7 @@ fn record_len(row: &Option<Row>) -> u64
     }
 }
 
-/// How many rows there are among entries.
+/// The number of rows among entries.
 pub(crate) fn put_rows(rows: &[Option<Row>]) -> u64
     ensures { result ≡ min (count_rows (views_if_any rows.now)) (2 ^ 64 - 1) }
 {
@@ -63,7 +63,7 @@ pub(crate) fn put_rows(rows: &[Option<Row>]) -> u64
     count
 }
 
-/// One, where there is a row.
+/// One where there is a row, and 0 where there is none.
 fn one_if_any(row: &Option<Row>) -> u64
     ensures { result ≡ length (option_to_list (option_map row_view row.now)) }
 {

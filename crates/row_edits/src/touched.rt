@@ -14,7 +14,7 @@ use seg_core::{SegType, Segment};
 use std::alloc::{AllocError, Global};
 
 /// The greatest moment of the purges among commands, in half seconds since 1970, where there are
-/// any: a row that no command names is left after the commands just where it expires after that
+/// any. A row that no command names is left after the commands exactly where it expires after that
 /// moment.
 pub fn greatest_purge(commands: &[Command]) -> Option<u64>
     ensures { (row : RowView) → is_beyond result row ≡ outlives commands.now row }
@@ -26,7 +26,7 @@ pub fn greatest_purge(commands: &[Command]) -> Option<u64>
     greatest
 }
 
-/// The greater one of a moment and that of a command, where it is a purge.
+/// The greater one of a moment and a command's moment, where the command is a purge.
 fn with_purge(greatest: Option<u64>, command: &Command) -> Option<u64>
     ensures { (row : RowView) → is_beyond result row ≡ (if is_beyond greatest row then outlives_one command.now row else false) }
 {
@@ -47,7 +47,7 @@ fn later(greatest: Option<u64>, moment: u64) -> u64
 }
 
 /// The keys that commands name, each once, in their order: those of the rows that they register,
-/// and those that they remove. It computes the id of each segment that is registered.
+/// and those that they remove. The call computes the id of each segment that is registered.
 pub fn touched_keys(alloc: Global, commands: &[Command]) -> Result<Vec<Key>, AllocError>
     ensures rise { IfOk result (λ keys. KeysRise (map key_bytes keys.items)) }
     ensures covers { IfOk result (λ keys. Includes (map key_bytes keys.items) (keys_named_by commands.now)) }
@@ -66,7 +66,7 @@ fn sort_keys(keys: &mut Vec<Key>)
     keys.sort_unstable_by(|one, other| one.order(other));
 }
 
-/// The keys that are above all those before them: of keys in their order, each once.
+/// The keys that are above all those before them. Of keys in their order this is each key once.
 fn without_repeats(alloc: Global, keys: &[Key]) -> Result<Vec<Key>, AllocError>
     ensures { IfOk result (λ rising. map key_bytes rising.items ≡ risen None (map key_bytes keys.now)) }
 {

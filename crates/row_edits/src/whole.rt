@@ -1,4 +1,4 @@
-//! Laws of commands, by what their types say of the segments in them: the functions change nothing.
+//! Laws of commands, by the types of the segments in them. The functions change nothing.
 
 ghost use Rattle.std.specs.List.{AllByRecursion};
 ghost use Rattle.path_rows.specs.Database.{AreWhole};

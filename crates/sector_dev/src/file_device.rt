@@ -49,6 +49,7 @@ impl<F: PositionedFile> FileDevice<F> {
         })
     }
 
+    /// Returns the file, and ends the device.
     pub fn into_file(self) -> F
         ensures { result ≡ file_of self }
     {

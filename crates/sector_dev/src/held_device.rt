@@ -13,7 +13,8 @@ pub trait Gate {
         ensures { passed self.old self.new };
 }
 
-/// A device that passes its gate once before each sync. All else is passed on to the device within.
+/// A device that passes its gate once before each sync. All other calls are passed on to another
+/// device.
 #[derive(Drop)]
 pub struct HeldDevice<D, G> {
     device: D,
@@ -23,6 +24,7 @@ pub struct HeldDevice<D, G> {
 impl<D, G> HeldDevice<D, G> {
     ghost use Rattle.sector_dev.specs.HeldDevice.{held_device, held_gate};
 
+    /// A device that passes its calls on to `device`, and waits at `gate` before each sync.
     pub fn new(device: D, gate: G) -> HeldDevice<D, G>
         ensures device { held_device result ≡ device }
         ensures gate { held_gate result ≡ gate }
@@ -30,12 +32,14 @@ impl<D, G> HeldDevice<D, G> {
         HeldDevice { device, gate }
     }
 
+    /// The gate.
     pub fn gate(&self) -> &G
         ensures { result.now ≡ held_gate self.now }
     {
         &self.gate
     }
 
+    /// Returns the device and the gate, and ends this device.
     pub fn into_parts(self) -> (D, G)
         ensures { result ≡ (held_device self, held_gate self) }
     {

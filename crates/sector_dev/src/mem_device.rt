@@ -38,7 +38,7 @@ impl MemDevice {
         })
     }
 
-    /// A write that a stop tears.
+    /// A write that a stop tears, of whole sectors from sector `at` on.
     pub(crate) fn tear(&mut self, at: u64, bytes: &[u8], tear: Tear)
         requires { 512 * at + length bytes.now ≤ 512 * (memory_disk self.old).sectors }
         ensures { memory_disk self.new ≡ record (memory_disk self.old) {
@@ -55,7 +55,7 @@ impl MemDevice {
         range[keep..].fill(tear.fill);
     }
 
-    /// A write of which nothing lands.
+    /// A write of which nothing lands. The range is dirty all the same.
     pub(crate) fn touch(&mut self, at: u64, len: usize)
         requires { 512 * at + len ≤ 512 * (memory_disk self.old).sectors }
         ensures { memory_disk self.new ≡ record (memory_disk self.old) {

@@ -31,7 +31,7 @@ impl MemFile {
         }
     }
 
-    // How many bytes one transfer moves at an offset, where `asked` bytes are asked for.
+    // The number of bytes that one transfer moves at an offset, where `asked` bytes are asked for.
     fn room(&self, offset: u64, asked: usize) -> usize
         ensures { result ≡ transfer_length self.now offset asked }
     {

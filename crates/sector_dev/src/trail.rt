@@ -1,4 +1,4 @@
-//! The history of a device, for proofs alone: a trail takes no memory, and its functions do
+//! The history of a device, which only proofs use. A trail takes no memory, and its functions do
 //! nothing.
 ghost use Rattle.std.specs.Prelude.{◌≡◌, List, [], ◌∷◌, ◌++◌};
 ghost use Rattle.std.specs.Borrow.{ftrue};

@@ -1,4 +1,4 @@
--- What an answer shows of a database.
+-- Laws of the rows that a query shows.
 use Rattle.std.specs.Prelude.{◌≡◌, ℕ, ◌<◌, ◌≤◌, ◌⊎◌, List, length, IsTrue}
 use Rattle.std.specs.List.{Contains, AllByRecursion}
 use Rattle.std.specs.declared.cmp.Ordering.TheVariants.{Less}
@@ -8,7 +8,7 @@ use Rattle.path_rows.specs.Answer.{matches}
 use Rattle.seg_lookup.specs.Query.{QueryView}
 use Rattle.seg_lookup.specs.Answer.{answer_within}
 
--- a row that the query is for, and that is valid at the moment
+-- A query asks for a row, and the row is valid at the moment.
 pub record IsWanted (query : QueryView) (now : ℕ) (row : RowView) : Type 0 where
   pub matching : IsTrue (matches query.kind query.start query.end row)
   pub valid : now < expiry_of row.1
@@ -29,12 +29,12 @@ abbrev pub AnswersRise : Type 0
 AnswersRise =
     (limit : ℕ) (rows : List RowView) (query : QueryView) (now : ℕ) → IsRising rows → IsRising (answer_within limit rows query now)
 
--- the answer has as many rows as its limit, and their keys are all below that of this row
+-- An answer has the number of rows of its limit, and their keys are all below that of this row.
 pub record IsFullBelow (limit : ℕ) (row : RowView) (answer : List RowView) : Type 0 where
   pub full : length answer ≡ limit
   pub below : AllByRecursion (λ shown. key_order shown row ≡ Less) answer
 
--- Each row of the database that is wanted is in the answer, or comes after as many as the limit.
+-- Each row of the database that is wanted is in the answer, or the answer is full of rows below it.
 abbrev pub AnswersAreComplete : Type 0
 AnswersAreComplete =
     (limit : ℕ) (rows : List RowView) (query : QueryView) (now : ℕ) (row : RowView) → IsRising rows → Contains rows row → IsWanted query now row

@@ -6,12 +6,12 @@ use Rattle.seg_lookup.specs.declared.error.LookupError.TheVariants.{NullDestinat
 use Rattle.seg_lookup.specs.Roster.{RosterView, is_core}
 use Rattle.seg_lookup.specs.Query.{QueryView}
 
--- the ISD is 0, and the AS is not
+-- The ISD is 0, and the AS is not.
 abbrev pub is_isd_only_wildcard : ℕ → Bool
 is_isd_only_wildcard side = side / 2 ^ 48 == 0 && not (side % 2 ^ 48 == 0)
 
--- The table, by whether the source is core and whether the destination is: who has built the
--- segments, and up to whom.
+-- What a lookup asks for, by whether its source is core and whether its destination is: which side
+-- has built the segments, and up to which side.
 abbrev pub query_by_core : Bool → Bool → ℕ → ℕ → Result QueryView LookupError
 query_by_core true true source destination = Ok (record { kind = Core; start = destination; end = source })
 query_by_core false true source destination = Ok (record { kind = Up; start = destination; end = source })

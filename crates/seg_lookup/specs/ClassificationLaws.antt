@@ -1,4 +1,4 @@
--- What rosters and queries have in common, whatever the sides are.
+-- Laws of rosters and queries, for any sides.
 use Rattle.std.specs.Prelude.{◌≡◌, ℕ, ◌⊎◌, ◌↔◌, List, IsTrue, Ok, map}
 use Rattle.std.specs.List.{Contains}
 use Rattle.std.specs.FinSet as set
@@ -13,7 +13,7 @@ abbrev pub RostersHaveTheirCores : Type 0
 RostersHaveTheirCores =
     (cores : List IsdAs) (number : ℕ) → IsTrue (set.contains (roster_of cores) number) ↔ Contains (map isd_as_number cores) number
 
--- one side and the other, in either order
+-- A query goes between one side and the other, in either order.
 abbrev pub AreSides : QueryView → ℕ → ℕ → Type 0
 AreSides query source destination =
     ((query.start ≡ source) × (query.end ≡ destination)) ⊎ ((query.start ≡ destination) × (query.end ≡ source))

@@ -6,15 +6,15 @@ use Rattle.std.specs.FinSet as set
 use Rattle.isd_as.specs.declared.number.IsdAs.{IsdAs}
 use Rattle.isd_as.specs.IsdAs.{isd_as_number}
 
--- a finite set of ISD-ASes, by their numbers
+-- A finite set of ISD-ASes, by their numbers.
 abbrev pub RosterView : Type 0
 RosterView = set.FinSet nat_cmp
 
--- how a roster is stored as data, for a `Value` that has one
+-- How a roster is stored as data, for a `Value` that has one.
 abbrev pub roster_code : Coded RosterView
 roster_code = set.code coded_ℕ
 
--- the set of these
+-- The roster of these core ASes.
 abbrev pub roster_of : List IsdAs → RosterView
 roster_of cores = set.from_list (map isd_as_number cores)
 

@@ -1,4 +1,4 @@
-//! What a query shows of a database.
+//! The segments of a database that a query shows.
 
 ghost use Rattle.std.specs.Prelude.{◌≡◌, ◌<◌, ◌≤◌, length, IfOk, OnErr};
 ghost use Rattle.std.specs.List.{AllByRecursion};
@@ -12,11 +12,12 @@ use path_rows::PathDb;
 use seg_core::Segment;
 use std::alloc::AllocError;
 
-/// How many segments an answer has at most.
+/// The most segments of an answer.
 pub const ANSWER_LIMIT: usize = 64;
 
 /// The segments of the first 64 rows by key that match the query and expire after `now`, in half
-/// seconds since 1970. The segments are shared, not copied. An answer of none takes no memory.
+/// seconds since 1970. The segments are shared, not copied. An answer without segments takes no
+/// memory; an error means that memory was refused.
 pub fn answer(db: &PathDb, query: &Query, now: u64) -> Result<Vec<Segment>, AllocError>
     ensures same { IfOk result (λ found. found.items ≡ segments_of (answer_to db.now (query_view query.now) now)) }
     ensures memory { OnErr result (0 < length (answer_to db.now (query_view query.now) now)) }

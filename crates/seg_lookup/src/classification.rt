@@ -13,7 +13,7 @@ use seg_core::SegType;
 
 /// What a lookup from a source to a destination asks for. A side is core where its AS is 0 or it is
 /// on the roster. A core destination has built the segments up to the source, else a core source
-/// has built them down to the destination. It takes no memory.
+/// has built them down to the destination. The call takes no memory.
 #[tactic(auto, unfolding(crate::specs::Classification::query_of))]
 pub fn classify(roster: &Roster, source: IsdAs, destination: IsdAs) -> Result<Query, LookupError>
     ensures { query_result result ≡ query_of roster.now (isd_as_number source) (isd_as_number destination) }

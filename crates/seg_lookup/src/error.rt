@@ -1,6 +1,6 @@
 use thiserror::Error;
 
-/// Why a lookup asks for no segments. Where several hold, the first is answered.
+/// Why a lookup asks for no segments. Where several reasons hold, the first one is returned.
 #[derive(Clone, Copy, Debug, PartialEq, Eq, Error)]
 pub enum LookupError {
     /// Source and destination are both 0-0.

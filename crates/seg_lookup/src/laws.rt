@@ -1,5 +1,5 @@
-//! Laws of the definitions that the crate's contracts speak in. Each is the contract of a function
-//! that does nothing, so that it is proved with the crate.
+//! Laws of the definitions that the crate's contracts cite. Each law is the contract of a function
+//! that does nothing, so that the law is proved with the crate.
 
 ghost use Rattle.seg_lookup.specs.AnswerLaws.{AnswersAreShort, AnswersAreWanted, AnswersRise, AnswersAreComplete};
 ghost use Rattle.seg_lookup.specs.ClassificationLaws.{RostersHaveTheirCores, QueriesStartAtACore};
@@ -19,7 +19,7 @@ pub fn answers_are_short()
     ensures { AnswersAreShort }
 {}
 
-/// Each row of an answer is one of the database's, matches, and is valid.
+/// Each row of an answer is one of the database's, matches the query, and is valid.
 pub fn answers_are_wanted()
     ensures { AnswersAreWanted }
 {}
@@ -29,7 +29,7 @@ pub fn answers_rise()
     ensures { AnswersRise }
 {}
 
-/// Each row that matches and is valid is in the answer, or comes after as many as the limit.
+/// Each row that matches and is valid is in the answer, or the answer is full of rows below it.
 pub fn answers_are_complete()
     ensures { AnswersAreComplete }
 {}

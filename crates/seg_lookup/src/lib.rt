@@ -1,6 +1,6 @@
 //! Lookups: which segments a source and a destination ask for, and which of them a database shows.
 //!
-//! To the layer above, `classify` answers exactly what the table of sides says, by a roster of core
+//! To the layer above, `classify` returns exactly what the table of sides says, by a roster of core
 //! ASes, which counts only as a set. `answer` is the filter: the first 64 segments by key that
 //! match the query and are valid.
 #![tactic(auto)]

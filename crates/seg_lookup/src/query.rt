@@ -3,13 +3,13 @@
 use isd_as::IsdAs;
 use seg_core::SegType;
 
-/// Segments of one type, from one AS to another by the order of their entries. A part of a side
+/// Segments of one type, from one AS to another by the order of their entries. In a side, a part
 /// that is 0 means every number.
 #[derive(Clone, Copy)]
 pub struct Query {
     pub kind: SegType,
-    /// Covers the AS of the first entry.
+    /// The pattern that covers the AS of the first entry.
     pub start: IsdAs,
-    /// Covers the AS of the last entry.
+    /// The pattern that covers the AS of the last entry.
     pub end: IsdAs,
 }

@@ -12,7 +12,7 @@ use std::marker::Model;
 /// them.
 #[derive(Drop)]
 pub struct Roster {
-    /// In the order of their numbers; one may occur several times.
+    /// The ASes in the order of their numbers; one may occur several times.
     cores: Vec<IsdAs>,
 }
 
@@ -31,7 +31,7 @@ impl Model for Roster {
 }
 
 impl Roster {
-    /// The set of these ASes, in any order and each any number of times. It takes no memory.
+    /// The set of these ASes, in any order and each any number of times. The call takes no memory.
     pub fn new(mut cores: Vec<IsdAs>) -> Roster
         ensures { result ≡ roster_of cores.items }
     {
@@ -39,7 +39,7 @@ impl Roster {
         Roster { cores }
     }
 
-    /// Whether the AS is one of them, in logarithmic time.
+    /// Whether the AS is on the roster. The call takes logarithmic time.
     pub fn contains(&self, ia: IsdAs) -> bool
         ensures { result ≡ set.contains self.now (isd_as_number ia) }
     {
@@ -50,7 +50,7 @@ impl Roster {
         found.is_ok()
     }
 
-    /// Whether a side of a lookup is core: its AS is 0, or it is one of them.
+    /// Whether a side of a lookup is core: its AS is 0, or it is on the roster.
     pub(crate) fn is_core(&self, side: IsdAs) -> bool
         ensures { result ≡ is_core self.now (isd_as_number side) }
     {
