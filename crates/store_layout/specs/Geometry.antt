@@ -2,6 +2,6 @@
 use Rattle.store_layout.specs.Layout as laws
 use Rattle.store_layout.specs.declared.geometry.Geometry.{Geometry}
 
--- both sizes, in sectors
+-- Both sizes of a store, in sectors, as contracts see them.
 abbrev pub geometry_view : Geometry → laws.Geometry
 geometry_view geometry = record { checkpoint = geometry.checkpoint; journal = geometry.journal }

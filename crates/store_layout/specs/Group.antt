@@ -7,49 +7,49 @@ use Rattle.byte_lists.specs.Sectors.{sectors_of, padded}
 use Rattle.store_layout.specs.Limits.{Limits}
 use Rattle.store_layout.specs.CommandFormat.{CommandFormat, IsAllowed}
 
--- the most bytes that the records of a group have together
+-- The most bytes that the records of a group have together.
 abbrev pub most_record_bytes : ℕ
 most_record_bytes = 262144
 
--- the greatest place that a journal reaches
+-- The greatest place that a journal reaches.
 abbrev pub last_place : ℕ
 last_place = 2 ^ 64 - 1
 
--- a record: the length of the command's encoding (4 bytes), and the encoding
+-- A record: the length of the command's encoding (4 bytes), and the encoding.
 abbrev pub record_encoding : {C : Type 0} → CommandFormat C → C → List ℕ
 record_encoding format command = to_be_bytes w32 (length (format.encoding command)) ++ format.encoding command
 
--- the records of commands, one after the other
+-- The records of commands, one after the other.
 abbrev pub records_of : {C : Type 0} → CommandFormat C → List C → List ℕ
 records_of format commands = flat_map (record_encoding format) commands
 
--- a header of 16 bytes, and the bytes after it: the kind, the count of commands, two zeros, the
--- length of the records, the place
+-- A header of 16 bytes, and the bytes after it. The header has the kind, the count of commands, two
+-- zeros, the length of the records, and the place.
 abbrev pub with_header : ℕ → ℕ → ℕ → ℕ → List ℕ → List ℕ
 with_header kind count size place behind = kind ∷ count ∷ 0 ∷ 0 ∷ (to_be_bytes w32 size ++ (to_be_bytes w64 place ++ behind))
 
--- the payload of a group whose first command has this place
+-- The payload of a group whose first command has this place.
 abbrev pub group_encoding : {C : Type 0} → CommandFormat C → ℕ → List C → List ℕ
 group_encoding format place commands = padded (with_header 1 (length commands) (length (records_of format commands)) place (records_of format commands))
 
--- the payload of a seal at this place
+-- The payload of a seal at this place.
 abbrev pub seal_encoding : ℕ → List ℕ
 seal_encoding place = padded (with_header 2 0 0 place [])
 
--- the number of sectors of a payload, by the length of its records
+-- The number of sectors of a payload, by the length of its records.
 abbrev pub payload_sectors : ℕ → ℕ
 payload_sectors size = sectors_of (16 + size)
 
--- the number of sectors of the payload of a group of these commands
+-- The number of sectors of the payload of a group of these commands.
 abbrev pub group_sectors : {C : Type 0} → CommandFormat C → List C → ℕ
 group_sectors format commands = payload_sectors (length (records_of format commands))
 
--- a journal has room for this number of sectors after the gate, and for two more: the gate after
--- them, and a seal's
+-- A journal has room for `payload` sectors after the gate, and for two more: the gate after them,
+-- and a seal's.
 abbrev pub JournalHasRoom : ℕ → ℕ → ℕ → Type 0
 JournalHasRoom gate payload journal = gate + 1 + payload + 2 ≤ journal
 
--- the commands can be one group at this place
+-- The commands can be one group at this place.
 pub record CanBeGroup {C : Type 0} (format : CommandFormat C) (limits : Limits) (place : ℕ) (commands : List C) : Type 0 where
   pub some : 1 ≤ length commands
   pub most : length commands ≤ limits.most
@@ -57,12 +57,12 @@ pub record CanBeGroup {C : Type 0} (format : CommandFormat C) (limits : Limits) 
   pub last : place + length commands ≤ last_place
   pub allowed : AllByRecursion (IsAllowed format limits) commands
 
--- the payload is the one encoding of a group of these commands
+-- The payload is the one encoding of a group of these commands.
 pub record IsGroup {C : Type 0} (format : CommandFormat C) (limits : Limits) (place : ℕ) (commands : List C) (payload : List ℕ) : Type 0 where
   pub can : CanBeGroup format limits place commands
   pub spelled : payload ≡ group_encoding format place commands
 
--- the payload is the one encoding of a seal
+-- The payload is the one encoding of a seal at this place.
 pub record IsSeal (place : ℕ) (payload : List ℕ) : Type 0 where
   pub last : place ≤ last_place
   pub spelled : payload ≡ seal_encoding place

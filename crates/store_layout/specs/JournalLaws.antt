@@ -11,68 +11,72 @@ use Rattle.store_layout.specs.GroupReading.{JournalRefusal}
 use Rattle.store_layout.specs.JournalReading.{journal_scan}
 use Rattle.store_layout.specs.JournalRefusals.{IsJournalRefused}
 
--- bytes are read as a journal exactly where they are one
+-- Bytes are read as a journal exactly where they are one.
 abbrev pub IsReadSo : Type 0 → Type 0
 IsReadSo C =
     (format : CommandFormat C) (limits : Limits) (bytes : List ℕ) (start : ℕ) (reading : Reading C)
     → AreBytes bytes → 1 ≤ whole_sectors bytes
     → (journal_scan format limits bytes start ≡ Ok reading) ↔ IsJournal format limits bytes start reading
 
--- bytes are refused exactly where the definition of the refusal holds
+-- Bytes are refused exactly where the definition of the refusal holds.
 abbrev pub IsRefusedSo : Type 0 → Type 0
 IsRefusedSo C =
     (format : CommandFormat C) (limits : Limits) (bytes : List ℕ) (start : ℕ) (refusal : JournalRefusal)
     → AreBytes bytes → 1 ≤ whole_sectors bytes
     → (journal_scan format limits bytes start ≡ Err refusal) ↔ IsJournalRefused format limits bytes start refusal
 
--- a journal has at most one reading
+-- A journal has at most one reading.
 abbrev pub HasOneReading : Type 0 → Type 0
 HasOneReading C =
     (format : CommandFormat C) (limits : Limits) (bytes : List ℕ) (start : ℕ) (one other : Reading C) → 1 ≤ whole_sectors bytes
     → IsJournal format limits bytes start one → IsJournal format limits bytes start other → one ≡ other
 
--- a reading depends on the sectors that count for it, whatever bytes are after them
+-- A reading depends on the sectors that count for it, whatever bytes are after them.
 abbrev pub GoesByItsFront : Type 0 → Type 0
 GoesByItsFront C =
     (format : CommandFormat C) (limits : Limits) (xs ys : List ℕ) (start : ℕ) (reading : Reading C) → length xs ≡ length ys
     → take (512 * sectors_read reading) xs ≡ take (512 * sectors_read reading) ys
     → IsJournal format limits xs start reading → IsJournal format limits ys start reading
 
--- a write after the sectors that count leaves the journal unchanged
+-- A write after the sectors that count leaves the journal unchanged.
 abbrev pub IsKeptByWritesBehind : Type 0 → Type 0
 IsKeptByWritesBehind C =
     (format : CommandFormat C) (limits : Limits) (bytes : List ℕ) (start : ℕ) (reading : Reading C) (at : ℕ) (behind : List ℕ)
     → IsJournal format limits bytes start reading → 512 * sectors_read reading ≤ at → at + length behind ≤ length bytes
     → IsJournal format limits (overwrite at behind bytes) start reading
 
--- A journal's last gate is one of its sectors, and the journal has room for a seal after it, if it
--- has two sectors at all. The place is at most the last place, if the first one was, and all
--- commands are allowed.
+-- The bounds of a reading.
 pub record IsWithinBounds {C : Type 0} (format : CommandFormat C) (limits : Limits) (bytes : List ℕ) (start : ℕ) (reading : Reading C) : Type 0 where
+  -- The last gate is one of the journal's sectors.
   pub tail : reading.tail < whole_sectors bytes
+  -- The journal has room for a seal after it, where it has two sectors at all.
   pub seal : 2 ≤ whole_sectors bytes → reading.tail + 2 ≤ whole_sectors bytes
+  -- The place is at most the last place, where the first one was.
   pub place : start ≤ last_place → reading.place ≤ last_place
+  -- All commands are allowed.
   pub allowed : AllByRecursion (IsAllowed format limits) reading.commands
 
+-- A journal's reading is within its bounds.
 abbrev pub StaysWithinBounds : Type 0 → Type 0
 StaysWithinBounds C =
     (format : CommandFormat C) (limits : Limits) (bytes : List ℕ) (start : ℕ) (reading : Reading C) → 1 ≤ whole_sectors bytes
     → IsJournal format limits bytes start reading → IsWithinBounds format limits bytes start reading
 
--- payloads are whole sectors
+-- The payloads of groups and of seals are whole sectors.
 abbrev pub FillsSectors : Type 0 → Type 0
 FillsSectors C =
     (format : CommandFormat C) (place : ℕ) (commands : List C)
     → length (group_encoding format place commands) ≡ 512 * group_sectors format commands
 
--- a journal without a seal, whose tail's gate is followed by a group and then a closed gate
+-- A journal without a seal, in which a group and then a closed gate are written after the tail's
+-- gate.
 pub record IsReadyFor {C : Type 0} (format : CommandFormat C) (limits : Limits) (bytes : List ℕ) (reading : Reading C) (group : List C) : Type 0 where
   pub unsealed : reading.sealed ≡ false
   pub has : HasGroupAfterGate format limits bytes reading.tail reading.place group
   pub closed : ¬ IsOpenGate (sector_at (gate_behind format reading.tail group) bytes)
 
--- a group, and a gate that isn't open, are written after the tail's gate: the journal is unchanged,
--- and ready for the group
+-- Once a group and a gate that is not open are written after the tail's gate, the journal is
+-- unchanged, and ready for the group.
 abbrev pub IsMadeReady : Type 0 → Type 0
 IsMadeReady C =
     (format : CommandFormat C) (limits : Limits) (bytes : List ℕ) (start : ℕ) (reading : Reading C) (group : List C) (gate : List ℕ)
@@ -82,7 +86,7 @@ IsMadeReady C =
     → let written = overwrite (512 * (reading.tail + 1)) (group_encoding format reading.place group ++ gate) bytes in
     IsJournal format limits written start reading × IsReadyFor format limits written reading group
 
--- a seal is written after the tail's gate: the journal is unchanged, and ready for the seal
+-- Once a seal is written after the tail's gate, the journal is unchanged, and ready for the seal.
 abbrev pub IsMadeReadyForSeal : Type 0 → Type 0
 IsMadeReadyForSeal C =
     (format : CommandFormat C) (limits : Limits) (bytes : List ℕ) (start : ℕ) (reading : Reading C)
@@ -91,8 +95,8 @@ IsMadeReadyForSeal C =
     → let written = overwrite (512 * (reading.tail + 1)) (seal_encoding reading.place) bytes in
     IsJournal format limits written start reading × HasSeal written reading.tail reading.place
 
--- The tail's gate is written with any bytes: where these open it, the journal has exactly one more
--- group; else the journal is unchanged.
+-- The tail's gate is written with any bytes. Where these open it, the journal has exactly one more
+-- group. Otherwise the journal is unchanged.
 abbrev pub GrowsByItsGate : Type 0 → Type 0
 GrowsByItsGate C =
     (format : CommandFormat C) (limits : Limits) (bytes : List ℕ) (start : ℕ) (reading : Reading C) (group : List C) (gate : List ℕ)
@@ -101,7 +105,8 @@ GrowsByItsGate C =
     (IsOpenGate gate → IsJournal format limits written start (reading_with_group format reading group))
     × (¬ IsOpenGate gate → IsJournal format limits written start reading)
 
--- the same for a seal after the tail's gate
+-- The tail's gate is written with any bytes, where a seal is after it. Where these bytes open it,
+-- the journal is sealed. Otherwise the journal is unchanged.
 abbrev pub IsSealedByItsGate : Type 0 → Type 0
 IsSealedByItsGate C =
     (format : CommandFormat C) (limits : Limits) (bytes : List ℕ) (start : ℕ) (reading : Reading C) (gate : List ℕ)
@@ -110,7 +115,7 @@ IsSealedByItsGate C =
     (IsOpenGate gate → IsJournal format limits written start (reading_with_seal reading))
     × (¬ IsOpenGate gate → IsJournal format limits written start reading)
 
--- commands that smaller limits allow are allowed by larger limits
+-- Commands that smaller limits allow are allowed by larger limits.
 abbrev pub IsReadUnderLargerLimits : Type 0 → Type 0
 IsReadUnderLargerLimits C =
     (format : CommandFormat C) (small large : Limits) (bytes : List ℕ) (start : ℕ) (reading : Reading C) → AreAsLarge small large

@@ -1,6 +1,6 @@
 -- How the value of an image grows: a group is written after the last gate of its last journal, and
--- then that gate decides; and that a seal does not change the value. Each statement is the contract
--- of a function.
+-- then that gate decides. A seal does not change the value. Each statement is the contract of a
+-- function.
 use Rattle.std.specs.Prelude.{◌≡◌, ℕ, ◌+◌, ◌*◌, ◌≤◌, false, List, ◌++◌, length, Option, Some, None}
 use Rattle.byte_lists.specs.Content.{overwrite}
 use Rattle.byte_lists.specs.Sectors.{sector_at, IsOpenGate}
@@ -14,36 +14,39 @@ use Rattle.store_layout.specs.Opening.{Opening, limits_in, IsOpening, tail_half,
 use Rattle.store_layout.specs.TakeOver.{empty_journal}
 use Rattle.store_layout.specs.StoreValues.{value_after}
 
--- commands in two parts, one after the other
+-- The database after commands in two parts is the one after the first part and then the second.
 abbrev pub FoldsInParts : Type 0 → Type 0 → Type 0
 FoldsInParts Db C =
     (format : StoreFormat Db C) (db : Db) (front behind : List C) → db_after format db (front ++ behind) ≡ db_after format (db_after format db front) behind
 
--- the half of an image's last journal, the reading of that journal, the place at which it starts,
--- and the sector of the gate at which it ends
+-- The half of an image's last journal.
 abbrev pub last_half : {Db C : Type 0} → Opening Db C → Half
 last_half opening = tail_half opening.chosen opening.tail
 
+-- The reading of the last journal.
 abbrev pub last_reading : {Db C : Type 0} → Opening Db C → Reading C
 last_reading opening = last_journal opening.journal opening.tail
 
+-- The place at which the last journal starts, given the place of the checkpoint.
 abbrev pub start_of : {C : Type 0} → ℕ → Reading C → Option (Reading C) → ℕ
 start_of place journal None = place
 start_of place journal (Some behind) = journal.place
 
+-- The place at which the last journal of an opening starts.
 abbrev pub last_start : {Db C : Type 0} → Opening Db C → ℕ
 last_start opening = start_of opening.checkpoint.head.place opening.journal opening.tail
 
+-- The sector of the gate at which the last journal ends.
 abbrev pub last_gate : {Db C : Type 0} → Opening Db C → ℕ
 last_gate opening = journal_at opening.geometry (last_half opening) + (last_reading opening).tail
 
--- an opening whose last journal has this reading
+-- An opening whose last journal has this reading.
 abbrev pub with_last : {Db C : Type 0} → Option (Reading C) → Opening Db C → Reading C → Opening Db C
 with_last None opening last = record opening { journal = last }
 with_last (Some behind) opening last = record opening { tail = Some last }
 
--- Bytes are written anywhere in the last journal: the image opens with the new reading of that
--- journal, if it isn't sealed.
+-- Bytes are written anywhere in the last journal, and that journal has a reading that is not
+-- sealed. The image opens with the new reading.
 abbrev pub StoreGoesByItsLastJournal : Type 0 → Type 0 → Type 0
 StoreGoesByItsLastJournal Db C =
     (format : StoreFormat Db C) (latest : ℕ) (image : List ℕ) (opening : Opening Db C) (at : ℕ) (bytes : List ℕ) (last : Reading C)
@@ -53,8 +56,8 @@ StoreGoesByItsLastJournal Db C =
     → last.sealed ≡ false
     → IsOpening format latest (overwrite (512 * journal_at opening.geometry (last_half opening) + at) bytes image) (with_last opening.tail opening last)
 
--- A group that can be written and has room, and a gate that isn't open, are written after the last
--- gate: the opening is unchanged, and the last journal is ready for the group.
+-- A group that can be written and has room, and a gate that is not open, are written after the last
+-- gate. The opening is unchanged, and the last journal is ready for the group.
 abbrev pub StoreIsMadeReady : Type 0 → Type 0 → Type 0
 StoreIsMadeReady Db C =
     (format : StoreFormat Db C) (latest : ℕ) (image : List ℕ) (opening : Opening Db C) (group : List C) (gate : List ℕ)
@@ -66,8 +69,8 @@ StoreIsMadeReady Db C =
     IsOpening format latest written opening
     × IsReadyFor format.commands (limits_in opening.checkpoint) (journal_of opening.geometry (last_half opening) written) (last_reading opening) group
 
--- The last journal is ready for a group, and its last gate is written with any bytes: where these
--- open it, the value of the image is the old value after the commands of the group; else the
+-- The last journal is ready for a group, and its last gate is written with any bytes. Where these
+-- open it, the value of the image is the old value after the commands of the group. Otherwise the
 -- opening is unchanged.
 abbrev pub StoreGrowsByItsGate : Type 0 → Type 0 → Type 0
 StoreGrowsByItsGate Db C =
@@ -81,14 +84,14 @@ StoreGrowsByItsGate Db C =
     × (¬ IsOpenGate gate → IsOpening format latest written opening)
     × (opening_value format grown ≡ value_after format (opening_value format opening) group)
 
--- the other half is closed, and so is the first gate of its journal
+-- The other half is ready for a seal: it is closed, and so is the first gate of its journal.
 pub record IsOtherHalfClosed {Db C : Type 0} (opening : Opening Db C) (image : List ℕ) : Type 0 where
   pub alone : opening.tail ≡ None
   pub gate : ¬ IsOpenGate (gate_of opening.geometry (other opening.chosen) image)
   pub journal : ¬ IsOpenGate (sector_at 0 (journal_of opening.geometry (other opening.chosen) image))
 
--- Where the other half is ready, a seal is written after the last gate: the opening is unchanged,
--- and the seal is there.
+-- Where the other half is ready, a seal is written after the last gate. The opening is unchanged,
+-- and the seal is present.
 abbrev pub StoreIsMadeReadyForSeal : Type 0 → Type 0 → Type 0
 StoreIsMadeReadyForSeal Db C =
     (format : StoreFormat Db C) (latest : ℕ) (image : List ℕ) (opening : Opening Db C)
@@ -97,9 +100,9 @@ StoreIsMadeReadyForSeal Db C =
     IsOpening format latest written opening × IsOtherHalfClosed opening written
     × HasSeal (journal_of opening.geometry opening.chosen written) opening.journal.tail opening.journal.place
 
--- Then the last gate is written with any bytes: where these open it, the other half's journal
--- continues, without a command yet, and the value of the image is unchanged; else the opening is
--- unchanged.
+-- After a seal, the last gate is written with any bytes. Where these open it, the other half's
+-- journal continues, without a command yet, and the value of the image is unchanged. Otherwise the
+-- opening is unchanged.
 abbrev pub StoreIsSealedByItsGate : Type 0 → Type 0 → Type 0
 StoreIsSealedByItsGate Db C =
     (format : StoreFormat Db C) (latest : ℕ) (image : List ℕ) (opening : Opening Db C) (gate : List ℕ)

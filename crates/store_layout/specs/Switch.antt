@@ -12,11 +12,14 @@ use Rattle.store_layout.specs.Opening.{Opening, HasOlderHead, IsOpening, opening
 use Rattle.store_layout.specs.WhatCounts.{span, chosen_spans, IsApart}
 use Rattle.store_layout.specs.TakeOver.{FoldsJournal, taken_over, empty_journal}
 
--- the other half's area has the checkpoint that folds the chosen half's journal, with a later epoch
+-- The other half's area has the next checkpoint.
 pub record IsLaid {Db C : Type 0} (format : StoreFormat Db C) (latest : ℕ) (image : List ℕ) (opening : Opening Db C) (next : Checkpoint Db) : Type 0 where
+  -- It folds the chosen half's journal.
   pub folds : FoldsJournal format opening next
   pub begins : IsCheckpoint format.rows (area_of opening.geometry (other opening.chosen) image) next
+  -- Its version is known.
   pub known : next.head.version ≤ latest
+  -- Its epoch is later.
   pub newer : opening.checkpoint.head.epoch < next.head.epoch
 
 -- As long as the other half is closed, any write to its area leaves the opening unchanged.
@@ -27,8 +30,8 @@ ClosedAreaMayChange Db C =
     → at + length bytes ≤ 512 * opening.geometry.checkpoint
     → IsOpening format latest (overwrite (512 * area_at opening.geometry (other opening.chosen) + at) bytes image) opening
 
--- The gate of the other half, whose journal is the tail, is written with any bytes: where these
--- open it, that half is chosen, and the value is the same; else the opening is unchanged.
+-- The gate of the other half, whose journal is the tail, is written with any bytes. Where these
+-- open it, that half is chosen, and the value is the same. Otherwise the opening is unchanged.
 abbrev pub SwitchesByTheGate : Type 0 → Type 0 → Type 0
 SwitchesByTheGate Db C =
     (format : StoreFormat Db C) (latest : ℕ) (image : List ℕ) (opening : Opening Db C) (next : Checkpoint Db) (behind : Reading C) (gate : List ℕ)
@@ -38,8 +41,9 @@ SwitchesByTheGate Db C =
     × (¬ IsOpenGate gate → IsOpening format latest written opening)
     × (opening_value format (taken_over opening next behind) ≡ opening_value format opening)
 
--- The same without a tail, where no journal is sealed, and the first gate of the other half's
--- journal is closed.
+-- The gate of the other half is written with any bytes, where no journal is sealed, and the first
+-- gate of the other half's journal is closed. Where these bytes open it, that half is chosen, and
+-- the value is the same. Otherwise the opening is unchanged.
 abbrev pub SwitchesByTheGateAtRest : Type 0 → Type 0 → Type 0
 SwitchesByTheGateAtRest Db C =
     (format : StoreFormat Db C) (latest : ℕ) (image : List ℕ) (opening : Opening Db C) (next : Checkpoint Db) (gate : List ℕ)
@@ -51,9 +55,9 @@ SwitchesByTheGateAtRest Db C =
     × (¬ IsOpenGate gate → IsOpening format latest written opening)
     × (opening_value format fresh ≡ opening_value format opening)
 
--- Then the other half's head is older, and no journal is sealed: any write outside of that head,
--- and outside of the bytes of the chosen half that count, leaves the opening unchanged, such as a
--- write over the gates of the other half.
+-- The other half's head is older, and no journal is sealed. Any write outside of that head, and
+-- outside of the bytes of the chosen half that count, leaves the opening unchanged, such as a write
+-- over the gates of the other half.
 abbrev pub OlderHalfMayChange : Type 0 → Type 0 → Type 0
 OlderHalfMayChange Db C =
     (format : StoreFormat Db C) (latest : ℕ) (image : List ℕ) (opening : Opening Db C) (at : ℕ) (bytes : List ℕ)

@@ -1,4 +1,4 @@
--- The bytes of an image that count for its opening, as spans: all other bytes may be anything.
+-- The bytes of an image that count for its opening, as spans. All other bytes may be anything.
 use Rattle.std.specs.Prelude.{◌≡◌, ◌⊎◌, ℕ, ◌+◌, ◌*◌, ◌≤◌, Bool, true, false, List, [], ◌∷◌, Option, Some, None}
 use Rattle.byte_lists.specs.Content.{part}
 use Rattle.byte_lists.specs.Sectors.{is_open_gate}
@@ -9,26 +9,29 @@ use Rattle.store_layout.specs.StoreFormat.{StoreFormat}
 use Rattle.store_layout.specs.Checkpoint.{checkpoint_size}
 use Rattle.store_layout.specs.Opening.{Opening}
 
--- this number of bytes at an offset
+-- Bytes at an offset.
 pub record CountedSpan : Type 0 where
+  -- The offset of the first byte.
   pub at : ℕ
+  -- The number of bytes.
   pub size : ℕ
 
+-- The span at an offset, of this number of bytes.
 abbrev pub span : ℕ → ℕ → CountedSpan
 span at size = record { at = at; size = size }
 
--- of the half that isn't chosen: its head where it is open, and its journal where that continues
--- after a seal
+-- The head of the half that is not chosen, where that half is open.
 abbrev pub head_spans : Geometry → Half → Bool → List CountedSpan → List CountedSpan
 head_spans geometry half false more = more
 head_spans geometry half true more = span (512 * area_at geometry half) 24 ∷ more
 
+-- The journal of the half that is not chosen, where it continues after a seal.
 abbrev pub tail_spans : {C : Type 0} → Geometry → Half → Option (Reading C) → List CountedSpan
 tail_spans geometry half None = []
 tail_spans geometry half (Some behind) = span (512 * journal_at geometry half) (512 * sectors_read behind) ∷ []
 
--- the title in sector 0; and of the chosen half byte 0 of its gate, its checkpoint, and its journal
--- as far as it is read
+-- The title in sector 0, and of the chosen half byte 0 of its gate, its checkpoint, and its journal
+-- as far as it is read.
 abbrev pub chosen_spans : {Db C : Type 0} → StoreFormat Db C → Opening Db C → List CountedSpan → List CountedSpan
 chosen_spans format opening more =
     span 0 20
@@ -37,21 +40,22 @@ chosen_spans format opening more =
     ∷ span (512 * journal_at opening.geometry opening.chosen) (512 * sectors_read opening.journal)
     ∷ more
 
--- all of these, with byte 0 of the other half's gate, and then its head or its journal
+-- All spans that count for an opening: those of the chosen half, byte 0 of the other half's gate,
+-- and the other half's head or its journal.
 abbrev pub spans_of : {Db C : Type 0} → StoreFormat Db C → Opening Db C → Bool → List CountedSpan
 spans_of format opening other_is_open =
     chosen_spans format opening
     (span (512 * gate_at opening.geometry (other opening.chosen)) 1
     ∷ head_spans opening.geometry (other opening.chosen) other_is_open (tail_spans opening.geometry (other opening.chosen) opening.tail))
 
--- the spans of an image with this opening
+-- The spans of an image with this opening.
 abbrev pub spans_in : {Db C : Type 0} → StoreFormat Db C → List ℕ → Opening Db C → List CountedSpan
 spans_in format image opening = spans_of format opening (is_open_gate (gate_of opening.geometry (other opening.chosen) image))
 
--- two images have the same bytes in a span
+-- Two images have the same bytes in a span.
 abbrev pub IsSameSpan : List ℕ → List ℕ → CountedSpan → Type 0
 IsSameSpan one two counted = part counted.at counted.size two ≡ part counted.at counted.size one
 
--- this number of bytes at an offset is before the span or after it
+-- The bytes at an offset are before the span or after it.
 abbrev pub IsApart : ℕ → ℕ → CountedSpan → Type 0
 IsApart at size counted = (at + size ≤ counted.at) ⊎ (counted.at + counted.size ≤ at)

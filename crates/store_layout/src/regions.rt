@@ -9,7 +9,7 @@ pub fn regions_are_apart()
 {}
 
 /// A write within one region changes that region alone. Writes within several regions leave the
-/// regions that they don't meet unchanged.
+/// regions that they do not meet unchanged.
 pub fn writes_leave_other_regions()
     ensures beside { WritesLeaveRegionsApart }
     ensures others { WritesLeaveOtherRegions }
