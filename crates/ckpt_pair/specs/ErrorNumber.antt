@@ -3,7 +3,7 @@ use Rattle.std.specs.Prelude.{ℕ}
 use Rattle.ckpt_pair.specs.declared.error.PairError.{PairError}
 use Rattle.ckpt_pair.specs.declared.error.PairError.TheVariants.{NoMemory, NoHalf, SameEpoch, BadCheckpoint, SealedNewer, NewerFormat}
 
--- each refusal's number
+-- The number of each refusal.
 abbrev pub pair_error_number : PairError → ℕ
 pair_error_number NoMemory = 0
 pair_error_number NoHalf = 1

@@ -13,14 +13,15 @@ use Rattle.store_layout.specs.OpeningReading.{BadPair, read_tail, behind_journal
 use Rattle.ckpt_pair.specs.declared.head.Head.{Head}
 use Rattle.ckpt_pair.specs.declared.head.Heads.{Heads}
 
--- the numbers of a head
+-- The numbers of a head, as contracts see them.
 abbrev pub head_view : Head → laws.Head
 head_view head = record { version = head.version; epoch = head.epoch; place = head.place }
 
--- the head of a half, where it is open
+-- The head of a half as contracts see it, where the half is open.
 abbrev pub head_seen : Option Head → Option laws.Head
 head_seen head = option_map head_view head
 
+-- The head of a half, where the half is open.
 abbrev pub head_at : Half → Heads → Option Head
 head_at First heads = heads.first
 head_at Second heads = heads.second
@@ -32,16 +33,18 @@ half_with_tail chosen false other_is_open = Ok chosen
 half_with_tail chosen true true = Err SealedNewer
 half_with_tail chosen true false = Ok (other chosen)
 
--- An opening once the chosen half's journal is read, by the half that has the tail: it is refused
--- as the tail is; it is complete where the chosen half has the tail; and else it continues with the
--- other half's journal.
+-- The opening, once the chosen half's journal is read, by the half that has the tail.
 pub record IsByTail {Db C : Type 0} (opening : Opening Db C) (sealed other_is_open : Bool) (behind : Result (Reading C) JournalRefusal) : Type 0 where
+  -- It is refused where the tail is.
   pub refused : (refusal : PairRefusal) → half_with_tail opening.chosen sealed other_is_open ≡ Err refusal
       → behind_journal sealed other_is_open opening behind ≡ Err (BadPair refusal)
+  -- It is complete where the chosen half has the tail.
   pub whole : half_with_tail opening.chosen sealed other_is_open ≡ Ok opening.chosen → behind_journal sealed other_is_open opening behind ≡ Ok opening
+  -- Otherwise it continues with the other half's journal.
   pub goes_on : half_with_tail opening.chosen sealed other_is_open ≡ Ok (other opening.chosen)
       → behind_journal sealed other_is_open opening behind ≡ read_tail opening behind
 
+-- Each opening is as `IsByTail` says.
 abbrev pub GoesOnWhereTailStands : Type 0 → Type 0 → Type 0
 GoesOnWhereTailStands Db C =
     (opening : Opening Db C) (sealed other_is_open : Bool) (behind : Result (Reading C) JournalRefusal) → IsByTail opening sealed other_is_open behind

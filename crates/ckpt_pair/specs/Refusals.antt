@@ -4,7 +4,7 @@ use Rattle.store_layout.specs.CheckpointReading.{PairRefusal, NoHalf, SameEpoch,
 use Rattle.ckpt_pair.specs.declared.error.PairError.{PairError}
 use Rattle.ckpt_pair.specs.declared.error.PairError.TheVariants as errors
 
--- the error of each refusal
+-- The error of each refusal.
 abbrev pub error_of : PairRefusal → PairError
 error_of NoHalf = errors.NoHalf
 error_of SameEpoch = errors.SameEpoch

@@ -7,17 +7,17 @@ use Rattle.path_rows.specs.Database.{RowView}
 use Rattle.path_db.specs.RowRecord.{rows_encoding, rows_decoding}
 use Rattle.path_db.proofs.RowsBack.{rows_spelled}
 
--- the rows that were read, if their number is this count
+-- The rows that were read, where their number is this count.
 abbrev pub as_counted : ℕ → Result (List RowView) DbError → Option (List RowView)
 as_counted count (Ok rows) = if length rows == count then Some rows else None
 as_counted count (Err e) = None
 
--- a list that is the result under a test is the list
+-- A list that is the result under a test is the list.
 by_test : (test : Bool) (found rows : List RowView) → (if test then Some found else None) ≡ Some rows → (test ≡ true) × (found ≡ rows)
 by_test true found rows is = (refl, cc)
 by_test false found rows is = absurd cc
 
--- a counted reading has this number of rows, and these rows were read
+-- A counted reading has this number of rows, and these rows were read.
 pub counted_rows : (count : ℕ) (reading : Result (List RowView) DbError) (rows : List RowView) → as_counted count reading ≡ Some rows
     → (reading ≡ Ok rows) × (length rows ≡ count)
 counted_rows count (Ok found) rows is =

@@ -12,30 +12,36 @@ use Rattle.ckpt_pair.specs.Versions.{latest}
 use Rattle.ckpt_pair.specs.Rows.{rows_format, as_counted}
 use Rattle.ckpt_pair.specs.Reading.{FrontView, front_in, with_head}
 
--- the walk over the rows, and how many bytes and rows are still to come
+-- A stream as contracts see it.
 pub record StreamView : Type 0 where
+  -- The walk over the rows.
   pub walk : WalkView
+  -- The number of bytes that are still to come.
   pub bytes : ℕ
+  -- The number of rows that are still to come.
   pub rows : ℕ
 
+-- A stream's fields as contracts see them.
 abbrev pub stream_view : Inside → StreamView
 stream_view s = record { walk = s.walk; bytes = s.bytes; rows = s.rows }
 
--- These bytes were pushed, of which the first `size` are the records of the rows, and these rows of
--- `count` were returned.
+-- What a stream of `count` rows in `size` bytes has returned.
 pub record HasStreamed (size count : ℕ) (pushed : List ℕ) (given : List RowView) (stream : StreamView) : Type 0 where
+  -- The first `size` bytes that were pushed are the records of the rows.
   pub walk : HasGiven (take size pushed) given stream.walk
+  -- The stream counts the bytes that are still to come.
   pub bytes : stream.bytes ≡ size - length pushed
+  -- The stream counts the rows that are still to come.
   pub rows : length given + stream.rows ≡ count
 
--- the bytes that were pushed are not read as this number of rows in this number of bytes, whatever
--- bytes come next
+-- The bytes that were pushed are not read as this number of rows in this number of bytes, whatever
+-- bytes come next.
 abbrev pub AreNoStreamedRows : StreamView → Type 0
 AreNoStreamedRows stream =
     (size count : ℕ) (pushed : List ℕ) (given : List RowView) → HasStreamed size count pushed given stream
     → (after : List ℕ) → as_counted count (rows_decoding (take size (pushed ++ after))) ≡ None
 
--- a walk in this state is refused, whatever was pushed and returned before
+-- A walk in this state is refused, whatever was pushed and returned before.
 abbrev pub IsRefusedWalk : WalkView → Type 0
 IsRefusedWalk walk = (e : DbError) × ((fed : List ℕ) (given : List RowView) → HasGiven fed given walk → AreRefused fed e)
 

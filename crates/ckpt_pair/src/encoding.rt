@@ -47,8 +47,8 @@ pub fn checkpoint_head(db: &PathDb, epoch: u64, place: u64) -> [u8; 32]
     checkpoint_front(epoch, place, db.encoded_len() as u32, row_count(db))
 }
 
-/// The same 32 bytes for any rows, by the length of their records in bytes and their number. The
-/// caller has to know both before the rows are written.
+/// The 32 bytes of `checkpoint_head` for any rows, by the length of their records in bytes and
+/// their number. The caller has to know both before the rows are written.
 pub fn checkpoint_front(epoch: u64, place: u64, size: u32, count: u32) -> [u8; 32]
     ensures spelled { (rows : List RowView) → rows_len rows ≡ size → length rows ≡ count
         → result ++ rows_encoding rows ≡ checkpoint_bytes rows_format (written_checkpoint epoch place rows) }

@@ -35,7 +35,7 @@ pub struct Checkpoint {
 }
 
 /// Reads the front of an area of `area` bytes. An area with another magic or with version 0 is
-/// `BadCheckpoint`, a version above `LATEST` is `NewerFormat`, and rows that don't end within the
+/// `BadCheckpoint`, a version above `LATEST` is `NewerFormat`, and rows that do not end within the
 /// area are `BadCheckpoint`.
 pub fn read_front(bytes: &[u8], area: u64) -> Result<Front, PairError>
     requires { 32 ≤ length bytes.now }
@@ -51,7 +51,7 @@ pub fn read_front(bytes: &[u8], area: u64) -> Result<Front, PairError>
 }
 
 /// Reads the checkpoint at the front of a half's area. Its front is checked first, as by
-/// `read_front`. Then rows whose length or number is not that of the front, or that aren't in the
+/// `read_front`. Then rows whose length or number is not that of the front, or that are not in the
 /// order of their keys, are `BadCheckpoint`. Bytes after the rows are not read. The call takes
 /// memory from the first row on whose segment has an outline.
 pub fn read_half(alloc: Global, area: &[u8]) -> Result<Checkpoint, PairError>

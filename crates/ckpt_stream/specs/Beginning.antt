@@ -1,4 +1,4 @@
--- What begins the checkpoint of a sealed half.
+-- How the checkpoint of a sealed half is begun.
 use Rattle.std.specs.Prelude.{◌≡◌, ℕ, ◌+◌, ◌*◌, ◌≤◌, List, length, Some, Result, Ok, Err}
 use Rattle.sector_dev.specs.Disk.{Disk, IsHonest, reads_of}
 use Rattle.path_rows.specs.declared.command.Command.{Command}
@@ -18,41 +18,47 @@ use Rattle.store_open.specs.declared.sealed.SealedError.TheVariants.{Fault, NoMe
 use Rattle.row_edits.specs.Pouring.{PourView, untaken, untaken_len, edits_end}
 use Rattle.ckpt_stream.specs.Merge.{MergeView, bytes_made, IsReady}
 
--- the checkpoint of a sealed half: its rows, at the place that it reaches, in the version that is
--- written
+-- The checkpoint of a sealed half: its rows, at the place that it reaches, in the version that is
+-- written.
 abbrev pub checkpoint_from : ℕ → SealedHalf → Checkpoint (List RowView)
 checkpoint_from epoch sealed = written_checkpoint epoch sealed.place sealed.rows
 
--- A pour of which nothing is taken makes the checkpoint of rows after commands, from the records of
--- these rows.
+-- A pour of which nothing is taken yet makes the checkpoint of rows after commands.
 pub record PoursCheckpoint (epoch place : ℕ) (rows : List RowView) (commands : List Command) (pour : PourView) : Type 0 where
+  -- It makes the checkpoint's bytes from the records of these rows.
   pub makes : untaken pour (rows_encoding rows) ≡ checkpoint_bytes rows_format (written_checkpoint epoch place (database_after_all rows commands))
+  -- It makes as many bytes.
   pub len : untaken_len pour ≡ 32 + rows_len (database_after_all rows commands)
+  -- Its edits read exactly the records of these rows.
   pub end : edits_end pour ≡ rows_len rows
 
--- From the rows of the checkpoint in the half's area a merge makes its own.
+-- A merge makes its checkpoint from the rows of the old checkpoint in the half's area.
 pub record MakesFrom (merge : MergeView) (old : Checkpoint (List RowView)) : Type 0 where
   pub size : merge.size ≡ length (rows_encoding old.db)
   pub makes : untaken merge.pour (rows_encoding old.db) ≡ bytes_made merge
 
--- A merge makes the checkpoint of this epoch of a sealed half, whatever the device is, and it fits
--- an area; of an honest one the half is what reads give, and the rows of its area are those from
--- which the checkpoint is made.
+-- A merge makes the checkpoint of this epoch of a sealed half.
 pub record IsMergeOf (geometry : Geometry) (half : Half) (epoch : ℕ) (disk : Disk) (merge : MergeView) : Type 0 where
+  -- The sealed half. On an honest device it is what reads give.
   pub sealed : SealedHalf
   pub reads : IsHonest disk → sealed_half geometry half (reads_of disk) ≡ Some sealed
+  -- The merge has the checkpoint's rows, place and epoch.
   pub rows : merge.rows ≡ sealed.rows
   pub place : merge.place ≡ sealed.place
   pub epoch_is : merge.epoch ≡ epoch
+  -- The checkpoint can be written, and it fits an area.
   pub can : CanBeCheckpoint rows_format (checkpoint_from epoch sealed)
   pub fits : checkpoint_size rows_format (checkpoint_from epoch sealed) ≤ 512 * geometry.checkpoint
+  -- The rows of the old area end within it.
   pub inside : 32 + merge.size ≤ 512 * geometry.checkpoint
+  -- All bytes of the checkpoint are still to be taken, and the first ones are made.
   pub len : untaken_len merge.pour ≡ length (bytes_made merge)
   pub ready : IsReady merge.pour
+  -- On an honest device the checkpoint is made from the rows of the old area.
   pub makes : IsHonest disk → (old : Checkpoint (List RowView)) → checkpoint_in rows_format latest (area_of geometry half (reads_of disk)) ≡ Ok old → MakesFrom merge old
 
--- A sealed half's checkpoint is begun; or the half is none whose checkpoint fits, unless the device
--- failed or memory ran out.
+-- A sealed half's checkpoint is begun. After an error, no checkpoint that fits can be made of the
+-- half, or the device failed, or memory was refused.
 abbrev pub MergesSealed : Geometry → Half → ℕ → Result MergeView SealedError → Disk → Type 0
 MergesSealed geometry half epoch (Ok merge) disk = IsMergeOf geometry half epoch disk merge
 MergesSealed geometry half epoch (Err Fault) disk = Unit {0}

@@ -11,52 +11,61 @@ use Rattle.row_edits.specs.declared.edit.Edit.TheVariants.{Keep}
 use Rattle.row_edits.specs.Pouring.{PourView, untaken, untaken_len, edits_end}
 use Rattle.ckpt_stream.specs.declared.merge.Merge.TheInside.{Inside}
 
--- What is made and not written, with what is still to be made; how many bytes the rows of the old
--- area have; and the rows of the checkpoint, its epoch and its place.
+-- A merge as contracts see it.
 pub record MergeView : Type 0 where
+  -- The bytes that are made and not written, and those that are still to be made.
   pub pour : PourView
+  -- The number of bytes of the rows in the old area.
   pub size : ℕ
+  -- The rows of the checkpoint.
   pub rows : List RowView
+  -- The epoch of the checkpoint.
   pub epoch : ℕ
+  -- The place of the checkpoint.
   pub place : ℕ
 
+-- A merge's fields as contracts see them.
 abbrev pub merge_view : Inside → MergeView
 merge_view s = record { pour = s.pour; size = s.size; rows = s.note.rows; epoch = s.epoch; place = s.place }
 
--- the bytes of its checkpoint, and these in whole sectors
+-- The bytes of the checkpoint.
 abbrev pub bytes_made : MergeView → List ℕ
 bytes_made merge = checkpoint_bytes rows_format (written_checkpoint merge.epoch merge.place merge.rows)
 
+-- The bytes of the checkpoint in whole sectors.
 abbrev pub encoding_made : MergeView → List ℕ
 encoding_made merge = checkpoint_encoding rows_format (written_checkpoint merge.epoch merge.place merge.rows)
 
--- the same of the last checkpoint that was begun: no bytes where none was
+-- The bytes, in whole sectors, of the last checkpoint that was begun: no bytes where none was.
 abbrev pub encoding_if_any : Option MergeView → List ℕ
 encoding_if_any None = []
 encoding_if_any (Some merge) = encoding_made merge
 
--- The window is 256 sectors, the sectors of the checkpoint are counted, and the edits go over just
--- the rows of the old area.
+-- What holds for the fields of a merge.
 pub record IsMerge (s : Inside) : Type 0 where
+  -- The window has 256 sectors.
   pub window : length s.window.items ≡ 131072
+  -- The sectors of the checkpoint are counted.
   pub sectors : 512 * s.sectors ≡ length (encoding_made (merge_view s))
+  -- The edits read exactly the rows of the old area.
   pub end : edits_end s.pour ≡ s.size
 
--- the bytes that are written next: at most 256 sectors of what is made, with zeros up to a whole
--- sector
+-- The bytes that are written next: at most 256 sectors of what is made, with zeros up to a whole
+-- sector.
 abbrev pub next_piece : PourView → List ℕ
 next_piece pour = padded (take 131072 pour.out)
 
--- what is left after these are written
+-- The pour after the next piece is written.
 abbrev pub after_piece : PourView → PourView
 after_piece pour = record pour { out = drop 131072 pour.out }
 
--- a whole piece is made, or nothing is left to be made
+-- A piece can be written: a whole piece is made, or nothing is left to be made.
 abbrev pub IsReady : PourView → Type 0
 IsReady pour = (131072 ≤ length pour.out) ⊎ (pour.edits ≡ Keep 0 ∷ [])
 
--- More is made, from the rows of an area, which have this number of bytes: as many bytes are not
--- taken as before, and over an honest device these are the same bytes.
+-- More is made from the rows of an area, which have `size` bytes.
 pub record MakesOn (disk : Disk) (area size : ℕ) (old new : PourView) : Type 0 where
+  -- On an honest device, the bytes that are not taken are the same as before.
   pub same : IsHonest disk → untaken new (part (512 * area + 32) size (reads_of disk)) ≡ untaken old (part (512 * area + 32) size (reads_of disk))
+  -- They are as many as before.
   pub len : untaken_len new ≡ untaken_len old

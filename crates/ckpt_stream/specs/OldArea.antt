@@ -16,13 +16,13 @@ use Rattle.store_open.specs.declared.error.OpenError.TheVariants.{NotAStore, Dev
 use Rattle.row_edits.specs.declared.note.RowsNote.{RowsNote}
 use Rattle.row_edits.specs.declared.plan.Plan.{Plan}
 
--- the checkpoint of a half is refused
+-- The checkpoint of a half is refused.
 pub record IsNoCheckpoint (geometry : Geometry) (half : Half) (reads : List ℕ) : Type 0 where
   pub refusal : PairRefusal
   pub is : checkpoint_in rows_format latest (area_of geometry half reads) ≡ Err refusal
 
--- The checkpoint of a half is read as its front and its rows are; or it is refused by its front,
--- unless the device failed.
+-- The result of reading the front of a half's checkpoint. An error is the front's refusal, or a
+-- failure of the device.
 abbrev pub FrontSo : Result Front OpenError → Geometry → Half → List ℕ → Type 0
 FrontSo (Ok front) geometry half reads =
     checkpoint_in rows_format latest (area_of geometry half reads)
@@ -33,8 +33,8 @@ FrontSo (Err (Pair e)) geometry half reads = IsNoCheckpoint geometry half reads
 FrontSo (Err (Journal e)) geometry half reads = ⊥
 FrontSo (Err NoMemory) geometry half reads = Unit {0}
 
--- The rows in bytes are those of a note; or the bytes are no rows of this count, unless the device
--- failed or memory ran out.
+-- The result of planning rows that are read from bytes. After an error the bytes are no rows of
+-- this count, or the device failed, or memory was refused.
 abbrev pub RowsSo : Result (Plan × RowsNote) OpenError → Option (List RowView) → Type 0
 RowsSo (Ok made) reading = reading ≡ Some made.1.rows
 RowsSo (Err NotAStore) reading = ⊥

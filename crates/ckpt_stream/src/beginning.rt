@@ -24,10 +24,10 @@ use std::alloc::{AllocError, Global};
 use store_layout::{Geometry, Half};
 use store_open::{SealedError, scan_journal};
 
-/// Reads a half whose journal is sealed, and plans the checkpoint of this epoch that the journal's
-/// commands make of its rows. The half's rows are read twice as far as the first piece needs them,
-/// and else once; nothing is written, and the half's gate isn't read. A half that is refused, or
-/// whose rows after the commands don't fit an area, is `Damaged`.
+/// Reads a half whose journal is sealed, and plans its checkpoint of this epoch: the half's rows
+/// after the journal's commands. The rows from which the first piece is made are read twice, and
+/// the others once. Nothing is written, and the half's gate is not read. A half that is refused, or
+/// whose rows after the commands do not fit an area, is `Damaged`.
 pub fn begin_merge<D: Device>(
     alloc: Global,
     device: &mut D,
@@ -69,7 +69,7 @@ pub fn begin_merge<D: Device>(
     }
 }
 
-/// What makes the checkpoint of a plan. Nothing but the 32 bytes before the rows is made of it yet.
+/// The pour that makes the checkpoint of a plan. It has made only the 32 bytes before the rows.
 fn pour_of(alloc: Global, epoch: u64, place: u64, plan: Plan) -> Result<Pour, AllocError>
     requires edits { bytes_in plan.edits.items < 2 ^ 33 }
     requires size { plan.size < 2 ^ 32 }

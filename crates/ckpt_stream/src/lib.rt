@@ -1,10 +1,10 @@
-//! The checkpoint of a half whose journal a seal ends, made while it is written, from pieces of the
+//! The checkpoint of a half whose journal is sealed, made while it is written, from pieces of the
 //! half's own area.
 //!
-//! To the layer above: `begin_merge` reads the half once and plans, and each `write_next` writes
-//! the next sectors, at most 256, and reads the old area on as far as the sectors after them need.
-//! A merge holds no area and no database: it has two buffers, a row for each key that the journal
-//! names, and eight bytes for each run of rows.
+//! To the layer above: `begin_merge` reads the half once and plans. Each `write_next` writes the
+//! next sectors, at most 256, and reads as much of the old area as the sectors after them need. A
+//! merge has no area and no database in memory: it has two buffers, a row for each key that the
+//! journal names, and eight bytes for each run of rows.
 #![tactic(auto)]
 
 mod beginning;

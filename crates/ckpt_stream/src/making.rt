@@ -46,8 +46,8 @@ pub(crate) fn make_piece<D: Device>(
     }
 }
 
-/// How many sectors are read from the one on that has the byte that is wanted: those that may fill
-/// the piece, but at most 256, and none after the rows.
+/// The number of sectors to read from `first` on, the one with the byte that is wanted: enough for
+/// the piece, at most 256, and none past the rows.
 fn count_wanted(at: u64, size: u32, first: u64, made: usize) -> u64
     requires wanted { at < size }
     requires first { 512 * first ≤ at + 32 }
@@ -64,7 +64,7 @@ fn count_wanted(at: u64, size: u32, first: u64, made: usize) -> u64
     wanted.min(left).min(PIECE_SECTORS)
 }
 
-/// Makes what it can of sectors of an area, which a window has.
+/// Makes what it can from sectors of an area, which are in a window.
 fn pour_sectors(pour: &mut Pour, size: u32, first: u64, count: u64, window: &[u8])
     requires some { 1 ≤ count }
     requires window { 512 * count ≤ length window.now }
@@ -84,7 +84,7 @@ fn pour_sectors(pour: &mut Pour, size: u32, first: u64, count: u64, window: &[u8
 }
 
 /// Puts the next piece of what is made into a window: at most 131,072 bytes, with zeros up to a
-/// whole sector. The answer is how many bytes these are.
+/// whole sector. Returns the number of these bytes.
 pub(crate) fn put_piece(window: &mut [u8], made: &[u8]) -> usize
     requires { length window.old ≡ 131072 }
     ensures piece { take result window.new ≡ padded (take 131072 made.now) }

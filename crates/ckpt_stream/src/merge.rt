@@ -10,16 +10,16 @@ use row_edits::{PIECE, Pour, RowsNote};
 use sector_dev::{DevError, Device};
 use std::marker::Model;
 
-/// The sectors of a piece of a checkpoint: that many are written, and read of the old area, at a
-/// time at most.
+/// The sectors of a piece of a checkpoint: the most that are written, or read of the old area, at a
+/// time.
 pub const PIECE_SECTORS: u64 = (PIECE / SECTOR) as u64;
 
 /// The bytes of the window: a piece.
 pub(crate) const WINDOW: usize = PIECE;
 
-/// The checkpoint of a half whose journal a seal ends, made while it is written. Beside what the
-/// edits and the rows of the journal's keys take it has two buffers: a window of 131,072 bytes, and
-/// 147,461 bytes for what is made and not written yet.
+/// The checkpoint of a half whose journal is sealed, made while it is written. Beside the edits and
+/// the rows of the journal's keys it has two buffers: a window of 131,072 bytes, and 147,461 bytes
+/// for what is made and not written yet.
 #[derive(Drop)]
 pub struct Merge {
     pub(crate) pour: Pour,
@@ -42,15 +42,15 @@ impl Model for Merge {
 }
 
 impl Merge {
-    /// How many sectors the checkpoint has in all.
+    /// The number of sectors of the whole checkpoint.
     pub fn sectors(&self) -> u64
         ensures { 512 * result ≡ length (encoding_made self.now) }
     {
         self.sectors
     }
 
-    /// How many bytes the window has, and how many the buffer of what is made. Both stay as long as
-    /// the merge lives.
+    /// The lengths in bytes of the window, and of the buffer of what is made. Neither changes as
+    /// long as the merge exists.
     pub fn buffer_lens(&self) -> (usize, usize)
         ensures window { result.0 ≡ 131072 }
         ensures made { result.1 ≡ 147461 }
@@ -60,7 +60,8 @@ impl Merge {
 
     /// Writes the next sectors of the checkpoint, at most 256, from the sector `at` on, and then
     /// makes those after them: it reads the rows of the old area, which begins at the sector
-    /// `area`. Where the write or a read fails, the merge is of no more use. It takes no memory.
+    /// `area`. Where the write or a read fails, the merge cannot be used any more. The call takes
+    /// no memory.
     pub fn write_next<D: Device>(
         &mut self,
         device: &mut D,

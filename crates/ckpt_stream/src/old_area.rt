@@ -40,9 +40,9 @@ pub(crate) fn read_old_front<D: Device>(
     Ok(read_front(&sector, SECTOR as u64 * u64::from(geometry.checkpoint))?)
 }
 
-/// Plans what commands make of the rows of an area, `count` rows in `size` bytes, in one pass over
-/// them: it reads at most 256 sectors at a time into a window. With the plan comes a note of the
-/// rows.
+/// Plans the rows of an area after commands. The area has `count` rows in `size` bytes, which are
+/// read in one pass, at most 256 sectors at a time, into a window. With the plan, the call returns
+/// a note of the rows.
 pub(crate) fn plan_rows<D: Device>(
     alloc: Global,
     device: &mut D,

@@ -1,4 +1,4 @@
-//! Reading sectors into a buffer that is there.
+//! Reading sectors into a buffer that exists.
 
 ghost use Rattle.std.specs.Prelude.{◌≡◌, ◌+◌, ◌*◌, ◌≤◌, length, take, OnOk};
 ghost use Rattle.byte_lists.specs.Content.{part};

@@ -10,10 +10,10 @@ use std::fs::{File, OpenOptions};
 use std::rt::Files;
 use std::{fs, io};
 
-/// Opens a file of `len` zero bytes to be read and written by this process alone. One that is there
-/// is cut to nothing first, once it is locked: where another process has it open by a function of
-/// this library, the answer is `WouldBlock`. Before the answer is Ok, the file, its length and its
-/// name in its folder are synced. A block device stays as it is, whatever `len` says.
+/// Opens a file of `len` zero bytes, which this process alone may read and write. A file that
+/// exists is locked first and then cut to nothing. Where another process has it open by a function
+/// of this library, the error is `WouldBlock`. The file, its length and its name in its folder are
+/// synced before the call returns `Ok`. A block device is unchanged, whatever `len` is.
 pub fn create<R: AllocGlobal + Files<File = File>>(
     rt: &R,
     path: &str,
@@ -37,7 +37,7 @@ pub fn create<R: AllocGlobal + Files<File = File>>(
     Ok(SystemFile::new(file))
 }
 
-// Makes a file `len` zero bytes, on its disk too.
+// Gives a file `len` zero bytes, on its disk too.
 fn set_zeros(file: &File, len: u64) -> io::Result<()> {
     file.set_len(0)?;
     file.set_len(len)?;

@@ -1,4 +1,4 @@
-//! What the file of a device may be.
+//! The kinds of files that a device can have.
 
 use std::fs::File;
 use std::io;
@@ -14,8 +14,8 @@ pub(crate) enum DeviceKind {
     Block,
 }
 
-/// What an open file is. All others, as directories, pipes and terminals, are refused by
-/// `InvalidInput`.
+/// The kind of an open file. Any other kind, such as a directory, a pipe or a terminal, is refused
+/// by `InvalidInput`.
 pub(crate) fn device_kind(file: &File) -> io::Result<DeviceKind> {
     let kind = file.metadata()?.file_type();
     if kind.is_file() {

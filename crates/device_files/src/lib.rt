@@ -1,9 +1,9 @@
 //! Files and block devices as the devices of a store, each opened under the system's lock on it.
 //!
 //! To the layer above, `open` and `create` open a file for one process alone, and `open_to_read`
-//! beside others that only read. A lock lasts as long as its `SystemFile`. Where another process
-//! holds a lock that this one can't be beside, the file is not read, written or cut. No clause says
-//! what the system does; that a `SystemFile` has no failures yet is proved.
+//! opens it beside others that only read. A lock lasts as long as its `SystemFile`. Where another
+//! process holds a lock that excludes this one, the file is not read, written or cut. No clause
+//! states what the system does. It is proved that a `SystemFile` has no failures yet.
 #![tactic(auto)]
 
 mod cache;

@@ -1,4 +1,4 @@
-//! Opening what is there.
+//! Opening files that exist.
 
 ghost use Rattle.std.specs.Prelude.{◌≡◌, IfOk};
 ghost use Rattle.sector_dev.specs.SystemFile.{system_state};
@@ -10,8 +10,8 @@ use std::fs::{File, OpenOptions};
 use std::io;
 use std::rt::Files;
 
-/// Opens a file or a block device to be read and written, by this process alone: where another one
-/// has it open by a function of this library, the answer is `WouldBlock`.
+/// Opens a file or a block device, which this process alone may read and write. Where another
+/// process has it open by a function of this library, the error is `WouldBlock`.
 pub fn open<R: Files<File = File>>(rt: &R, path: &str) -> io::Result<SystemFile>
     ensures { IfOk result (λ file. (system_state file).failures ≡ 0) }
 {
@@ -22,9 +22,9 @@ pub fn open<R: Files<File = File>>(rt: &R, path: &str) -> io::Result<SystemFile>
     Ok(SystemFile::new(file))
 }
 
-/// Opens a file or a block device to be read alone, beside other processes that do so: where one
-/// has it open to write it by a function of this library, the answer is `WouldBlock`. Writes of the
-/// file fail.
+/// Opens a file or a block device to read it, beside other processes that do the same. Where
+/// another process has it open to write it by a function of this library, the error is
+/// `WouldBlock`. Writes of the file fail.
 pub fn open_to_read<R: Files<File = File>>(rt: &R, path: &str) -> io::Result<SystemFile>
     ensures { IfOk result (λ file. (system_state file).failures ≡ 0) }
 {

@@ -7,8 +7,8 @@ use Rattle.store_layout.specs.Limits.{Limits}
 use Rattle.store_layout.specs.CommandFormat.{IsAllowed}
 use Rattle.gate_journal.specs.Commands.{command_format}
 
--- The limits of a journal allow each command within its own limits, a removal where they allow
--- these.
+-- The limits of a journal allow each command that is within its own limits, and a removal only
+-- where they allow removals.
 abbrev pub CommandsAreAllowed : Type 0
 CommandsAreAllowed =
     (limits : Limits) (command : Command) → IsWithinLimits command → HasWholeSegments command → HasWidths command → IsAllowedBy limits.removals command

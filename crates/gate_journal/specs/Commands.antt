@@ -7,13 +7,13 @@ use Rattle.path_db.specs.CommandRecord.{command_encoding, command_decoding}
 use Rattle.path_db.proofs.Exports.{command_spelled, command_read_on}
 use Rattle.store_layout.specs.CommandFormat.{CommandFormat}
 
--- a reading that gives a command didn't refuse it
+-- A reading that returns a command did not refuse it.
 pub read_from : {T E : Type 0} (reading : Result T E) (value : T) → result_ok reading ≡ Some value → reading ≡ Ok value
 read_from (Ok other) value is = cc
 read_from (Err refusal) value is = cc
 
--- A command is spelled as its record, and bytes are read as one; of the limits those on removals
--- count.
+-- The format of commands: a command is encoded as its record, and bytes are read as one. Of the
+-- limits, the one on removals counts.
 abbrev pub command_format : CommandFormat Command
 command_format = record {
   encoding = command_encoding;

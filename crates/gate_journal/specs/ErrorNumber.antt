@@ -3,7 +3,7 @@ use Rattle.std.specs.Prelude.{ℕ}
 use Rattle.gate_journal.specs.declared.error.JournalError.{JournalError}
 use Rattle.gate_journal.specs.declared.error.JournalError.TheVariants.{NoMemory, BadHeader, BadRecord, Gap, PastEnd}
 
--- each refusal's number
+-- The number of each refusal.
 abbrev pub journal_error_number : JournalError → ℕ
 journal_error_number NoMemory = 0
 journal_error_number BadHeader = 1

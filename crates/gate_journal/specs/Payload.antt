@@ -6,8 +6,8 @@ use Rattle.path_db.specs.CommandRecord.{IsWithinLimits}
 use Rattle.store_layout.specs.Group.{most_record_bytes, last_place, records_of}
 use Rattle.gate_journal.specs.Commands.{command_format}
 
--- 1 to 32 commands, each within its limits, with records of at most 262,144 bytes, and with places
--- for all of them
+-- Commands can be one group: 1 to 32 commands, each within its limits, with records of at most
+-- 262,144 bytes together, and with places for all of them.
 pub record IsWithinGroupLimits (commands : List Command) (place : ℕ) : Type 0 where
   pub some : 1 ≤ length commands
   pub most : length commands ≤ 32

@@ -1,4 +1,4 @@
--- A journal that is read piece by piece. A piece is whole sectors; they are counted from the
+-- A journal that is read piece by piece. A piece is whole sectors, which are counted from the
 -- journal's start.
 use Rattle.std.specs.Prelude.{◌≡◌, ℕ, ◌+◌, ◌-◌, ◌*◌, ◌<◌, ◌≤◌, List, length, Result, Ok, Err}
 use Rattle.byte_lists.specs.Content.{AreBytes, part}
@@ -21,48 +21,50 @@ use Rattle.gate_journal.specs.Commands.{command_format}
 use Rattle.gate_journal.specs.Reading.{header_reading, PayloadWantsMemory}
 use Rattle.gate_journal.specs.ScannerView.{ScannerView}
 
--- the reading that a scan reports
+-- The reading that a scan reports.
 abbrev pub reading_of : Scan → Reading Command
 reading_of scan = record { commands = scan.commands.items; tail = scan.tail; sealed = scan.sealed; place = scan.place }
 
 -- ---- pieces
 
--- which sector the next piece begins with, and how many it has: the gate, the sector after it, or
--- the whole payload
+-- The sector with which the next piece begins: the gate, or the sector after it.
 abbrev pub first_sector_of : Stage → ℕ → ℕ
 first_sector_of AtGate gate = gate
 first_sector_of AtHeader gate = gate + 1
 first_sector_of (AtPayload count size) gate = gate + 1
 
+-- The number of sectors of the next piece: one, or those of the whole payload.
 abbrev pub count_of : Stage → ℕ
 count_of AtGate = 1
 count_of AtHeader = 1
 count_of (AtPayload count size) = payload_sectors size
 
+-- The sector with which a scanner's next piece begins.
 abbrev pub first_wanted : ScannerView → ℕ
 first_wanted scanner = first_sector_of scanner.stage scanner.gate
 
+-- The number of sectors of a scanner's next piece.
 abbrev pub count_wanted : ScannerView → ℕ
 count_wanted scanner = count_of scanner.stage
 
--- the journal has these bytes in that piece
+-- The journal has these bytes in the scanner's next piece.
 abbrev pub HasPiece : ScannerView → List ℕ → List ℕ → Type 0
 HasPiece scanner bytes piece = part (512 * first_wanted scanner) (512 * count_wanted scanner) bytes ≡ piece
 
--- how many pieces are left at most: three after each gate, and a gate is two sectors at least after
--- the last one
+-- The most pieces at this gate after the next one.
 abbrev pub rank_of : Stage → ℕ
 rank_of AtGate = 2
 rank_of AtHeader = 1
 rank_of (AtPayload count size) = 0
 
+-- A bound on the pieces that are left, which gets smaller by each piece.
 abbrev pub pieces_left : ScannerView → ℕ
 pieces_left scanner = 3 * (scanner.sectors - scanner.gate) + rank_of scanner.stage
 
 -- ---- what was read
 
--- what is known of the journal after the gate: that it is open, and then that its header is one of
--- a group in order
+-- What is known of the journal after the gate: first that the gate is open, and then that its
+-- header is one of a group in order.
 abbrev pub IsKnown : Stage → Limits → List ℕ → ℕ → ℕ → Type 0
 IsKnown AtGate limits bytes gate place = Unit {0}
 IsKnown AtHeader limits bytes gate place = IsOpenGate (sector_at gate bytes)
@@ -70,37 +72,42 @@ IsKnown (AtPayload count size) limits bytes gate place =
     IsOpenGate (sector_at gate bytes)
     × (header_reading limits (sector_at (gate + 1) bytes) gate place (whole_sectors bytes) ≡ Ok (Group count size))
 
--- The journal is read up to the scanner's gate: there are groups up to there, the commands are
--- theirs, and the place is reached.
+-- The journal is read up to the scanner's gate.
 pub record IsReadUpTo (scanner : ScannerView) (bytes : List ℕ) (start : ℕ) : Type 0 where
+  -- The journal has the scanner's number of sectors.
   pub size : whole_sectors bytes ≡ scanner.sectors
+  -- There are groups up to the gate.
   pub groups : List (List Command)
   pub chain : IsGroupChain command_format (limits_of scanner.version) bytes 0 start groups scanner.gate
+  -- The scanner's commands are those of the groups.
   pub commands : scanner.commands ≡ all_of groups
+  -- The scanner's place is the one reached.
   pub place : scanner.place ≡ start + length (all_of groups)
+  -- What is known after the gate holds.
   pub known : IsKnown scanner.stage (limits_of scanner.version) bytes scanner.gate scanner.place
 
--- each journal that the scanner has read up to its gate is read by this number of sectors at least,
--- if it has a reading
+-- Each journal that the scanner has read up to its gate has a reading of at least this number of
+-- sectors, where it has one.
 abbrev pub CountsForReading : ScannerView → ℕ → Type 0
 CountsForReading scanner sectors =
     (bytes : List ℕ) (start : ℕ) (reading : Reading Command) → IsReadUpTo scanner bytes start
     → IsJournal command_format (limits_of scanner.version) bytes start reading → sectors ≤ sectors_read reading
 
--- Reading may want memory: there are groups up to an open gate; after that is a header of a group
--- that is in order, at the place reached and with room; and to read the group's payload takes
--- memory.
+-- Reading a journal may take memory.
 pub record MayWantMemory (limits : Limits) (bytes : List ℕ) (start : ℕ) : Type 0 where
+  -- There are groups up to an open gate.
   pub groups : List (List Command)
   pub gate : ℕ
   pub chain : IsGroupChain command_format limits bytes 0 start groups gate
   pub opened : IsOpenGate (sector_at gate bytes)
+  -- After that gate is the header of a group in order, at the place reached and with room.
   pub count : ℕ
   pub size : ℕ
   pub header : header_reading limits (sector_at (gate + 1) bytes) gate (start + length (all_of groups)) (whole_sectors bytes) ≡ Ok (Group count size)
+  -- Reading the group's payload takes memory.
   pub payload : PayloadWantsMemory limits size (part (512 * (gate + 1)) (512 * payload_sectors size) bytes)
 
--- what an error means of a whole journal
+-- What an error says of a whole journal.
 abbrev pub MeansError : JournalError → Limits → List ℕ → ℕ → Type 0
 MeansError NoMemory limits bytes start = MayWantMemory limits bytes start
 MeansError BadHeader limits bytes start = IsJournalRefused command_format limits bytes start IsBadHeader
@@ -108,20 +115,23 @@ MeansError BadRecord limits bytes start = IsJournalRefused command_format limits
 MeansError (Gap place) limits bytes start = IsJournalRefused command_format limits bytes start (IsGap place)
 MeansError PastEnd limits bytes start = IsJournalRefused command_format limits bytes start IsPastEnd
 
--- what a piece leads to: the journal is read further, or has this reading, or is refused
+-- The result of a piece: the journal is read further, or has this reading, or is refused.
 abbrev pub PieceLeadsTo : Result Progress JournalError → Limits → List ℕ → ℕ → Type 0
 PieceLeadsTo (Ok (More next)) limits bytes start = IsReadUpTo next bytes start
 PieceLeadsTo (Ok (Done scan)) limits bytes start = IsJournal command_format limits bytes start (reading_of scan)
 PieceLeadsTo (Err e) limits bytes start = MeansError e limits bytes start
 
--- the scanner goes on in the same journal, with fewer pieces left
+-- The scanner goes on in the same journal, with fewer pieces left.
 abbrev pub HasFewerPiecesLeft : Result Progress JournalError → ScannerView → Type 0
 HasFewerPiecesLeft (Ok (More next)) scanner = (next.sectors ≡ scanner.sectors) × (next.version ≡ scanner.version) × (pieces_left next < pieces_left scanner)
 HasFewerPiecesLeft (Ok (Done scan)) scanner = Unit {0}
 HasFewerPiecesLeft (Err e) scanner = Unit {0}
 
--- A scanner took a piece: of each journal that it has read up to its gate, and that has this piece.
+-- A scanner took a piece.
 pub record TakesPiece (scanner : ScannerView) (piece : List ℕ) (result : Result Progress JournalError) : Type 0 where
+  -- The result is right for each journal that the scanner has read up to its gate, and that has
+  -- this piece.
   pub leads : (bytes : List ℕ) (start : ℕ) → AreBytes bytes → IsReadUpTo scanner bytes start → HasPiece scanner bytes piece
       → PieceLeadsTo result (limits_of scanner.version) bytes start
+  -- Fewer pieces are left.
   pub on : HasFewerPiecesLeft result scanner

@@ -51,7 +51,7 @@ pub fn encode_seal(place: u64) -> [u8; 512]
     sector
 }
 
-/// How many bytes the records of commands take.
+/// The number of bytes of the records of commands.
 fn records_len(commands: &[Command]) -> usize
     requires most { length commands.now ≤ 32 }
     requires each { All IsWithinLimits commands.now }
@@ -65,7 +65,7 @@ fn records_len(commands: &[Command]) -> usize
 }
 
 /// Appends the header of a group: the kind, the count of commands, two zeros, the length of the
-/// records in four big-endian bytes, the place in eight.
+/// records in four bytes and the place in eight, both big-endian.
 fn put_header(count: u8, size: u32, place: u64, out: &mut Vec<u8>) -> Result<(), AllocError>
     ensures { OnOk result (out.new.items ≡ out.old.items ++ with_header 1 count size place []) }
 {

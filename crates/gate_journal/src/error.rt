@@ -7,20 +7,20 @@ use path_db::DbError;
 use std::alloc::{AllocError, AllocFailed};
 use thiserror::Error;
 
-/// Why a journal is refused. They are numbered from 0 in this order.
+/// Why a journal is refused. The variants are numbered from 0 in this order.
 #[derive(Clone, Copy, Debug, PartialEq, Eq, Error)]
 pub enum JournalError {
-    /// Memory ran out. It says nothing of the bytes.
+    /// Memory was refused. The bytes may be valid or not.
     #[error("out of memory")]
     NoMemory,
-    /// The header after an open gate is none of a group and none of a seal.
+    /// The header after an open gate is neither that of a group nor that of a seal.
     #[error("a payload has no header")]
     BadHeader,
-    /// The records of a group are not just as many commands as its header says, in just as many
-    /// bytes, or padding isn't zero.
+    /// The records of a group are not exactly as many commands as its header has, in exactly as
+    /// many bytes, or padding is not zero.
     #[error("a group has a bad record")]
     BadRecord,
-    /// A payload has another place than this one, which is reached.
+    /// A payload has another place than this one, which was expected.
     #[error("place {} is missing", *.0)]
     Gap(u64),
     /// A payload would begin after the journal's end, or a group has no room.
@@ -31,7 +31,7 @@ pub enum JournalError {
 impl JournalError {
     ghost use Rattle.gate_journal.specs.ErrorNumber.{journal_error_number};
 
-    /// Its number.
+    /// The number of the error.
     pub fn number(self) -> u8
         ensures { result ≡ journal_error_number self }
     {

@@ -13,8 +13,8 @@ use crate::format::{
 use crate::sizes::{fits, payload_sectors};
 use byte_lists::{read_u32, read_u64};
 
-/// What the header of a payload is of: a group of this number of commands, whose records have this
-/// number of bytes, or a seal.
+/// The header of a payload: that of a group of this number of commands, whose records have this
+/// number of bytes, or that of a seal.
 #[derive(Clone, Copy)]
 pub(crate) enum Header {
     Group(u8, u32),
@@ -78,8 +78,8 @@ fn is_seal_header(sector: &[u8]) -> bool
     is_header(sector, SEAL, 0, 0, 0)
 }
 
-/// Whether a payload begins with a header of this kind, with this number of commands at least and
-/// at most, and records of this number of bytes at most.
+/// Whether a payload begins with a header of this kind, with `few` to `many` commands, and with
+/// records of at most `longest` bytes.
 fn is_header(sector: &[u8], kind: u8, few: u8, many: u8, longest: u32) -> bool
     requires { length sector.now ≡ 512 }
     ensures { result ≡ header_of kind few many longest sector.now }

@@ -1,8 +1,8 @@
-//! Groups of commands after gates, and seals: what a store's journal is made of, written and
-//! scanned.
+//! Groups of commands after gates, and seals: the parts of a store's journal, written and scanned.
 //!
 //! To the layers above: what is written is the one payload of a group or a seal, and what is read
-//! of a journal is what the scan of `store_layout` gives of it, at the commands of `path_db`.
+//! of a journal is exactly what the scan of `store_layout` gives for the bytes, with the commands
+//! of `path_db`.
 #![tactic(auto)]
 
 mod command_laws;

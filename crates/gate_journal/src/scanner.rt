@@ -13,14 +13,14 @@ use path_db::Command;
 use std::alloc::Global;
 use std::marker::Model;
 
-/// What a journal reads as.
+/// The reading of a journal.
 #[derive(Drop)]
 pub struct Scan {
-    /// Its commands, in their order.
+    /// The commands, in their order.
     pub commands: Vec<Command>,
-    /// The sector of the gate at which it ends, counted from the journal's start.
+    /// The sector of the gate at which the journal ends, counted from the journal's start.
     pub tail: u64,
-    /// Whether it ends with a seal; else the gate is closed.
+    /// Whether the journal ends with a seal. Otherwise the gate is closed.
     pub sealed: bool,
     /// The place reached: the one after the last command.
     pub place: u64,
@@ -33,7 +33,7 @@ pub enum Stage {
     AtGate,
     /// The first sector after the gate, which is open.
     AtHeader,
-    /// The whole payload: of a group of this number of commands, whose records have this number of
+    /// The whole payload of a group of this number of commands, whose records have this number of
     /// bytes.
     AtPayload(u8, u32),
 }
@@ -41,13 +41,14 @@ pub enum Stage {
 /// Sectors of a journal, counted from its start.
 #[derive(Clone, Copy)]
 pub struct Piece {
-    /// The first of them.
+    /// The first sector.
     pub first: u64,
-    /// How many there are.
+    /// The number of sectors.
     pub count: u64,
 }
 
-/// A journal that is read up to a gate. It asks for one piece after the other, and takes each.
+/// A journal that is read up to a gate. The scanner asks for one piece after the other, and takes
+/// each.
 #[derive(Drop)]
 pub struct Scanner {
     sectors: u64,
@@ -80,9 +81,9 @@ impl Model for Scanner {
 /// How far a journal is read.
 #[derive(Drop)]
 pub enum Progress {
-    /// There is more to read.
+    /// The journal is not read to its end yet.
     More(Scanner),
-    /// It was read to its end.
+    /// The journal was read to its end.
     Done(Scan),
 }
 
@@ -90,7 +91,7 @@ impl Scanner {
     ghost use Rattle.gate_journal.specs.declared.scanner.Stage.TheVariants.{AtGate, AtHeader, AtPayload};
 
     /// The start of a journal of this number of sectors, which is read by the version of its store.
-    /// Its first command is to have this place.
+    /// The first command must have this place.
     pub fn new(alloc: Global, sectors: u64, place: u64, version: u32) -> Scanner
         requires { 1 ≤ sectors }
         ensures version { result.version ≡ version }
@@ -107,8 +108,8 @@ impl Scanner {
         }
     }
 
-    /// The piece that it reads next: a gate, the sector after it, or a whole payload. It is one of
-    /// those sectors that count for the reading.
+    /// The piece that the scanner reads next: a gate, the sector after it, or a whole payload. The
+    /// piece is one of those sectors that count for the reading.
     pub fn wanted(&self) -> Piece
         ensures first { result.first ≡ first_wanted self.now }
         ensures count { result.count ≡ count_wanted self.now }
@@ -132,7 +133,7 @@ impl Scanner {
         }
     }
 
-    /// Reads the piece that it wants.
+    /// Reads the piece for which `wanted` asks.
     pub fn take(self, alloc: Global, piece: &[u8]) -> Result<Progress, JournalError>
         requires { length piece.now ≡ 512 * count_wanted self }
         ensures { TakesPiece self piece.now result }
@@ -208,7 +209,7 @@ impl Scanner {
         }))
     }
 
-    /// The journal ends at its gate.
+    /// The reading of the journal, which ends at the scanner's gate.
     fn end(self, sealed: bool) -> Scan
         ensures commands { result.commands.items ≡ self.commands }
         ensures tail { result.tail ≡ self.gate }

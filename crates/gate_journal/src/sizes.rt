@@ -1,4 +1,4 @@
-//! How many sectors payloads take, and how many bytes records.
+//! The number of sectors of payloads, and of bytes of records.
 
 ghost use Rattle.std.specs.Prelude.{◌≡◌, ◌↔◌, ◌+◌, ◌*◌, ◌≤◌, true, length, IsTrue};
 ghost use Rattle.path_rows.specs.declared.command.Command.TheVariants.{Register};
@@ -13,8 +13,8 @@ use byte_lists::SECTOR;
 use path_db::{Command, ROW_HEAD};
 use seg_core::{MOST_REGISTERED, MOST_REGISTERED_BYTES, SegType, Segment, encoded_len};
 
-/// How many sectors a payload takes whose records have this number of bytes: these and the header's
-/// 16, rounded up.
+/// The number of sectors of a payload whose records have this number of bytes: these and the
+/// header's 16, rounded up to whole sectors.
 pub fn payload_sectors(record_bytes: u64) -> u64
     ensures { result ≡ sectors_of_payload record_bytes }
 {
@@ -22,15 +22,15 @@ pub fn payload_sectors(record_bytes: u64) -> u64
     record_bytes / sector + (record_bytes % sector + HEADER as u64 + sector - 1) / sector
 }
 
-/// Whether a journal of this number of sectors has room for a payload of that many after a gate,
-/// and for two sectors after it: the next gate, and a seal's payload.
+/// Whether a journal of `journal` sectors has room, after a gate, for a payload of `payload`
+/// sectors and for two more: the next gate, and a seal's payload.
 pub fn fits(gate: u64, payload: u64, journal: u64) -> bool
     ensures { IsTrue result ↔ JournalHasRoom gate payload journal }
 {
     journal >= 3 && payload <= journal - 3 && gate <= journal - 3 - payload
 }
 
-/// How many bytes the record of a command takes in a group: four, and the command's own.
+/// The number of bytes of a command's record in a group: four, and the command's own.
 #[tactic(auto, using(path_db::proofs::Exports::encoding_len), unfolding(path_db::specs::CommandRecord::command_encoding))]
 pub fn record_len(command: &Command) -> usize
     requires { IsWithinLimits command.now }
@@ -46,7 +46,7 @@ pub fn record_len(command: &Command) -> usize
     }
 }
 
-/// How many bytes an id has.
+/// The number of bytes of an id.
 fn id_len(id: &[u8; 32]) -> usize
     ensures exact { result ≡ length id.now }
     ensures all { result ≡ 32 }
@@ -54,7 +54,7 @@ fn id_len(id: &[u8; 32]) -> usize
     id.len()
 }
 
-/// How many bytes the records of rows take.
+/// The number of bytes of the records of rows.
 fn rows_len(rows: &[(SegType, Segment)]) -> usize
     requires { length rows.now ≤ MOST_REGISTERED }
     ensures exact { result ≡ segments_len rows.now + 5 * length rows.now }
@@ -68,7 +68,7 @@ fn rows_len(rows: &[(SegType, Segment)]) -> usize
 }
 
 /// Whether a command is within its limits: at most 16 segments, which have at most 131,072 bytes
-/// together. Then it has a record, which is read as it.
+/// together. Such a command has a record, which is read as the command.
 pub fn is_within_limits(command: &Command) -> bool
     ensures exact { IsTrue result ↔ IsWithinLimits command.now }
     ensures written { IsTrue result → HasCommandRecord true command.now }

@@ -14,8 +14,9 @@ use crate::scanner::{Progress, Scan, Scanner};
 use byte_lists::SECTOR;
 use std::alloc::Global;
 
-/// Reads a journal of whole sectors by the version of its store. Its first command is to have this
-/// place. The first refusal in the order of the gates, and at each gate of the checks, is answered.
+/// Reads a journal of whole sectors by the version of its store. The first command must have this
+/// place. The error is the first refusal in the order of the gates, and at each gate in the order
+/// of the checks.
 pub fn scan(alloc: Global, journal: &[u8], place: u64, version: u32) -> Result<Scan, JournalError>
     requires some { 1 ≤ whole_sectors journal.now }
     requires whole { length journal.now ≡ 512 * whole_sectors journal.now }

@@ -15,7 +15,7 @@ pub fn stores_go_by_their_last_journal<Db, C>()
 {}
 
 /// A group that is written after the last gate leaves the opening unchanged, and makes the image
-/// ready for that group. The value then grows by exactly that group, if the gate is opened.
+/// ready for that group. Where the gate is opened, the value then grows by exactly that group.
 pub fn stores_grow_by_their_gate<Db, C>()
     ensures ready { StoreIsMadeReady Db C }
     ensures grown { StoreGrowsByItsGate Db C }

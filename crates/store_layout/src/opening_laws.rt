@@ -5,7 +5,7 @@ ghost use Rattle.store_layout.specs.OpeningLaws.{IsOpenedSo, IsOpenRefusedSo, Ha
 ghost use Rattle.store_layout.specs.WhatCountsLaws.{GoesByWhatCounts, IsKeptByWritesElsewhere, GoesByTheChosenHalf};
 ghost use Rattle.store_layout.specs.TakeOver.{OpensEmpty};
 
-/// An image is read as an opening exactly where it opens, and to its value; an image has at most
+/// An image is read as an opening exactly where it opens, and to its value. An image has at most
 /// one value. An image is refused exactly where the definition of the refusal holds.
 pub fn openings_are_read<Db, C>()
     ensures read { IsOpenedSo Db C }

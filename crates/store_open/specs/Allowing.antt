@@ -4,7 +4,7 @@ use Rattle.store_open.specs.Store.{StoreView, HasNoRoomInArea, MayCheckpoint}
 use Rattle.store_open.specs.declared.store_error.StoreError.{StoreError}
 use Rattle.store_open.specs.declared.store_error.StoreError.TheVariants.{Fault, Sealed, NoMemory, Exhausted, Unfit, Broken}
 
--- the store may make a checkpoint, or this is the first reason why not
+-- The store may make a checkpoint, or this is the first reason why not.
 abbrev pub AllowsCheckpoint : Result (Unit {0}) StoreError → StoreView → Type 0
 AllowsCheckpoint (Ok done) view = MayCheckpoint view
 AllowsCheckpoint (Err Broken) view = view.broken ≡ true

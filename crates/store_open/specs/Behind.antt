@@ -3,6 +3,6 @@ use Rattle.std.specs.Prelude.{◌≡◌, ℕ, ◌*◌, ◌≤◌, List}
 use Rattle.byte_lists.specs.Content.{part}
 use Rattle.store_layout.specs.Layout.{Geometry, image_sectors}
 
--- the bytes after a store of these sizes are unchanged
+-- The bytes after a store of these sizes are unchanged.
 abbrev pub SameBehind : Geometry → List ℕ → List ℕ → Type 0
 SameBehind geometry old new = (at n : ℕ) → 512 * image_sectors geometry ≤ at → part at n new ≡ part at n old

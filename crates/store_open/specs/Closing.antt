@@ -1,4 +1,4 @@
--- What closing the gates of a half leaves.
+-- How an image changes while the gates of a half are closed.
 use Rattle.std.specs.Prelude.{◌≡◌, ◌⊎◌, ℕ, ◌+◌, ◌*◌, ◌≤◌, Bool, true, false, List, length, Result, Ok, Err}
 use Rattle.byte_lists.specs.Content.{part}
 use Rattle.byte_lists.specs.Sectors.{sector_at, IsOpenGate}
@@ -10,36 +10,38 @@ use Rattle.store_layout.specs.Layout.{other}
 use Rattle.store_layout.specs.Opening.{Opening, IsOpening}
 use Rattle.std.specs.Prelude.{None}
 
--- The gates of a half are being closed: all but the half gate and the journal's first gate, in the
--- next sector, is unchanged, and a half gate that was closed is unchanged too.
+-- The gates of a half are being closed.
 pub record IsClosing (geometry : Geometry) (half : Half) (old new : List ℕ) : Type 0 where
+  -- The length of the image is unchanged.
   pub size : length new ≡ length old
+  -- All but the half's gate and the journal's first gate, in the next sector, is unchanged.
   pub outside : (at n : ℕ) → (at + n ≤ 512 * gate_at geometry half) ⊎ (512 * (gate_at geometry half + 2) ≤ at) → part at n new ≡ part at n old
+  -- A gate of the half that was closed is unchanged.
   pub gate : (¬ IsOpenGate (gate_of geometry half old)) → gate_of geometry half new ≡ gate_of geometry half old
 
--- The gates of the half that isn't used are being closed. After a seal this half is used, and
+-- The gates of the half that is not used are being closed. After a seal this half is used, and
 -- nothing changes.
 abbrev pub IsClosingUnused : Bool → Geometry → Half → List ℕ → List ℕ → Type 0
 IsClosingUnused false geometry half old new = IsClosing geometry half old new
 IsClosingUnused true geometry half old new = new ≡ old
 
--- both gates of a half are closed
+-- Both gates of a half are closed.
 pub record HasClosedGates (geometry : Geometry) (half : Half) (content : List ℕ) : Type 0 where
   pub gate : ¬ IsOpenGate (gate_of geometry half content)
   pub journal : ¬ IsOpenGate (sector_at 0 (journal_of geometry half content))
 
--- No gate of the half that isn't chosen has to be closed: both are closed, or the half is used,
+-- No gate of the half that is not chosen has to be closed: both are closed, or the half is used,
 -- after a seal.
 abbrev pub HasNoGateToClose : Bool → Geometry → Half → List ℕ → Type 0
 HasNoGateToClose false geometry half content = HasClosedGates geometry half content
 HasNoGateToClose true geometry half content = Unit {0}
 
--- the history after a sync that gave this result: one that fails changes nothing
+-- The history after a sync with this result. A sync that fails changes nothing.
 abbrev pub synced_by : {T E : Type 0} → Result T E → History → History
 synced_by (Ok _) history = after_sync history
 synced_by (Err _) history = history
 
--- An image that opens without a tail has the same opening while the gates of the half that isn't
+-- An image that opens without a tail has the same opening while the gates of the half that is not
 -- chosen are being closed.
 abbrev pub IsKeptByClosing : Type 0 → Type 0 → Type 0
 IsKeptByClosing Db C =

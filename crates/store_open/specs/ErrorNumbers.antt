@@ -3,7 +3,7 @@ use Rattle.std.specs.Prelude.{ℕ}
 use Rattle.store_open.specs.declared.error.OpenError.{OpenError}
 use Rattle.store_open.specs.declared.error.OpenError.TheVariants.{NotAStore, Device, Pair, Journal, NoMemory}
 
--- each error's number
+-- The number of each error.
 abbrev pub open_error_number : OpenError → ℕ
 open_error_number NotAStore = 1
 open_error_number Device = 2

@@ -1,4 +1,4 @@
--- What a store comes to whose commands were folded.
+-- The state of a store whose commands were folded into its rows.
 use Rattle.std.specs.Prelude.{false, List}
 use Rattle.path_rows.specs.Database.{RowView}
 use Rattle.path_rows.specs.declared.command.Command.{Command}
@@ -11,7 +11,7 @@ use Rattle.store_layout.specs.Geometry.{geometry_view}
 use Rattle.store_open.specs.PathStores.{store_format}
 use Rattle.store_open.specs.Store.{StoreView, HasOpening}
 
--- the store that it is on a device
+-- The store with this state on a device.
 abbrev pub store_on : Disk → Folded → StoreView
 store_on disk folded = record {
   disk = disk;
@@ -26,12 +26,15 @@ store_on disk folded = record {
   broken = false;
 }
 
--- on any device it has what an image opens with
+-- On any device the store with this state has what an image opens with.
 abbrev pub TellsOnAny : Folded → Opening (List RowView) Command → Type 0
 TellsOnAny folded opening = (disk : Disk) → HasOpening (store_on disk folded) opening
 
--- it was seen on a device: it has what reads of the device open with
+-- The state was read from a device.
 pub record IsSeenOn (disk : Disk) (folded : Folded) : Type 0 where
+  -- The opening of the device's contents.
   pub opening : Opening (List RowView) Command
+  -- Reads of an honest device open with it.
   pub opens : IsHonest disk → IsOpening store_format latest (reads_of disk) opening
+  -- The state has what this opening has.
   pub tells : TellsOnAny folded opening

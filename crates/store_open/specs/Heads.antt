@@ -10,14 +10,15 @@ use Rattle.ckpt_pair.specs.Versions.{latest}
 use Rattle.ckpt_pair.specs.declared.head.Heads.{Heads}
 use Rattle.store_open.specs.declared.heads.Choice.{Choice}
 
+-- The half of a choice.
 abbrev pub chosen_half : Choice → Half
 chosen_half choice = choice.half
 
--- the half that is chosen in an image
+-- The half that is chosen in an image.
 abbrev pub choice_by_heads : Geometry → List ℕ → Result Half PairRefusal
 choice_by_heads geometry image = choice_of (head_of latest geometry First image) (head_of latest geometry Second image)
 
--- these are the heads of an image
+-- The heads are those of an image.
 pub record HasHeads (geometry : Geometry) (image : List ℕ) (heads : Heads) : Type 0 where
   pub first : head_of latest geometry First image ≡ Ok (head_seen heads.first)
   pub second : head_of latest geometry Second image ≡ Ok (head_seen heads.second)

@@ -12,15 +12,16 @@ use Rattle.gate_journal.specs.Commands.{command_format}
 use Rattle.ckpt_pair.specs.Versions.{latest}
 use Rattle.ckpt_pair.specs.Rows.{rows_format}
 
--- no bytes are the encoding of no rows
+-- No bytes are the encoding of no rows.
 pub no_bytes : rows_format.decoding 0 [] ≡ Some []
 unfolding rows_decoding rows_within
 no_bytes = refl
 
--- rows as in checkpoints, commands as in journals, and the rows after each command
+-- The format of a store: rows as in checkpoints, commands as in journals, and the rows after each
+-- command.
 abbrev pub store_format : StoreFormat (List RowView) Command
 store_format = record { rows = rows_format; commands = command_format; apply = database_after; empty = []; none = no_bytes }
 
--- the image opens to these rows at this place, for the versions that are known
+-- An image opens to these rows at this place, for the versions that are known.
 abbrev pub IsStoreOf : List RowView → ℕ → List ℕ → Type 0
 IsStoreOf rows place image = OpensTo store_format latest image (record { db = rows; place = place })

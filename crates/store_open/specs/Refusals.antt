@@ -1,5 +1,5 @@
--- Refusals of an opening: how the errors of lower layers become its own, and what each states of
--- what is read.
+-- Refusals of an opening: how the errors of lower layers become its own, and what each says of the
+-- bytes that were read.
 use Rattle.std.specs.Prelude.{◌≡◌, ◌≢◌, ℕ, Result, Ok, Err}
 use Rattle.sector_dev.specs.Disk.{Disk, IsHonest}
 use Rattle.sector_dev.specs.Calls.{Keeps, one_more}
@@ -18,7 +18,8 @@ use Rattle.ckpt_pair.specs.declared.error.PairError.TheVariants as pair
 use Rattle.store_open.specs.declared.error.OpenError.{OpenError}
 use Rattle.store_open.specs.declared.error.OpenError.TheVariants.{NotAStore, Device, Pair, Journal, NoMemory}
 
--- refused memory has one error, whichever layer was refused
+-- The error of an opening for a journal's. Refused memory has one error, whichever layer was
+-- refused.
 abbrev pub error_of_journal : JournalError → OpenError
 error_of_journal journal.NoMemory = NoMemory
 error_of_journal journal.BadHeader = Journal journal.BadHeader
@@ -26,6 +27,7 @@ error_of_journal journal.BadRecord = Journal journal.BadRecord
 error_of_journal (journal.Gap place) = Journal (journal.Gap place)
 error_of_journal journal.PastEnd = Journal journal.PastEnd
 
+-- The error of an opening for that of a pair of halves.
 abbrev pub error_of_pair : PairError → OpenError
 error_of_pair pair.NoMemory = NoMemory
 error_of_pair pair.NoHalf = Pair pair.NoHalf
@@ -34,7 +36,8 @@ error_of_pair pair.BadCheckpoint = Pair pair.BadCheckpoint
 error_of_pair pair.SealedNewer = Pair pair.SealedNewer
 error_of_pair (pair.NewerFormat version) = Pair (pair.NewerFormat version)
 
--- a call of the device failed exactly where this is the refusal
+-- The count of failed calls after a result. A call of the device failed exactly where the error is
+-- `Device`.
 abbrev pub faults_after : {T : Type 0} → Result T OpenError → ℕ → ℕ
 faults_after (Ok done) faults = faults
 faults_after (Err NotAStore) faults = faults
@@ -43,19 +46,19 @@ faults_after (Err (Pair e)) faults = faults
 faults_after (Err (Journal e)) faults = faults
 faults_after (Err NoMemory) faults = faults
 
--- the contents of the device were read, and are unchanged
+-- The contents of the device were read, and are unchanged.
 pub record LooksFor {T : Type 0} (result : Result T OpenError) (old new : Disk) : Type 0 where
   pub keeps : Keeps old new
   pub faults : new.faults ≡ faults_after result old.faults
   pub history : IsHonest old → new.history ≡ old.history
 
--- the reading is a refusal, of which this is the error
+-- A reading is refused, and this is the error of the refusal.
 pub record Refused {Y : Type 0} (e : PairError) (reading : Result Y PairRefusal) : Type 0 where
   pub refusal : PairRefusal
   pub is : reading ≡ Err refusal
   pub told : e ≡ error_of refusal
 
--- A journal is scanned: it has this reading, or this refusal, unless the device failed or memory
+-- A journal was scanned: it has this reading, or this refusal, unless the device failed or memory
 -- was refused.
 abbrev pub ScansSo : Result Scan OpenError → Result (Reading Command) JournalRefusal → Type 0
 ScansSo (Ok scan) reading = reading ≡ Ok (reading_of scan)
@@ -75,7 +78,7 @@ PairSo view (Err (Pair e)) reading = (e ≢ pair.NoMemory) × Refused e reading
 PairSo view (Err (Journal e)) reading = ⊥
 PairSo view (Err NoMemory) reading = Unit {0}
 
--- what holds for a call that came to its end, or for which memory was refused on the way
+-- What holds for a call that was completed, or for which memory was refused on the way.
 abbrev pub OnOkOrNoMemory : {T : Type 0} → Result T OpenError → Type 0 → Type 0
 OnOkOrNoMemory (Ok x) P = P
 OnOkOrNoMemory (Err NotAStore) P = Unit {0}

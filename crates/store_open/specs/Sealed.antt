@@ -21,49 +21,52 @@ use Rattle.store_open.specs.declared.error.OpenError.TheVariants as opening
 use Rattle.store_open.specs.declared.sealed.SealedError.{SealedError}
 use Rattle.store_open.specs.declared.sealed.SealedError.TheVariants.{Fault, NoMemory, Damaged}
 
--- the head of its checkpoint, the place that its journal reaches, and the rows with the commands of
--- that journal
+-- A half whose journal is sealed, as it is read.
 pub record SealedHalf : Type 0 where
+  -- The head of its checkpoint.
   pub head : Head
+  -- The place that its journal reaches.
   pub place : ℕ
+  -- The rows with the commands of that journal.
   pub rows : List RowView
 
--- a journal folded into the rows of a checkpoint; `None` where no seal ends it
+-- A journal folded into the rows of a checkpoint. `None` where no seal ends it.
 abbrev pub folded_by : Bool → Checkpoint (List RowView) → Reading Command → Option SealedHalf
 folded_by false checkpoint journal = None
 folded_by true checkpoint journal =
     Some (record { head = checkpoint.head; place = journal.place; rows = db_after store_format checkpoint.db journal.commands })
 
--- the folded half, given the reading of its journal; `None` where the journal is refused
+-- The folded half, given the reading of its journal. `None` where the journal is refused.
 abbrev pub folded_behind : Checkpoint (List RowView) → Result (Reading Command) JournalRefusal → Option SealedHalf
 folded_behind checkpoint (Err refusal) = None
 folded_behind checkpoint (Ok journal) = folded_by journal.sealed checkpoint journal
 
--- the folded half, given its checkpoint; `None` where the area is refused
+-- The folded half, given its checkpoint. `None` where the area is refused.
 abbrev pub folded_in : Geometry → Half → List ℕ → Result (Checkpoint (List RowView)) PairRefusal → Option SealedHalf
 folded_in geometry half image (Err refusal) = None
 folded_in geometry half image (Ok checkpoint) =
     folded_behind checkpoint (journal_from store_format checkpoint geometry half image checkpoint.head.place)
 
--- the reading of a half of an image; `None` where its area is no checkpoint, or its journal is
--- refused, or isn't sealed
+-- The reading of a half of an image. `None` where its area is no checkpoint, or its journal is
+-- refused, or is not sealed.
 abbrev pub sealed_half : Geometry → Half → List ℕ → Option SealedHalf
 sealed_half geometry half image = folded_in geometry half image (checkpoint_in rows_format latest (area_of geometry half image))
 
--- a call of the device failed exactly where this is the error
+-- The count of failed calls after a result. A call of the device failed exactly where the error is
+-- `Device`.
 abbrev pub faults_behind : {T : Type 0} → Result T SealedError → ℕ → ℕ
 faults_behind (Ok done) faults = faults
 faults_behind (Err Fault) faults = one_more faults
 faults_behind (Err NoMemory) faults = faults
 faults_behind (Err Damaged) faults = faults
 
--- the contents of the device were read, and are unchanged
+-- The contents of the device were read, and are unchanged.
 pub record LooksAtHalf {T : Type 0} (result : Result T SealedError) (old new : Disk) : Type 0 where
   pub keeps : Keeps old new
   pub faults : new.faults ≡ faults_behind result old.faults
   pub history : IsHonest old → new.history ≡ old.history
 
--- an error of opening, where a half alone is read
+-- The error of reading a half alone, for an error of opening.
 abbrev pub sealed_error_of : OpenError → SealedError
 sealed_error_of opening.NotAStore = Damaged
 sealed_error_of opening.Device = Fault

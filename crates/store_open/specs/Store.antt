@@ -1,4 +1,4 @@
--- A store that was opened as contracts see it, and the contents of its device.
+-- A store that was opened, as contracts see it, and the contents of its device.
 use Rattle.std.specs.Prelude.{◌≡◌, ℕ, ◌+◌, ◌*◌, ◌^◌, ◌-◌, ◌<◌, ◌≤◌, min, Bool, true, false, List, [], Result, Ok, Err}
 use Rattle.path_rows.specs.Database.{RowView, rows_len}
 use Rattle.path_rows.specs.declared.command.Command.{Command}
@@ -16,32 +16,39 @@ use Rattle.store_open.specs.PathStores.{store_format, IsStoreOf}
 use Rattle.store_open.specs.declared.store_error.StoreError.{StoreError}
 use Rattle.store_open.specs.declared.store_error.StoreError.TheVariants.{Fault, Sealed, NoMemory, Exhausted, Unfit, Broken}
 
--- The device; the sizes; the half that is chosen, and its head; whether its journal is sealed, so
--- that the tail is in the other half; the gate at which the last journal ends, in sectors from that
--- journal's start; the place reached, and the rows; the bytes of the rows of the chosen half, up to
--- the end of its journal; and whether a checkpoint has failed.
+-- A store as contracts see it.
 pub record StoreView : Type 0 where
+  -- The device.
   pub disk : Disk
+  -- The sizes of its halves.
   pub geometry : Geometry
+  -- The half that is chosen.
   pub chosen : Half
+  -- The head of that half's checkpoint.
   pub head : Head
+  -- Whether that half's journal is sealed, so that the tail is in the other half.
   pub sealed : Bool
+  -- The gate at which the last journal ends, in sectors from that journal's start.
   pub gate : ℕ
+  -- The place reached.
   pub place : ℕ
+  -- The rows.
   pub rows : List RowView
+  -- The bytes of the records of the chosen half's rows, up to the end of its journal.
   pub sealed_len : ℕ
+  -- Whether a checkpoint has failed.
   pub broken : Bool
 
--- the half of the last journal
+-- The half of the last journal, by whether the chosen half's journal is sealed.
 abbrev pub half_of_tail : Half → Bool → Half
 half_of_tail chosen false = chosen
 half_of_tail chosen true = other chosen
 
--- the bytes of rows, capped at 2^64 - 1
+-- The bytes of the records of rows, or 2^64 - 1 where they are more.
 abbrev pub counted_len : List RowView → ℕ
 counted_len rows = min (rows_len rows) (2 ^ 64 - 1)
 
--- the store has what an image opens with
+-- The store has what an image opens with.
 pub record HasOpening (view : StoreView) (opening : Opening (List RowView) Command) : Type 0 where
   pub geometry : opening.geometry ≡ view.geometry
   pub chosen : opening.chosen ≡ view.chosen
@@ -51,40 +58,48 @@ pub record HasOpening (view : StoreView) (opening : Opening (List RowView) Comma
   pub value : opening_value store_format opening ≡ record { db = view.rows; place = view.place }
   pub sealed_len : counted_len (db_at_seal store_format opening) ≡ view.sealed_len
 
--- At rest nothing is dirty, each image that a stop may leave opens with what the store has, and the
--- half that isn't used is closed, and so is its journal's first gate.
+-- The store is at rest.
 pub record IsAtRest (view : StoreView) : Type 0 where
   pub opening : Opening (List RowView) Command
+  -- The store has what the opening has.
   pub tells : HasOpening view opening
+  -- Nothing is dirty.
   pub settled : view.disk.history.now.dirty ≡ []
+  -- Each image that a stop may leave opens with it.
   pub every : EveryImage view.disk.history.now (λ image. IsOpening store_format latest image opening)
+  -- The half that is not used is closed, and so is its journal's first gate.
   pub unused : view.sealed ≡ false → EveryImage view.disk.history.now (HasClosedGates view.geometry (other view.chosen))
 
--- an image opens to the store's rows at its place, by a half of the store's version or a later one
+-- An image opens to the store's rows at its place.
 pub record OpensToStore (view : StoreView) (image : List ℕ) : Type 0 where
   pub opens : IsStoreOf view.rows view.place image
+  -- It opens by a half of the store's version or of a later one.
   pub since : view.head.version ≤ opens.opening.checkpoint.head.version
 
--- What an honest device has of a store: it is at rest, unless a checkpoint has failed; and each
--- image that a stop may leave opens to the store's rows at its place.
+-- What an honest device has of a store.
 pub record IsSound (view : StoreView) : Type 0 where
+  -- The store is at rest, unless a checkpoint has failed.
   pub rest : view.broken ≡ false → IsAtRest view
+  -- Each image that a stop may leave opens to the store's rows at its place.
   pub every : EveryImage view.disk.history.now (OpensToStore view)
 
--- the checkpoint of these rows has no room in the area
+-- The checkpoint of the store's rows has no room in the area.
 abbrev pub HasNoRoomInArea : StoreView → Type 0
 HasNoRoomInArea view = 512 * view.geometry.checkpoint < 32 + rows_len view.rows
 
--- a store that may make a checkpoint: none has failed, no journal is sealed, a next epoch exists,
--- and the rows fit the area
+-- A store may make a checkpoint.
 pub record MayCheckpoint (view : StoreView) : Type 0 where
+  -- No checkpoint has failed.
   pub whole : view.broken ≡ false
+  -- No journal is sealed.
   pub unsealed : view.sealed ≡ false
+  -- A next epoch exists.
   pub epoch : view.head.epoch < 2 ^ 64 - 1
+  -- The rows fit the area.
   pub fits : 32 + rows_len view.rows ≤ 512 * view.geometry.checkpoint
 
--- the same store, once the other half has its rows and an empty journal, in the version that is
--- written
+-- The same store, once the other half has its rows and an empty journal, in the version that is
+-- written.
 abbrev pub checkpointed : StoreView → Disk → StoreView
 checkpointed old disk = record old {
   disk = disk;
@@ -95,7 +110,7 @@ checkpointed old disk = record old {
 }
 
 -- The result of a checkpoint at rest. Where it is refused without a call of the device, nothing has
--- changed; where the device fails, the store is broken for good.
+-- changed. Where the device fails, the store is broken for good.
 abbrev pub Checkpoints : Result (Unit {0}) StoreError → StoreView → StoreView → Type 0
 Checkpoints (Ok done) old new =
     MayCheckpoint old × (new ≡ checkpointed old new.disk) × (new.disk.faults ≡ old.disk.faults) × (IsHonest old.disk → IsAtRest new)

@@ -6,17 +6,22 @@ use Rattle.ckpt_pair.specs.Versions.{latest}
 use Rattle.store_open.specs.NewStore.{DeviceHasRoomFor}
 use Rattle.store_open.specs.Store.{StoreView, IsSound}
 
--- the last gate and a seal after it are inside their journal, and the version is known
+-- What holds for the last gate of a store, and for its version.
 pub record IsSealWithin (journal last version : ℕ) : Type 0 where
+  -- The journal has room for a seal after the gate.
   pub seal : last + 2 ≤ journal
+  -- The version is known.
   pub known : version ≤ latest
 
--- its rows are a database, its sizes are allowed and its device has room for them, its fields are
--- within these sizes, its journal isn't sealed where a checkpoint has failed, and an honest device
--- has its contents
+-- What holds for every store.
 pub record IsStoreWhole (view : StoreView) : Type 0 where
+  -- Its rows are a database.
   pub rows : IsDatabase view.rows
+  -- Its sizes are allowed, and its device has room for them.
   pub room : DeviceHasRoomFor view.geometry view.disk
+  -- Its last journal has room for a seal, and its version is known.
   pub within : IsSealWithin view.geometry.journal view.gate view.head.version
+  -- Its journal is not sealed where a checkpoint has failed.
   pub unsealed : view.broken ≡ true → view.sealed ≡ false
+  -- An honest device has its contents.
   pub sound : IsHonest view.disk → IsSound view

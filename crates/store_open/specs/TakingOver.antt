@@ -5,24 +5,27 @@ use Rattle.store_layout.specs.declared.half.Half.{Half}
 use Rattle.store_layout.specs.Layout.{Geometry, other, area_at, gate_at}
 use Rattle.byte_lists.specs.Sectors.{open_gate}
 
--- the content is the old one, except for any n bytes at an offset
+-- A content is the old one, except for any n bytes at an offset.
 pub record IsTornAt (at n : ℕ) (old content : List ℕ) : Type 0 where
   pub torn : List ℕ
   pub size : length torn ≡ n
   pub is : content ≡ overwrite at torn old
 
--- the other half's area is written; then its gate is open; and then the old half's gate is closed,
--- and so is the first gate of its journal, in the next sector
+-- The image after the first write: the other half's area has a checkpoint.
 abbrev pub laid : Geometry → Half → List ℕ → List ℕ → List ℕ
 laid geometry half bytes image = overwrite (512 * area_at geometry (other half)) bytes image
 
+-- The image after the second write: the other half's gate is open.
 abbrev pub switched : Geometry → Half → List ℕ → List ℕ → List ℕ
 switched geometry half bytes image = overwrite (512 * gate_at geometry (other half)) open_gate (laid geometry half bytes image)
 
+-- The image after the third write: the old half's gate is closed, and so is the first gate of its
+-- journal, in the next sector.
 abbrev pub taken : Geometry → Half → List ℕ → List ℕ → List ℕ
 taken geometry half bytes image = overwrite (512 * gate_at geometry half) (replicate 1024 0) (switched geometry half bytes image)
 
--- what a stop may leave in between: one of the three writes is torn, and those before it are whole
+-- A stop in between may leave this content: one of the three writes is torn, and those before it
+-- are whole.
 abbrev pub IsTakingOver : Geometry → Half → List ℕ → List ℕ → List ℕ → Type 0
 IsTakingOver geometry half bytes image content =
     IsTornAt (512 * area_at geometry (other half)) (length bytes) image content

@@ -15,9 +15,9 @@ use path_db::written_rows_are_counted;
 use sector_dev::Device;
 
 impl<D: Device> Store<D> {
-    /// Writes all rows to the other half, with the next epoch, in version `LATEST`, piece by piece;
-    /// syncs, opens that half, syncs, closes the old half and its journal in one write, and syncs.
-    /// A store whose device fails in between is broken for good.
+    /// Writes all rows to the other half, with the next epoch, in version `LATEST`, piece by piece,
+    /// and syncs. Then it opens that half, syncs, closes the old half and its journal in one write,
+    /// and syncs. A store whose device fails in between is broken for good.
     pub fn checkpoint(&mut self) -> Result<(), StoreError>
         ensures answer { Checkpoints result self.old self.new }
 
@@ -60,7 +60,7 @@ impl<D: Device> Store<D> {
         }
     }
 
-    /// Whether a checkpoint may be made, and if not, the first reason why.
+    /// Whether a checkpoint may be made. The error is the first reason why not.
     fn may_checkpoint(&self) -> Result<(), StoreError>
         ensures { AllowsCheckpoint result self.now }
     {

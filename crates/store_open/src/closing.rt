@@ -1,4 +1,4 @@
-//! Closing the gates of a half that isn't used.
+//! Closing the gates of a half that is not used.
 
 ghost use Rattle.std.specs.Prelude.{◌≡◌, ◌≤◌, ◌<◌, [], false, OnOk, IfOk};
 ghost use Rattle.byte_lists.specs.Sectors.{sector_at, is_open_gate};
@@ -51,7 +51,7 @@ pub(crate) fn close_half<D: Device>(
     Ok(())
 }
 
-/// Closes the gates that read open of the half that isn't chosen, unless this half has the tail,
+/// Closes the gates that read open of the half that is not chosen, unless this half has the tail,
 /// after a seal, and syncs. Nothing may be dirty before the call.
 pub(crate) fn close_unused<D: Device>(
     device: &mut D,

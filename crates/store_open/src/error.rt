@@ -1,4 +1,4 @@
-//! Why a device isn't opened.
+//! Why a device is not opened.
 
 ghost use Rattle.std.specs.Prelude.{◌≡◌};
 ghost use Rattle.store_open.specs.declared.error.OpenError.TheVariants.{Device, NoMemory};
@@ -10,7 +10,7 @@ use sector_dev::DevError;
 use std::alloc::{AllocError, AllocFailed};
 use thiserror::Error;
 
-/// Why a device isn't opened. The variants are numbered from 1 in this order.
+/// Why a device is not opened. The variants are numbered from 1 in this order.
 #[derive(Clone, Copy, Debug, PartialEq, Eq, Error)]
 pub enum OpenError {
     /// The device is too small for a store, or its sector 0 is not that of a store.

@@ -1,4 +1,4 @@
-//! What a store comes to whose commands are folded.
+//! The state of a store whose commands are folded.
 
 ghost use Rattle.std.specs.Prelude.{◌↔◌, IfOk, IsTrue};
 ghost use Rattle.path_rows.specs.Database.{IsDatabase};
@@ -13,9 +13,9 @@ use path_db::PathDb;
 use std::alloc::AllocError;
 use store_layout::{Geometry, Half};
 
-/// A store but for its device: the sizes, the half that is chosen and its head, whether its journal
+/// A store without its device: the sizes, the half that is chosen and its head, whether its journal
 /// is sealed, the gate at which the last journal ends, the place reached, all rows, and the bytes
-/// of the rows that the chosen half has.
+/// of the rows of the chosen half.
 #[derive(Drop)]
 pub struct Folded {
     pub geometry: Geometry,
@@ -29,7 +29,7 @@ pub struct Folded {
 }
 
 impl Folded {
-    /// Whether the last gate and a seal after it are inside their journal, and the version is one
+    /// Whether the last journal has room for a seal after its last gate, and the version is one
     /// that is known.
     pub(crate) fn is_within(&self) -> bool
         ensures { IsTrue result ↔ IsSealWithin self.now.geometry.journal self.now.gate self.now.head.version }

@@ -18,7 +18,7 @@ use ckpt_pair::{Head, Heads, choose, read_head};
 use sector_dev::Device;
 use store_layout::{Geometry, Half};
 
-/// The head of a half; `None` where its gate reads closed, and then its area isn't read. The call
+/// The head of a half; `None` where its gate reads closed, and then its area is not read. The call
 /// takes no memory.
 pub(crate) fn head_at<D: Device>(
     device: &mut D,

@@ -33,7 +33,7 @@ const MOST_ROW: usize = ROW_HEAD + MOST_SEGMENT_BYTES;
 pub(crate) const BUFFER: usize = (WRITE_BYTES + 7 * MOST_ROW + (SECTOR - 1)) / SECTOR * SECTOR;
 
 /// Writes the front of a checkpoint and its rows from a sector on, padded with zeros to whole
-/// sectors, piece by piece from one buffer; then syncs. Nothing may be dirty before the call.
+/// sectors, piece by piece from one buffer, and syncs. Nothing may be dirty before the call.
 pub(crate) fn lay<D: Device>(
     device: &mut D,
     at: u64,

@@ -1,9 +1,9 @@
 //! Stores on devices: how one is made, and what is read of it.
 //!
-//! To the layer above: after `format` every image of the device is a new store, `read_geometry`
-//! returns the sizes of a store just where an image is one, and `open` answers what the image opens
-//! with, and leaves at every moment what is there, or what opens as it did. `look` answers what the
-//! image opens with, and leaves the device as it is.
+//! To the layer above: after `format` every image of the device is a new store. `read_geometry`
+//! returns the sizes of a store exactly where an image is one. `open` returns what the image opens
+//! with, and at every moment leaves the image unchanged, or an image that opens with the same.
+//! `look` returns what the image opens with, and leaves the device unchanged.
 #![tactic(auto)]
 
 mod checkpoint;

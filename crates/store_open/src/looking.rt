@@ -1,4 +1,4 @@
-//! Looking at what a device opens with.
+//! Reading what a device opens with.
 
 ghost use Rattle.std.specs.Prelude.{◌≡◌, IfOk, IfErr};
 ghost use Rattle.path_rows.specs.Database.{IsDatabase};
@@ -15,8 +15,8 @@ use sector_dev::Device;
 use std::alloc::Global;
 
 /// What a device opens with, of which `open` would make a store, in the order of its refusals. The
-/// device is only read, so it stays as it is, and one that can't be written is enough. No more of
-/// it is read than counts, in pieces of at most 1 MiB.
+/// device is only read, so that it is unchanged, and one that cannot be written is enough. No more
+/// of it is read than counts, in pieces of at most 1 MiB.
 pub fn look<D: Device>(alloc: Global, device: &mut D) -> Result<Folded, OpenError>
     ensures seen { IfOk result (IsSeenOn (D.disk device.old)) }
     ensures whole { IfOk result (λ folded. IsDatabase folded.db) }

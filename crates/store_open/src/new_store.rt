@@ -19,7 +19,7 @@ use thiserror::Error;
 /// Why no store was made.
 #[derive(Clone, Copy, Debug, PartialEq, Eq, Error)]
 pub enum FormatError {
-    /// The sizes aren't allowed.
+    /// The sizes are not allowed.
     #[error("the sizes are not allowed")]
     BadGeometry = 1,
     /// The device has fewer sectors than a store of these sizes takes.

@@ -2,7 +2,7 @@
 
 ghost use Rattle.store_open.specs.NewStore.{IsFormattedInAny};
 
-/// A new store is a formatted one: so it opens to the empty database, at place 0.
+/// A new store is a formatted one, so that it opens to the empty database, at place 0.
 pub fn new_stores_are_formatted<Db, C>()
     ensures { IsFormattedInAny Db C }
 {}

@@ -21,8 +21,8 @@ use sector_dev::Device;
 use std::alloc::Global;
 
 /// Opens a device with a store, after any stop: syncs, reads what the image opens with, folds it,
-/// closes the gates that read open of the half that isn't used, and syncs. Only the parts of the
-/// device that count are read, in pieces of at most 1 MiB. A device that isn't opened is returned
+/// closes the gates that read open of the half that is not used, and syncs. Only the parts of the
+/// device that count are read, in pieces of at most 1 MiB. A device that is not opened is returned
 /// with the error.
 pub fn open<D: Device>(alloc: Global, device: D) -> Result<Store<D>, (D, OpenError)>
     ensures opened { IfOk result (λ store. IsHonest (D.disk device) → IsOpened (reads_of (D.disk device)) store) }
@@ -30,7 +30,7 @@ pub fn open<D: Device>(alloc: Global, device: D) -> Result<Store<D>, (D, OpenErr
     ensures whole { IfOk result (λ store. store.broken ≡ false) }
     ensures refused { IfErr result (λ back. ComesBack back.1 (D.disk device) (D.disk back.0)) }
 
-    // Nothing is written where no gate has to be closed, nor before a refusal that isn't the
+    // Nothing is written where no gate has to be closed, nor before a refusal that is not the
     // device's.
     ensures unwritten { IsHonest (D.disk device) → HasNothingToClose (reads_of (D.disk device))
         → OnlySyncs result (D.disk device).history (disk_after D.disk result).history }
@@ -80,8 +80,8 @@ fn settle<D: Device>(alloc: Global, device: &mut D) -> Result<Folded, OpenError>
     bring_to_rest(alloc, device)
 }
 
-/// Reads what a device opens with on which nothing is dirty, folds it, and closes the half that
-/// isn't used.
+/// Reads what a device opens with, folds it, and closes the half that is not used. Nothing may be
+/// dirty before the call.
 fn bring_to_rest<D: Device>(alloc: Global, device: &mut D) -> Result<Folded, OpenError>
     requires { IsHonest (D.disk device.old) → (D.disk device.old).history.now.dirty ≡ [] }
     ensures opened { IfOk result (λ folded. IsHonest (D.disk device.old) →

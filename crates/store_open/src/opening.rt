@@ -29,8 +29,8 @@ use sector_dev::Device;
 use std::alloc::Global;
 use store_layout::{Geometry, Half};
 
-/// What is found: the sizes, the half that is chosen, its checkpoint and its journal, and where
-/// that is sealed the journal of the other half, which continues it.
+/// What is found on a device: the sizes, the half that is chosen, its checkpoint and its journal.
+/// Where that journal is sealed, the journal of the other half continues it.
 #[derive(Drop)]
 pub(crate) struct Found {
     pub(crate) geometry: Geometry,
@@ -129,7 +129,7 @@ fn read_journals<D: Device>(
 }
 
 /// Reads the journal of the other half that continues the chosen half's; `None` where the chosen
-/// half's isn't sealed. A second seal is refused.
+/// half's is not sealed. A second seal is refused.
 fn read_tail<D: Device>(
     alloc: Global,
     device: &mut D,

@@ -28,8 +28,8 @@ use store_layout::{Geometry, Half};
 /// The most sectors that are read at a time: 1 MiB.
 const MOST_READ: u64 = 2048;
 
-/// Reads the rows of the area that begins at a sector, which have this number of bytes, in pieces
-/// of at most 1 MiB.
+/// Reads the rows of the area that begins at a sector, which have `size` bytes, in pieces of at
+/// most 1 MiB.
 pub(crate) fn feed_area<D: Device>(
     alloc: Global,
     device: &mut D,

@@ -17,8 +17,8 @@ use sector_dev::{Device, SECTOR};
 use std::alloc::Global;
 use store_layout::{Geometry, Half};
 
-/// Scans a half's journal by the version of its store. Its first command is to have this place. No
-/// more of it is read than what counts, a gate or a payload at a time.
+/// Scans a half's journal by the version of its store. The first command must have this place. No
+/// more of the journal is read than what counts, a gate or a payload at a time.
 pub fn scan_journal<D: Device>(
     alloc: Global,
     device: &mut D,

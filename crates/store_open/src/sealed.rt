@@ -1,4 +1,4 @@
-//! Why a half whose journal a seal ends isn't read.
+//! Why a half with a sealed journal is not read.
 
 ghost use Rattle.std.specs.Prelude.{◌≡◌};
 ghost use Rattle.store_open.specs.declared.sealed.SealedError.TheVariants.{NoMemory as IsNoMemory};
@@ -8,7 +8,7 @@ use crate::error::OpenError;
 use std::alloc::AllocError;
 use thiserror::Error;
 
-/// Why a sealed half isn't read.
+/// Why a sealed half is not read.
 #[derive(Clone, Copy, Debug, PartialEq, Eq, Error)]
 pub enum SealedError {
     /// The device failed.

@@ -10,7 +10,7 @@ pub enum StoreError {
     /// again.
     #[error("the device failed")]
     Fault = 1,
-    /// The journal is sealed: only a checkpointer at work folds a sealed journal.
+    /// The journal is sealed. Only a checkpointer at work folds a sealed journal.
     #[error("the journal is sealed")]
     Sealed = 2,
     /// Memory was refused, and nothing was written.
