@@ -41,9 +41,13 @@ WrittenCommandsAreRead =
 
 -- A command has a record that is read as this command.
 pub record HasCommandRecord (removals : Bool) (command : Command) : Type 0 where
+  -- The command is within its limits.
   pub limits : IsWithinLimits command
+  -- Its segments are whole.
   pub whole : HasWholeSegments command
+  -- Its numbers and its id fit their fields.
   pub widths : HasWidths command
+  -- It is a removal only where removals are allowed.
   pub allowed : IsAllowedBy removals command
 
 -- A command that is read can be written: exactly these commands have records.

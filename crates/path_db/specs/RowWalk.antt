@@ -61,10 +61,14 @@ pub record IsRowCutShort (left : List ℕ) : Type 0 where
 
 -- A row is the next one after the key, and its record has `size` bytes.
 pub record IsNextRow (left : List ℕ) (last : Option Key) (row : RowView) (size : ℕ) : Type 0 where
+  -- The record of the row is whole.
   pub there : has_row left ≡ true
+  -- It is read as the row.
   pub read : row_decoding left ≡ Ok row
   pub whole : IsSegment row.1
+  -- The row's key is above the last one.
   pub above : is_above_key last row ≡ true
+  -- The record has `size` bytes.
   pub sized : size ≡ row_size left
   pub within : size ≤ length left
   pub bytes : AreBytes left

@@ -42,16 +42,20 @@ IsValue encoding (Fixed64 n) = (length encoding ≡ 8) × (n ≡ from_le_bytes w
 IsValue encoding (Bytes bytes) = BeginsWithVarint encoding (length bytes) bytes
 IsValue encoding (Fixed32 n) = (length encoding ≡ 4) × (n ≡ from_le_bytes w32 encoding)
 
--- Bytes that begin with a field of this length: a tag, which is the varint of the field's number
--- times 8 plus its wire type, and a value.
+-- The bytes begin with a field of this number, value and length.
 pub record IsField (bytes : List ℕ) (field_number : ℕ) (value : FieldValue) (len : ℕ) : Type 0 where
+  -- The bytes of the tag.
   pub tag : List ℕ
+  -- The bytes of the value.
   pub content : List ℕ
+  -- The bytes after the field.
   pub rest : List ℕ
   pub parts : bytes ≡ tag ++ (content ++ rest)
   pub len_is : len ≡ length tag + length content
+  -- A field number has 29 bits, and is not 0.
   pub positive : 0 < field_number
   pub below : field_number < 2 ^ 29
+  -- The tag is the varint of the field's number times 8 plus its wire type.
   pub tag_is : IsVarint tag (field_number * 8 + wire_type value)
   pub content_is : IsValue content value
 

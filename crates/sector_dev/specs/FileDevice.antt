@@ -34,7 +34,9 @@ pub record LandsWhole {T E : Type 0} (offset : ℕ) (bytes : List ℕ) (result :
 -- A write to a file, in any number of transfers.
 pub record WritesWhole {T E : Type 0} (offset : ℕ) (bytes : List ℕ) (result : Result T E) (old new : FileState) : Type 0 where
   pub is_honest : new.is_honest ≡ old.is_honest
+  -- The given bytes landed where no transfer failed.
   pub lands : IsHonestFile old → offset + length bytes ≤ length old.bytes → LandsWhole offset bytes result old.bytes new.bytes
+  -- Only their range gets dirty.
   pub dirty : IsHonestFile old → DirtiesOnly offset (length bytes) old.dirty new.dirty
 
 -- A call fails exactly where a call of its file fails: the file's count of failures grows by one.

@@ -33,12 +33,14 @@ abbrev pub failures_after_transfer : {E : Type 0} → ℕ → Result ℕ E → �
 failures_after_transfer asked (Ok moved) failures = if nat_lt 0 asked && moved == 0 then one_more failures else failures
 failures_after_transfer asked (Err _) failures = one_more failures
 
--- A sync of a file. After one that succeeds, a stop leaves the bytes of an honest file unchanged.
+-- A sync of a file.
 pub record SyncsFile {T E : Type 0} (result : Result T E) (old new : FileState) : Type 0 where
   pub is_honest : new.is_honest ≡ old.is_honest
   pub failures : new.failures ≡ count_after result old.failures
   pub bytes : IsHonestFile old → new.bytes ≡ old.bytes
+  -- After a sync that succeeds, a stop leaves the bytes of an honest file unchanged.
   pub done : IsHonestFile old → OnOk result (new.dirty ≡ [])
+  -- A sync that fails changes nothing.
   pub unchanged : IsHonestFile old → OnErr result (new.dirty ≡ old.dirty)
 
 -- Nothing is dirty but what was dirty before, and the n bytes at an offset.
@@ -49,11 +51,13 @@ DirtiesOnly offset n old new = (i : ℕ) → IsClean old i → (offset ≤ i →
 abbrev pub CoversDirty : List ByteRange → FileState → Type 0
 CoversDirty dirty file = (i : ℕ) → IsClean dirty i → IsClean file.dirty i
 
--- One transfer out of a file, of the number of bytes that it returns, at most those asked for.
+-- One transfer out of a file.
 pub record TransfersOut {E : Type 0} (offset : ℕ) (into : List ℕ) (result : Result ℕ E) (old new : FileState) : Type 0 where
   pub same : LeavesFile old new
   pub failures : new.failures ≡ failures_after_transfer (length into) result old.failures
+  -- The transfer moves at most the bytes that are asked for.
   pub most : IfOk result (λ n. n ≤ length into)
+  -- The bytes that it moves are those at the offset.
   pub bytes : IsHonestFile old → IfOk result (λ n. take n into ≡ part offset n old.bytes)
 
 -- Some bytes landed at an offset, of the length of the given ones, and nothing else changed.
@@ -68,10 +72,13 @@ abbrev pub LandsTransfer : {E : Type 0} → ℕ → List ℕ → Result ℕ E �
 LandsTransfer offset bytes (Ok n) old new = new ≡ overwrite offset (take n bytes) old
 LandsTransfer offset bytes (Err _) old new = LandsAny offset bytes old new
 
--- One transfer into a file, of at most the given bytes.
+-- One transfer into a file.
 pub record TransfersIn {E : Type 0} (offset : ℕ) (bytes : List ℕ) (result : Result ℕ E) (old new : FileState) : Type 0 where
   pub is_honest : new.is_honest ≡ old.is_honest
   pub failures : new.failures ≡ failures_after_transfer (length bytes) result old.failures
+  -- The transfer moves at most the given bytes.
   pub most : IfOk result (λ n. n ≤ length bytes)
+  -- The bytes that it moves are at the offset afterwards.
   pub lands : IsHonestFile old → offset + length bytes ≤ length old.bytes → LandsTransfer offset bytes result old.bytes new.bytes
+  -- Only the range of the given bytes gets dirty.
   pub dirty : IsHonestFile old → DirtiesOnly offset (length bytes) old.dirty new.dirty

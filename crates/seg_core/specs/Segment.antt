@@ -20,11 +20,15 @@ info_decoding message = do
   segment_id ← at_most (2 ^ 16 - 1) (number_field 2 fs)
   Ok (record { timestamp = timestamp; segment_id = segment_id })
 
--- A segment whose entries are not read yet: the entries are messages.
+-- A segment whose entries are not read yet.
 pub record SegmentOutline : Type 0 where
+  -- When the segment was made, in seconds since 1970.
   pub timestamp : ℕ
+  -- The id that the beaconing AS has chosen.
   pub segment_id : ℕ
+  -- The segment's information as received.
   pub info : List ℕ
+  -- The messages of the entries.
   pub entries : List (List ℕ)
 
 -- A segment up to its entries: its size, its wire format and the kinds of its fields, how many

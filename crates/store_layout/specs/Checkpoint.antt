@@ -50,9 +50,13 @@ pub record CanBeHead (head : Head) : Type 0 where
 
 -- A checkpoint can be written.
 pub record CanBeCheckpoint {Db : Type 0} (rows : RowsFormat Db) (checkpoint : Checkpoint Db) : Type 0 where
+  -- Its head can be written.
   pub head : CanBeHead checkpoint.head
+  -- The length of its rows has 32 bits.
   pub size : length (rows.encoding checkpoint.db) < 2 ^ 32
+  -- The number of its rows has 32 bits.
   pub count : rows.count checkpoint.db < 2 ^ 32
+  -- Its rows can be read again.
   pub storable : IsStorable rows checkpoint.db
 
 -- An area begins with this head.

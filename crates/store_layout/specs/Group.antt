@@ -51,10 +51,14 @@ JournalHasRoom gate payload journal = gate + 1 + payload + 2 ≤ journal
 
 -- The commands can be one group at this place.
 pub record CanBeGroup {C : Type 0} (format : CommandFormat C) (limits : Limits) (place : ℕ) (commands : List C) : Type 0 where
+  -- There are one or more, and at most as many as the limits allow.
   pub some : 1 ≤ length commands
   pub most : length commands ≤ limits.most
+  -- Their records have at most 262,144 bytes together.
   pub short : length (records_of format commands) ≤ most_record_bytes
+  -- There are places for all of them.
   pub last : place + length commands ≤ last_place
+  -- The limits allow each of them.
   pub allowed : AllByRecursion (IsAllowed format limits) commands
 
 -- The payload is the one encoding of a group of these commands.

@@ -33,15 +33,18 @@ size_in payload = four_at 4 payload
 abbrev pub place_in : List ℕ → ℕ
 place_in payload = eight_at 8 payload
 
--- A header of this kind, with `few` to `many` commands, two zeros, records of at most `longest`
--- bytes, and places for all of the commands.
+-- A payload begins with a header of the kind `wanted`.
 pub record IsHeader (wanted few many longest : ℕ) (payload : List ℕ) : Type 0 where
   pub kind : slice_index payload 0 ≡ wanted
+  -- It has `few` to `many` commands.
   pub some : few ≤ count_in payload
   pub most : count_in payload ≤ many
+  -- Two zeros follow.
   pub third : slice_index payload 2 ≡ 0
   pub fourth : slice_index payload 3 ≡ 0
+  -- The records have at most `longest` bytes.
   pub short : size_in payload ≤ longest
+  -- There are places for all of the commands.
   pub last : place_in payload + count_in payload ≤ last_place
 
 -- `IsHeader` as a test.

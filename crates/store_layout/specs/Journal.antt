@@ -53,10 +53,15 @@ pub record Reading (C : Type 0) : Type 0 where
 
 -- The bytes are a journal from this place on, with this reading.
 pub record IsJournal {C : Type 0} (format : CommandFormat C) (limits : Limits) (bytes : List ℕ) (start : ℕ) (reading : Reading C) : Type 0 where
+  -- The groups of the journal.
   pub groups : List (List C)
+  -- They follow each other from the first gate to the reading's last one.
   pub chain : IsGroupChain format limits bytes 0 start groups reading.tail
+  -- The reading has their commands.
   pub commands : reading.commands ≡ all_of groups
+  -- The place reached counts these commands.
   pub place : reading.place ≡ start + length reading.commands
+  -- The journal ends as the reading says.
   pub ends : JournalEndsAs reading.sealed bytes reading.tail reading.place
 
 -- The number of sectors that count for a reading: those up to its last gate, and after a seal those

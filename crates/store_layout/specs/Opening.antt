@@ -63,9 +63,12 @@ pub record IsChosen {Db C : Type 0} (format : StoreFormat Db C) (latest : ℕ) (
 
 -- The image opens with this reading.
 pub record IsOpening {Db C : Type 0} (format : StoreFormat Db C) (latest : ℕ) (image : List ℕ) (opening : Opening Db C) : Type 0 where
+  -- The chosen half begins with the opening's checkpoint.
   pub half : IsChosen format latest image opening.geometry opening.chosen opening.checkpoint
+  -- The chosen half's journal has the opening's reading.
   pub journal : IsJournal format.commands (limits_in opening.checkpoint) (journal_of opening.geometry opening.chosen image)
       opening.checkpoint.head.place opening.journal
+  -- The tail is the journal after it, if any.
   pub tail : IsTail format.commands (limits_in opening.checkpoint) opening.geometry (other opening.chosen) image opening.journal opening.tail
 
 -- The commands of a tail.

@@ -54,8 +54,11 @@ pub record HasOpening (view : StoreView) (opening : Opening (List RowView) Comma
   pub chosen : opening.chosen ≡ view.chosen
   pub head : opening.checkpoint.head ≡ view.head
   pub sealed : opening.journal.sealed ≡ view.sealed
+  -- The gate of the last journal.
   pub gate : (last_reading opening).tail ≡ view.gate
+  -- The rows, and the place reached.
   pub value : opening_value store_format opening ≡ record { db = view.rows; place = view.place }
+  -- The bytes of the chosen half's rows, up to the end of its journal.
   pub sealed_len : counted_len (db_at_seal store_format opening) ≡ view.sealed_len
 
 -- The store is at rest.
