@@ -1,5 +1,5 @@
--- What the checkpointer relies on, phase by phase: facts of both areas, both half gates, and the
--- journal without the tail.
+-- What the checkpointer relies on, phase by phase: facts of both areas, of both half gates, and of
+-- the journal without the tail.
 use Rattle.std.specs.Prelude.{◌≡◌, ℕ, ◌*◌, ◌<◌, ◌≤◌, Bool, false, List, length, take}
 use Rattle.byte_lists.specs.Content.{part}
 use Rattle.sector_dev.specs.Disk.{Moment}
@@ -17,38 +17,47 @@ use Rattle.group_phases.specs.Halves.{ReadsOpen, IsOpenHalf, IsClosedHalf, HasCh
 use Rattle.group_phases.specs.Tail.{Seal, Tail, tail_place}
 use Rattle.group_phases.specs.FlusherPart.{FlusherPart}
 
--- The half that has the tail, the version under whose limits the tail is written, and that half's
--- checkpoint, there or to be there. While that one doesn't count for sure, of the other half its
--- checkpoint, the groups of its journal, and the gate of the seal that ends it.
+-- The checkpoints of both halves and the sealed journal. The fields of the old half count only
+-- while the new checkpoint does not count for sure.
 pub record CheckpointPair (Db C : Type 0) : Type 0 where
+  -- The half that has the tail.
   pub half : Half
+  -- The version under whose limits the tail is written.
   pub version : ℕ
+  -- The checkpoint of the half that has the tail, written or still to be written.
   pub new : Checkpoint Db
+  -- The checkpoint of the other half.
   pub old : Checkpoint Db
+  -- The groups of the other half's journal.
   pub groups : List (List C)
+  -- The gate of the seal that ends that journal, in sectors from its start.
   pub gate : ℕ
 
--- the sealed journal
+-- The sealed journal, as a tail that ends with the seal.
 abbrev pub sealed_of : {Db C : Type 0} → CheckpointPair Db C → Tail C
 sealed_of base = record { half = other base.half; start = base.old.head.place; groups = base.groups; gate = base.gate }
 
--- The sealed half folded is the new checkpoint, which is newer. The tail is written under limits
--- that both halves' versions allow.
+-- The sealed half folded is the new checkpoint.
 pub record FoldsTo {Db C : Type 0} (format : StoreFormat Db C) (base : CheckpointPair Db C) : Type 0 where
+  -- The sealed journal ends at the new checkpoint's place.
   pub place : tail_place (sealed_of base) ≡ base.new.head.place
+  -- The old rows after the commands of the sealed journal are the new rows.
   pub db : db_after format base.old.db (all_of base.groups) ≡ base.new.db
+  -- The new checkpoint is newer.
   pub epoch : base.old.head.epoch < base.new.head.epoch
+  -- The version of the tail's limits is at most the old half's.
   pub tail : base.version ≤ base.old.head.version
+  -- The old half's version is at most the new checkpoint's.
   pub version : base.old.head.version ≤ base.new.head.version
 
--- the other half counts, and its journal is sealed
+-- The other half counts, and its journal is sealed.
 pub record OldStands {Db C : Type 0} (config : StoreConfig Db C) (base : CheckpointPair Db C) (moment : Moment) : Type 0 where
   pub folds : FoldsTo config.format base
   pub gate : IsOpenHalf config.geometry (other base.half) moment
   pub area : HasCheckpoint config (other base.half) base.old moment
   pub journal : FlusherPart Durable config.format.commands (limits_of base.old.head.version) config.geometry (sealed_of base) Seal moment
 
--- the tail's half counts, and what the other one may be is older
+-- The half that has the tail counts, and a checkpoint that the other half may have is older.
 pub record NewStands {Db C : Type 0} (config : StoreConfig Db C) (base : CheckpointPair Db C) (moment : Moment) : Type 0 where
   pub epoch : base.old.head.epoch < base.new.head.epoch
   pub tail : base.version ≤ base.new.head.version
@@ -56,7 +65,8 @@ pub record NewStands {Db C : Type 0} (config : StoreConfig Db C) (base : Checkpo
   pub area : HasCheckpoint config base.half base.new moment
   pub old : HasHead config (other base.half) base.old.head moment
 
--- the tail's half counts, and the other one is closed, and so is its journal
+-- The half that has the tail counts. The other half's gate is closed, and so is the first gate of
+-- its journal.
 pub record IsOtherHalfReady {Db C : Type 0} (config : StoreConfig Db C) (base : CheckpointPair Db C) (moment : Moment) : Type 0 where
   pub tail : base.version ≤ base.new.head.version
   pub gate : IsOpenHalf config.geometry base.half moment
@@ -64,19 +74,19 @@ pub record IsOtherHalfReady {Db C : Type 0} (config : StoreConfig Db C) (base : 
   pub closed : IsClosedHalf config.geometry (other base.half) moment
   pub first : IsFirstClosed config.geometry (other base.half) moment
 
--- the new checkpoint can be one, and has room in its area
+-- The new checkpoint can be one, of a known version, and has room in its area.
 pub record CanBeNewCheckpoint {Db C : Type 0} (config : StoreConfig Db C) (checkpoint : Checkpoint Db) : Type 0 where
   pub can : CanBeCheckpoint config.format.rows checkpoint
   pub known : checkpoint.head.version ≤ config.latest
   pub fits : length (checkpoint_encoding config.format.rows checkpoint) ≤ 512 * config.geometry.checkpoint
 
--- its first sectors, in this number, are written
+-- The first `written` sectors of the new checkpoint are on the device.
 pub record HasWritten {Db C : Type 0} (config : StoreConfig Db C) (base : CheckpointPair Db C) (written : ℕ) (moment : Moment) : Type 0 where
   pub inside : 512 * written ≤ length (checkpoint_encoding config.format.rows base.new)
   pub front : part (512 * area_at config.geometry base.half) (512 * written) moment.reads
       ≡ take (512 * written) (checkpoint_encoding config.format.rows base.new)
 
--- the checkpointer's part
+-- What the checkpointer relies on in each phase.
 abbrev pub BasePart : {Db C : Type 0} → Check → StoreConfig Db C → CheckpointPair Db C → ℕ → Moment → Type 0
 BasePart Ready config base written moment = IsOtherHalfReady config base moment
 BasePart Sealed config base written moment = OldStands config base moment × IsClosedHalf config.geometry base.half moment
@@ -93,7 +103,7 @@ BasePart Closing config base written moment =
     NewStands config base moment × (¬ ReadsOpen config.geometry (other base.half) moment) × FirstReadsClosed config.geometry (other base.half) moment
 BasePart CloseFailed config base written moment = NewStands config base moment
 
--- a seal may be in the tail's journal only where the other half is ready
+-- A seal may be in the tail's journal only where the other half is ready.
 abbrev pub MayBeSealed : Check → Bool → Type 0
 MayBeSealed Ready sealed = Unit {0}
 MayBeSealed Sealed sealed = sealed ≡ false

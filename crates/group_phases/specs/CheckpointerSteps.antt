@@ -1,5 +1,5 @@
--- What the checkpointer's calls make of its part, and what publishing a seal does. Each statement
--- is the contract of a function.
+-- What the checkpointer's calls do to its part, and what publishing a seal does. Each statement is
+-- the contract of a function.
 use Rattle.std.specs.Prelude.{◌≡◌, ℕ, ◌+◌, ◌*◌, ◌≤◌, [], ◌++◌, length, Result}
 use Rattle.byte_lists.specs.Content.{part}
 use Rattle.sector_dev.specs.Disk.{Moment, Disk, IsHonest}
@@ -20,27 +20,29 @@ use Rattle.group_phases.specs.BasePart.{CheckpointPair, FoldsTo, CanBeNewCheckpo
 use Rattle.group_phases.specs.Kept.{IsBesideJournal}
 use Rattle.group_phases.specs.FlusherSteps.{by_result}
 
--- the tail's part under larger limits, and the checkpointer's for a later version of the tail's
--- limits
+-- The flusher's part under limits is its part under larger limits.
 abbrev pub StaysUnderLargerLimits : Type 0 → Type 0
 StaysUnderLargerLimits C =
     (phase : Flush) (format : CommandFormat C) (small large : Limits) (geometry : Geometry) (tail : Tail C) (load : GroupOrSeal C) (moment : Moment)
     → AreAsLarge small large → FlusherPart phase format small geometry tail load moment → FlusherPart phase format large geometry tail load moment
 
+-- The checkpointer's part for the tail's version is its part for the new checkpoint's version.
 abbrev pub TakesTheNewVersion : Type 0 → Type 0 → Type 0
 TakesTheNewVersion Db C =
     (config : StoreConfig Db C) (base : CheckpointPair Db C) (written : ℕ) (moment : Moment)
     → BasePart Live config base written moment → BasePart Live config (record base { version = base.new.head.version }) written moment
 
--- After a seal that is durable the tail continues in the other journal, with no group yet.
+-- The tail after a durable seal. The tail continues in the other journal, with no group yet.
 abbrev pub tail_switched : {C : Type 0} → Tail C → Tail C
 tail_switched tail = record { half = other tail.half; start = tail_place tail; groups = []; gate = 0 }
 
--- and its half now counts as the old one, until a checkpoint of it is in the other half
+-- The pair of checkpoints after a durable seal: the half that had the tail now counts as the old
+-- one, until a checkpoint of it is in the other half.
 abbrev pub base_switched : {Db C : Type 0} → CheckpointPair Db C → Tail C → Checkpoint Db → CheckpointPair Db C
 base_switched base tail next =
     record { half = other base.half; version = base.version; new = next; old = base.new; groups = tail.groups; gate = tail.gate }
 
+-- Publishing a durable seal puts the checkpointer at `Sealed` and the flusher at `Resting`.
 abbrev pub PublishesSeal : Type 0 → Type 0 → Type 0
 PublishesSeal Db C =
     (config : StoreConfig Db C) (base : CheckpointPair Db C) (tail : Tail C) (next : Checkpoint Db) (written : ℕ) (moment : Moment)
@@ -50,30 +52,35 @@ PublishesSeal Db C =
     → BasePart Sealed config (base_switched base tail next) written moment
     × FlusherPart Resting config.format.commands (limits_of base.version) config.geometry (tail_switched tail) Seal moment
 
--- a plan: a checkpoint that has what the sealed half represents, and may be written
+-- The pair with this checkpoint as the new one.
 abbrev pub with_new : {Db C : Type 0} → CheckpointPair Db C → Checkpoint Db → CheckpointPair Db C
 with_new base next = record base { new = next }
 
+-- A plan begins with a checkpoint that has what the sealed half represents, and that may be
+-- written.
 abbrev pub BeginsPlan : Type 0 → Type 0 → Type 0
 BeginsPlan Db C =
     (config : StoreConfig Db C) (base : CheckpointPair Db C) (next : Checkpoint Db) (written : ℕ) (moment : Moment)
     → FoldsTo config.format (with_new base next) → CanBeNewCheckpoint config next
     → BasePart Sealed config base written moment → BasePart Planned config (with_new base next) 0 moment
 
--- what the checkpointer writes lies beside the tail's journal: a chunk, the new half's gate, and
--- the old half's two gates
+-- The checkpointer writes beside the tail's journal.
 pub record WritesBeside {Db C : Type 0} (config : StoreConfig Db C) (base : CheckpointPair Db C) (written more : ℕ) : Type 0 where
+  -- It writes sectors of the new checkpoint there.
   pub chunk : IsBesideJournal config.geometry base.half (area_at config.geometry base.half + written)
       (length (part (512 * written) (512 * more) (checkpoint_encoding config.format.rows base.new)))
+  -- It writes the new half's gate there.
   pub gate : IsBesideJournal config.geometry base.half (gate_at config.geometry base.half) (length open_gate)
+  -- It writes the old half's gate and the first gate of the old journal there.
   pub gates : IsBesideJournal config.geometry base.half (gate_at config.geometry (other base.half)) (length (closed_gate ++ closed_gate))
 
+-- The checkpointer writes beside the tail's journal, whatever it has to write.
 abbrev pub WritesBesideJournal : Type 0 → Type 0 → Type 0
 WritesBesideJournal Db C =
     (config : StoreConfig Db C) (base : CheckpointPair Db C) (written more : ℕ) → IsGeometry config.geometry → CanBeNewCheckpoint config base.new
     → 512 * (written + more) ≤ length (checkpoint_encoding config.format.rows base.new) → WritesBeside config base written more
 
--- the next sectors of it are written
+-- The next sectors of the new checkpoint are written.
 abbrev pub ChunkIsWritten : Type 0 → Type 0 → Type 0 → Type 0 → Type 0
 ChunkIsWritten T E Db C =
     (config : StoreConfig Db C) (base : CheckpointPair Db C) (written more : ℕ) (result : Result T E) (old new : Disk)
@@ -83,7 +90,7 @@ ChunkIsWritten T E Db C =
     → HasTitle config.geometry old.history.now → BasePart Planned config base written old.history.now
     → BasePart Planned config base (by_result (written + more) written result) new.history.now
 
--- a sync from one phase on, which stays where the sync fails
+-- A sync leads from one phase to the next. Where the sync fails, the phase stays.
 abbrev pub IsBaseSync : Type 0 → Type 0 → Type 0 → Type 0 → Check → Check → Type 0
 IsBaseSync T E Db C from done =
     (config : StoreConfig Db C) (base : CheckpointPair Db C) (written : ℕ) (result : Result T E) (old new : Disk)
@@ -91,7 +98,7 @@ IsBaseSync T E Db C from done =
     → HasTitle config.geometry old.history.now → BasePart from config base written old.history.now
     → BasePart (by_result done from result) config base written new.history.now
 
--- once all of it is written it is synced
+-- Once the whole new checkpoint is written, it is synced.
 abbrev pub ChunksAreSynced : Type 0 → Type 0 → Type 0 → Type 0 → Type 0
 ChunksAreSynced T E Db C =
     (config : StoreConfig Db C) (base : CheckpointPair Db C) (written : ℕ) (result : Result T E) (old new : Disk)
@@ -100,7 +107,7 @@ ChunksAreSynced T E Db C =
     → HasTitle config.geometry old.history.now → BasePart Planned config base written old.history.now
     → BasePart (by_result Laid Planned result) config base written new.history.now
 
--- the new half's gate is written open, and synced
+-- The new half's gate is written open.
 abbrev pub OpensHalf : Type 0 → Type 0 → Type 0 → Type 0 → Type 0
 OpensHalf T E Db C =
     (config : StoreConfig Db C) (base : CheckpointPair Db C) (written : ℕ) (result : Result T E) (old new : Disk)
@@ -108,11 +115,11 @@ OpensHalf T E Db C =
     → HasTitle config.geometry old.history.now → BasePart Laid config base written old.history.now
     → BasePart (by_result Switched SwitchFailed result) config base written new.history.now
 
+-- The open gate of the new half is synced.
 abbrev pub HalfIsSynced : Type 0 → Type 0 → Type 0 → Type 0 → Type 0
 HalfIsSynced T E Db C = IsBaseSync T E Db C Switched Live
 
--- the old half's gate and the first gate of its journal are written closed, in one write, and
--- synced
+-- The old half's gate and the first gate of its journal are written closed, in one write.
 abbrev pub ClosesHalf : Type 0 → Type 0 → Type 0 → Type 0 → Type 0
 ClosesHalf T E Db C =
     (config : StoreConfig Db C) (base : CheckpointPair Db C) (written : ℕ) (result : Result T E) (old new : Disk)
@@ -120,5 +127,6 @@ ClosesHalf T E Db C =
     → HasTitle config.geometry old.history.now → BasePart Live config base written old.history.now
     → BasePart (by_result Closing CloseFailed result) config base written new.history.now
 
+-- The closed gates of the old half are synced.
 abbrev pub CloseIsSynced : Type 0 → Type 0 → Type 0 → Type 0 → Type 0
 CloseIsSynced T E Db C = IsBaseSync T E Db C Closing Ready

@@ -1,4 +1,4 @@
--- What the flusher relies on, phase by phase: facts of the tail's journal alone. A fact says what
+-- What the flusher relies on, phase by phase: facts of the tail's journal alone. A fact states what
 -- reads give, or what is clean.
 use Rattle.std.specs.Prelude.{◌≡◌, ◌⊎◌, ℕ, ◌+◌, ◌*◌, ◌≤◌, List}
 use Rattle.byte_lists.specs.Content.{part}
@@ -13,40 +13,41 @@ use Rattle.group_phases.specs.declared.phases.Flush.TheVariants.{Resting, Staged
 use Rattle.group_phases.specs.StoreConfig.{AreCleanSectors}
 use Rattle.group_phases.specs.Tail.{GroupOrSeal, Commands, Seal, payload_of, load_sectors, written_sectors, Tail, tail_place, CanBeLoad, without_load, with_load}
 
--- the bytes of the tail's journal
+-- The bytes of the tail's journal.
 abbrev pub tail_bytes : {C : Type 0} → Geometry → Tail C → Moment → List ℕ
 tail_bytes geometry tail moment = journal_of geometry tail.half moment.reads
 
--- the groups that are committed are there and clean, and after them there is room for a gate and a
--- seal
+-- The groups that are committed are in the tail's journal and clean, and there is room after them
+-- for a gate and a seal.
 pub record HasGroups {C : Type 0} (format : CommandFormat C) (limits : Limits) (geometry : Geometry) (tail : Tail C) (moment : Moment) : Type 0 where
   pub chain : IsGroupChain format limits (tail_bytes geometry tail moment) 0 tail.start tail.groups tail.gate
   pub clean : AreCleanSectors geometry tail.half 0 tail.gate moment
   pub room : tail.gate + 2 ≤ geometry.journal
 
--- the tail's gate is closed and clean; or it is open
+-- The tail's gate is closed and clean.
 pub record HasClosedGate {C : Type 0} (geometry : Geometry) (tail : Tail C) (moment : Moment) : Type 0 where
   pub closed : ¬ IsOpenGate (sector_at tail.gate (tail_bytes geometry tail moment))
   pub clean : AreCleanSectors geometry tail.half tail.gate 1 moment
 
+-- The tail's gate is open.
 abbrev pub HasOpenGate : {C : Type 0} → Geometry → Tail C → Moment → Type 0
 HasOpenGate geometry tail moment = IsOpenGate (sector_at tail.gate (tail_bytes geometry tail moment))
 
--- after a group there is a closed gate
+-- The gate after a group is closed. After a seal there is none.
 abbrev pub NextIsClosed : {C : Type 0} → CommandFormat C → GroupOrSeal C → List ℕ → ℕ → Type 0
 NextIsClosed format (Commands commands) bytes gate = ¬ IsOpenGate (sector_at (gate_behind format gate commands) bytes)
 NextIsClosed format Seal bytes gate = Unit {0}
 
--- what is in flight is after the tail's gate
+-- What is in flight is written after the tail's gate.
 pub record HasLoad {C : Type 0} (format : CommandFormat C) (geometry : Geometry) (tail : Tail C) (load : GroupOrSeal C) (moment : Moment) : Type 0 where
   pub spelled : part (512 * (tail.gate + 1)) (512 * load_sectors format load) (tail_bytes geometry tail moment) ≡ payload_of format (tail_place tail) load
   pub next : NextIsClosed format load (tail_bytes geometry tail moment) tail.gate
 
--- and all that was written with it is clean
+-- The sectors that are written with what is in flight are clean.
 abbrev pub IsLoadClean : {C : Type 0} → CommandFormat C → Geometry → Tail C → GroupOrSeal C → Moment → Type 0
 IsLoadClean format geometry tail load moment = AreCleanSectors geometry tail.half (tail.gate + 1) (written_sectors format load) moment
 
--- the facts of each phase, beside the groups
+-- The facts of each phase, beside the groups.
 abbrev pub AtPhase : {C : Type 0} → Flush → CommandFormat C → Geometry → Tail C → GroupOrSeal C → Moment → Type 0
 AtPhase Resting format geometry tail load moment = HasClosedGate geometry tail moment
 AtPhase Staged format geometry tail load moment = HasClosedGate geometry tail moment
@@ -60,18 +61,19 @@ AtPhase Durable format geometry tail load moment =
     HasLoad format geometry tail load moment × IsLoadClean format geometry tail load moment × HasOpenGate geometry tail moment
     × AreCleanSectors geometry tail.half tail.gate 1 moment
 
--- the flusher's part
+-- What the flusher relies on in each phase.
 pub record FlusherPart {C : Type 0} (phase : Flush) (format : CommandFormat C) (limits : Limits) (geometry : Geometry) (tail : Tail C) (load : GroupOrSeal C)
     (moment : Moment) : Type 0 where
   pub groups : HasGroups format limits geometry tail moment
   pub can : CanBeLoad format limits geometry tail load
   pub facts : AtPhase phase format geometry tail load moment
 
--- an image's journal there has this reading
+-- The journal of an image, in the half that has the tail, has this reading.
 abbrev pub JournalReadsAs : {C : Type 0} → CommandFormat C → Limits → Geometry → Tail C → List ℕ → Reading C → Type 0
 JournalReadsAs format limits geometry tail image reading = IsJournal format limits (journal_of geometry tail.half image) tail.start reading
 
--- what it may have: what is committed, or what is in flight too
+-- What the tail's journal in an image may read as: what is committed, or that with what is in
+-- flight.
 abbrev pub MayRead : {C : Type 0} → Flush → CommandFormat C → Limits → Geometry → Tail C → GroupOrSeal C → List ℕ → Type 0
 MayRead Resting format limits geometry tail load image = JournalReadsAs format limits geometry tail image (without_load tail)
 MayRead Staged format limits geometry tail load image = JournalReadsAs format limits geometry tail image (without_load tail)

@@ -1,4 +1,4 @@
--- What the flusher's calls make of its part. Each statement is the contract of a function.
+-- What the flusher's calls do to its part. Each statement is the contract of a function.
 use Rattle.std.specs.Prelude.{ℕ, ◌+◌, List, length, Result, Ok, Err}
 use Rattle.sector_dev.specs.Disk.{Moment, Disk, IsHonest}
 use Rattle.sector_dev.specs.Calls.{WriteCall, SyncCall}
@@ -13,19 +13,20 @@ use Rattle.group_phases.specs.Tail.{GroupOrSeal, Commands, Seal, load_bytes, Tai
 use Rattle.group_phases.specs.FlusherPart.{HasGroups, FlusherPart}
 use Rattle.group_phases.specs.Kept.{IsInJournal}
 
--- the phase that a call leaves: one where it succeeds, another where it fails
+-- The phase that a call leaves: one where it succeeds, another where it fails.
 abbrev pub by_result : {X T E : Type 0} → X → X → Result T E → X
 by_result done failed (Ok value) = done
 by_result done failed (Err error) = failed
 
--- the sectors at which the flusher writes: after the tail's gate, and that gate
+-- The sector at which the flusher writes what is in flight: the one after the tail's gate.
 abbrev pub load_at : {C : Type 0} → Geometry → Tail C → ℕ
 load_at geometry tail = journal_at geometry tail.half + (tail.gate + 1)
 
+-- The sector of the tail's gate.
 abbrev pub tail_gate_at : {C : Type 0} → Geometry → Tail C → ℕ
 tail_gate_at geometry tail = journal_at geometry tail.half + tail.gate
 
--- what it writes lies in the tail's journal
+-- What the flusher writes lies in the tail's journal.
 abbrev pub WritesInJournal : Type 0 → Type 0
 WritesInJournal C =
     (format : CommandFormat C) (limits : Limits) (geometry : Geometry) (tail : Tail C) (load : GroupOrSeal C) (moment : Moment)
@@ -33,7 +34,7 @@ WritesInJournal C =
     → IsInJournal geometry tail.half (load_at geometry tail) (length (load_bytes format (tail_place tail) load))
     × IsInJournal geometry tail.half (tail_gate_at geometry tail) (length open_gate)
 
--- what is in flight is written after the tail's gate
+-- What is in flight is written after the tail's gate.
 abbrev pub WritesLoad : Type 0 → Type 0 → Type 0 → Type 0
 WritesLoad T E C =
     (format : CommandFormat C) (limits : Limits) (geometry : Geometry) (tail : Tail C) (load : GroupOrSeal C) (result : Result T E) (old new : Disk)
@@ -41,7 +42,7 @@ WritesLoad T E C =
     → HasTitle geometry old.history.now → FlusherPart Staged format limits geometry tail load old.history.now
     → FlusherPart (by_result Written Staged result) format limits geometry tail load new.history.now
 
--- and that gate is written open
+-- The tail's gate is written open.
 abbrev pub OpensTailGate : Type 0 → Type 0 → Type 0 → Type 0
 OpensTailGate T E C =
     (format : CommandFormat C) (limits : Limits) (geometry : Geometry) (tail : Tail C) (load : GroupOrSeal C) (result : Result T E) (old new : Disk)
@@ -49,7 +50,7 @@ OpensTailGate T E C =
     → HasTitle geometry old.history.now → FlusherPart Stable format limits geometry tail load old.history.now
     → FlusherPart (by_result Opened Doubtful result) format limits geometry tail load new.history.now
 
--- a sync from one phase on, which stays where the sync fails
+-- A sync leads from one phase to the next. Where the sync fails, the phase stays.
 abbrev pub IsFlusherSync : Type 0 → Type 0 → Type 0 → Flush → Flush → Type 0
 IsFlusherSync T E C from done =
     (format : CommandFormat C) (limits : Limits) (geometry : Geometry) (tail : Tail C) (load : GroupOrSeal C) (result : Result T E) (old new : Disk)
@@ -57,13 +58,15 @@ IsFlusherSync T E C from done =
     → HasTitle geometry old.history.now → FlusherPart from format limits geometry tail load old.history.now
     → FlusherPart (by_result done from result) format limits geometry tail load new.history.now
 
+-- What is in flight is synced.
 abbrev pub SyncsLoad : Type 0 → Type 0 → Type 0 → Type 0
 SyncsLoad T E C = IsFlusherSync T E C Written Stable
 
+-- The open gate of the tail is synced.
 abbrev pub SyncsTailGate : Type 0 → Type 0 → Type 0 → Type 0
 SyncsTailGate T E C = IsFlusherSync T E C Opened Durable
 
--- a group that is durable becomes one of the tail's groups
+-- A durable group becomes one of the tail's groups.
 abbrev pub PublishesGroup : Type 0 → Type 0
 PublishesGroup C =
     (format : CommandFormat C) (limits : Limits) (geometry : Geometry) (tail : Tail C) (commands : List C) (moment : Moment)

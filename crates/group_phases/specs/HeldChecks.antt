@@ -13,11 +13,12 @@ use Rattle.byte_lists.specs.Sectors.{closed_gate, open_gate}
 use Rattle.group_phases.specs.FlusherSteps.{by_result}
 use Rattle.group_phases.specs.CommitState.{CommitState, DeviceContents, IsHeldBy}
 
--- the same, with the checkpointer at another phase, and this number of sectors written
+-- The state with the checkpointer in another phase, and `written` sectors of the new checkpoint
+-- written.
 abbrev pub checked : {Db C : Type 0} → CommitState Db C → Check → ℕ → CommitState Db C
 checked state phase written = record state { check = phase; written = written }
 
--- the next sectors of the new checkpoint are written
+-- The next sectors of the new checkpoint are written.
 abbrev pub HeldWhileChunkIsWritten : Type 0 → Type 0 → Type 0 → Type 0 → Type 0
 HeldWhileChunkIsWritten T E Db C =
     (config : StoreConfig Db C) (state : CommitState Db C) (behind : DeviceContents Db C) (more : ℕ) (result : Result T E) (old new : Disk)
@@ -28,7 +29,7 @@ HeldWhileChunkIsWritten T E Db C =
     (part (512 * state.written) (512 * more) (checkpoint_encoding config.format.rows behind.new)) result old new → IsHonest old
     → IsHeldBy config (checked state Planned (by_result (state.written + more) state.written result)) behind new.history.now
 
--- once all of it is, it is synced
+-- Once the whole new checkpoint is written, it is synced.
 abbrev pub HeldWhileChunksAreSynced : Type 0 → Type 0 → Type 0 → Type 0 → Type 0
 HeldWhileChunksAreSynced T E Db C =
     (config : StoreConfig Db C) (state : CommitState Db C) (behind : DeviceContents Db C) (result : Result T E) (old new : Disk)
@@ -38,7 +39,7 @@ HeldWhileChunksAreSynced T E Db C =
     → SyncCall result old new → IsHonest old
     → IsHeldBy config (checked state (by_result Laid Planned result) state.written) behind new.history.now
 
--- the new half's gate is written, and then synced
+-- The new half's gate is written.
 abbrev pub HeldWhileHalfIsOpened : Type 0 → Type 0 → Type 0 → Type 0 → Type 0
 HeldWhileHalfIsOpened T E Db C =
     (config : StoreConfig Db C) (state : CommitState Db C) (behind : DeviceContents Db C) (result : Result T E) (old new : Disk)
@@ -47,7 +48,7 @@ HeldWhileHalfIsOpened T E Db C =
     → IsHonest old → IsHeldBy config state behind old.history.now
     → IsHeldBy config (checked state (by_result Switched SwitchFailed result) state.written) behind new.history.now
 
--- the old half's gates are written, and then synced
+-- The old half's gate and the first gate of its journal are written.
 abbrev pub HeldWhileHalfIsClosed : Type 0 → Type 0 → Type 0 → Type 0 → Type 0
 HeldWhileHalfIsClosed T E Db C =
     (config : StoreConfig Db C) (state : CommitState Db C) (behind : DeviceContents Db C) (result : Result T E) (old new : Disk)
@@ -56,6 +57,7 @@ HeldWhileHalfIsClosed T E Db C =
     → IsHonest old → IsHeldBy config state behind old.history.now
     → IsHeldBy config (checked state (by_result Closing CloseFailed result) state.written) behind new.history.now
 
+-- A gate that was written is synced.
 abbrev pub HeldWhileHalfIsSynced : Check → Check → Type 0 → Type 0 → Type 0 → Type 0 → Type 0
 HeldWhileHalfIsSynced from done T E Db C =
     (config : StoreConfig Db C) (state : CommitState Db C) (behind : DeviceContents Db C) (result : Result T E) (old new : Disk)

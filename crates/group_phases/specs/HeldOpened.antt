@@ -14,16 +14,17 @@ use Rattle.group_phases.specs.declared.phases.Check.TheVariants.{Ready, Sealed}
 use Rattle.group_phases.specs.StoreConfig.{StoreConfig}
 use Rattle.group_phases.specs.CommitState.{CommitState, DeviceContents, IsHeldBy}
 
--- the sizes that were read
+-- The configuration of an opened store, with the sizes that were read.
 abbrev pub config_at_opening : {Db C : Type 0} → StoreFormat Db C → ℕ → Opening Db C → StoreConfig Db C
 config_at_opening format latest opening = record { format = format; latest = latest; geometry = opening.geometry }
 
--- where the checkpointer is: after a seal the chosen half awaits its checkpoint
+-- The phase of the checkpointer after an opening. After a seal, the chosen half awaits its
+-- checkpoint.
 abbrev pub check_of : {C : Type 0} → Option (Reading C) → Check
 check_of None = Ready
 check_of (Some behind) = Sealed
 
--- nothing is pending, and nothing is in flight
+-- The state after an opening: nothing is pending, and nothing is in flight.
 abbrev pub commit_state_at_opening : {Db C : Type 0} → StoreFormat Db C → Opening Db C → CommitState Db C
 commit_state_at_opening format opening = record {
   value = opening_value format opening;
@@ -37,28 +38,32 @@ commit_state_at_opening format opening = record {
   written = 0;
 }
 
--- it is held, with this checkpoint of the half that has the tail, there or to be there
+-- The device holds the state after an opening.
 pub record IsHeldFrom {Db C : Type 0} (format : StoreFormat Db C) (latest : ℕ) (opening : Opening Db C) (new : Checkpoint Db) (moment : Moment) : Type 0 where
+  -- The contents of the device.
   pub behind : DeviceContents Db C
+  -- The checkpoint of the half that has the tail, written or still to be written, is this one.
   pub new_is : behind.new ≡ new
+  -- The device holds the state for these contents.
   pub by : IsHeldBy (config_at_opening format latest opening) (commit_state_at_opening format opening) behind moment
 
--- Nothing is dirty, and reads open with a journal that isn't sealed, beside a half that is closed.
+-- Nothing is dirty, and reads open with a journal that is not sealed, beside a half that is closed.
 abbrev pub HeldAtRest : Type 0 → Type 0 → Type 0
 HeldAtRest Db C =
     (format : StoreFormat Db C) (latest : ℕ) (opening : Opening Db C) (moment : Moment) → moment.dirty ≡ []
     → IsOpening format latest moment.reads opening → IsOtherHalfClosed opening moment.reads
     → IsHeldFrom format latest opening opening.checkpoint moment
 
--- after a seal, with the checkpoint that folds the sealed journal, and the half that has that
--- journal
+-- The device holds the state after an opening with a sealed journal.
 pub record IsHeldBehindSeal {Db C : Type 0} (format : StoreFormat Db C) (latest : ℕ) (opening : Opening Db C) (next : Checkpoint Db) (moment : Moment)
     : Type 0 where
+  -- The new checkpoint is one that folds the sealed journal.
   pub held : IsHeldFrom format latest opening next moment
+  -- The old checkpoint is that of the half with the sealed journal.
   pub old_is : held.behind.old ≡ opening.checkpoint
 
--- Nothing is dirty, and reads open with a sealed journal: any checkpoint that folds it, of a later
--- epoch, is the one to be there.
+-- Nothing is dirty, and reads open with a sealed journal: any checkpoint of a later epoch that
+-- folds the journal can be the one still to be written.
 abbrev pub HeldBehindSeal : Type 0 → Type 0 → Type 0
 HeldBehindSeal Db C =
     (format : StoreFormat Db C) (latest : ℕ) (opening : Opening Db C) (moment : Moment) (last : Reading C) (next : Checkpoint Db)

@@ -13,12 +13,11 @@ use Rattle.group_phases.specs.Tail.{load_bytes}
 use Rattle.group_phases.specs.FlusherSteps.{by_result}
 use Rattle.group_phases.specs.CommitState.{CommitState, load_of, DeviceContents, IsHeldBy, IsHeld, OpensToFront}
 
--- the same, with the flusher at another phase
+-- The state with the flusher in another phase.
 abbrev pub flushed : {Db C : Type 0} → CommitState Db C → Flush → CommitState Db C
 flushed state phase = record state { flush = phase }
 
--- the flusher's calls, whatever the checkpointer's phase: what is in flight is written; the tail's
--- gate is written; and a sync
+-- What is in flight is written, whatever the checkpointer's phase.
 abbrev pub HeldWhileLoadIsWritten : Type 0 → Type 0 → Type 0 → Type 0 → Type 0
 HeldWhileLoadIsWritten T E Db C =
     (config : StoreConfig Db C) (state : CommitState Db C) (behind : DeviceContents Db C) (result : Result T E) (old new : Disk)
@@ -28,6 +27,7 @@ HeldWhileLoadIsWritten T E Db C =
     → IsHonest old → IsHeldBy config state behind old.history.now
     → IsHeldBy config (flushed state (by_result Written Staged result)) behind new.history.now
 
+-- The tail's gate is written, whatever the checkpointer's phase.
 abbrev pub HeldWhileGateIsOpened : Type 0 → Type 0 → Type 0 → Type 0 → Type 0
 HeldWhileGateIsOpened T E Db C =
     (config : StoreConfig Db C) (state : CommitState Db C) (behind : DeviceContents Db C) (result : Result T E) (old new : Disk)
@@ -36,6 +36,7 @@ HeldWhileGateIsOpened T E Db C =
     → IsHonest old → IsHeldBy config state behind old.history.now
     → IsHeldBy config (flushed state (by_result Opened Doubtful result)) behind new.history.now
 
+-- A sync leads from one phase of the flusher to the next, whatever the checkpointer's phase.
 abbrev pub HeldWhileSynced : Flush → Flush → Type 0 → Type 0 → Type 0 → Type 0 → Type 0
 HeldWhileSynced from done T E Db C =
     (config : StoreConfig Db C) (state : CommitState Db C) (behind : DeviceContents Db C) (result : Result T E) (old new : Disk)
@@ -44,10 +45,11 @@ HeldWhileSynced from done T E Db C =
     → IsHonest old → IsHeldBy config state behind old.history.now
     → IsHeldBy config (flushed state (by_result done from result)) behind new.history.now
 
--- what a stop within a call leaves opens to a front that one before it or after it may keep
+-- An image after a stop within a call opens to what a stop before the call or after it may leave.
 abbrev pub OpensAroundCall : {Db C : Type 0} → StoreConfig Db C → CommitState Db C → CommitState Db C → List ℕ → Type 0
 OpensAroundCall config before after image = OpensToFront config before image ⊎ OpensToFront config after image
 
+-- A stop within a write leaves what a stop before it or after it may leave.
 abbrev pub WritesLeaveFronts : Type 0 → Type 0 → Type 0 → Type 0 → Type 0
 WritesLeaveFronts T E Db C =
     (config : StoreConfig Db C) (before after : CommitState Db C) (sector : ℕ) (bytes : List ℕ) (result : Result T E) (old new : Disk)
@@ -55,6 +57,7 @@ WritesLeaveFronts T E Db C =
     → (IsHonest old → IsHeld config before old.history.now) → (IsHonest new → IsHeld config after new.history.now)
     → Stretch old new (OpensAroundCall config before after)
 
+-- A stop within a sync leaves what a stop before it or after it may leave.
 abbrev pub SyncsLeaveFronts : Type 0 → Type 0 → Type 0 → Type 0 → Type 0
 SyncsLeaveFronts T E Db C =
     (config : StoreConfig Db C) (before : CommitState Db C) (result : Result T E) (old new : Disk) → SyncCall result old new

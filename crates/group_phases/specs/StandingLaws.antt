@@ -1,4 +1,4 @@
--- What holds of a device that holds what a state represents. Each statement is the contract of a
+-- Laws of a device that holds what a state represents. Each statement is the contract of a
 -- function.
 use Rattle.sector_dev.specs.Disk.{Moment}
 use Rattle.sector_dev.specs.Image.{EveryImage}
@@ -11,14 +11,14 @@ use Rattle.group_phases.specs.Tail.{GroupOrSeal, Tail}
 use Rattle.group_phases.specs.FlusherPart.{FlusherPart, MayRead}
 use Rattle.group_phases.specs.CommitState.{CommitState, IsHeld, OpensToFront}
 
--- the flusher's part reports what the tail's journal of each image may read as
+-- The tail's journal of each image reads as the flusher's part allows.
 abbrev pub ReadsByItsPart : Type 0 → Type 0
 ReadsByItsPart C =
     (phase : Flush) (format : CommandFormat C) (limits : Limits) (geometry : Geometry) (tail : Tail C) (load : GroupOrSeal C) (moment : Moment)
     → HasTitle geometry moment → FlusherPart phase format limits geometry tail load moment
     → EveryImage moment (MayRead phase format limits geometry tail load)
 
--- and both parts report what each image opens to
+-- Each image of a device that holds a state opens as both parts allow.
 abbrev pub OpensByBothParts : Type 0 → Type 0 → Type 0
 OpensByBothParts Db C =
     (config : StoreConfig Db C) (state : CommitState Db C) (moment : Moment) → IsHeld config state moment
