@@ -1,4 +1,4 @@
--- What is true of every state.
+-- The invariant of every state.
 use Rattle.std.specs.Prelude.{◌≡◌, ◌≢◌, ℕ, ◌+◌, ◌*◌, ◌^◌, ◌<◌, ◌≤◌, ◌⊎◌, true, false, List, length, take, Option}
 use Rattle.std.specs.List.{AllByRecursion}
 use Rattle.path_rows.specs.Database.{RowView}
@@ -28,51 +28,58 @@ use Rattle.group_core.specs.Keeping.{KeepsOutcomes}
 use Rattle.group_core.specs.Merging.{HasMerge, IsUnderWay, Streams}
 use Rattle.group_core.specs.Showing.{IsFrontOf}
 
--- what no clause sees: the bytes that are to be written of what is in flight, the rows after all
--- commands that are accepted, the place of the first of these, what the showcase has already of the
--- group that it shows next, and the last checkpoint that was begun
+-- The fields of a state that no clause sees.
 pub record PrivateState : Type 0 where
+  -- The bytes to write of what is in flight.
   pub staged : List ℕ
+  -- The rows after all commands that are accepted.
   pub tip : List RowView
+  -- The place of the first command that is pending.
   pub place : ℕ
+  -- What the showcase already has of the group that it shows next.
   pub owed : List Command
+  -- The last checkpoint that was begun.
   pub merge : Option MergeView
 
--- what is in flight may be after the tail's gate
+-- What is in flight may be after the tail's gate.
 abbrev pub FitsLoad : Limits → Geometry → ℕ → ℕ → GroupOrSeal Command → Type 0
 FitsLoad limits geometry place gate (Commands commands) =
     CanBeGroup command_format limits place commands × JournalHasRoom gate (group_sectors command_format commands) geometry.journal
 FitsLoad limits geometry place gate Seal = Unit {0}
 
--- a command that was accepted is within its limits, and allowed by the state's version
+-- A command that was accepted is within its limits, and allowed by the state's version.
 pub record MayBePending (version : ℕ) (command : Command) : Type 0 where
   pub within : IsWithinLimits command
   pub allowed : IsAllowed command_format (limits_of version) command
 
--- rows have room in a checkpoint area
+-- The rows have room in a checkpoint area.
 abbrev pub FitArea : StateView → List RowView → Type 0
 FitArea view rows = 32 + length (rows_format.encoding rows) ≤ 512 * view.geometry.checkpoint
 
--- whatever front of the accepted commands is committed next, the rows have room
+-- Whatever front of the accepted commands is committed next, its rows have room.
 abbrev pub EveryFrontFits : StateView → Type 0
 EveryFrontFits view = (n : ℕ) → n ≤ length view.pending → FitArea view (db_after store_format view.value.db (take n view.pending))
 
--- the bytes of the new checkpoint, and how many sectors of it are written
+-- The writing of the new checkpoint.
 pub record Checkpointing : Type 0 where
+  -- The bytes of the new checkpoint.
   pub bytes : List ℕ
+  -- The number of its sectors that are written.
   pub written : ℕ
 
+-- The writing of a state's checkpoint.
 abbrev pub checkpointing_of : StateView → Checkpointing
 checkpointing_of view = record { bytes = view.checkpoint; written = view.written }
 
--- they are whole sectors, no more than the area has, and no more are written than there are
+-- The bytes of a checkpoint are whole sectors, no more than the area has, and no more are written
+-- than there are.
 pub record HasPlan (geometry : Geometry) (plan : Checkpointing) : Type 0 where
   pub sectors : ℕ
   pub whole : length plan.bytes ≡ 512 * sectors
   pub inside : sectors ≤ geometry.checkpoint
   pub written : plan.written ≤ sectors
 
--- until the new half counts there is an epoch for it
+-- Until the new half counts, there is an epoch for it.
 abbrev pub HasNextEpoch : Check → ℕ → Type 0
 HasNextEpoch Ready epoch = Unit {0}
 HasNextEpoch Sealed epoch = Unit {0}
@@ -84,39 +91,58 @@ HasNextEpoch Live epoch = Unit {0}
 HasNextEpoch Closing epoch = Unit {0}
 HasNextEpoch CloseFailed epoch = Unit {0}
 
--- What holds whatever the device does: all is inside it, the outcomes that are kept are those of
--- their commands, what is in flight may be and its bytes are made, and while the state goes on
--- every front fits the area.
+-- What holds whatever the device does.
 pub record StateInvariant (view : StateView) (hidden : PrivateState) : Type 0 where
+  -- The sizes are those of a store.
   pub limits : IsGeometry view.geometry
+  -- The store is within the device.
   pub sectors : image_sectors view.geometry ≤ view.disk.sectors
+  -- The tail's journal has room for a gate and a seal.
   pub room : view.gate + 2 ≤ view.geometry.journal
+  -- The state's own place is that of its value.
   pub place : hidden.place ≡ view.value.place
+  -- The pending commands have places.
   pub last : view.value.place + length view.pending ≤ last_place
+  -- At most 256 commands are pending.
   pub few : length view.pending ≤ 256
+  -- Each pending command is within its limits, and allowed by the state's version.
   pub commands : AllByRecursion (MayBePending view.version) view.pending
+  -- The state's own rows are those after all pending commands.
   pub tip : hidden.tip ≡ db_after store_format view.value.db view.pending
+  -- The outcomes that are kept are those of their commands.
   pub outcomes : KeepsOutcomes view.value view.pending view.kept
+  -- While the state goes on, every front fits the area.
   pub fits : view.stopped ≡ false → EveryFrontFits view
+  -- The version is a known one.
   pub known : view.version ≤ latest
+  -- No more commands are in flight than are pending.
   pub taken : view.taken ≤ length view.pending
+  -- What the showcase has is a front of what is in flight.
   pub owed : IsFrontOf hidden.owed (take view.taken view.pending)
+  -- No command is in flight while the flusher rests.
   pub rests : view.flush ≡ Resting → view.taken ≡ 0
+  -- What is in flight may be after the tail's gate.
   pub load : FitsLoad (limits_of view.version) view.geometry view.value.place view.gate (load_of (commit_state_of view))
+  -- The bytes of what is in flight are made.
   pub staged : view.flush ≢ Resting → hidden.staged ≡ load_bytes command_format view.value.place (load_of (commit_state_of view))
+  -- The new checkpoint is within its area.
   pub plan : HasPlan view.geometry (checkpointing_of view)
+  -- Until the new half counts, there is an epoch for it.
   pub epoch : HasNextEpoch view.check view.epoch
+  -- The state's bytes of the new checkpoint are those of the merge.
   pub bytes : view.checkpoint ≡ encoding_if_any hidden.merge
+  -- While the state goes on, a planned checkpoint has a merge under way.
   pub merge : view.stopped ≡ false → view.check ≡ Planned → HasMerge (IsUnderWay view.geometry view.written) hidden.merge
 
--- the checkpoint to be there is of the next epoch, in the version that is written
+-- The checkpoint still to be written is of the next epoch, in the version that is written.
 pub record IsNextCheckpoint (epoch : ℕ) (before next : Checkpoint (List RowView)) : Type 0 where
   pub old : before.head.epoch ≡ epoch
   pub new : next.head.epoch ≡ epoch + 1
   pub version : next.head.version ≡ latest
 
--- which half counts, by its epoch, and what the new checkpoint's bytes are, phase by phase: the
--- other half's checkpoint, and that of the half with the tail, there or to be there
+-- Which half counts in each phase, by its epoch, and what the new checkpoint's bytes are. `before`
+-- is the other half's checkpoint, and `next` that of the half with the tail, written or still to be
+-- written.
 abbrev pub CountsAt : Check → ℕ → List ℕ → Checkpoint (List RowView) → Checkpoint (List RowView) → Type 0
 CountsAt Ready epoch bytes before next = next.head.epoch ≡ epoch
 CountsAt Sealed epoch bytes before next = before.head.epoch ≡ epoch
@@ -128,28 +154,35 @@ CountsAt Live epoch bytes before next = next.head.epoch ≡ epoch
 CountsAt Closing epoch bytes before next = next.head.epoch ≡ epoch
 CountsAt CloseFailed epoch bytes before next = next.head.epoch ≡ epoch
 
--- What holds over an honest device: it holds what the state represents, and while the state goes on
--- the fold up to a seal fits the area.
+-- What holds over an honest device.
 pub record DeviceInvariant (view : StateView) : Type 0 where
+  -- The contents of the device.
   pub behind : DeviceContents (List RowView) Command
+  -- The device holds what the state represents, for these contents.
   pub held : IsHeldBy (config_of view) (commit_state_of view) behind view.disk.history.now
+  -- The epochs, and the bytes of the new checkpoint, are those of the phase.
   pub counts : CountsAt view.check view.epoch view.checkpoint behind.old behind.new
+  -- While the state goes on, the fold up to a seal fits the area.
   pub fits : view.stopped ≡ false → checkpoint_size rows_format behind.new ≤ 512 * view.geometry.checkpoint
 
--- The same with the checkpoint that is made while it is written: while the state goes on, what is
--- left to be made of it is what isn't written.
+-- What holds over an honest device, with the checkpoint that is made while it is written.
 pub record DeviceInvariantWith (view : StateView) (merge : Option MergeView) : Type 0 where
+  -- What holds without that checkpoint.
   pub sound : DeviceInvariant view
+  -- While the state goes on, what is not yet made of the checkpoint is what is not yet written of
+  -- it.
   pub streams : view.stopped ≡ false → view.check ≡ Planned → HasMerge (Streams sound.behind.old.db view.written) merge
 
--- What is held instead by the device of a store whose checkpoint had failed: the state has stopped
--- before anything began, and every image opens to what it shows.
+-- What holds instead over the device of a store whose checkpoint had failed: the state has stopped
+-- before anything began, and every image opens to what the state shows.
 pub record IsBroken (view : StateView) : Type 0 where
   pub stopped : view.stopped ≡ true
   pub rests : view.flush ≡ Resting
   pub ready : view.check ≡ Ready
   pub images : EveryImage view.disk.history.now (MayOpen view)
 
+-- The invariant of a state: `shape` holds whatever the device does, and `sound` over an honest
+-- device.
 pub record IsState (view : StateView) (hidden : PrivateState) : Type 0 where
   pub shape : StateInvariant view hidden
   pub sound : IsHonest view.disk → DeviceInvariantWith view hidden.merge ⊎ IsBroken view

@@ -1,4 +1,4 @@
--- What a state made of a store is.
+-- The state that is made of a store.
 use Rattle.std.specs.Prelude.{◌≡◌, ◌↔◌, ℕ, ◌+◌, ◌*◌, ◌≤◌, Bool, true, false, List, []}
 use Rattle.path_rows.specs.Database.{RowView, rows_len}
 use Rattle.store_layout.specs.Opening.{StoreValue}
@@ -9,27 +9,27 @@ use Rattle.group_phases.specs.declared.phases.Check.TheVariants.{Ready, Sealed}
 use Rattle.group_core.specs.declared.bookkeeping.Turn.{Turn}
 use Rattle.group_core.specs.StateView.{StateView}
 
--- what a store represents
+-- The value that a store represents.
 abbrev pub value_of_store : StoreView → StoreValue (List RowView)
 value_of_store store = record { db = store.rows; place = store.place }
 
--- A state of it goes on where no checkpoint of it has failed, and its rows, and those up to its
--- seal, have room in an area.
+-- A state of the store goes on: no checkpoint of the store has failed, and its rows, and those up
+-- to its seal, have room in an area.
 pub record CanContinue (store : StoreView) : Type 0 where
   pub whole : store.broken ≡ false
   pub rows : 32 + rows_len store.rows ≤ 512 * store.geometry.checkpoint
   pub sealed : store.sealed ≡ true → 32 + store.sealed_len ≤ 512 * store.geometry.checkpoint
 
--- a sealed journal awaits its checkpoint
+-- The checkpointer's phase at the start: a sealed journal awaits its checkpoint.
 abbrev pub check_in : Bool → Check
 check_in false = Ready
 check_in true = Sealed
 
--- no commit value was given yet
+-- The turn before any commit value is given.
 abbrev pub no_turn : Turn
 no_turn = record { number = 0; out = false }
 
--- a state of the store in which nothing has begun
+-- The state of a store in which nothing has begun.
 abbrev pub started : StoreView → ℕ → Bool → StateView
 started store home stopped = record {
   disk = store.disk;
@@ -52,7 +52,7 @@ started store home stopped = record {
   stopped = stopped;
 }
 
--- It has stopped from its start just where it doesn't go on.
+-- The state is one of the store, and has stopped from its start exactly where it cannot go on.
 pub record IsStarted (store : StoreView) (home : ℕ) (state : StateView) : Type 0 where
   pub is : state ≡ started store home state.stopped
   pub going : state.stopped ≡ false ↔ CanContinue store

@@ -11,43 +11,44 @@ use Rattle.group_phases.specs.declared.phases.Flush.{Flush}
 use Rattle.group_phases.specs.declared.phases.Check.{Check}
 use Rattle.group_core.specs.declared.bookkeeping.Turn.{Turn}
 
--- a state as contracts see it
+-- A state as contracts see it.
 pub record StateView : Type 0 where
-  -- the device that has the store
+  -- The device that has the store.
   pub disk : Disk
-  -- the sizes of each half's checkpoint area and journal, in sectors
+  -- The sizes of each half's checkpoint area and journal, in sectors.
   pub geometry : Geometry
-  -- the state's own number, which its tickets and its commit values have too
+  -- The state's own number, which its tickets and its commit values have too.
   pub home : ℕ
-  -- the rows that are committed, and how many commands are: the place of the first pending one
+  -- The rows that are committed, and the number of commands that are. That number is the place of
+  -- the first pending command.
   pub value : StoreValue (List RowView)
-  -- the commands that are accepted and not committed yet, in the order of their places
+  -- The commands that are accepted and not committed yet, in the order of their places.
   pub pending : List Command
-  -- the outcome of each accepted command whose ticket isn't redeemed yet, by the command's place;
-  -- places rise
+  -- The outcome of each accepted command whose ticket is not redeemed yet, by the command's place.
+  -- Places rise.
   pub kept : List (ℕ × Outcome)
-  -- how many of the first pending commands are in flight: none while the flusher rests, and where a
-  -- seal is in flight
+  -- The number of the first pending commands that are in flight: 0 while the flusher rests, and
+  -- where a seal is in flight.
   pub taken : ℕ
-  -- how far the flusher is
+  -- The phase of the flusher.
   pub flush : Flush
-  -- the flusher's last commit value
+  -- The flusher's last commit value.
   pub group : Turn
-  -- how far the checkpointer is
+  -- The phase of the checkpointer.
   pub check : Check
-  -- the checkpointer's last commit value
+  -- The checkpointer's last commit value.
   pub plan : Turn
-  -- the half whose journal has the tail
+  -- The half whose journal has the tail.
   pub half : Half
-  -- the tail's gate, in sectors from the start of that journal
+  -- The tail's gate, in sectors from the start of that journal.
   pub gate : ℕ
-  -- the epoch of the half that counts
+  -- The epoch of the half that counts.
   pub epoch : ℕ
-  -- the format version of that half
+  -- The format version of that half.
   pub version : ℕ
-  -- the bytes of the last checkpoint that was begun
+  -- The bytes of the last checkpoint that was begun.
   pub checkpoint : List ℕ
-  -- how many sectors of that checkpoint are written
+  -- The number of sectors of that checkpoint that are written.
   pub written : ℕ
-  -- whether the state has stopped, which is for good
+  -- Whether the state has stopped, which is final.
   pub stopped : Bool

@@ -1,5 +1,4 @@
--- Which call of the device a step makes. Of reads nothing is said, since they leave the device as
--- it is.
+-- Which call of the device a step makes. Reads are left out, since they do not change the device.
 use Rattle.std.specs.Prelude.{◌≡◌, ℕ, ◌+◌, ◌*◌, List, ◌++◌, Result, Ok, Err}
 use Rattle.byte_lists.specs.Content.{part}
 use Rattle.sector_dev.specs.Disk.{Disk}
@@ -15,18 +14,18 @@ use Rattle.group_core.specs.StateView.{StateView}
 use Rattle.group_core.specs.Stops.{commit_state_of}
 use Rattle.group_core.specs.Steps.{next_sectors}
 
--- a call that writes these bytes from a sector on, or one that syncs
+-- A call that writes bytes from a sector on, or a call that syncs.
 pub data DeviceCall : Type 0 where
   Write : (sector : ℕ) (bytes : List ℕ) → DeviceCall
   Sync : DeviceCall
 
--- this one call, with this result, made the new disk of the old one
+-- This one call, with this result, made the new disk of the old one.
 abbrev pub IsMade : {T E : Type 0} → DeviceCall → Result T E → Disk → Disk → Type 0
 IsMade (Write sector bytes) result old new = WriteCall sector bytes result old new
 IsMade Sync result old new = SyncCall result old new
 
--- A step makes this call and no other: where the device decides, the call has the step's result; a
--- step that is refused before that makes none.
+-- A step makes this call and no other. Where the device decides, the call has the step's result. A
+-- step that is refused before that makes no call.
 abbrev pub StepCall : {P N : Type 0} → DeviceCall → Result N (StepError P) → Disk → Disk → Type 0
 StepCall {P} {N} call (Ok next) old new = IsMade {T = N} {E = StepError P} call (Ok next) old new
 StepCall {P} {N} call (Err Fault) old new = IsMade {T = N} {E = StepError P} call (Err Fault) old new
@@ -35,20 +34,23 @@ StepCall call (Err Stopped) old new = new ≡ old
 StepCall call (Err (NoMemory back)) old new = ⊥
 StepCall call (Err Damaged) old new = ⊥
 
--- What the steps write, and where: what is in flight, after the tail's gate; that gate, open; the
--- next sectors of the new checkpoint, in the area of its half; that half's gate, open; and the
--- other half's gate, with the first gate of its journal, which follows it, both closed.
+-- The write of what is in flight, after the tail's gate.
 abbrev pub load_write : StateView → DeviceCall
 load_write view = Write (journal_at view.geometry view.half + (view.gate + 1)) (load_bytes command_format view.value.place (load_of (commit_state_of view)))
 
+-- The write of the tail's gate, open.
 abbrev pub gate_write : StateView → DeviceCall
 gate_write view = Write (journal_at view.geometry view.half + view.gate) open_gate
 
+-- The write of the next sectors of the new checkpoint, in the area of its half.
 abbrev pub chunk_write : StateView → DeviceCall
 chunk_write view = Write (area_at view.geometry view.half + view.written) (part (512 * view.written) (512 * next_sectors view) view.checkpoint)
 
+-- The write of that half's gate, open.
 abbrev pub half_write : StateView → DeviceCall
 half_write view = Write (gate_at view.geometry view.half) open_gate
 
+-- The write of the other half's gate and of the first gate of its journal, which follows it, both
+-- closed.
 abbrev pub close_write : StateView → DeviceCall
 close_write view = Write (gate_at view.geometry (other view.half)) (closed_gate ++ closed_gate)
