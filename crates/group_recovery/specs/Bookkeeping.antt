@@ -22,39 +22,44 @@ use Rattle.group_recovery.specs.declared.events.StepRefusal.TheVariants as why
 use Rattle.group_recovery.specs.Machine.{Machine, machine_of}
 use Rattle.group_recovery.specs.RunSteps.{RunView, IsRunStep}
 
--- The outcomes of the commands that aren't redeemed, by their places, which rise; how many pending
--- commands are in flight; whether the state has stopped; and the version of the half that counts.
+-- The fields of a state beside its machine that the events of a run change.
 pub record Bookkeeping : Type 0 where
+  -- The outcomes of the commands that are not redeemed, by the commands' places, which rise.
   pub outcomes : List (ℕ × Outcome)
+  -- The number of pending commands that are in flight.
   pub taken : ℕ
+  -- Whether the state has stopped.
   pub stopped : Bool
+  -- The format version of the half that counts.
   pub version : ℕ
 
+-- The bookkeeping of a state.
 abbrev pub bookkeeping_of : StateView → Bookkeeping
 bookkeeping_of view = record { outcomes = view.kept; taken = view.taken; stopped = view.stopped; version = view.version }
 
--- the place of the next command that is accepted, and the rows before its outcome: those after all
--- commands before it
+-- The place of the next command that is accepted.
 abbrev pub next_in : Machine → ℕ
 next_in machine = machine.place + length machine.pending
 
+-- The rows on which the outcome of the next command is judged: those after all commands before it.
 abbrev pub rows_before_next : Machine → List RowView
 rows_before_next machine = db_after store_format machine.committed machine.pending
 
--- one more outcome, and one less
+-- The bookkeeping with the outcome of one more place.
 abbrev pub with_outcome : ℕ → Outcome → Bookkeeping → Bookkeeping
 with_outcome place outcome books = record books { outcomes = insert_entry nat_cmp books.outcomes place outcome }
 
+-- The bookkeeping without the outcome of a place.
 abbrev pub without_outcome : ℕ → Bookkeeping → Bookkeeping
 without_outcome place books = record books { outcomes = kept_without place books.outcomes }
 
--- the number of commands in flight: the longest front of the pending ones that fits a group of this
--- version, or 0, for a seal
+-- The number of commands in flight is that of the longest front of the pending commands that fits a
+-- group of this version, or 0 for a seal.
 abbrev pub IsInFlight : ℕ → Machine → ℕ → Type 0
 IsInFlight version machine taken = IsLongestFront (limits_of version) machine.pending taken ⊎ (taken ≡ 0)
 
--- a device that fails stops the state, and so does a half that isn't as the state left it; any
--- other reply changes nothing
+-- The bookkeeping after a reply that is an error. A device that fails stops the state, and so does
+-- a half that is not as the state left it. Any other reply changes nothing.
 abbrev pub stopped_by : Reply → Bookkeeping → Bookkeeping
 stopped_by (reply.StepRefused why.Fault) books = record books { stopped = true }
 stopped_by (reply.StepRefused why.Damaged) books = record books { stopped = true }
@@ -62,9 +67,9 @@ stopped_by (reply.BeginRefused begin.Fault) books = record books { stopped = tru
 stopped_by (reply.BeginRefused begin.Damaged) books = record books { stopped = true }
 stopped_by _ books = books
 
--- The effect of an event, for this machine before it. A command is accepted at the next place, and
--- its outcome is kept until its ticket is redeemed; a group or a seal is staged, and published; a
--- new half counts, in the version that is written.
+-- The effect of an event on the bookkeeping, for this machine before the event. A command is
+-- accepted at the next place, and its outcome is kept until its ticket is redeemed. A group or a
+-- seal is staged, and published. A new half counts, in the version that is written.
 abbrev pub KeepsBooks : Event → Reply → Machine → Bookkeeping → Bookkeeping → Type 0
 KeepsBooks (event.Submit command) (reply.Accepted place) machine old new =
     (place ≡ next_in machine) × (new ≡ with_outcome place (outcome_of (rows_before_next machine) command) old)
@@ -79,12 +84,13 @@ KeepsBooks event.SyncHalf reply.Done machine old new = new ≡ record old { vers
 KeepsBooks event.Halt reply.Done machine old new = new ≡ record old { stopped = true }
 KeepsBooks _ reply machine old new = new ≡ stopped_by reply old
 
+-- Each step of a run keeps the bookkeeping as `KeepsBooks` says.
 abbrev pub EventsKeepTheBooks : Type 0
 EventsKeepTheBooks =
     (e : Event) (r : Reply) (old new : RunView) → IsRunStep e r old new
     → KeepsBooks e r (machine_of old.state) (bookkeeping_of old.state) (bookkeeping_of new.state)
 
--- a state that has stopped stays stopped
+-- A state that has stopped stays stopped.
 abbrev pub StopsAreForGood : Type 0
 StopsAreForGood =
     (e : Event) (r : Reply) (old new : RunView) → IsRunStep e r old new → old.state.stopped ≡ true → new.state.stopped ≡ true

@@ -18,7 +18,7 @@ use Rattle.group_core.specs.Redeeming.{outcome_at}
 use Rattle.group_core.specs.Submitting.{next_place}
 use Rattle.group_recovery.specs.RunSteps.{RunView}
 
--- the reply to a step that was refused
+-- The reply to a step that was refused.
 abbrev pub step_reply : {P : Type 0} → StepError P → Reply
 step_reply step.Fault = reply.StepRefused why.Fault
 step_reply step.Stopped = reply.StepRefused why.Stopped
@@ -26,13 +26,13 @@ step_reply (step.Stranger value) = reply.StepRefused why.Stranger
 step_reply (step.NoMemory value) = reply.StepRefused why.NoMemory
 step_reply step.Damaged = reply.StepRefused why.Damaged
 
--- an error that spends the value: no other error comes for a run's own value
+-- The error spends the value. A run's own value is refused by no other error.
 abbrev pub SpendsValue : {P : Type 0} → StepError P → Type 0
 SpendsValue step.Fault = Unit {0}
 SpendsValue step.Stopped = Unit {0}
 SpendsValue _ = ⊥
 
--- the flusher's value is held exactly where it is out, and its phase is the state's
+-- The flusher's value is held exactly where it is out, and its phase is the state's.
 abbrev pub HoldsGroup : HeldGroup → StateView → Type 0
 HoldsGroup group.None view = view.group.out ≡ false
 HoldsGroup (group.Staged value) view = (view.group.out ≡ true) × IsFlushTurn flush.Staged value view
@@ -41,7 +41,7 @@ HoldsGroup (group.Stable value) view = (view.group.out ≡ true) × IsFlushTurn 
 HoldsGroup (group.Opened value) view = (view.group.out ≡ true) × IsFlushTurn flush.Opened value view
 HoldsGroup (group.Durable value) view = (view.group.out ≡ true) × IsFlushTurn flush.Durable value view
 
--- the same for the checkpointer's value
+-- The checkpointer's value is held exactly where it is out, and its phase is the state's.
 abbrev pub HoldsPlan : HeldPlan → StateView → Type 0
 HoldsPlan plan.None view = view.plan.out ≡ false
 HoldsPlan (plan.Plan value) view = (view.plan.out ≡ true) × IsPlanTurn value view
@@ -50,40 +50,40 @@ HoldsPlan (plan.Switched value) view = (view.plan.out ≡ true) × IsCheckTurn c
 HoldsPlan (plan.Live value) view = (view.plan.out ≡ true) × IsCheckTurn check.Live value view
 HoldsPlan (plan.Closing value) view = (view.plan.out ≡ true) × IsCheckTurn check.Closing value view
 
--- a seal in flight waits for a half that is ready
+-- A seal in flight waits for a half that is ready.
 abbrev pub SealWaits : StateView → Type 0
 SealWaits view = view.group.out ≡ true → view.taken ≡ 0 → view.check ≡ check.Ready
 
--- a ticket of this state, for whose place an outcome is kept
+-- The ticket is of this state, and an outcome is kept for its place.
 pub record IsOwnTicket (view : StateView) (ticket : Ticket) : Type 0 where
   pub home : ticket.home ≡ view.home
   pub before : ticket.place < next_place view
   pub kept : IsSome (outcome_at ticket.place view.kept)
 
--- the k-th ticket
+-- The `k`-th ticket.
 abbrev pub held_at : ℕ → List (Option Ticket) → Option Ticket
 held_at k tickets = slice_index_or tickets k None
 
--- each ticket is of this state, and no two have the same place
+-- Each ticket is of this state, and no two have the same place.
 pub record HoldsTickets (tickets : List (Option Ticket)) (view : StateView) : Type 0 where
   pub each : (k : ℕ) (ticket : Ticket) → held_at k tickets ≡ Some ticket → IsOwnTicket view ticket
   pub apart : (i k : ℕ) (ticket other : Ticket) → held_at i tickets ≡ Some ticket → held_at k tickets ≡ Some other → ticket.place ≡ other.place → i ≡ k
 
--- the places of tickets
+-- The place of a ticket.
 abbrev pub ticket_place : Option Ticket → Option ℕ
 ticket_place None = None
 ticket_place (Some ticket) = Some ticket.place
 
--- no ticket is left
+-- No ticket is left.
 abbrev pub AllRedeemed : List (Option Ticket) → Type 0
 AllRedeemed tickets = (k : ℕ) → held_at k tickets ≡ None
 
--- a run as contracts see it
+-- A run as contracts see it.
 abbrev pub run_view : StateView → List (Option Ticket) → RunView
 run_view state tickets = record { state = state; tickets = map ticket_place tickets }
 
--- What holds for a run between its events: what it holds is of its state, and it holds each value
--- that is out.
+-- The invariant of a run between its events: the values and tickets that it holds are of its state,
+-- and it holds each value that is out.
 pub record IsHolding (view : StateView) (held : List (Option Ticket)) (held_group : HeldGroup) (held_plan : HeldPlan) : Type 0 where
   pub tickets : HoldsTickets held view
   pub group : HoldsGroup held_group view

@@ -8,21 +8,24 @@ use Rattle.seg_lookup.specs.Query.{QueryView}
 use Rattle.store_open.specs.PathStores.{store_format}
 use Rattle.group_core.specs.StateView.{StateView}
 
--- the committed rows; the commands accepted after them, in the order of their acceptance; and the
--- place of the first of these
+-- The machine that describes a state.
 pub record Machine : Type 0 where
+  -- The committed rows.
   pub committed : List RowView
+  -- The commands that are accepted and not committed yet, in the order of their acceptance.
   pub pending : List Command
+  -- The place of the first of these commands.
   pub place : ℕ
 
+-- The machine of a state.
 abbrev pub machine_of : StateView → Machine
 machine_of view = record { committed = view.value.db; pending = view.pending; place = view.value.place }
 
--- a command is accepted after the pending ones
+-- The machine after a command is accepted.
 abbrev pub machine_with_command : Machine → Command → Machine
 machine_with_command machine command = record machine { pending = machine.pending ++ command ∷ [] }
 
--- this number of the first pending commands are committed
+-- The machine after the first `n` pending commands are committed.
 abbrev pub committed_front : Machine → ℕ → Machine
 committed_front machine n = record {
   committed = db_after store_format machine.committed (take n machine.pending);
@@ -30,11 +33,11 @@ committed_front machine n = record {
   place = machine.place + length (take n machine.pending);
 }
 
--- the machine after a stop that keeps this number of the pending commands: they are committed, and
--- nothing is pending
+-- The machine after a stop that keeps the first `kept` pending commands: they are committed, and
+-- nothing is pending.
 abbrev pub reopened : Machine → ℕ → Machine
 reopened machine kept = record (committed_front machine kept) { pending = [] }
 
--- the rows that answer a lookup
+-- The rows that answer a lookup.
 abbrev pub served : Machine → QueryView → ℕ → List RowView
 served machine query now = answer_to machine.committed query now

@@ -16,44 +16,47 @@ use Rattle.group_recovery.specs.declared.events.Reply.{Reply}
 use Rattle.group_recovery.specs.declared.events.Reply.TheVariants as reply
 use Rattle.group_core.specs.StateView.{StateView}
 
--- the command that an event submitted, where its reply is that it was accepted; and those of a list
--- of events
+-- The command that an event submitted, where its reply is that it was accepted.
 abbrev pub accepted_by : Event → Reply → List Command
 accepted_by (event.Submit command) (reply.Accepted place) = command ∷ []
 accepted_by _ _ = []
 
+-- The commands that a list of events submitted and that were accepted.
 abbrev pub accepted_in : List Event → List Reply → List Command
 accepted_in [] replies = []
 accepted_in (e ∷ events) [] = []
 accepted_in (e ∷ events) (r ∷ replies) = accepted_by e r ++ accepted_in events replies
 
--- the order of the lock: the commands that are pending at the start, and then those that are
--- accepted
+-- The order of the lock: the commands that are pending at the start, and then those that are
+-- accepted.
 abbrev pub lock_order : StateView → List Event → List Reply → List Command
 lock_order start events replies = start.pending ++ accepted_in events replies
 
--- At the end a front of that order is committed, which is all that was shown since, and the rest of
--- the order is pending.
+-- A front of the order is committed at the end, and the rest of the order is pending. The front is
+-- all that was shown since the start.
 pub record IsFrontCommitted (start : StateView) (order : List Command) (end : StateView) : Type 0 where
   pub done : ℕ
   pub inside : done ≤ length order
   pub value : end.value ≡ value_after store_format start.value (take done order)
   pub pending : end.pending ≡ drop done order
 
--- the image opens to the rows that were committed at the start with a front of this order, of at
--- least this number of commands
+-- The image opens to the rows that were committed at the start, after a front of this order that
+-- has at least `least` commands.
 pub record OpensToPrefix (start : StateView) (order : List Command) (least : ℕ) (image : List ℕ) : Type 0 where
   pub kept : ℕ
   pub enough : least ≤ kept
   pub inside : kept ≤ length order
   pub opens : OpensTo store_format latest image (value_after store_format start.value (take kept order))
 
--- What a run leaves: a front of the order is committed; at each moment since its entry every image
--- opens to a front, and at its exit to one that has all that is committed then. The sizes stay, and
--- at every moment the bytes after the store are unchanged.
+-- What a run leaves.
 pub record RunLeaves (start : StateView) (order : List Command) (end : StateView) : Type 0 where
+  -- A front of the order is committed.
   pub committed : IsFrontCommitted start order end
+  -- At each moment since the run's entry, every image opens to a front.
   pub moments : Stretch start.disk end.disk (OpensToPrefix start order 0)
+  -- At the run's exit, every image opens to a front that has all that is committed then.
   pub exit : IsHonest end.disk → EveryImage end.disk.history.now (OpensToPrefix start order (end.value.place - start.value.place))
+  -- The sizes are unchanged.
   pub geometry : end.geometry ≡ start.geometry
+  -- At every moment, the bytes after the store are unchanged.
   pub behind : Stretch start.disk end.disk (IsFromImage start.disk.history.now (SameBehind start.geometry))

@@ -29,24 +29,27 @@ use Rattle.group_core.specs.Redeeming.{outcome_at, kept_without, halted}
 use Rattle.group_core.specs.Submitting.{MayBeSubmitted, CheckpointHasRoom, IsSubmitRefused, next_place, with_pending_command}
 use Rattle.group_recovery.specs.SameDevice.{DeviceGoesOn}
 
--- a state, and the places of the commands that the run accepted, in their order; `None` once a
--- ticket is redeemed
+-- A run as contracts see it.
 pub record RunView : Type 0 where
+  -- The state.
   pub state : StateView
+  -- The places of the commands that the run accepted, in their order. A place is `None` once its
+  -- ticket is redeemed.
   pub tickets : List (Option ℕ)
 
--- the place of the k-th ticket
+-- The place of the `k`-th ticket.
 abbrev pub ticket_at : ℕ → RunView → Option ℕ
 ticket_at k run = slice_index_or run.tickets k None
 
--- the flusher's value is out, at this phase; the same for the checkpointer's value; and for its
--- plan, complete or not
+-- The flusher's value is out, at this phase.
 abbrev pub IsGroupOut : Flush → StateView → Type 0
 IsGroupOut phase view = (view.group.out ≡ true) × (view.flush ≡ phase)
 
+-- The checkpointer's value is out, at this phase.
 abbrev pub IsPlanOutAt : Check → StateView → Type 0
 IsPlanOutAt phase view = (view.plan.out ≡ true) × (view.check ≡ phase)
 
+-- The checkpointer's plan is out, and its `done` is this.
 abbrev pub IsPlanOut : Bool → StateView → Type 0
 IsPlanOut whole view = (view.plan.out ≡ true) × (view.check ≡ check.Planned) × (is_whole view ≡ whole)
 
@@ -77,25 +80,26 @@ CheckEvent has after failed (reply.StepRefused why.Fault) old new =
 CheckEvent has after failed reply.NoValue old new = (¬ has) × (new ≡ old)
 CheckEvent has after failed _ old new = ⊥
 
--- staging, and beginning a checkpoint, which take no value
+-- Staging, which takes no value.
 abbrev pub StageEvent : Reply → StateView → StateView → Type 0
 StageEvent reply.Done old new = (value : Commit AtStaged) × Stages (Ok value) old new
 StageEvent (reply.StageRefused e) old new = Stages (Err e) old new
 StageEvent _ old new = ⊥
 
+-- Beginning a checkpoint, which takes no value.
 abbrev pub BeginEvent : Reply → StateView → StateView → Type 0
 BeginEvent reply.Done old new = (plan : Commit AtPlan) × BeginsCheckpoint (Ok plan) old new
 BeginEvent (reply.BeginRefused e) old new = BeginsCheckpoint (Err e) old new
 BeginEvent _ old new = ⊥
 
--- publishing
+-- Publishing, which spends the flusher's value.
 abbrev pub PublishEvent : Reply → StateView → StateView → Type 0
 PublishEvent reply.Done old new = IsGroupOut flush.Durable old × IsPublished old new
 PublishEvent (reply.PublishRefused publish.NoMemory) old new = IsGroupOut flush.Durable old × (1 ≤ old.taken) × (new ≡ old)
 PublishEvent reply.NoValue old new = (¬ IsGroupOut flush.Durable old) × (new ≡ old)
 PublishEvent _ old new = ⊥
 
--- stopping
+-- Stopping the state.
 abbrev pub HaltEvent : Reply → StateView → StateView → Type 0
 HaltEvent reply.Done old new = new ≡ halted old
 HaltEvent _ old new = ⊥
@@ -107,8 +111,8 @@ LookupEvent query now (reply.Answer found) old new = (found.items ≡ segments_o
 LookupEvent query now reply.AnswerRefused old new = (1 ≤ length (served (machine_of old) (query_view query) now)) × (new ≡ old)
 LookupEvent query now _ old new = ⊥
 
--- A command is accepted: its place is the next one, and the run has its ticket. Or it is refused,
--- and nothing changes.
+-- A command is accepted at the next place, and the run has its ticket, or it is refused, and
+-- nothing changes.
 abbrev pub SubmitEvent : Command → Reply → RunView → RunView → Type 0
 SubmitEvent command (reply.Accepted place) old new =
     MayBeSubmitted command old.state × CheckpointHasRoom command old.state × (place ≡ next_place old.state)
@@ -116,7 +120,7 @@ SubmitEvent command (reply.Accepted place) old new =
 SubmitEvent command (reply.Refused e) old new = IsSubmitRefused e command old.state × (new ≡ old)
 SubmitEvent command _ old new = ⊥
 
--- the k-th ticket is redeemed, and the outcome of its place is no longer kept
+-- The run after the `k`-th ticket is redeemed: the outcome of its place is no longer kept.
 abbrev pub redeemed_at : ℕ → ℕ → RunView → RunView
 redeemed_at k place old = record {
   state = record old.state { kept = kept_without place old.state.kept };
@@ -136,10 +140,11 @@ RedeemEvent k (reply.Unknown place) old new =
 RedeemEvent k reply.NoValue old new = (ticket_at k old ≡ None) × (new ≡ old)
 RedeemEvent k _ old new = ⊥
 
--- an event that leaves the tickets unchanged
+-- The event leaves the tickets unchanged.
 abbrev pub OnState : (StateView → StateView → Type 0) → RunView → RunView → Type 0
 OnState step old new = (new.tickets ≡ old.tickets) × step old.state new.state
 
+-- The step of each event, by its reply.
 abbrev pub IsRunStep : Event → Reply → RunView → RunView → Type 0
 IsRunStep (event.Submit command) reply old new = SubmitEvent command reply old new
 IsRunStep event.Stage reply old new = OnState (StageEvent reply) old new
@@ -165,7 +170,7 @@ IsRunStep event.SyncClose reply old new =
 IsRunStep (event.Lookup query now) reply old new = OnState (LookupEvent query now reply) old new
 IsRunStep event.Halt reply old new = OnState (HaltEvent reply) old new
 
--- the events make these steps one after the other, with these replies, and all on one device
+-- The events make these steps one after the other, with these replies, and all on one device.
 abbrev pub IsRun : List Event → List Reply → RunView → RunView → Type 0
 IsRun [] [] old new = new ≡ old
 IsRun [] (r ∷ replies) old new = ⊥

@@ -9,23 +9,24 @@ use Rattle.group_core.specs.StateView.{StateView}
 use Rattle.group_recovery.specs.RunSteps.{RunView, IsRun}
 use Rattle.group_recovery.specs.RunLeaves.{accepted_in, lock_order, RunLeaves}
 
--- a state is stopped, and then each step that a value may be at is tried, which spends the value:
--- the flusher's, from the first to publishing, and the checkpointer's
+-- The events that end a run's values. The state is stopped, and then each step that a value may be
+-- at is tried, which spends the value: the flusher's, from the first to publishing, and the
+-- checkpointer's.
 abbrev pub ending_events : List Event
 ending_events =
     event.Halt ∷ event.WriteGroup ∷ event.SyncGroup ∷ event.OpenGate ∷ event.SyncGate ∷ event.Publish
     ∷ event.WriteChunk ∷ event.SyncChunks ∷ event.OpenHalf ∷ event.SyncHalf ∷ event.CloseHalf ∷ event.SyncClose ∷ []
 
--- this number of the first tickets are redeemed, each once
+-- The events that redeem the first tickets, each once.
 abbrev pub redeeming_events : ℕ → List Event
 redeeming_events zero = []
 redeeming_events (suc n) = redeeming_events n ++ event.Redeem n ∷ []
 
--- the events that wind up a run with this number of tickets
+-- The events that wind up a run with this number of tickets.
 abbrev pub winding_events : ℕ → List Event
 winding_events tickets = ending_events ++ redeeming_events tickets
 
--- the run has done these events, which accept no command
+-- The run has done these events, which accept no command.
 pub record HasWound (old new : RunView) : Type 0 where
   pub events : List Event
   pub replies : List Reply
@@ -34,18 +35,18 @@ pub record HasWound (old new : RunView) : Type 0 where
   pub none : accepted_in events replies ≡ []
   pub leaves : RunLeaves old.state (lock_order old.state events replies) new.state
 
--- a device opens to the rows that a state shows, at their place, where nothing is pending
+-- A device opens to the rows that a state shows, at their place, where nothing is pending.
 abbrev pub OpensAtRest : StateView → Disk → Type 0
 OpensAtRest view disk = IsHonest disk → view.pending ≡ [] → HoldsStoreOf view.value disk
 
--- the device of a state in which no outcome is kept and no value is out, or the run, where
--- something is left
+-- The device is returned of a state in which no outcome is kept and no value is out. Otherwise the
+-- run is returned.
 abbrev pub HandsOutDevice : {D : Type 0} → (D → Disk) → Result D RunView → RunView → Type 0
 HandsOutDevice disk_of (Ok device) run =
     HasNothingOut run.state × (disk_of device ≡ run.state.disk) × OpensAtRest run.state (disk_of device)
 HandsOutDevice disk_of (Err back) run = (¬ HasNothingOut run.state) × (back ≡ run)
 
--- the same after more events of the run
+-- A run is wound up: its last events are done, and then its device or the run is returned.
 pub record WindsUp {D : Type 0} (disk_of : D → Disk) (result : Result D RunView) (old : RunView) : Type 0 where
   pub new : RunView
   pub wound : HasWound old new

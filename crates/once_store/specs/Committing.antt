@@ -15,16 +15,16 @@ use Rattle.group_core.specs.Publishing.{group_committed, journal_sealed}
 use Rattle.group_core.specs.Redeeming.{outcome_at, redeemed}
 use Rattle.once_store.specs.Resting.{IsSteady, HasOnePending}
 
--- The one pending command is durable; or a seal is, which there is only where the journal has a
--- group already.
+-- The one pending command is durable, or a seal is. There is a seal only where the journal already
+-- has a group.
 pub record IsNextDurable (value : Commit AtDurable) (old new : StateView) : Type 0 where
   pub turn : IsFlushTurn Durable value new
   pub taken : new.taken ≤ 1
   pub seal : new.taken ≡ 0 → 1 ≤ old.gate
   pub state : new ≡ record old { disk = new.disk; taken = new.taken; flush = Durable; group = new.group }
 
--- What publishing and redeeming answer: a group's command is committed; a seal leaves its ticket
--- waiting; and where memory runs out, for a group alone, nothing changes.
+-- What publishing and redeeming return. A group's command is committed. A seal leaves its ticket
+-- waiting. Where memory is refused, which happens for a group alone, nothing changes.
 abbrev pub PublishesAndRedeems : {N : Type 0} → Ticket → Commit AtDurable → Result (Redeemed N) (Ticket × Commit AtDurable)
     → StateView → StateView → Type 0
 PublishesAndRedeems ticket durable (Ok (Committed receipt)) old new =
@@ -34,14 +34,14 @@ PublishesAndRedeems ticket durable (Ok (Unknown place)) old new = ⊥
 PublishesAndRedeems ticket durable (Ok (Stranger back)) old new = ⊥
 PublishesAndRedeems ticket durable (Err (back, value)) old new = (old.taken ≡ 1) × (back ≡ ticket) × (value ≡ durable) × (new ≡ old)
 
--- what the layer above sees stays: the rows after all accepted commands, and the place of the next
--- one
+-- What the layer above sees is unchanged: the rows after all accepted commands, the place of the
+-- next command, and the home.
 pub record SameAbove (old new : StateView) : Type 0 where
   pub rows : accepted_rows new ≡ accepted_rows old
   pub place : next_place new ≡ next_place old
   pub home : new.home ≡ old.home
 
--- the pending command is committed, and this is its outcome
+-- The pending command is committed, and this is its outcome.
 pub record IsOnePendingCommitted (outcome : Outcome) (old new : StateView) : Type 0 where
   pub outcome_is : outcome_at old.value.place old.kept ≡ Some outcome
   pub steady : IsSteady new
@@ -50,13 +50,13 @@ pub record IsOnePendingCommitted (outcome : Outcome) (old new : StateView) : Typ
   pub kept : new.kept ≡ []
   pub same : SameAbove old new
 
--- its group is durable, and this is the value; or nothing is in flight
+-- The value of a durable group is held, or nothing is in flight.
 abbrev pub HoldsDurable : Option (Commit AtDurable) → StateView → Type 0
 HoldsDurable None view = view.flush ≡ Resting
 HoldsDurable (Some value) view = IsFlushTurn Durable value view × (view.taken ≡ 1) × (view.check ≡ Ready)
 
--- the command is still pending, and its ticket comes back, with the value of its group where that
--- is durable
+-- The command is still pending, and its ticket is returned, with the value of its group where the
+-- group is durable.
 pub record IsHeldBack (back : Ticket) (durable : Option (Commit AtDurable)) (ticket : Ticket) (old new : StateView) : Type 0 where
   pub same_ticket : back ≡ ticket
   pub one : HasOnePending ticket new
@@ -65,8 +65,7 @@ pub record IsHeldBack (back : Ticket) (durable : Option (Commit AtDurable)) (tic
   pub kept : new.kept ≡ old.kept
   pub same : SameAbove old new
 
--- What a step that commits nothing keeps: what is committed, and the pending command with its
--- outcome.
+-- A step that commits nothing keeps what is committed, and the pending command with its outcome.
 pub record IsCarried (old new : StateView) : Type 0 where
   pub value : new.value ≡ old.value
   pub pending : new.pending ≡ old.pending

@@ -6,17 +6,17 @@ use Rattle.group_core.specs.StateView.{StateView}
 use Rattle.group_core.specs.Steps.{spent}
 use Rattle.once_store.specs.Resting.{IsSteady}
 
--- the new checkpoint's bytes are whole sectors, of which no more are written than there are
+-- The new checkpoint's bytes are whole sectors, and no more are written than there are.
 pub record HasWholeSectors (view : StateView) : Type 0 where
   pub sectors : ℕ
   pub whole : length view.checkpoint ≡ 512 * sectors
   pub written : view.written ≤ sectors
 
--- the new half counts, and the other one is ready
+-- The new half counts, and the other one is ready.
 pub record IsFoldedFrom (old new : StateView) : Type 0 where
   pub state : new ≡ record old { disk = new.disk; check = Ready; plan = spent old.plan; epoch = old.epoch + 1; version = latest }
 
--- a checkpoint was made
+-- The checkpoint of a sealed half was made.
 pub record IsFolded (old new : StateView) : Type 0 where
   pub plan : new.plan.out ≡ false
   pub state : new ≡ record old {
@@ -29,7 +29,7 @@ pub record IsFolded (old new : StateView) : Type 0 where
     written = new.written;
   }
 
--- A checkpoint may be made: no plan is out, and either no journal is sealed or one is, and an epoch
+-- A checkpoint may be made: no plan is out, and either no journal is sealed, or one is and an epoch
 -- is left.
 pub record MayFold (view : StateView) : Type 0 where
   pub going : view.stopped ≡ false
@@ -37,11 +37,12 @@ pub record MayFold (view : StateView) : Type 0 where
   pub check : (view.check ≡ Ready) ⊎ (view.check ≡ Sealed)
   pub epoch : view.check ≡ Sealed → view.epoch < 2 ^ 64 - 1
 
--- no journal was sealed, and nothing has changed; or one was, and its checkpoint was made
+-- No journal was sealed and nothing has changed, or a journal was sealed and its checkpoint was
+-- made.
 abbrev pub IsReadyOrFolded : StateView → StateView → Type 0
 IsReadyOrFolded old new = ((old.check ≡ Ready) × (new ≡ old)) ⊎ ((old.check ≡ Sealed) × IsFolded old new)
 
--- no journal is sealed any more: where one was, its checkpoint was made
+-- No journal is sealed any more. Where one was, its checkpoint was made.
 pub record IsRoomMade (old new : StateView) : Type 0 where
   pub steady : IsSteady new
   pub ready : new.check ≡ Ready
@@ -55,7 +56,7 @@ pub record IsRoomMade (old new : StateView) : Type 0 where
     written = new.written;
   }
 
--- the device was read, and nothing else has changed
+-- The device was read, and nothing else has changed.
 pub record OnlyDeviceWasRead (old new : StateView) : Type 0 where
   pub steady : IsSteady new
   pub state : new ≡ record old { disk = new.disk }

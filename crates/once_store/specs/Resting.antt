@@ -10,12 +10,12 @@ use Rattle.group_core.specs.declared.ticket.Ticket.{Ticket}
 use Rattle.group_core.specs.StateView.{StateView}
 use Rattle.group_core.specs.Redeeming.{outcome_at, kept_without}
 
--- 4,096 sectors for each area and for each journal
+-- The sizes of a store in memory: 4,096 sectors for each area and for each journal.
 abbrev pub sizes : Geometry
 sizes = record { checkpoint = 4096; journal = 4096 }
 
 -- The checkpointer rests: no journal is sealed, or one is and the tail's journal is empty. A seal
--- comes only after a group, so that there were no more seals than committed commands.
+-- comes only after a group, so that there are never more seals than committed commands.
 abbrev pub CheckRests : Check → StateView → Type 0
 CheckRests Ready view = (view.epoch ≤ view.value.place + 1) × (1 ≤ view.gate → view.epoch ≤ view.value.place)
 CheckRests Sealed view = (view.epoch ≤ view.value.place) × (view.gate ≡ 0)
@@ -35,7 +35,7 @@ pub record IsSteady (view : StateView) : Type 0 where
   pub plan : view.plan.out ≡ false
   pub check : CheckRests view.check view
 
--- One command is pending, and this is its ticket: its outcome is kept, and no other is.
+-- One command is pending, and this is its ticket. Its outcome is kept, and no other is.
 pub record HasOnePending (ticket : Ticket) (view : StateView) : Type 0 where
   pub command : Command
   pub pending : view.pending ≡ command ∷ []

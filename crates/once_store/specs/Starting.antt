@@ -6,7 +6,7 @@ use Rattle.group_core.specs.StateView.{StateView}
 use Rattle.once_store.specs.Resting.{sizes}
 use Rattle.once_store.specs.OnceView.{once_view, no_rows, IsLone}
 
--- a new store, opened
+-- A new store, as it is opened.
 pub record IsFirst (store : StoreView) : Type 0 where
   pub geometry : store.geometry ≡ sizes
   pub head : store.head ≡ first_head
@@ -16,7 +16,7 @@ pub record IsFirst (store : StoreView) : Type 0 where
   pub rows : store.rows ≡ []
   pub whole : store.broken ≡ false
 
--- a state of it
+-- The state of a new store.
 pub record IsFirstState (state : StateView) : Type 0 where
   pub lone : IsLone state None
   pub empty : once_view state ≡ no_rows

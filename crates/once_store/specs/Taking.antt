@@ -1,4 +1,4 @@
--- What taking a command answers, and what it leaves.
+-- What taking a command returns, and what it leaves.
 use Rattle.std.specs.Prelude.{◌≡◌, ◌≢◌, ◌⊎◌, ◌+◌, ◌*◌, ◌≤◌, List, Result, Ok, Err}
 use Rattle.path_rows.specs.Database.{RowView, rows_len}
 use Rattle.path_rows.specs.Command.{database_after, outcome_of}
@@ -9,22 +9,23 @@ use Rattle.once_store.specs.declared.error.TakeError.{TakeError}
 use Rattle.once_store.specs.declared.error.TakeError.TheVariants.{NoMemory, Full, Exhausted}
 use Rattle.once_store.specs.OnceView.{OnceView}
 
--- rows have room in a checkpoint area of 4,096 sectors
+-- The rows have room in a checkpoint area of 4,096 sectors.
 abbrev pub FitStore : List RowView → Type 0
 FitStore rows = 32 + rows_len rows ≤ 512 * 4096
 
+-- The view after a command is taken.
 abbrev pub once_view_with_command : OnceView → Command → OnceView
 once_view_with_command old command = record { rows = database_after old.rows command; place = old.place + 1 }
 
--- the command is taken at the next place: one is left, and the rows after it fit
+-- The command is taken at the next place: a place is left, and the rows after the command fit.
 pub record TakesCommand (old : OnceView) (command : Command) (new : OnceView) : Type 0 where
   pub left : old.place ≢ last_place
   pub fits : FitStore (database_after old.rows command)
   pub taken : new ≡ once_view_with_command old command
 
--- The command is taken, with its place and its outcome; or the last place is reached, or else the
--- rows after it don't fit, and nothing changes. Where memory runs out nothing changes, or it is
--- taken, and its outcome isn't reported.
+-- The command is taken, with its place and its outcome. Otherwise nothing changes: the last place
+-- is reached, or the rows after the command do not fit. Where memory is refused, either nothing
+-- changes, or the command is taken and its outcome is not reported.
 abbrev pub MayTake : OnceView → Command → Result Taken TakeError → OnceView → Type 0
 MayTake old command (Ok taken) new =
     (taken ≡ record { place = old.place; outcome = outcome_of old.rows command }) × TakesCommand old command new
