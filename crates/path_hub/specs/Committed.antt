@@ -1,18 +1,17 @@
--- What a hub answers to a command that was handed in.
+-- What a hub returns for a command that was handed in.
 use Rattle.std.specs.Prelude.{◌≡◌, ℕ, ◌<◌, MatchOption}
 use Rattle.path_rows.specs.declared.command.Command.{Command}
 use Rattle.group_core.specs.declared.ticket.Receipt.{Receipt}
 use Rattle.path_hub.specs.declared.error.HubError.{HubError}
 use Rattle.path_hub.specs.declared.error.HubError.TheVariants as hub
 
--- What a hub's receipt of a command says: the receipt shows that command, and its note a place
--- above the command's own.
+-- A hub's receipt of a command shows that command, and its note is a place above the command's own.
 pub record ReceiptShows (handed : Command) (receipt : Receipt ℕ) : Type 0 where
   pub command : receipt.command.value ≡ handed
   pub note : MatchOption receipt.note ⊥ (λ shown. receipt.place < shown)
 
--- why a command that was handed in has no receipt: it was not accepted, or the state stopped before
--- it was committed
+-- Why a command that was handed in has no receipt: it was not accepted, or the state stopped before
+-- it was committed.
 abbrev pub RefusesCommand : HubError → Type 0
 RefusesCommand hub.NoMemory = ⊥
 RefusesCommand hub.NoReader = ⊥

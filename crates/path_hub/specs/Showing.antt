@@ -4,9 +4,11 @@ use Rattle.path_rows.specs.Database.{RowView}
 use Rattle.path_rows.specs.declared.command.Command.{Command}
 use Rattle.store_layout.specs.Opening.{StoreValue}
 
--- the groups that were published, the rows and the place that they lead to, and which commands of
--- the next group the writer has already
+-- A hub's showcase as contracts see it.
 pub record Showing : Type 0 where
+  -- The groups that were published.
   pub groups : List (List Command)
+  -- The rows and the place after those groups.
   pub value : StoreValue (List RowView)
+  -- The commands of the next group that the writer already has.
   pub owed : List Command

@@ -12,7 +12,7 @@ use Rattle.store_layout.specs.StoreValues.{value_after}
 use Rattle.store_open.specs.PathStores.{store_format}
 use Rattle.path_hub.specs.declared.rule.SeenGroups.{SeenGroups}
 
--- rows and their place after one command more
+-- The rows and their place after one more command.
 abbrev pub value_with_command : StoreValue (List RowView) → Command → StoreValue (List RowView)
 value_with_command value command = record { db = database_after value.db command; place = value.place + 1 }
 
@@ -20,37 +20,37 @@ value_with_command value command = record { db = database_after value.db command
 abbrev pub shown_after : StoreValue (List RowView) → List (List Command) → StoreValue (List RowView)
 shown_after opening groups = fold (value_after store_format) opening groups
 
--- no group is empty
+-- No group is empty.
 abbrev pub AreGroups : List (List Command) → Type 0
 AreGroups groups = AllByRecursion (λ group. 1 ≤ length group) groups
 
--- one group more, where it isn't empty
+-- The groups with one more, where that one is not empty.
 abbrev pub groups_with : List (List Command) → List Command → List (List Command)
 groups_with groups [] = groups
 groups_with groups (command ∷ more) = groups ++ (command ∷ more) ∷ []
 
--- a seat that has seen nothing
+-- The view of a seat that has seen nothing.
 abbrev pub newcomer : SeenGroups
 newcomer = record { groups = [] }
 
--- this is what is shown after these groups, of which none is empty
+-- This value is shown after these groups, of which none is empty.
 pub record IsShownAfter (opening value : StoreValue (List RowView)) (groups : List (List Command)) : Type 0 where
   pub is : value ≡ shown_after opening groups
   pub whole : AreGroups groups
 
--- The readers' rule: there are groups after which this is shown, and each seat has seen a front of
--- them.
+-- The readers' rule: there are groups after which this value is shown, and each seat has seen a
+-- front of them.
 pub record KeepsRule (opening value : StoreValue (List RowView)) (views : List SeenGroups) : Type 0 where
   pub groups : List (List Command)
   pub shown : IsShownAfter opening value groups
   pub seats : (seat : ℕ) (view : SeenGroups) → get_elem? views seat ≡ some view → IsPrefix view.groups groups
 
--- What a reader's step says: the reader has then seen all groups after which this is shown, and
--- they begin with those that it had seen.
+-- A reader's step: the reader has then seen all groups after which the value is shown, and they
+-- begin with those that it had seen.
 pub record IsSeen (opening : StoreValue (List RowView)) (old : SeenGroups) (before after : StoreValue (List RowView)) (new : SeenGroups) : Type 0 where
   pub shown : IsShownAfter opening after new.groups
   pub later : IsPrefix old.groups new.groups
 
--- what the writer's step says: the writer has then seen one group more
+-- The writer's step: the writer has then seen one more group.
 abbrev pub HasSeenGroup : List Command → SeenGroups → StoreValue (List RowView) → StoreValue (List RowView) → SeenGroups → Type 0
 HasSeenGroup group old before after new = new.groups ≡ old.groups ++ group ∷ []
