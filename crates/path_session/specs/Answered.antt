@@ -1,4 +1,4 @@
--- What a service over a hub answers to a message, and what it is then.
+-- What a service over a hub answers to a message, and what the service is then.
 use Rattle.std.specs.Prelude.{◌≡◌, ℕ, ◌<◌, ◌≤◌, ◌⊎◌, List, length, Option, Some, None, Result, Ok, Err, IsOk}
 use mathlib.Core.List.{IsPrefix}
 use Rattle.seg_slots.specs.declared.error.SegError.{SegError}
@@ -27,22 +27,29 @@ use Rattle.reply_codes.specs.Codes.{memory_code, reader_code, stopped_code, seg_
 use Rattle.reply_codes.specs.Checking.{first_refusal}
 use Rattle.path_session.specs.Serving.{Serving, at_moment}
 
--- a refusal, which changes nothing
+-- The reply is a refusal, and nothing changed.
 abbrev pub IsRefusedWithCode : ℕ → Serving → ReplyView → Serving → Type 0
 IsRefusedWithCode code old reply new = (reply ≡ Refused code) × (new ≡ old)
 
 -- ---- commands
 
--- The command was committed: its receipt is kept, without its note, and the acknowledgement has the
--- receipt's place and outcome; and more than that place was seen.
+-- The command was committed.
 pub record AcknowledgesCommit (old : Serving) (c : Command) (ack : Ack) (new : Serving) : Type 0 where
+  -- The hub's receipt, without its note.
   pub receipt : Receipt ℕ
+  -- The service keeps the receipt, and what it has seen may grow.
   pub kept : new ≡ record old { seen = new.seen; last = Some receipt }
+  -- The receipt shows the command.
   pub shows : receipt.command.value ≡ c
+  -- The acknowledgement has the receipt's place.
   pub place : ack.place ≡ receipt.place
+  -- The acknowledgement has the receipt's outcome.
   pub outcome : ack.outcome ≡ receipt.outcome
+  -- The kept receipt has no note.
   pub learnt : receipt.note ≡ None
+  -- The service has seen more than the command's place.
   pub above : receipt.place < new.seen
+  -- The service has seen no less than before.
   pub grows : old.seen ≤ new.seen
 
 -- The reply is an acknowledgement of the command.
@@ -56,23 +63,25 @@ pub record IsNotAccepted (old : Serving) (reply : ReplyView) (new : Serving) : T
   pub why : SubmitError
   pub refused : IsRefusedWithCode (submit_code why) old reply new
 
--- The command was committed; or it was not accepted, or the store stopped before it was committed,
--- and nothing changed.
+-- The command was committed. Otherwise it was not accepted, or the store stopped before it was
+-- committed, and nothing changed.
 abbrev pub AnswersCommand : (Ack → ReplyView) → Serving → Command → ReplyView → Serving → Type 0
 AnswersCommand taken old c reply new =
     IsAcknowledged taken old c reply new ⊎ (IsNotAccepted old reply new ⊎ IsRefusedWithCode stopped_code old reply new)
 
+-- A registration whose segments were checked is refused, or its command is answered.
 abbrev pub AnswersChecked : Serving → List RowView → Option CheckError → ReplyView → Serving → Type 0
 AnswersChecked old rows None reply new = AnswersCommand Registered old (command.Register rows) reply new
 AnswersChecked old rows (Some e) reply new = IsRefusedWithCode (check_code e) old reply new
 
--- The clock is asked for a registration that was read, whose segments are checked at the moment
--- that it gave.
+-- The clock is asked for a registration that was read, and its segments are checked at the moment
+-- that the clock gave.
 abbrev pub AnswersRegistration : Serving → Result (List RowView) SegError → ReplyView → Serving → Type 0
 AnswersRegistration old (Ok rows) reply new =
     AnswersChecked (at_moment old new.moment) rows (first_refusal old.verifies new.moment rows) reply new
 AnswersRegistration old (Err e) reply new = IsRefusedWithCode (seg_code e) old reply new
 
+-- A removal that was read is answered as its command.
 abbrev pub AnswersRemoval : Serving → List ℕ → Result SegType SegError → ReplyView → Serving → Type 0
 AnswersRemoval old id (Ok kind) reply new = AnswersCommand Removed old (command.Remove kind id) reply new
 AnswersRemoval old id (Err e) reply new = IsRefusedWithCode (seg_code e) old reply new
@@ -80,13 +89,13 @@ AnswersRemoval old id (Err e) reply new = IsRefusedWithCode (seg_code e) old rep
 -- ---- lookups
 
 module _ (opening : StoreValue (List RowView)) where
-  -- the rows that a query shows at a moment, of what a hub that opened with this value shows after
-  -- these groups
+  -- The rows that a query shows at a moment, of what a hub that opened with this value shows after
+  -- these groups.
   abbrev pub found_after : List (List Command) → QueryView → ℕ → List RowView
   found_after groups query moment = answer_to (shown_after opening groups).db query moment
 
-  -- The reader was shown what is published: all groups that it was shown before, and maybe more.
-  -- The place of that is no less than what it had seen, and is what it has then seen.
+  -- The reader was shown what is published: all groups that it was shown before, and maybe more. It
+  -- has then seen the place of that, which is no less than what it had seen.
   pub record HasLooked (old new : Serving) : Type 0 where
     pub kept : new ≡ record old { groups = new.groups; seen = place_after opening new.groups }
     pub later : IsPrefix old.groups new.groups
@@ -97,7 +106,7 @@ module _ (opening : StoreValue (List RowView)) where
     pub looked : HasLooked old new
     pub replied : reply ≡ Found query.kind (segments_of (found_after new.groups query new.moment))
 
-  -- Memory ran out for them.
+  -- The segments were refused memory.
   pub record LacksMemory (old : Serving) (query : QueryView) (reply : ReplyView) (new : Serving) : Type 0 where
     pub looked : HasLooked old new
     pub some : 1 ≤ length (found_after new.groups query new.moment)
@@ -109,37 +118,39 @@ module _ (opening : StoreValue (List RowView)) where
     pub later : IsPrefix old.groups new.groups
     pub refused : reply ≡ Refused reader_code
 
+  -- A lookup is answered with segments, or refused for memory or for a reader.
   abbrev pub LooksUp : Serving → QueryView → ReplyView → Serving → Type 0
   LooksUp old query reply new = RepliesWithSegments old query reply new ⊎ (LacksMemory old query reply new ⊎ LacksReader old reply new)
 
-  -- The clock is asked for a lookup that was classified, which is answered at the moment that it
-  -- gave.
+  -- The clock is asked for a lookup that was classified, and the lookup is answered at the moment
+  -- that the clock gave.
   abbrev pub AnswersQuery : Serving → Result QueryView LookupError → ReplyView → Serving → Type 0
   AnswersQuery old (Ok query) reply new = LooksUp (at_moment old new.moment) query reply new
   AnswersQuery old (Err e) reply new = IsRefusedWithCode (lookup_code e) old reply new
 
+  -- A lookup that was read is classified and answered.
   abbrev pub AnswersLookup : Serving → Result (ℕ × ℕ) SegError → ReplyView → Serving → Type 0
   AnswersLookup old (Ok ends) reply new = AnswersQuery old (query_of old.roster ends.0 ends.1) reply new
   AnswersLookup old (Err e) reply new = IsRefusedWithCode (seg_code e) old reply new
 
   -- ---- messages
 
-  -- One message, which is read, checked or classified, and passed to the hub: the first refusal is
-  -- the reply.
+  -- One message is read, checked or classified, and passed to the hub. The first refusal is the
+  -- reply.
   unfoldable pub IsAnswered : Serving → MessageView → ReplyView → Serving → Type 0
   IsAnswered old (Register body) reply new = AnswersRegistration old (registration_decoding body) reply new
   IsAnswered old (Lookup body) reply new = AnswersLookup old (request_decoding body) reply new
   IsAnswered old (Purge moment) reply new = AnswersCommand Purged old (command.Purge moment) reply new
   IsAnswered old (Remove kind id) reply new = AnswersRemoval old id (type_of kind) reply new
 
-  -- Memory may run out where a registration is read, once its outline was read.
+  -- Memory may be refused where a registration is read, once its outline was read.
   abbrev pub RegistrationLacksMemory : Serving → MessageView → ReplyView → Serving → Type 0
   RegistrationLacksMemory old (Register body) reply new = IsRefusedWithCode memory_code old reply new × IsOk (registration_outline body)
   RegistrationLacksMemory old (Lookup body) reply new = ⊥
   RegistrationLacksMemory old (Purge moment) reply new = ⊥
   RegistrationLacksMemory old (Remove kind id) reply new = ⊥
 
-  -- What a service over a hub that opened with this value may answer to a message, and what it is
-  -- then.
+  -- What a service over a hub that opened with this value may answer to a message, and what the
+  -- service is then.
   abbrev pub HubAnswers : Serving → MessageView → ReplyView → Serving → Type 0
   HubAnswers old message reply new = RegistrationLacksMemory old message reply new ⊎ IsAnswered old message reply new

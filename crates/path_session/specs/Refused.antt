@@ -4,6 +4,7 @@ use Rattle.path_hub.specs.declared.error.HubError.TheVariants as hub
 use Rattle.reply_codes.specs.declared.refusal.Refusal.{Refusal}
 use Rattle.reply_codes.specs.declared.refusal.Refusal.TheVariants.{NoMemory, Submit, NoReader, Stopped}
 
+-- The refusal of a command that a hub refused.
 abbrev pub hub_refusal : HubError → Refusal
 hub_refusal hub.NoMemory = NoMemory
 hub_refusal hub.NoReader = NoReader

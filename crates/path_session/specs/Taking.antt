@@ -1,4 +1,4 @@
--- What handing a command to the hub answers.
+-- What handing a command to the hub returns.
 use Rattle.std.specs.Prelude.{◌≡◌, Result, Ok, Err}
 use Rattle.path_rows.specs.declared.command.Command.{Command}
 use Rattle.session_core.specs.declared.service.Ack.{Ack}
@@ -7,8 +7,8 @@ use Rattle.reply_codes.specs.declared.refusal.Refusal.TheVariants.{NoMemory, Mes
 use Rattle.path_session.specs.Serving.{Serving}
 use Rattle.path_session.specs.Answered.{AcknowledgesCommit}
 
--- The command was committed; or it was not accepted, or the store stopped before it was committed,
--- and nothing changed.
+-- The command was committed. Otherwise it was not accepted, or the store stopped before it was
+-- committed, and nothing changed.
 abbrev pub IsCommandAnswered : Serving → Command → Result Ack Refusal → Serving → Type 0
 IsCommandAnswered old c (Ok ack) new = AcknowledgesCommit old c ack new
 IsCommandAnswered old c (Err (Submit e)) new = new ≡ old

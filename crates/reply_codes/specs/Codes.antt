@@ -11,18 +11,19 @@ use Rattle.seg_lookup.specs.declared.error.LookupError.TheVariants.{NullDestinat
 use Rattle.group_core.specs.declared.submit_error.SubmitError.{SubmitError}
 use Rattle.group_core.specs.declared.submit_error.SubmitError.TheVariants as submit
 
--- the code where memory was refused
+-- The code where memory was refused.
 abbrev pub memory_code : ℕ
 memory_code = 0x01
 
--- the code of a lookup without a reader
+-- The code of a lookup without a reader.
 abbrev pub reader_code : ℕ
 reader_code = 0x61
 
--- the code where the store stopped before a command was committed
+-- The code where the store stopped before a command was committed.
 abbrev pub stopped_code : ℕ
 stopped_code = 0x62
 
+-- The code of a fault in the wire format of a message.
 abbrev pub wire_code : WireError → ℕ
 wire_code Truncated = 0x11
 wire_code LongVarint = 0x12
@@ -30,6 +31,7 @@ wire_code BadField = 0x13
 wire_code GroupWire = 0x14
 wire_code BadWire = 0x15
 
+-- The code of why a message's body is refused.
 abbrev pub seg_code : SegError → ℕ
 seg_code NoMemory = memory_code
 seg_code (Wire e) = wire_code e
@@ -43,15 +45,18 @@ seg_code Entries = 0x28
 seg_code BadType = 0x29
 seg_code TooLarge = 0x2a
 
+-- The code of why a segment is not accepted.
 abbrev pub check_code : CheckError → ℕ
 check_code (BadSignature entry) = 0x31
 check_code Expired = 0x32
 
+-- The code of why a lookup is refused.
 abbrev pub lookup_code : LookupError → ℕ
 lookup_code NullDestination = 0x41
 lookup_code IsdOnlyWildcard = 0x42
 lookup_code NoCore = 0x43
 
+-- The code of why a command is not accepted.
 abbrev pub submit_code : SubmitError → ℕ
 submit_code submit.Busy = 0x51
 submit_code submit.Full = 0x52

@@ -4,6 +4,7 @@ use Rattle.reply_codes.specs.declared.refusal.Refusal.{Refusal}
 use Rattle.reply_codes.specs.declared.refusal.Refusal.TheVariants.{NoMemory, Message, Check, Lookup, Submit, NoReader, Stopped}
 use Rattle.reply_codes.specs.Codes.{memory_code, reader_code, stopped_code, seg_code, check_code, lookup_code, submit_code}
 
+-- The code of a refusal, in one byte.
 abbrev pub refusal_code : Refusal → ℕ
 refusal_code NoMemory = memory_code
 refusal_code (Message e) = seg_code e

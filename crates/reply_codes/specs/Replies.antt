@@ -7,11 +7,12 @@ use Rattle.session_core.specs.Reply.{ReplyView, Found, Refused}
 use Rattle.reply_codes.specs.declared.refusal.Refusal.{Refusal}
 use Rattle.reply_codes.specs.Refusal.{refusal_code}
 
--- the reply to a command of this kind
+-- The reply to a command of this kind.
 abbrev pub reply_to_command : (Ack → ReplyView) → Result Ack Refusal → ReplyView
 reply_to_command taken (Ok ack) = taken ack
 reply_to_command taken (Err refusal) = Refused (refusal_code refusal)
 
+-- The reply to a lookup.
 abbrev pub reply_to_query : {A : Type 0} → Result (SegType × Vec SegmentView A) Refusal → ReplyView
 reply_to_query (Ok found) = Found found.0 found.1.items
 reply_to_query (Err refusal) = Refused (refusal_code refusal)

@@ -27,8 +27,8 @@ pub record IsUnanswered {S : Type 0} (old : S) (bytes : List ℕ) (new : S) (res
   pub same : new ≡ old
   pub left : rest ≡ bytes
 
--- The first message was answered; or the bytes begin with less than a frame, or a faulty one, and
--- nothing changed.
+-- The first message was answered. Otherwise the bytes begin with less than a frame, or with a
+-- faulty one, and nothing changed.
 abbrev pub IsNextReply : {S : Type 0} → (S → MessageView → ReplyView → S → Type 0) → S → List ℕ → S → List ℕ → Result (Option Reply) FrameError → Type 0
 IsNextReply answers old bytes new rest (Ok (Some reply)) = IsFirstAnswered answers old bytes (reply_view reply) new rest
 IsNextReply answers old bytes new rest (Ok None) = IsPartial bytes × IsUnanswered old bytes new rest
@@ -46,18 +46,26 @@ abbrev pub StopsFor : ℕ → List Exchange → List ℕ → List ℕ → Result
 StopsFor count exchanges rest left (Ok sum) = LeavesPartialFrame count exchanges rest left sum
 StopsFor count exchanges rest left (Err e) = SessionEndsEarly ⊥ ⊥ rest e
 
--- Messages at the front of the bytes were answered, and this was written of their replies. The rest
--- comes after their frames, and is what is left unless there is an error.
+-- Messages at the front of the bytes were answered, and their replies were written.
 pub record AreFrontsAnswered {S : Type 0} (form : Form) (answers : S → MessageView → ReplyView → S → Type 0) (old : S) (bytes : List ℕ) (new : S) (left : List ℕ)
     (output output_left : Option (List ℕ)) (count : ℕ) (result : Result ℕ FrameError) : Type 0 where
+  -- The messages that were answered, with their replies.
   pub exchanges : List Exchange
+  -- The bytes after the frames of those messages. They are what is left, unless there is an error.
   pub rest : List ℕ
+  -- The bytes that were written.
   pub written : List ℕ
+  -- The bytes are the frames of the messages, and the rest.
   pub framed : AreWholeFrames bytes (messages_of exchanges) rest
+  -- The service answered the messages in order.
   pub answered : AreAnswered answers old exchanges new
+  -- Each reply fits into a frame.
   pub sized : AllByRecursion HasReplySize (replies_of exchanges)
+  -- The output has the written bytes.
   pub appended : Appends output output_left written
+  -- The written bytes are those of the replies.
   pub told : WritesReplies form result written exchanges
+  -- The reason why no more messages were answered.
   pub stops : StopsFor count exchanges rest left result
 
 -- A write failed after a front of the bytes.
@@ -65,7 +73,7 @@ pub record ReplyWriteFails (output output_left : Option (List ℕ)) (bytes : Lis
   pub part : IsWrittenInPart output output_left bytes
   pub fault : e ≡ error.Write
 
--- A write failed after a front of the bytes; or nothing was written, because memory was refused.
+-- A write failed after a front of the bytes, or nothing was written, because memory was refused.
 abbrev pub FailsToWrite : Option (List ℕ) → Option (List ℕ) → List ℕ → FrameError → Type 0
 FailsToWrite output output_left bytes error.Write = IsWrittenInPart output output_left bytes
 FailsToWrite output output_left bytes error.NoMemory = Appends output output_left []

@@ -1,4 +1,4 @@
--- A stream of frames that comes in pieces.
+-- A stream of frames that arrives in pieces.
 use Rattle.std.specs.Prelude.{ℕ, List, ◌++◌, map, Option, Some, None, Vec}
 use Rattle.session_core.specs.declared.error.FrameError.{FrameError}
 use Rattle.session_core.specs.declared.error.FrameError.TheVariants as error
@@ -7,22 +7,24 @@ use Rattle.session_core.specs.declared.message.Message.TheVariants.{Register, Lo
 use Rattle.session_core.specs.Frames.{MessageView, IsPartial, Ending, Rest, BadLength, BadKind, AreFrames}
 use Rattle.session_core.specs.Front.{IsFaultAt}
 
--- a message by the bytes of its body, however the body is kept
+-- A message with the bytes of its body, however the body is kept.
 abbrev pub message_view : {A : Type 0} → Message (Vec ℕ A) → MessageView
 message_view (Register body) = Register body.items
 message_view (Lookup body) = Lookup body.items
 message_view (Purge moment) = Purge moment
 message_view (Remove kind id) = Remove kind id
 
+-- The messages of a list with the bytes of their bodies.
 abbrev pub message_views : {A : Type 0} → List (Message (Vec ℕ A)) → List MessageView
 message_views messages = map message_view messages
 
--- the error of a fault
+-- The error of a fault.
 abbrev pub ending_error : Ending → Option FrameError
 ending_error (Rest bytes) = None
 ending_error BadLength = Some error.Length
 ending_error BadKind = Some error.Kind
 
+-- The ending is a fault.
 abbrev pub IsFaulty : Ending → Type 0
 IsFaulty (Rest bytes) = ⊥
 IsFaulty BadLength = Unit {0}
@@ -35,12 +37,12 @@ Continues old piece messages new =
 
 -- ---- the fields of a `Framer`
 
--- what is wrong with the bytes after the last whole frame
+-- The fault, if any, of the bytes after the last whole frame.
 abbrev pub IsFaultOf : List ℕ → Option FrameError → Type 0
 IsFaultOf bytes None = IsPartial bytes
 IsFaultOf bytes (Some e) = IsFaultAt bytes e
 
--- the ending of a stream with these bytes after its last whole frame, and with this fault
+-- The ending of a stream with these bytes after its last whole frame, and with this fault.
 abbrev pub ending_of : List ℕ → Option FrameError → Ending
 ending_of bytes None = Rest bytes
 ending_of bytes (Some error.Length) = BadLength

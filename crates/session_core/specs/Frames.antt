@@ -1,5 +1,5 @@
--- A stream of frames: a length of four bytes, big-endian, and this number of bytes, which are a
--- kind and a body.
+-- A stream of frames. A frame is a length of four bytes, big-endian, and that number of bytes,
+-- which are a kind and a body.
 use Rattle.std.specs.Prelude.{◌≡◌, ℕ, ◌+◌, ◌^◌, ◌<◌, ◌≤◌, List, ◌∷◌, ◌++◌, length, take, slice_index}
 use Rattle.std.specs.List.{flat_map, AllByRecursion}
 use Rattle.std.specs.Int.{w32, w64, to_be_bytes, from_be_bytes}
@@ -7,48 +7,54 @@ use Rattle.session_core.specs.declared.message.Message.{Message}
 use Rattle.session_core.specs.declared.message.Message.TheVariants.{Register, Lookup, Purge, Remove}
 use Rattle.session_core.specs.declared.format.TheConstants.{MOST_LENGTH}
 
--- a message with the bytes of its body
+-- A message with the bytes of its body.
 abbrev pub MessageView : Type 0
 MessageView = Message (List ℕ)
 
+-- The kind of a message, in one byte.
 abbrev pub message_kind : MessageView → ℕ
 message_kind (Register body) = 1
 message_kind (Lookup body) = 2
 message_kind (Purge moment) = 3
 message_kind (Remove kind id) = 4
 
+-- The body of a message.
 abbrev pub message_body : MessageView → List ℕ
 message_body (Register body) = body
 message_body (Lookup body) = body
 message_body (Purge moment) = to_be_bytes w64 moment
 message_body (Remove kind id) = kind ∷ id
 
--- a length of four bytes, big-endian, and the content
+-- The frame of a content: its length in four bytes, big-endian, and the content.
 abbrev pub frame_encoding : List ℕ → List ℕ
 frame_encoding content = to_be_bytes w32 (length content) ++ content
 
+-- The frame of a message.
 abbrev pub message_frame : MessageView → List ℕ
 message_frame message = frame_encoding (message_kind message ∷ message_body message)
 
--- the length at the front of four bytes or more
+-- The length at the front of four bytes or more.
 abbrev pub length_at : List ℕ → ℕ
 length_at bytes = from_be_bytes w32 (take 4 bytes)
 
--- the kind at the front of five bytes or more
+-- The kind at the front of five bytes or more.
 abbrev pub frame_kind_at : List ℕ → ℕ
 frame_kind_at bytes = slice_index bytes 4
 
+-- The length is one that a frame may have.
 abbrev pub IsFrameLength : ℕ → Type 0
 IsFrameLength len = (1 ≤ len) × (len ≤ MOST_LENGTH)
 
+-- The kind is one that a message may have.
 abbrev pub IsMessageKind : ℕ → Type 0
 IsMessageKind kind = (1 ≤ kind) × (kind ≤ 4)
 
--- all frames of purges have one length, and so have all frames of removals
+-- The length is one that a frame of this kind may have: all frames of purges have one length, and
+-- so have all frames of removals.
 abbrev pub IsLengthOf : ℕ → ℕ → Type 0
 IsLengthOf kind len = (kind ≡ 3 → len ≡ 9) × (kind ≡ 4 → len ≡ 34)
 
--- a message whose frame is not too long, and whose numbers fit their bytes
+-- The frame of a message is not too long, and the message's numbers fit their bytes.
 abbrev pub FitsFrame : MessageView → Type 0
 FitsFrame (Register body) = IsFrameLength (1 + length body)
 FitsFrame (Lookup body) = IsFrameLength (1 + length body)
@@ -60,36 +66,37 @@ pub record AreWholeFrames (bytes : List ℕ) (messages : List MessageView) (rest
   pub joined : bytes ≡ flat_map message_frame messages ++ rest
   pub sized : AllByRecursion FitsFrame messages
 
--- Four bytes or more begin with the length of a frame, and, where the kind is there, of a frame of
--- that kind.
+-- Four bytes or more begin with the length of a frame. Where the kind follows, it is the length of
+-- a frame of that kind.
 pub record HasRightLength (bytes : List ℕ) : Type 0 where
   pub in_range : IsFrameLength (length_at bytes)
   pub of_kind : 5 ≤ length bytes → IsLengthOf (frame_kind_at bytes) (length_at bytes)
 
--- Less than a whole frame, without a fault: the length is checked once four bytes are there, and
--- again with the kind once five bytes are there.
+-- The bytes are less than a whole frame, without a fault. The length is checked once four bytes
+-- have arrived, and again with the kind once five bytes have.
 pub record IsPartial (bytes : List ℕ) : Type 0 where
   pub length_is_right : 4 ≤ length bytes → HasRightLength bytes
   pub kind_is_right : 5 ≤ length bytes → IsMessageKind (frame_kind_at bytes)
   pub incomplete : 4 ≤ length bytes → length bytes < 4 + length_at bytes
 
--- Bytes that begin with a length that no frame has, or no frame of the kind after it.
+-- The bytes begin with a length that no frame has, or that no frame of the kind after it has.
 pub record HasBadLength (bytes : List ℕ) : Type 0 where
   pub long : 4 ≤ length bytes
   pub bad : ¬ HasRightLength bytes
 
--- Bytes that begin with the length of a frame, and a kind that no message has.
+-- The bytes begin with the length of a frame, and a kind that no message has.
 pub record HasBadKind (bytes : List ℕ) : Type 0 where
   pub long : 5 ≤ length bytes
   pub length_is_right : HasRightLength bytes
   pub bad : ¬ IsMessageKind (frame_kind_at bytes)
 
--- how a stream ends after its last whole frame: with less than a frame, or with a fault
+-- How a stream ends after its last whole frame: with less than a frame, or with a fault.
 pub data Ending : Type 0 where
   Rest : (bytes : List ℕ) → Ending
   BadLength : Ending
   BadKind : Ending
 
+-- The bytes after the last whole frame are those of this ending.
 abbrev pub FramesEndAs : List ℕ → Ending → Type 0
 FramesEndAs bytes (Rest rest) = (bytes ≡ rest) × IsPartial bytes
 FramesEndAs bytes BadLength = HasBadLength bytes

@@ -7,20 +7,20 @@ use Rattle.session_core.specs.declared.message.Message.{Message}
 use Rattle.session_core.specs.declared.message.Message.TheVariants.{Register, Lookup, Purge, Remove}
 use Rattle.session_core.specs.Frames.{MessageView, message_body, message_frame, FitsFrame, IsPartial, HasBadLength, HasBadKind}
 
--- a message by the bytes of its body, wherever the body is in memory
+-- A message with the bytes of its body, wherever the body is in memory.
 abbrev pub message_at : Message (Bor (List ℕ)) → MessageView
 message_at (Register body) = Register body.now
 message_at (Lookup body) = Lookup body.now
 message_at (Purge moment) = Purge moment
 message_at (Remove kind id) = Remove kind id
 
--- The bytes begin with the frame of a message, which has this number of bytes.
+-- The bytes begin with the frame of a message, which has `len` bytes.
 pub record BeginsWithFrame (bytes : List ℕ) (message : MessageView) (len : ℕ) : Type 0 where
   pub frame : bytes ≡ message_frame message ++ drop len bytes
   pub sized : FitsFrame message
   pub len_is : len ≡ 5 + length (message_body message)
 
--- what is wrong with the frame at the front
+-- The frame at the front has this fault.
 abbrev pub IsFaultAt : List ℕ → FrameError → Type 0
 IsFaultAt bytes error.Length = HasBadLength bytes
 IsFaultAt bytes error.Kind = HasBadKind bytes

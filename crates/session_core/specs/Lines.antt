@@ -9,26 +9,34 @@ use Rattle.session_core.specs.Reply.{ReplyView, HasReplySize}
 use Rattle.session_core.specs.Service.{Exchange, messages_of, replies_of, AreAnswered}
 use Rattle.session_core.specs.Session.{WritesReplies, SessionEndsEarly}
 
--- nothing is left over, and the count of replies is capped at 2^64 - 1
+-- Nothing is left over, and the count is that of the replies, at most 2^64 - 1.
 pub record IsWholeCount (exchanges : List Exchange) (rest : List ℕ) (count : ℕ) : Type 0 where
   pub whole : rest ≡ []
   pub counted : count ≡ min (length exchanges) (2 ^ 64 - 1)
 
--- The session ends at the end of the bytes, or early: within a frame.
+-- The session ends at the end of the bytes, or early, within a frame.
 abbrev pub EndsInLines : List Exchange → List ℕ → Result ℕ FrameError → Type 0
 EndsInLines exchanges rest (Ok count) = IsWholeCount exchanges rest count
 EndsInLines exchanges rest (Err e) = SessionEndsEarly (IsPartial rest) ⊥ rest e
 
--- The bytes are the frames of the messages that were answered, and a rest; the service answered
--- them in order; and the lines of those replies were written.
+-- A session over bytes in memory was served.
 pub record IsServedInLines {S : Type 0} (answers : S → MessageView → ReplyView → S → Type 0) (bytes : List ℕ) (service service_left : S)
     (output output_left : Option (List ℕ)) (result : Result ℕ FrameError) : Type 0 where
+  -- The messages that were answered, with their replies.
   pub exchanges : List Exchange
+  -- The bytes after the frames of those messages.
   pub rest : List ℕ
+  -- The bytes that were written.
   pub written : List ℕ
+  -- The bytes are the frames of the messages, and the rest.
   pub framed : AreWholeFrames bytes (messages_of exchanges) rest
+  -- The service answered the messages in order.
   pub answered : AreAnswered answers service exchanges service_left
+  -- Each reply fits into a frame.
   pub sized : AllByRecursion HasReplySize (replies_of exchanges)
+  -- The output has the written bytes.
   pub appended : Appends output output_left written
+  -- The written bytes are the lines of the replies.
   pub told : WritesReplies Lines result written exchanges
+  -- How the session ended.
   pub ended : EndsInLines exchanges rest result

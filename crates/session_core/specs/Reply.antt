@@ -12,7 +12,7 @@ use Rattle.session_core.specs.declared.format.TheConstants.{MOST_REPLY}
 use Rattle.session_core.specs.declared.reply.Form.TheVariants.{Frames, Lines}
 use Rattle.session_core.specs.Frames.{frame_encoding}
 
--- a command's acknowledgement, a lookup's segments of one type, or the code of a refusal
+-- A command's acknowledgement, a lookup's segments of one type, or the code of a refusal.
 pub data ReplyView : Type 0 where
   Registered : (ack : Ack) → ReplyView
   Found : (kind : SegType) (segments : List SegmentView) → ReplyView
@@ -20,7 +20,8 @@ pub data ReplyView : Type 0 where
   Removed : (ack : Ack) → ReplyView
   Refused : (code : ℕ) → ReplyView
 
--- the place in eight bytes, and four counts in four bytes each, all big-endian
+-- The bytes of an acknowledgement: the place in eight bytes, and four counts in four bytes each,
+-- all big-endian.
 abbrev pub ack_encoding : Ack → List ℕ
 ack_encoding ack =
     to_be_bytes w64 ack.place
@@ -28,7 +29,7 @@ ack_encoding ack =
     ++ (to_be_bytes w32 ack.outcome.updated
     ++ (to_be_bytes w32 ack.outcome.kept ++ to_be_bytes w32 ack.outcome.purged)))
 
--- the kind, and the bytes that belong to it
+-- The content of a reply's frame: the kind, and the bytes that belong to it.
 abbrev pub reply_content : ReplyView → List ℕ
 reply_content (Registered ack) = 0x81 ∷ ack_encoding ack
 reply_content (Found kind segments) = 0x82 ∷ response_encoding (typed_segments kind segments)
@@ -36,15 +37,16 @@ reply_content (Purged ack) = 0x83 ∷ ack_encoding ack
 reply_content (Removed ack) = 0x84 ∷ ack_encoding ack
 reply_content (Refused code) = 0xff ∷ code ∷ []
 
+-- The frame of a reply.
 unfoldable pub reply_frame : ReplyView → List ℕ
 reply_frame reply = frame_encoding (reply_content reply)
 
--- how a reply is written: as its frame, or as a line of the frame's hexadecimal digits in lower
--- case
+-- The bytes in which a reply is written: its frame, or a line of the frame's hexadecimal digits in
+-- lower case.
 abbrev pub told_as : Form → ReplyView → List ℕ
 told_as Frames reply = reply_frame reply
 told_as Lines reply = encode_lower (reply_frame reply) ++ 0x0a ∷ []
 
--- a reply fits into a frame
+-- The reply fits into a frame.
 abbrev pub HasReplySize : ReplyView → Type 0
 HasReplySize reply = length (reply_content reply) ≤ MOST_REPLY

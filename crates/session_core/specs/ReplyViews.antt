@@ -5,6 +5,7 @@ use Rattle.session_core.specs.declared.reply.Reply.TheVariants as reply
 use Rattle.session_core.specs.declared.service.TheConstants.{MOST_SEGMENTS}
 use Rattle.session_core.specs.Reply.{ReplyView, Registered, Found, Purged, Removed, Refused}
 
+-- A reply as contracts see it.
 abbrev pub reply_view : Reply → ReplyView
 reply_view (reply.Registered ack) = Registered ack
 reply_view (reply.Found kind segments) = Found kind segments.items
@@ -12,7 +13,7 @@ reply_view (reply.Purged ack) = Purged ack
 reply_view (reply.Removed ack) = Removed ack
 reply_view (reply.Refused code) = Refused code.0
 
--- a reply has at most 64 segments
+-- The reply has at most 64 segments.
 abbrev pub HasFewSegments : Reply → Type 0
 HasFewSegments (reply.Registered ack) = Unit {0}
 HasFewSegments (reply.Found kind segments) = length segments.items ≤ MOST_SEGMENTS

@@ -11,38 +11,44 @@ use Rattle.session_core.specs.Reply.{ReplyView, Registered, Found, Purged, Remov
 use Rattle.session_core.specs.declared.reply.Form.{Form}
 use Rattle.session_core.specs.declared.reply.Form.TheVariants.{Frames}
 
+-- The reply to a registration.
 abbrev pub reply_to_register : Result Ack Code → ReplyView
 reply_to_register (Ok ack) = Registered ack
 reply_to_register (Err code) = Refused code.0
 
+-- The reply to a lookup.
 abbrev pub reply_to_lookup : {A : Type 0} → Result (SegType × Vec SegmentView A) Code → ReplyView
 reply_to_lookup (Ok found) = Found found.0 found.1.items
 reply_to_lookup (Err code) = Refused code.0
 
+-- The reply to a purge.
 abbrev pub reply_to_purge : Result Ack Code → ReplyView
 reply_to_purge (Ok ack) = Purged ack
 reply_to_purge (Err code) = Refused code.0
 
+-- The reply to a removal.
 abbrev pub reply_to_remove : Result Ack Code → ReplyView
 reply_to_remove (Ok ack) = Removed ack
 reply_to_remove (Err code) = Refused code.0
 
--- a message and the reply to it
+-- A message and the reply to it.
 pub record Exchange : Type 0 where
   pub message : MessageView
   pub reply : ReplyView
 
+-- The messages of exchanges.
 abbrev pub messages_of : List Exchange → List MessageView
 messages_of exchanges = map (λ e. e.message) exchanges
 
+-- The replies of exchanges.
 abbrev pub replies_of : List Exchange → List ReplyView
 replies_of exchanges = map (λ e. e.reply) exchanges
 
--- the written replies, one after the other
+-- The written replies, one after the other.
 abbrev pub all_told : Form → List Exchange → List ℕ
 all_told form exchanges = flat_map (λ e. told_as form e.reply) exchanges
 
--- the frames of the replies
+-- The frames of the replies, one after the other.
 abbrev pub reply_frames : List Exchange → List ℕ
 reply_frames exchanges = all_told Frames exchanges
 

@@ -13,11 +13,11 @@ use Rattle.session_core.specs.Source.{AreReads}
 
 -- ---- what was written
 
--- the front is the beginning of these bytes
+-- The front is the beginning of these bytes.
 abbrev pub IsBeginningOf : List ℕ → List ℕ → Type 0
 IsBeginningOf front bytes = (rest : List ℕ) × (bytes ≡ front ++ rest)
 
--- The replies to all messages but the last one, or to all.
+-- The replies to all messages were written, or to all but the last one.
 pub record TellsAllBefore (form : Form) (written : List ℕ) (exchanges : List Exchange) : Type 0 where
   pub before : List Exchange
   pub last : List Exchange
@@ -25,8 +25,8 @@ pub record TellsAllBefore (form : Form) (written : List ℕ) (exchanges : List E
   pub one : length last ≤ 1
   pub written_is : written ≡ all_told form before
 
--- The replies to all messages but the last one, and a front of the last one's, which may be all of
--- it.
+-- The replies to all messages but the last one were written, and a front of the last one's reply,
+-- which may be all of it.
 pub record TellsFrontOfLast (form : Form) (written : List ℕ) (exchanges : List Exchange) : Type 0 where
   pub before : List Exchange
   pub last : List Exchange
@@ -36,9 +36,9 @@ pub record TellsFrontOfLast (form : Form) (written : List ℕ) (exchanges : List
   pub begins : IsBeginningOf front (all_told form last)
   pub written_is : written ≡ all_told form before ++ front
 
--- What was written of the replies to the messages that were answered: all of them, except that
--- after a failed write the last one may be missing or cut, and where memory was refused the last
--- one may be missing.
+-- The written bytes are those of the replies to the messages that were answered. All replies were
+-- written, except that after a failed write the last one may be missing or cut, and where memory
+-- was refused the last one may be missing.
 abbrev pub WritesReplies : Form → Result ℕ FrameError → List ℕ → List Exchange → Type 0
 WritesReplies form (Ok count) written exchanges = written ≡ all_told form exchanges
 WritesReplies form (Err error.NoMemory) written exchanges = TellsAllBefore form written exchanges
@@ -48,8 +48,8 @@ WritesReplies form (Err error.Read) written exchanges = written ≡ all_told for
 WritesReplies form (Err error.Write) written exchanges = TellsFrontOfLast form written exchanges
 WritesReplies form (Err error.Turns) written exchanges = written ≡ all_told form exchanges
 
--- All whole frames of the pieces before the last one were answered, these pieces have no fault, and
--- their replies were written.
+-- All whole frames of the pieces before the last one were answered, those pieces have no fault, and
+-- the replies to their messages were written.
 pub record IsPrompt (pieces : List (List ℕ)) (exchanges : List Exchange) (written : List ℕ) : Type 0 where
   pub earlier : List (List ℕ)
   pub last : List (List ℕ)
@@ -64,14 +64,15 @@ pub record IsPrompt (pieces : List (List ℕ)) (exchanges : List Exchange) (writ
 
 -- ---- why a session ends
 
--- The reader is at its end, nothing is left over, and the count of replies is capped at 2^64 - 1.
+-- The reader is at its end, nothing is left over, and the count is that of the replies, at most
+-- 2^64 - 1.
 pub record EndsWell (input_left : Option (List ℕ)) (exchanges : List Exchange) (rest : List ℕ) (count : ℕ) : Type 0 where
   pub at_end : IsAtEnd input_left
   pub whole : rest ≡ []
   pub counted : count ≡ min (length exchanges) (2 ^ 64 - 1)
 
--- The frame at the front of the rest has a fault; or a write failed or memory was refused,
--- anywhere; or the input or the reads came to their end, under these conditions.
+-- A session ends early for this error: the frame at the front of the rest has a fault, a write
+-- failed or memory was refused, or the input or the reads ended under these conditions.
 abbrev pub SessionEndsEarly : Type 0 → Type 0 → List ℕ → FrameError → Type 0
 SessionEndsEarly cut out_of_turns rest error.NoMemory = Unit {0}
 SessionEndsEarly cut out_of_turns rest error.Length = HasBadLength rest
@@ -80,28 +81,38 @@ SessionEndsEarly cut out_of_turns rest error.Read = cut
 SessionEndsEarly cut out_of_turns rest error.Write = Unit {0}
 SessionEndsEarly cut out_of_turns rest error.Turns = out_of_turns
 
--- The session ends at the end of the input, or early: at a failed read or within a frame, or when
--- the allowed reads are made.
+-- The session ends at the end of the input, or early: at a failed read, within a frame, or when the
+-- allowed reads are made.
 abbrev pub EndsFor : Option (List ℕ) → ℕ → List (List ℕ) → List Exchange → List ℕ → Result ℕ FrameError → Type 0
 EndsFor input_left turns pieces exchanges rest (Ok count) = EndsWell input_left exchanges rest count
 EndsFor input_left turns pieces exchanges rest (Err e) = SessionEndsEarly (IsPartial rest) (IsPartial rest × (length pieces ≡ turns)) rest e
 
 -- ---- a session
 
--- At most `turns` reads gave these pieces. Joined, they are the frames of the messages that were
--- answered, and a rest. The service answered the messages in order, from its first state to its
--- last; and the frames of those replies were written.
+-- A session was served.
 pub record IsServed {S R : Type 0} (answers : S → MessageView → ReplyView → S → Type 0) (gives : R → List ℕ → R → Type 0) (turns : ℕ)
     (service service_left : S) (source source_left : R) (input_left output output_left : Option (List ℕ)) (result : Result ℕ FrameError) : Type 0 where
+  -- The pieces that at most `turns` reads gave.
   pub pieces : List (List ℕ)
+  -- The messages that were answered, with their replies.
   pub exchanges : List Exchange
+  -- The bytes after the frames of those messages.
   pub rest : List ℕ
+  -- The bytes that were written.
   pub written : List ℕ
+  -- The source was read for the pieces.
   pub read : AreReads gives turns source pieces source_left
+  -- The pieces, joined, are the frames of the messages, and the rest.
   pub framed : AreWholeFrames (concat pieces) (messages_of exchanges) rest
+  -- The service answered the messages in order, from its first state to its last.
   pub answered : AreAnswered answers service exchanges service_left
+  -- Each reply fits into a frame.
   pub sized : AllByRecursion HasReplySize (replies_of exchanges)
+  -- The output has the written bytes.
   pub appended : Appends output output_left written
+  -- The written bytes are the frames of the replies.
   pub told : WritesReplies Frames result written exchanges
+  -- The messages of earlier pieces were answered before the last piece was read.
   pub prompt : IsPrompt pieces exchanges written
+  -- How the session ended.
   pub ended : EndsFor input_left turns pieces exchanges rest result

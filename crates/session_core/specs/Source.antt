@@ -13,8 +13,8 @@ pub record AreReads {R : Type 0} (gives : R → List ℕ → R → Type 0) (turn
   pub few : length pieces ≤ turns
   pub short : AllByRecursion (λ piece. length piece ≤ MOST_PIECE) pieces
 
--- All was read up to the end of the source; or a read failed, memory was refused, or all allowed
--- reads were made.
+-- Why reading ended: all was read up to the end of the source, or a read failed, memory was
+-- refused, or all allowed reads were made.
 abbrev pub EndsReading : {A : Type 0} → ℕ → Option (List ℕ) → List (List ℕ) → Result (Vec ℕ A) FrameError → Type 0
 EndsReading turns input_left pieces (Ok bytes) = IsAtEnd input_left × (bytes.items ≡ concat pieces)
 EndsReading turns input_left pieces (Err error.NoMemory) = Unit {0}
@@ -24,7 +24,7 @@ EndsReading turns input_left pieces (Err error.Read) = Unit {0}
 EndsReading turns input_left pieces (Err error.Write) = ⊥
 EndsReading turns input_left pieces (Err error.Turns) = length pieces ≡ turns
 
--- A source was read to its end, or up to an error, in at most this number of reads.
+-- A source was read to its end, or up to an error, in at most `turns` reads.
 pub record IsAllRead {R A : Type 0} (gives : R → List ℕ → R → Type 0) (turns : ℕ) (source source_left : R) (input_left : Option (List ℕ)) (result : Result (Vec ℕ A) FrameError) : Type 0 where
   pub pieces : List (List ℕ)
   pub read : AreReads gives turns source pieces source_left

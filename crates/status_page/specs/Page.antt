@@ -8,73 +8,74 @@ use Rattle.status_page.specs.declared.counts.CodeCount.{CodeCount}
 use Rattle.status_page.specs.Lines.{type_line, labelled, counter, gauge, flag}
 use Rattle.status_page.specs.Phases.{actor_lines}
 
--- the rows, their bytes, and how many bytes have room
+-- The lines of the rows: their number, their bytes, and how many bytes have room.
 unfoldable pub row_lines : Numbers → List ℕ
 row_lines numbers =
     gauge (codes "pathd_rows") numbers.rows
     ++ (gauge (codes "pathd_rows_bytes") numbers.bytes ++ gauge (codes "pathd_rows_limit_bytes") numbers.most_bytes)
 
--- the commands that are committed and that are pending, and whether more are taken
+-- The lines of the commands that are committed and that are pending, and whether more are taken.
 unfoldable pub command_lines : Numbers → List ℕ
 command_lines numbers =
     counter (codes "pathd_commands_total") numbers.place
     ++ (gauge (codes "pathd_commands_pending") numbers.pending ++ gauge (codes "pathd_stopped") (flag numbers.stopped))
 
--- the epoch, the version, and whether a sealed journal awaits its checkpoint
+-- The lines of the epoch, the version, and whether a sealed journal awaits its checkpoint.
 unfoldable pub version_lines : Numbers → List ℕ
 version_lines numbers =
     gauge (codes "pathd_epoch") numbers.epoch
     ++ (gauge (codes "pathd_format_version") numbers.version ++ gauge (codes "pathd_journal_sealed") (flag numbers.sealed))
 
--- what is known of the store
+-- The lines of a store's numbers.
 unfoldable pub store_metrics : Numbers → List ℕ
 store_metrics numbers =
     row_lines numbers ++ (command_lines numbers ++ (version_lines numbers ++ actor_lines numbers.flush numbers.check))
 
--- what both actors have done
+-- The lines of what both actors have done.
 unfoldable pub commit_lines : Counts → List ℕ
 commit_lines counts =
     counter (codes "pathd_groups_total") counts.groups
     ++ (counter (codes "pathd_seals_total") counts.seals ++ counter (codes "pathd_checkpoints_total") counts.checkpoints)
 
--- the sessions
+-- The lines of the sessions.
 unfoldable pub session_lines : Counts → List ℕ
 session_lines counts =
     gauge (codes "pathd_sessions") counts.sessions
     ++ (counter (codes "pathd_sessions_started_total") counts.started ++ counter (codes "pathd_sessions_refused_total") counts.refused)
 
--- the names of the metrics with labels
+-- The name of the metric of replies by kind.
 abbrev pub replies : List ℕ
 replies = codes "pathd_replies_total"
 
+-- The name of the metric of refusals by code.
 abbrev pub refusals : List ℕ
 refusals = codes "pathd_refusals_total"
 
--- the replies to commands that were accepted
+-- The lines of the replies to commands that were accepted.
 unfoldable pub accepted_lines : Counts → List ℕ
 accepted_lines counts =
     labelled replies (codes "kind=\"registered\"") counts.registered
     ++ (labelled replies (codes "kind=\"purged\"") counts.purged ++ labelled replies (codes "kind=\"removed\"") counts.removed)
 
--- the replies by their kinds, but refusals
+-- The lines of the replies by their kinds, except refusals.
 unfoldable pub reply_lines : Counts → List ℕ
 reply_lines counts =
     type_line replies (codes "counter") ++ (labelled replies (codes "kind=\"found\"") counts.found ++ accepted_lines counts)
 
--- what the server has done
+-- The lines of what the server has done.
 unfoldable pub work_text : Counts → List ℕ
 work_text counts =
     commit_lines counts ++ (session_lines counts ++ (reply_lines counts ++ gauge (codes "pathd_uptime_seconds") counts.seconds))
 
--- the label with a code, in hexadecimal digits
+-- The label with a code, in hexadecimal digits.
 unfoldable pub refusal_label : ℕ → List ℕ
 refusal_label code = codes "code=\"" ++ (encode_lower (code ∷ []) ++ codes "\"")
 
--- the refusals with one code
+-- The line of the refusals with one code.
 unfoldable pub refusal_line : CodeCount → List ℕ
 refusal_line refusal = labelled refusals (refusal_label refusal.code) refusal.count
 
--- the refusals by their codes
+-- The lines of the refusals by their codes.
 unfoldable pub refusals_text : List CodeCount → List ℕ
 refusals_text counted = type_line refusals (codes "counter") ++ flat_map refusal_line counted
 

@@ -1,4 +1,4 @@
--- How far the two actors of a store are, as lines of a page.
+-- The phases of the two actors of a store, as lines of a page.
 use Rattle.std.specs.Prelude.{ℕ, List, ◌++◌, ◌==◌, if◌then◌else◌, codes}
 use Rattle.group_phases.specs.declared.phases.Flush.{Flush}
 use Rattle.group_phases.specs.declared.phases.Flush.TheVariants as flush
@@ -6,7 +6,7 @@ use Rattle.group_phases.specs.declared.phases.Check.{Check}
 use Rattle.group_phases.specs.declared.phases.Check.TheVariants as check
 use Rattle.status_page.specs.Lines.{type_line, labelled}
 
--- the number of a phase, in the order of the lines
+-- The number of the flusher's phase, in the order of the lines.
 abbrev pub flush_number : Flush → ℕ
 flush_number flush.Resting = 0
 flush_number flush.Staged = 1
@@ -16,6 +16,7 @@ flush_number flush.Opened = 4
 flush_number flush.Doubtful = 5
 flush_number flush.Durable = 6
 
+-- The number of the checkpointer's phase, in the order of the lines.
 abbrev pub check_number : Check → ℕ
 check_number check.Ready = 0
 check_number check.Sealed = 1
@@ -27,54 +28,59 @@ check_number check.Live = 6
 check_number check.Closing = 7
 check_number check.CloseFailed = 8
 
--- the line of a phase: 1 where the actor is in it, and 0 elsewhere
+-- The line of a phase: 1 where the actor is in it, and 0 elsewhere.
 unfoldable pub phase_line : List ℕ → List ℕ → ℕ → ℕ → List ℕ
 phase_line name label number now = labelled name label (if number == now then 1 else 0)
 
--- the names of the metrics
+-- The name of the metric of the flusher's phase.
 abbrev pub flusher : List ℕ
 flusher = codes "pathd_flusher_phase"
 
+-- The name of the metric of the checkpointer's phase.
 abbrev pub checkpointer : List ℕ
 checkpointer = codes "pathd_checkpointer_phase"
 
--- the phases until a group is written and synced, and those after that
+-- The flusher's phases until a group is written and synced.
 unfoldable pub flush_begins : ℕ → List ℕ
 flush_begins now =
     phase_line flusher (codes "phase=\"resting\"") 0 now
     ++ (phase_line flusher (codes "phase=\"staged\"") 1 now
     ++ (phase_line flusher (codes "phase=\"written\"") 2 now ++ phase_line flusher (codes "phase=\"stable\"") 3 now))
 
+-- The flusher's phases after that.
 unfoldable pub flush_ends : ℕ → List ℕ
 flush_ends now =
     phase_line flusher (codes "phase=\"opened\"") 4 now
     ++ (phase_line flusher (codes "phase=\"doubtful\"") 5 now ++ phase_line flusher (codes "phase=\"durable\"") 6 now)
 
+-- The lines of the flusher's phases.
 unfoldable pub flush_lines : Flush → List ℕ
 flush_lines flush = type_line flusher (codes "gauge") ++ (flush_begins (flush_number flush) ++ flush_ends (flush_number flush))
 
--- the phases until a checkpoint is laid, those in which its half's gate is opened, and those after
--- that
+-- The checkpointer's phases until a checkpoint is laid.
 unfoldable pub check_begins : ℕ → List ℕ
 check_begins now =
     phase_line checkpointer (codes "phase=\"ready\"") 0 now
     ++ (phase_line checkpointer (codes "phase=\"sealed\"") 1 now
     ++ (phase_line checkpointer (codes "phase=\"planned\"") 2 now ++ phase_line checkpointer (codes "phase=\"laid\"") 3 now))
 
+-- The checkpointer's phases in which the gate of its half is opened.
 unfoldable pub check_switches : ℕ → List ℕ
 check_switches now =
     phase_line checkpointer (codes "phase=\"switched\"") 4 now ++ phase_line checkpointer (codes "phase=\"switch_failed\"") 5 now
 
+-- The checkpointer's phases after that.
 unfoldable pub check_ends : ℕ → List ℕ
 check_ends now =
     phase_line checkpointer (codes "phase=\"live\"") 6 now
     ++ (phase_line checkpointer (codes "phase=\"closing\"") 7 now ++ phase_line checkpointer (codes "phase=\"close_failed\"") 8 now)
 
+-- The lines of the checkpointer's phases.
 unfoldable pub check_lines : Check → List ℕ
 check_lines check =
     type_line checkpointer (codes "gauge")
     ++ (check_begins (check_number check) ++ (check_switches (check_number check) ++ check_ends (check_number check)))
 
--- how far both actors are
+-- The lines of both actors' phases.
 unfoldable pub actor_lines : Flush → Check → List ℕ
 actor_lines flush check = flush_lines flush ++ check_lines check

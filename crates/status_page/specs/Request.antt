@@ -5,11 +5,11 @@ use Rattle.httparse.specs.Spans.{RequestExceeds}
 use Rattle.status_page.specs.declared.request.Asked.{Asked}
 use Rattle.status_page.specs.declared.request.Asked.TheVariants.{Page, OtherPath, OtherMethod, More, Unreadable}
 
--- the path of the page
+-- The path of the page.
 abbrev pub page_path : List ℕ
 page_path = codes "/metrics"
 
--- what a method asks of a path: the path is judged first
+-- What a method asks of a path. The path is judged first.
 abbrev pub IsJudged : List ℕ → List ℕ → Asked → Type 0
 IsJudged method path Page = (path ≡ page_path) × (method ≡ codes "GET")
 IsJudged method path OtherPath = path ≢ page_path
@@ -17,15 +17,15 @@ IsJudged method path OtherMethod = (path ≡ page_path) × (method ≢ codes "GE
 IsJudged method path More = ⊥
 IsJudged method path Unreadable = ⊥
 
--- the head of a request is at the front, by whose method and target this is asked
+-- The bytes begin with the head of a request, by whose method and target this is asked.
 pub record IsHeadOf (bytes : List ℕ) (asked : Asked) : Type 0 where
   pub head : RequestHead
   pub rest : List ℕ
   pub reads : ReadsRequest bytes head rest
   pub judged : IsJudged head.method head.target asked
 
--- What is asked by the bytes of a peer: by the head of a request that is at the front; by none yet,
--- which more bytes may make one; or by what can be none of at most 64 fields.
+-- What the bytes of a peer ask for. The head of a request may be at the front. There may be none
+-- yet, and more bytes may complete one. Or the bytes can be no head of at most 64 fields.
 abbrev pub IsAsked : List ℕ → Asked → Type 0
 IsAsked bytes Page = IsHeadOf bytes Page
 IsAsked bytes OtherPath = IsHeadOf bytes OtherPath

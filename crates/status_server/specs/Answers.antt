@@ -1,4 +1,4 @@
--- What a peer is sent.
+-- The responses that a peer is sent.
 use Rattle.std.specs.Prelude.{ℕ, List, codes}
 use Rattle.group_core.specs.declared.numbers.Numbers.{Numbers}
 use Rattle.status_page.specs.declared.counts.Counts.{Counts}
@@ -8,17 +8,19 @@ use Rattle.status_page.specs.declared.request.Asked.TheVariants.{Page, OtherPath
 use Rattle.status_page.specs.Page.{page_text}
 use Rattle.status_page.specs.Response.{response_text}
 
--- the responses without a page
+-- The response where the path is not the page's.
 abbrev pub not_found : List ℕ
 not_found = codes "HTTP/1.1 404 Not Found\r\nContent-Length: 0\r\nConnection: close\r\n\r\n"
 
+-- The response where the method is not allowed.
 abbrev pub not_allowed : List ℕ
 not_allowed = codes "HTTP/1.1 405 Method Not Allowed\r\nAllow: GET\r\nContent-Length: 0\r\nConnection: close\r\n\r\n"
 
+-- The response where the bytes are no request.
 abbrev pub bad_request : List ℕ
 bad_request = codes "HTTP/1.1 400 Bad Request\r\nContent-Length: 0\r\nConnection: close\r\n\r\n"
 
--- The text that a peer is sent for what it asks: the page, or why it isn't sent.
+-- The text that a peer is sent for what it asks: the page, or why the page is not sent.
 abbrev pub answer_text : Asked → Numbers → Counts → List CodeCount → List ℕ
 answer_text Page numbers counts refused = response_text (page_text numbers counts refused)
 answer_text OtherPath numbers counts refused = not_found

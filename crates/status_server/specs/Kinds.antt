@@ -4,7 +4,7 @@ use Rattle.session_core.specs.Reply.{ReplyView}
 use Rattle.status_server.specs.declared.reply_kind.ReplyKind.{ReplyKind}
 use Rattle.status_server.specs.declared.reply_kind.ReplyKind.TheVariants as kind
 
--- the kind of a reply, by which it is counted
+-- The kind of a reply, by which the reply is counted.
 abbrev pub kind_of_reply : ReplyView → ReplyKind
 kind_of_reply (reply.Registered ack) = kind.Registered
 kind_of_reply (reply.Found type segments) = kind.Found

@@ -4,13 +4,13 @@ use Rattle.status_page.specs.declared.request.Asked.{Asked}
 use Rattle.status_page.specs.declared.request.Asked.TheVariants.{More}
 use Rattle.status_page.specs.Request.{IsAsked}
 
--- this is asked by some bytes
+-- Some bytes ask for this.
 pub record IsRead (asked : Asked) : Type 0 where
   pub head : List ℕ
   pub asks : IsAsked head asked
 
--- A piece came after others, of which an empty one is the end: what they ask for together; or they
--- have no whole head, are fewer bytes than this number, and the piece was not the end.
+-- A piece came after others, of which an empty one is the end. Either this is what they ask for
+-- together, or they have no whole head, are fewer bytes than `most`, and the piece was not the end.
 abbrev pub IsPieceTaken : ℕ → List ℕ → List ℕ → Option Asked → Type 0
 IsPieceTaken most head piece (Some asked) = IsAsked (head ++ piece) asked
 IsPieceTaken most head piece None = IsAsked (head ++ piece) More × ((0 < length piece) × (length (head ++ piece) < most))
