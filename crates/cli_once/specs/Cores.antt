@@ -8,20 +8,20 @@ use Rattle.isd_as.specs.Text.{IsIsdAsText, IsInGrammar, IsTooLargeText}
 use Rattle.cli_once.specs.declared.error.Fault.{Fault}
 use Rattle.cli_once.specs.declared.error.Fault.TheVariants as fault
 
--- what is between the commas
+-- The texts between the commas.
 abbrev pub texts_of : List ℕ → List (List ℕ)
 texts_of list = slice_split (λ byte. byte == 0x2c) list
 
--- each text, with its ISD-AS
+-- Each text is the text of its ISD-AS.
 abbrev pub AreCores : List (List ℕ) → List IsdAs → Type 0
 AreCores texts cores = AllZip IsIsdAsText texts cores
 
--- why a text is no ISD-AS
+-- Why a text is no ISD-AS.
 abbrev pub IsNoIsdAs : List ℕ → IaError → Type 0
 IsNoIsdAs text BadText = ¬ IsInGrammar text
 IsNoIsdAs text TooLarge = IsTooLargeText text
 
--- the program's fault for such a text
+-- The program's fault for such a text.
 abbrev pub RefusesText : List ℕ → Fault → Type 0
 RefusesText text (fault.Text e) = IsNoIsdAs text e
 RefusesText text fault.Memory = ⊥
@@ -44,8 +44,8 @@ pub record IsCoreList (texts : List (List ℕ)) : Type 0 where
   pub cores : List IsdAs
   pub are : AreCores texts cores
 
--- why a list is refused: a text in it is no ISD-AS, which is found without memory, or memory ran
--- out for the core ASes
+-- Why a list is refused: a text in it is no ISD-AS, which is found without memory, or memory was
+-- refused for the core ASes.
 abbrev pub RefusesList : List ℕ → Fault → Type 0
 RefusesList list (fault.Text e) = FirstRefusal (texts_of list) e
 RefusesList list fault.Memory = IsCoreList (texts_of list)
@@ -53,7 +53,7 @@ RefusesList list fault.Hex = ⊥
 RefusesList list (fault.Frame e) = ⊥
 RefusesList list fault.Output = ⊥
 
--- why a list is refused by the checks that take no memory
+-- Why a list is refused by the checks that take no memory.
 abbrev pub RefusesTexts : List ℕ → Fault → Type 0
 RefusesTexts list (fault.Text e) = FirstRefusal (texts_of list) e
 RefusesTexts list fault.Memory = ⊥

@@ -1,4 +1,4 @@
--- What the program says of the fault that ended a session.
+-- The program's words for the fault that ended a session.
 use Rattle.std.specs.Prelude.{ℕ, List, ◌++◌, codes}
 use Rattle.std.specs.Fmt.{decimal}
 use Rattle.isd_as.specs.declared.error.IaError.{IaError}
@@ -8,7 +8,7 @@ use Rattle.session_core.specs.declared.error.FrameError.TheVariants as error
 use Rattle.cli_once.specs.declared.error.Fault.{Fault}
 use Rattle.cli_once.specs.declared.error.Fault.TheVariants as fault
 
--- want of memory is no fault of a frame
+-- The fault of a session's error. Refused memory is not a fault of a frame.
 abbrev pub frame_fault : FrameError → Fault
 frame_fault error.NoMemory = fault.Memory
 frame_fault error.Length = fault.Frame error.Length
@@ -17,12 +17,12 @@ frame_fault error.Read = fault.Frame error.Read
 frame_fault error.Write = fault.Frame error.Write
 frame_fault error.Turns = fault.Frame error.Turns
 
--- the number of what is wrong with a text
+-- The number of what is wrong with a text.
 abbrev pub text_number : IaError → ℕ
 text_number ia.BadText = 1
 text_number ia.TooLarge = 2
 
--- the number of what ends a session
+-- The number of what ends a session.
 abbrev pub frame_number : FrameError → ℕ
 frame_number error.NoMemory = 0
 frame_number error.Length = 1
@@ -31,7 +31,7 @@ frame_number error.Read = 3
 frame_number error.Write = 4
 frame_number error.Turns = 5
 
--- the words of a fault
+-- The words of a fault.
 abbrev pub session_fault_text : Fault → List ℕ
 session_fault_text (fault.Text e) = codes "text " ++ decimal (text_number e)
 session_fault_text fault.Hex = codes "hex"

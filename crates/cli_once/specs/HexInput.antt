@@ -4,16 +4,16 @@ use Rattle.hex.specs.Hex.{decode_of}
 use Rattle.cli_once.specs.declared.error.Fault.{Fault}
 use Rattle.cli_once.specs.declared.error.Fault.TheVariants as fault
 
--- a space or the end of a line
+-- The byte is a space, a line feed or a carriage return.
 abbrev pub is_blank : ℕ → Bool
 is_blank byte = (byte == 0x20) || ((byte == 0x0a) || (byte == 0x0d))
 
--- the text but for its blanks
+-- The text without its blanks.
 abbrev pub without_blanks : List ℕ → List ℕ
 without_blanks text = filter (λ byte. not (is_blank byte)) text
 
--- why digits are refused: they encode no bytes, which is found without memory, or memory ran out
--- for the bytes
+-- Why digits are refused: they encode no bytes, which is found without memory, or memory was
+-- refused for the bytes.
 abbrev pub RefusesDigits : List ℕ → Fault → Type 0
 RefusesDigits digits fault.Hex = IsErr (decode_of digits)
 RefusesDigits digits fault.Memory = IsOk (decode_of digits)
@@ -21,6 +21,6 @@ RefusesDigits digits (fault.Text e) = ⊥
 RefusesDigits digits (fault.Frame e) = ⊥
 RefusesDigits digits fault.Output = ⊥
 
--- why a text is refused, whose blanks count for nothing
+-- Why a text is refused, with its blanks left out.
 abbrev pub RefusesHex : List ℕ → Fault → Type 0
 RefusesHex text e = RefusesDigits (without_blanks text) e

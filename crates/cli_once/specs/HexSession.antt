@@ -12,7 +12,7 @@ use Rattle.cli_once.specs.Fault.{frame_fault}
 use Rattle.cli_once.specs.HexInput.{without_blanks, RefusesHex}
 use Rattle.cli_once.specs.Memory.{Served, Answers}
 
--- why reading stops before the end of the input
+-- Why reading stops before the end of the input.
 abbrev pub InputEndsEarly : ℕ → List (List ℕ) → FrameError → Type 0
 InputEndsEarly turns pieces error.NoMemory = Unit {0}
 InputEndsEarly turns pieces error.Length = ⊥
@@ -35,7 +35,7 @@ pub record IsNoText (text : List ℕ) (output output_left : Option (List ℕ)) (
   pub refused : RefusesHex text refusal
   pub said : result ≡ Err refusal
 
--- the program's answer for what a session ended with
+-- The program's result for a session's result.
 abbrev pub answer_for : Result ℕ FrameError → Result ℕ Fault
 answer_for (Ok count) = Ok count
 answer_for (Err e) = Err (frame_fault e)
@@ -58,9 +58,12 @@ pub record IsReadText (start : Served) (text : List ℕ) (input_left output outp
   pub end : IsAtEnd input_left
   pub ended : IsNoText text output output_left result ⊎ IsAnsweredText start text output output_left result
 
--- What was read in at most this number of reads, and what became of it.
+-- A session over hexadecimal text.
 pub record IsHexSession {R : Type 0} (gives : R → List ℕ → R → Type 0) (turns : ℕ) (start : Served) (source source_left : R)
     (input_left output output_left : Option (List ℕ)) (result : Result ℕ Fault) : Type 0 where
+  -- The pieces of the input that at most `turns` reads gave.
   pub pieces : List (List ℕ)
+  -- The source was read for those pieces.
   pub read : AreReads gives turns source pieces source_left
+  -- The input was not read whole, or was read and served.
   pub ended : IsUnread turns pieces output output_left result ⊎ IsReadText start (concat pieces) input_left output output_left result

@@ -17,7 +17,8 @@ pub record IsKeyTooLong (text : List ℕ) : Type 0 where
   pub encoded : decode_of text ≡ Ok key
   pub long : MOST_KEY < length key
 
--- why a text is refused: it is no key, which is found without memory, or memory ran out for the key
+-- Why a text is refused: it is no key, which is found without memory, or memory was refused for the
+-- key.
 abbrev pub RefusesKey : List ℕ → Fault → Type 0
 RefusesKey text fault.Hex = IsErr (decode_of text) ⊎ IsKeyTooLong text
 RefusesKey text fault.Memory = IsKeyText text

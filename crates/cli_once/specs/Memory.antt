@@ -24,13 +24,17 @@ use Rattle.session_core.specs.Reply.{ReplyView, Registered, Found, Purged, Remov
 use Rattle.reply_codes.specs.Codes.{memory_code, seg_code, check_code, lookup_code, submit_code}
 use Rattle.reply_codes.specs.Checking.{first_refusal}
 
--- The core ASes, the verdicts on signatures and the moment, which stay, and the database and the
--- place of the next command, which commands change.
+-- A service over a store in memory.
 pub record Served : Type 0 where
+  -- The core ASes, which do not change.
   pub roster : RosterView
+  -- The verdicts on signatures, which do not change.
   pub verifies : Verdicts
+  -- The moment, in half seconds since 1970, which does not change.
   pub now : ℕ
+  -- The rows of the database.
   pub rows : List RowView
+  -- The place of the next command.
   pub place : ℕ
 
 -- A service begins with no rows, at place 0.
@@ -39,64 +43,69 @@ opening roster verifies now = record { roster = roster; verifies = verifies; now
 
 -- ---- one message
 
--- A reply, and what is there after it.
+-- A reply, and what the service holds after it.
 abbrev pub Step : Type 0
 Step = ReplyView × Served
 
--- a refusal, which changes nothing
+-- A refusal, which changes nothing.
 abbrev pub refused_step : Served → ℕ → Step
 refused_step served code = (Refused code, served)
 
--- what is there after a command was taken
+-- What the service holds after a command was taken.
 abbrev pub after_command : Served → Command → Served
 after_command served c = record served { rows = database_after served.rows c; place = served.place + 1 }
 
--- the acknowledgement of a command
+-- The acknowledgement of a command.
 abbrev pub ack_of : Served → Command → Ack
 ack_of served c = record { place = served.place; outcome = outcome_of served.rows c }
 
--- whether rows have room in a checkpoint area of 4,096 sectors
+-- Whether rows have room in a checkpoint area of 4,096 sectors.
 abbrev pub fits_store : List RowView → Bool
 fits_store rows = nat_le (32 + rows_len rows) (512 * 4096)
 
--- A command takes the next place. The last number of 64 bits is no place; and the rows after the
--- command have to fit.
+-- The step of a command, which takes the next place. The last number of 64 bits is not a place, and
+-- the rows after the command have to fit.
 abbrev pub command_step : (Ack → ReplyView) → Served → Command → Step
 command_step taken served c =
     if served.place == 2 ^ 64 - 1 then refused_step served (submit_code Exhausted)
     else if fits_store (database_after served.rows c) then (taken (ack_of served c), after_command served c)
     else refused_step served (submit_code Full)
 
+-- The step of a registration whose segments were checked.
 abbrev pub checked_step : Served → List RowView → Option CheckError → Step
 checked_step served new None = command_step Registered served (command.Register new)
 checked_step served new (Some e) = refused_step served (check_code e)
 
+-- The step of a registration, once its body is read.
 abbrev pub registration_step : Served → Result (List RowView) SegError → Step
 registration_step served (Ok new) = checked_step served new (first_refusal served.verifies served.now new)
 registration_step served (Err e) = refused_step served (seg_code e)
 
+-- The step of a removal, once its type is read.
 abbrev pub removal_step : Served → List ℕ → Result SegType SegError → Step
 removal_step served id (Ok kind) = command_step Removed served (command.Remove kind id)
 removal_step served id (Err e) = refused_step served (seg_code e)
 
+-- The step of a lookup that was classified.
 abbrev pub query_step : Served → Result QueryView LookupError → Step
 query_step served (Ok query) = (Found query.kind (segments_of (answer_to served.rows query served.now)), served)
 query_step served (Err e) = refused_step served (lookup_code e)
 
+-- The step of a lookup, once its body is read.
 abbrev pub lookup_step : Served → Result (ℕ × ℕ) SegError → Step
 lookup_step served (Ok ends) = query_step served (query_of served.roster ends.0 ends.1)
 lookup_step served (Err e) = refused_step served (seg_code e)
 
--- One message, read, checked or classified, and applied: the first refusal is the reply.
+-- One message is read, checked or classified, and applied. The first refusal is the reply.
 unfoldable pub message_step : Served → MessageView → Step
 message_step served (Register body) = registration_step served (registration_decoding body)
 message_step served (Lookup body) = lookup_step served (request_decoding body)
 message_step served (Purge moment) = command_step Purged served (command.Purge moment)
 message_step served (Remove kind id) = removal_step served id (type_of kind)
 
--- ---- want of memory
+-- ---- refused memory
 
--- a reply that shows segments, or that there are none
+-- The reply shows segments, or that there are none.
 abbrev pub ShowsLookup : ReplyView → Type 0
 ShowsLookup (Registered ack) = ⊥
 ShowsLookup (Found kind segments) = Unit {0}
@@ -104,15 +113,15 @@ ShowsLookup (Purged ack) = ⊥
 ShowsLookup (Removed ack) = ⊥
 ShowsLookup (Refused code) = ⊥
 
--- Whether memory may run out for a message: a registration is refused without memory where its
--- outline is, a removal where its type is none, and a lookup where it asks for no segments.
+-- Memory may be refused for a message. A registration whose outline is refused, a removal whose
+-- type is none, and a lookup that asks for no segments take no memory.
 abbrev pub MayRunOut : Served → MessageView → Type 0
 MayRunOut served (Register body) = IsOk (registration_outline body)
 MayRunOut served (Lookup body) = ShowsLookup (message_step served (Lookup body)).0
 MayRunOut served (Purge moment) = Unit {0}
 MayRunOut served (Remove kind id) = IsOk (type_of kind)
 
--- The message was refused memory: nothing changed, or its command was taken, and the outcome isn't
+-- The message was refused memory. Nothing changed, or its command was taken and the outcome is not
 -- reported.
 pub record IsRefusedMemory (old : Served) (message : MessageView) (reply : ReplyView) (new : Served) : Type 0 where
   pub refused : reply ≡ Refused memory_code

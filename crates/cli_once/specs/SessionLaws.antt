@@ -1,4 +1,4 @@
--- What a session replies where memory suffices.
+-- The replies of a session where memory suffices.
 use Rattle.std.specs.Prelude.{◌≡◌, ℕ, List, [], ◌∷◌, ◌++◌, Option, Some, Ok, Contains}
 use Rattle.std.specs.List.{flat_map}
 use Rattle.std.specs.Io.KnownBytes.{Consumes}
@@ -9,22 +9,22 @@ use Rattle.reply_codes.specs.Codes.{memory_code}
 use Rattle.cli_once.specs.Memory.{Served, message_step, Answers}
 use Rattle.cli_once.specs.Session.{IsSession}
 
--- the replies to messages, one after the other, from this start on
+-- The replies to messages, one after the other, from this start on.
 abbrev pub replies_from : Served → List MessageView → List ReplyView
 replies_from served [] = []
 replies_from served (m ∷ ms) = (message_step served m).0 ∷ replies_from (message_step served m).1 ms
 
--- Memory ran out for none of the exchanges.
+-- Memory was refused for none of the exchanges.
 abbrev pub HasMemory : List Exchange → Type 0
 HasMemory exchanges = ¬ Contains (replies_of exchanges) (Refused memory_code)
 
--- Where memory doesn't run out, messages have one list of replies.
+-- Where memory is not refused, messages have one list of replies.
 abbrev pub OnlyReplies : Type 0
 OnlyReplies =
     (start : Served) (exchanges : List Exchange) (left : Served) → AreAnswered Answers start exchanges left
     → HasMemory exchanges → replies_of exchanges ≡ replies_from start (messages_of exchanges)
 
--- Where memory doesn't run out, a session of a reader whose bytes are known that ends well has
+-- Where memory is not refused, a session that ends well, of a reader whose bytes are known, has
 -- written the frames of the replies to its input, and nothing else.
 abbrev pub WholeSession : {R : Type 0} → (R → Option (List ℕ)) → Type 0
 WholeSession {R} remaining =

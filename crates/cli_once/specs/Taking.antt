@@ -1,4 +1,4 @@
--- What taking a command answers.
+-- What taking a command returns.
 use Rattle.std.specs.Prelude.{◌≡◌, ◌≢◌, ◌⊎◌, ◌-◌, ◌^◌, Result, Ok, Err}
 use Rattle.path_rows.specs.declared.command.Command.{Command}
 use Rattle.path_rows.specs.Command.{database_after}
@@ -11,21 +11,21 @@ use Rattle.reply_codes.specs.declared.refusal.Refusal.{Refusal}
 use Rattle.reply_codes.specs.declared.refusal.Refusal.TheVariants.{NoMemory, Message, Check, Lookup, Submit, NoReader, Stopped}
 use Rattle.cli_once.specs.Memory.{Served, ack_of, after_command}
 
--- the refusal that says why a store didn't take a command
+-- The refusal that says why a store did not take a command.
 abbrev pub take_refusal : TakeError → Refusal
 take_refusal take.NoMemory = NoMemory
 take_refusal take.Full = Submit submit.Full
 take_refusal take.Exhausted = Submit submit.Exhausted
 
--- the command was taken: a place was left, and the rows after it fit
+-- The command was taken: a place was left, and the rows after the command fit.
 pub record ServesCommand (old : Served) (c : Command) (new : Served) : Type 0 where
   pub left : old.place ≢ 2 ^ 64 - 1
   pub fits : FitStore (database_after old.rows c)
   pub taken : new ≡ after_command old c
 
--- The command was taken and acknowledged; or no place was left, or else the rows after it don't
--- fit, and nothing changed. Where memory ran out nothing changed, or the command was taken, and its
--- outcome isn't reported.
+-- The command was taken and acknowledged. Otherwise nothing changed: no place was left, or the rows
+-- after the command do not fit. Where memory was refused, either nothing changed, or the command
+-- was taken and its outcome is not reported.
 abbrev pub MayAcknowledge : Served → Command → Result Ack Refusal → Served → Type 0
 MayAcknowledge old c (Ok ack) new = (ack ≡ ack_of old c) × ServesCommand old c new
 MayAcknowledge old c (Err NoMemory) new = (new ≡ old) ⊎ ServesCommand old c new

@@ -10,22 +10,22 @@ use Rattle.cli_program.specs.declared.ending.Done.TheVariants.{Carried, Refused}
 use Rattle.cli_program.specs.declared.ending.Ended.{Ended}
 use Rattle.cli_program.specs.declared.ending.Ended.TheVariants.{Session, Store, Net}
 
--- the words of why the program ends
+-- The words that say why the program ends.
 abbrev pub ended_text : Ended → List ℕ
 ended_text (Session fault) = session.session_fault_text fault
 ended_text (Store fault) = store.store_fault_text fault
 ended_text Net = codes "net"
 
--- its last line on standard error
+-- The last line of the program on standard error.
 abbrev pub ended_line : Ended → List ℕ
 ended_line ended = codes "error: " ++ ended_text ended
 
--- why the program ends where a server ended early
+-- Why the program ends where a server ended early.
 abbrev pub ended_of : RunError → Ended
 ended_of server.NoMemory = Session session_fault.Memory
 ended_of server.Net = Net
 
--- the status of the program
+-- The exit status of the program.
 abbrev pub program_status : Result Done Ended → ℕ
 program_status (Ok Carried) = 0
 program_status (Ok Refused) = 2

@@ -1,4 +1,4 @@
--- What is said of a device, whatever a command over it ends with.
+-- What is known of a device, whatever a command over it ends with.
 use Rattle.std.specs.Prelude.{◌≡◌, ℕ, List, [], Option, Result, Ok, Err}
 use Rattle.std.specs.Io.KnownBytes.{Appends}
 use Rattle.sector_dev.specs.Disk.{Disk, IsHonest, reads_of}
@@ -14,7 +14,7 @@ use Rattle.store_open.specs.declared.store_error.StoreError.TheVariants as check
 use Rattle.cli_store.specs.declared.error.Fault.{Fault}
 use Rattle.cli_store.specs.declared.error.Fault.TheVariants.{Format, Open, Checkpoint, File, Memory, Output}
 
--- the device comes back in any case
+-- The device is returned in every case.
 abbrev pub device_after : {D : Type 0} → Result D (D × Fault) → D
 device_after (Ok device) = device
 device_after (Err back) = back.0
@@ -24,7 +24,7 @@ pub record LeavesDevice (old new : Disk) : Type 0 where
   pub keeps : Keeps old new
   pub history : IsHonest old → new.history ≡ old.history
 
--- how many calls of the device have failed, where a command ended with this fault
+-- The number of the device's failed calls after an opening that failed.
 abbrev pub faults_after_opening : OpenError → ℕ → ℕ
 faults_after_opening NotAStore faults = faults
 faults_after_opening Device faults = one_more faults
@@ -32,6 +32,7 @@ faults_after_opening (Pair e) faults = faults
 faults_after_opening (Journal e) faults = faults
 faults_after_opening NoMemory faults = faults
 
+-- The number of the device's failed calls after a checkpoint that failed.
 abbrev pub faults_after_checkpoint : StoreError → ℕ → ℕ
 faults_after_checkpoint checkpoint.Fault faults = one_more faults
 faults_after_checkpoint checkpoint.Sealed faults = faults
@@ -40,6 +41,7 @@ faults_after_checkpoint checkpoint.Exhausted faults = faults
 faults_after_checkpoint checkpoint.Unfit faults = faults
 faults_after_checkpoint checkpoint.Broken faults = faults
 
+-- The number of the device's failed calls after a command that ended with this fault.
 abbrev pub faults_after_fault : Fault → ℕ → ℕ
 faults_after_fault (Format e) faults = faults
 faults_after_fault (Open e) faults = faults_after_opening e faults
@@ -48,21 +50,23 @@ faults_after_fault File faults = faults
 faults_after_fault Memory faults = faults
 faults_after_fault Output faults = faults
 
+-- The number of the device's failed calls after a command that returns the device.
 abbrev pub faults_left : {D : Type 0} → Result D (D × Fault) → ℕ → ℕ
 faults_left (Ok device) faults = faults
 faults_left (Err back) faults = faults_after_fault back.1 faults
 
+-- The number of the device's failed calls after a command.
 abbrev pub faults_after_command : Result (Unit {0}) Fault → ℕ → ℕ
 faults_after_command (Ok done) faults = faults
 faults_after_command (Err fault) faults = faults_after_fault fault faults
 
--- The device isn't opened for this reason, which says of what reads gave what it says there;
--- nothing was written.
+-- The device is not opened for this reason, which is true of what reads gave. Nothing was written.
 pub record IsNotOpened (e : OpenError) (disk : Disk) (output output_left : Option (List ℕ)) : Type 0 where
   pub refused : IsHonest disk → RefusesOpening e (opening_of store_format latest (reads_of disk))
   pub nothing : Appends output output_left []
 
--- Memory ran out in opening, where all was in order that is judged without; nothing was written.
+-- Memory was refused in the opening, where all that is judged without memory was in order. Nothing
+-- was written.
 pub record OpeningLacksMemory (disk : Disk) (output output_left : Option (List ℕ)) : Type 0 where
   pub wanted : IsHonest disk → WantsMemoryToOpen (reads_of disk)
   pub nothing : Appends output output_left []

@@ -1,4 +1,4 @@
--- What the program says of a fault, and of which errors it makes which fault.
+-- The program's words for a fault, and the fault of each error.
 use Rattle.std.specs.Prelude.{ℕ, List, ◌++◌, codes}
 use Rattle.std.specs.Fmt.{decimal}
 use Rattle.gate_journal.specs.ErrorNumber as journal
@@ -12,7 +12,7 @@ use Rattle.store_open.specs.declared.new_store.FormatError.TheVariants as format
 use Rattle.cli_store.specs.declared.error.Fault.{Fault}
 use Rattle.cli_store.specs.declared.error.Fault.TheVariants.{Format, Open, Checkpoint, File, Memory, Output}
 
--- the numbers of an error of opening, from the outside in
+-- The numbers of an error of opening, the outer one first.
 abbrev pub open_numbers : OpenError → List ℕ
 open_numbers NotAStore = decimal 1
 open_numbers Device = decimal 2
@@ -20,11 +20,13 @@ open_numbers (Pair e) = codes "3 " ++ decimal (pair.pair_error_number e)
 open_numbers (Journal e) = codes "4 " ++ decimal (journal.journal_error_number e)
 open_numbers NoMemory = decimal 5
 
+-- The number of an error of making a store.
 abbrev pub format_number : FormatError → ℕ
 format_number format.BadGeometry = 1
 format_number format.TooSmall = 2
 format_number format.Fault = 3
 
+-- The number of an error of making a checkpoint.
 abbrev pub checkpoint_number : StoreError → ℕ
 checkpoint_number checkpoint.Fault = 1
 checkpoint_number checkpoint.Sealed = 2
@@ -33,7 +35,7 @@ checkpoint_number checkpoint.Exhausted = 4
 checkpoint_number checkpoint.Unfit = 5
 checkpoint_number checkpoint.Broken = 6
 
--- the words of a fault
+-- The words of a fault.
 abbrev pub store_fault_text : Fault → List ℕ
 store_fault_text (Format e) = codes "format " ++ decimal (format_number e)
 store_fault_text (Open e) = codes "open " ++ open_numbers e
@@ -42,7 +44,7 @@ store_fault_text File = codes "device 1"
 store_fault_text Memory = codes "memory"
 store_fault_text Output = codes "output"
 
--- want of memory is that, whoever wants it
+-- The fault of an error of opening. Refused memory is that fault, whichever step was refused it.
 abbrev pub fault_of_opening : OpenError → Fault
 fault_of_opening NotAStore = Open NotAStore
 fault_of_opening Device = Open Device
@@ -50,6 +52,7 @@ fault_of_opening (Pair e) = Open (Pair e)
 fault_of_opening (Journal e) = Open (Journal e)
 fault_of_opening NoMemory = Memory
 
+-- The fault of an error of making a checkpoint.
 abbrev pub fault_of_checkpoint : StoreError → Fault
 fault_of_checkpoint checkpoint.Fault = Checkpoint checkpoint.Fault
 fault_of_checkpoint checkpoint.Sealed = Checkpoint checkpoint.Sealed

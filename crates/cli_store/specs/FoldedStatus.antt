@@ -6,7 +6,7 @@ use Rattle.store_open.specs.declared.folded.Folded.{Folded}
 use Rattle.store_open.specs.Store.{counted_len}
 use Rattle.cli_store.specs.Status.{Status}
 
--- its numbers
+-- The numbers of such a store.
 abbrev pub folded_status : Folded → Status
 folded_status folded = record {
   version = (head_view folded.head).version;

@@ -1,4 +1,4 @@
--- What making a store answers and prints.
+-- What making a store returns and prints.
 use Rattle.std.specs.Prelude.{◌≡◌, ℕ, List, [], Option, Result, Ok, Err}
 use Rattle.std.specs.Io.KnownBytes.{Appends}
 use Rattle.sector_dev.specs.Disk.{Disk}
@@ -9,8 +9,9 @@ use Rattle.whole_writes.specs.Written.{IsWrittenInPart}
 use Rattle.cli_store.specs.declared.error.Fault.{Fault}
 use Rattle.cli_store.specs.declared.error.Fault.TheVariants.{Format, Open, Checkpoint, File, Memory, Output}
 
--- The store is there and its size is printed; or no store is made for a reason, or memory ran out
--- before anything was done, and nothing is printed; or it is there, and a write of the text failed.
+-- The store is made and its size is printed. Where no store is made, for a reason or because memory
+-- was refused before anything was done, nothing is printed. Where a write of the text failed, the
+-- store is made.
 abbrev pub FormatsAndPrints : Geometry → Result (Unit {0}) Fault → Disk → Disk → Option (List ℕ) → Option (List ℕ) → Type 0
 FormatsAndPrints geometry (Ok done) old new output output_left =
     Formats geometry (Ok done) old new × Appends output output_left (formatted_line (image_sectors geometry))

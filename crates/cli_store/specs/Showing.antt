@@ -1,4 +1,4 @@
--- What showing a store answers and prints.
+-- What showing a store returns and prints.
 use Rattle.std.specs.Prelude.{◌⊎◌, ℕ, List, Option}
 use Rattle.std.specs.Io.KnownBytes.{Appends}
 use Rattle.sector_dev.specs.Disk.{Disk, IsHonest, reads_of}
@@ -17,14 +17,14 @@ pub record ShowsStore (disk : Disk) (output output_left : Option (List ℕ)) : T
   pub opens : IsHonest disk → IsStoreOf rows place (reads_of disk)
   pub written : Appends output output_left (store_text rows place)
 
--- The same, of which a front alone was written.
+-- What reads give opens to rows at a place, and a front of their text was written.
 pub record IsShownInPart (disk : Disk) (output output_left : Option (List ℕ)) : Type 0 where
   pub rows : List RowView
   pub place : ℕ
   pub opens : IsHonest disk → IsStoreOf rows place (reads_of disk)
   pub written : IsWrittenInPart output output_left (store_text rows place)
 
--- Why a store isn't shown, or not whole.
+-- Why a store is not shown, or only in part.
 abbrev pub FailsToShow : Fault → Disk → Option (List ℕ) → Option (List ℕ) → Type 0
 FailsToShow (Format e) disk output output_left = ⊥
 FailsToShow (Open e) disk output output_left = IsNotOpened e disk output output_left

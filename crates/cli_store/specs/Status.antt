@@ -1,4 +1,4 @@
--- What the status of a store is, and what printing it answers.
+-- What the status of a store is, and what printing the status returns.
 use Rattle.std.specs.Prelude.{ℕ, ◌*◌, ◌-◌, Bool, true, false, List, [], ◌∷◌, ◌++◌, length, codes, Option, Result, Ok, Err}
 use Rattle.std.specs.Fmt.{decimal}
 use Rattle.std.specs.Io.KnownBytes.{Appends}
@@ -16,22 +16,28 @@ use Rattle.cli_store.specs.Text.{before}
 use Rattle.cli_store.specs.declared.error.Fault.{Fault}
 use Rattle.cli_store.specs.declared.error.Fault.TheVariants.{Format, Open, Checkpoint, File, Memory, Output}
 
--- The numbers of a store: the version and the epoch of the half that is chosen, and whether its
--- journal is sealed; the place reached; how many rows there are, their bytes, and how many bytes of
--- rows a checkpoint area takes; the sectors that are used of the last journal, up to its last gate,
--- and how many sectors a journal has.
+-- The numbers of a store.
 pub record Status : Type 0 where
+  -- The format version of the half that is chosen.
   pub version : ℕ
+  -- The epoch of that half.
   pub epoch : ℕ
+  -- The place reached.
   pub place : ℕ
+  -- The number of rows.
   pub rows : ℕ
+  -- The number of bytes of the rows.
   pub bytes : ℕ
+  -- The number of bytes of rows that a checkpoint area takes.
   pub most_bytes : ℕ
+  -- The sectors of the last journal that are used, up to its last gate.
   pub used : ℕ
+  -- The sectors of a journal.
   pub journal : ℕ
+  -- Whether the chosen half's journal is sealed.
   pub sealed : Bool
 
--- those of what an image opens with
+-- The numbers of what an image opens with.
 abbrev pub status_of : Opening (List RowView) Command → Status
 status_of opening =
     let value = opening_value store_format opening in
@@ -47,31 +53,32 @@ status_of opening =
       sealed = opening.journal.sealed;
     }
 
--- a line: a name and a number
+-- A line with a name and a number.
 abbrev pub number_line : List ℕ → ℕ → List ℕ
 number_line name number = before name (decimal number ++ 0x0a ∷ [])
 
--- a name, a number, and of how many
+-- A line with a name, a number, and a total.
 abbrev pub part_line : List ℕ → ℕ → ℕ → List ℕ
 part_line name part whole = before name (decimal part ++ (codes " of " ++ (decimal whole ++ 0x0a ∷ [])))
 
--- whether a journal is sealed
+-- The line that says whether a journal is sealed.
 abbrev pub sealed_line : Bool → List ℕ
 sealed_line false = codes "sealed no" ++ 0x0a ∷ []
 sealed_line true = codes "sealed yes" ++ 0x0a ∷ []
 
--- the version, the epoch, the place and the rows
+-- The lines of the version, the epoch, the place and the rows.
 abbrev pub head_lines : Status → List ℕ
 head_lines status =
     number_line (codes "version") status.version
     ++ (number_line (codes "epoch") status.epoch ++ (number_line (codes "place") status.place ++ number_line (codes "rows") status.rows))
 
--- how much of the store is used
+-- The lines of how much of the store is used.
 abbrev pub use_lines : Status → List ℕ
 use_lines status =
     part_line (codes "bytes") status.bytes status.most_bytes
     ++ (part_line (codes "journal") status.used status.journal ++ sealed_line status.sealed)
 
+-- The text of a status.
 abbrev pub status_text : Status → List ℕ
 status_text status = head_lines status ++ use_lines status
 
@@ -81,13 +88,13 @@ pub record IsReported (disk : Disk) (output output_left : Option (List ℕ)) : T
   pub opens : IsHonest disk → IsOpening store_format latest (reads_of disk) opening
   pub written : Appends output output_left (status_text (status_of opening))
 
--- The same, of which a front alone was written.
+-- What reads give opens with this, and a front of the text of its numbers was written.
 pub record IsReportedInPart (disk : Disk) (output output_left : Option (List ℕ)) : Type 0 where
   pub opening : Opening (List RowView) Command
   pub opens : IsHonest disk → IsOpening store_format latest (reads_of disk) opening
   pub written : IsWrittenInPart output output_left (status_text (status_of opening))
 
--- What printing the status of a store on a device comes to.
+-- What printing the status of a store on a device returns and prints.
 abbrev pub ReportsSo : Result (Unit {0}) Fault → Disk → Option (List ℕ) → Option (List ℕ) → Type 0
 ReportsSo (Ok done) disk output output_left = IsReported disk output output_left
 ReportsSo (Err (Format e)) disk output output_left = ⊥

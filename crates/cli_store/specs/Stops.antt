@@ -7,7 +7,8 @@ use Rattle.path_rows.specs.Database.{RowView}
 use Rattle.store_open.specs.Behind.{SameBehind}
 use Rattle.store_open.specs.PathStores.{IsStoreOf}
 
--- both open to the same rows at the same place, and what is behind their store is the same
+-- Both images open to the same rows at the same place, and the bytes after their store are the
+-- same.
 pub record OpenToTheSame (before behind : List ℕ) : Type 0 where
   pub rows : List RowView
   pub place : ℕ
@@ -16,11 +17,11 @@ pub record OpenToTheSame (before behind : List ℕ) : Type 0 where
   pub beyond : SameBehind before_is.opening.geometry before behind
 
 -- The image is what it was, or opens to the rows at the place that it opened to. So it opens to
--- nothing else, and one that doesn't open isn't changed.
+-- nothing else, and an image that does not open is unchanged.
 abbrev pub StandsForTheSame : List ℕ → List ℕ → Type 0
 StandsForTheSame before behind = (behind ≡ before) ⊎ OpenToTheSame before behind
 
--- A stop at any moment from the old state on leaves of an honest device what represents the same as
--- an image of the old state.
+-- A stop at any moment from the old state on leaves of an honest device an image that represents
+-- the same as an image of the old state.
 abbrev pub KeepsItsStore : Disk → Disk → Type 0
 KeepsItsStore old new = Stretch old new (IsFromImage old.history.now StandsForTheSame)

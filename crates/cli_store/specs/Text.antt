@@ -1,4 +1,4 @@
--- What a store is shown as: a line for each row, and one with the place.
+-- The text in which a store is shown: a line for each row, and one with the place.
 use Rattle.std.specs.Prelude.{ℕ, ◌-◌, ◌/◌, ◌%◌, ◌^◌, List, [], ◌∷◌, ◌++◌, length, codes, Option, Some, None}
 use Rattle.std.specs.List.{flat_map, slice_get}
 use Rattle.std.specs.Fmt.{decimal}
@@ -11,61 +11,63 @@ use Rattle.seg_core.specs.Digest.{segment_digest}
 use Rattle.seg_check.specs.Expiry.{expiry_of}
 use Rattle.path_rows.specs.Database.{RowView}
 
--- the word of a type
+-- The word of a type.
 abbrev pub type_word : SegType → List ℕ
 type_word Up = codes "up"
 type_word Down = codes "down"
 type_word Core = codes "core"
 
--- the canonical text of an ISD-AS of 64 bits: the upper 16 in decimal, a dash, and the AS
+-- The canonical text of an ISD-AS of 64 bits: the upper 16 bits in decimal, a dash, and the AS.
 abbrev pub number_text : ℕ → List ℕ
 number_text number = decimal (number / 2 ^ 48) ++ (codes "-" ++ as_text (number % 2 ^ 48))
 
--- the text of an entry's ISD-AS; of no entry no text
+-- The text of an entry's ISD-AS. Where there is no entry, the text is empty.
 abbrev pub end_text : Option EntryView → List ℕ
 end_text None = []
 end_text (Some e) = number_text e.ia
 
--- the entries at both ends
+-- The first entry.
 abbrev pub first_entry : List EntryView → Option EntryView
 first_entry entries = slice_get entries 0
 
+-- The last entry.
 abbrev pub last_entry : List EntryView → Option EntryView
 last_entry entries = slice_get entries (length entries - 1)
 
--- a word, a space, and what follows
+-- A word, a space, and what follows.
 abbrev pub before : List ℕ → List ℕ → List ℕ
 before word rest = word ++ (codes " " ++ rest)
 
--- The type, the id in hexadecimal digits, the timestamp in seconds since 1970, and when the segment
--- expires, in half seconds.
+-- The front of a row's line: the type, the id in hexadecimal digits, the timestamp in seconds since
+-- 1970, and when the segment expires, in half seconds.
 abbrev pub row_head : RowView → List ℕ
 row_head row =
     before (type_word row.0) (before (encode_lower (segment_digest row.1)) (before (decimal row.1.timestamp) (decimal (expiry_of row.1))))
 
--- The first and the last ISD-AS, and how many entries there are.
+-- The end of a row's line: the first and the last ISD-AS, and the number of entries.
 abbrev pub row_ends : RowView → List ℕ
 row_ends row = before (end_text (first_entry row.1.entries)) (before (end_text (last_entry row.1.entries)) (decimal (length row.1.entries)))
 
--- a row in words
+-- The line of a row.
 unfoldable pub row_line : RowView → List ℕ
 row_line row = before (row_head row) (row_ends row) ++ 0x0a ∷ []
 
--- all rows, in the order of their keys
+-- The lines of all rows, in the order of their keys.
 abbrev pub rows_text : List RowView → List ℕ
 rows_text rows = flat_map row_line rows
 
--- the place, behind its name
+-- The line of the place, after its name.
 abbrev pub place_line : ℕ → List ℕ
 place_line place = codes "place " ++ (decimal place ++ 0x0a ∷ [])
 
+-- The text of a store.
 abbrev pub store_text : List RowView → ℕ → List ℕ
 store_text rows place = rows_text rows ++ place_line place
 
--- how many sectors a new store takes
+-- The line that says how many sectors a new store takes.
 abbrev pub formatted_line : ℕ → List ℕ
 formatted_line sectors = codes "formatted " ++ (decimal sectors ++ (codes " sectors" ++ 0x0a ∷ []))
 
--- the version that stores are written in
+-- The line of the version that stores are written in.
 abbrev pub version_line : List ℕ
 version_line = codes "version 2" ++ 0x0a ∷ []

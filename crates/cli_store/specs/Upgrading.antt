@@ -1,4 +1,4 @@
--- What having a store in the version that is written answers and prints.
+-- What bringing a store to the version that is written returns and prints.
 use Rattle.std.specs.Prelude.{◌≡◌, ◌≢◌, ◌⊎◌, ℕ, List, [], Option, Result, Ok, Err}
 use Rattle.std.specs.Io.KnownBytes.{Appends}
 use Rattle.sector_dev.specs.Disk.{Disk, IsHonest, reads_of}
@@ -14,7 +14,8 @@ use Rattle.cli_store.specs.Devices.{IsNotOpened, OpeningLacksMemory}
 use Rattle.cli_store.specs.declared.error.Fault.{Fault}
 use Rattle.cli_store.specs.declared.error.Fault.TheVariants.{Format, Open, Checkpoint, File, Memory, Output}
 
--- A store of version 1 had a checkpoint made, or was refused one; of another version it stays.
+-- A store of version 1 had a checkpoint made, or was refused one. A store of another version is
+-- unchanged.
 abbrev pub BecomesLatest : Result (Unit {0}) StoreError → StoreView → StoreView → Type 0
 BecomesLatest (Ok done) old new =
     ((old.head.version ≢ 1) × (new ≡ old)) ⊎ ((old.head.version ≡ 1) × Checkpoints (Ok done) old new)
@@ -29,7 +30,7 @@ pub record IsUpgraded (old new : Disk) : Type 0 where
   pub rest : IsAtRest store
   pub same : IsStoreOf store.rows store.place (reads_of old)
 
--- The store was opened, in version 1, and no checkpoint was made for this reason; nothing was
+-- The store was opened, in version 1, and no checkpoint was made for this reason. Nothing was
 -- written.
 pub record IsNotUpgraded (e : StoreError) (old new : Disk) (output output_left : Option (List ℕ)) : Type 0 where
   pub store : StoreView
@@ -40,7 +41,7 @@ pub record IsNotUpgraded (e : StoreError) (old new : Disk) (output output_left :
   pub device : after.disk ≡ new
   pub nothing : Appends output output_left []
 
--- Why a store isn't in that version, or isn't said to be.
+-- Why a store is not in that version, or why its version is not printed.
 abbrev pub FailsToUpgrade : Fault → Disk → Disk → Option (List ℕ) → Option (List ℕ) → Type 0
 FailsToUpgrade (Format e) old new output output_left = ⊥
 FailsToUpgrade (Open e) old new output output_left = IsNotOpened e old output output_left

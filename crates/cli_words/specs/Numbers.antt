@@ -4,11 +4,11 @@ use Rattle.std.specs.List.{AllPass}
 use Rattle.clap.specs.Lexer.{is_digit}
 use Rattle.clap.specs.Words.{Row, Text, first_of}
 
--- the value of an option, where it has one, is decimal digits alone
+-- The value of an option, where it has one, is decimal digits alone.
 abbrev pub IsPlainNumber : List Row → Text → Type 0
 IsPlainNumber rows name = IfSome (first_of name rows) (AllPass is_digit)
 
--- each option whose value is a number has such a value, where it has one
+-- Each option whose value is a number has such a value, where it has one.
 pub record HasPlainNumbers (rows : List Row) : Type 0 where
   pub now : IsPlainNumber rows (codes "now")
   pub checkpoint : IsPlainNumber rows (codes "checkpoint")
