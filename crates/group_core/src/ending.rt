@@ -13,9 +13,9 @@ use group_phases::Flush;
 use sector_dev::Device;
 
 impl<D: Device, S: Showcase> State<D, S> {
-    /// Gives up a group or a seal that is durable, where the state has stopped: it is not published
-    /// any more, and its value is spent. Where the state goes on, or it isn't this value's turn,
-    /// the value comes back. It makes no call of the device, and takes no memory.
+    /// Abandons a durable group or seal, where the state has stopped: the group or seal is not
+    /// published any more, and its value is spent. Where the state goes on, or it is not this
+    /// value's turn, the value is returned. The call does not use the device, and takes no memory.
     pub fn abandon(&mut self, value: Durable) -> Result<(), Durable>
         ensures abandons { Abandons value result self.old self.new }
         ensures any_moment { StepLeaves self.old self.new }
@@ -28,15 +28,15 @@ impl<D: Device, S: Showcase> State<D, S> {
         Ok(())
     }
 
-    /// Hands the device out, unless an outcome is still kept or a commit value is still out: then
-    /// the state comes back. It makes no call of the device, and takes no memory.
+    /// Returns the device, unless an outcome is still kept or a commit value is still out. In that
+    /// case the state is returned. The call does not use the device, and takes no memory.
     pub fn into_device(self) -> Result<D, State<D, S>>
     where
         S: Drop,
         ensures answer { HandsOut D.disk result self }
         ensures left { OnOk result (IsHonest self.disk → EveryImage self.disk.history.now (MayOpen self)) }
 
-        // With nothing pending it opens to the rows that are committed, at their place.
+        // With nothing pending, the device opens to the rows that are committed, at their place.
         ensures at_rest { IfOk result (λ device. IsHonest (D.disk device) → self.pending ≡ [] → HoldsStoreOf self.value (D.disk device)) }
     {
         if !self.kept.is_empty() || self.group.out || self.plan.out {
@@ -46,8 +46,8 @@ impl<D: Device, S: Showcase> State<D, S> {
         Ok(device)
     }
 
-    /// Ends the state, whatever is kept or out: the device, and what shows the rows. It makes no
-    /// call of the device.
+    /// Ends the state, whatever is kept or out, and returns the device and the showcase. The call
+    /// does not use the device.
     pub fn into_parts(self) -> (D, S)
         ensures device { D.disk result.0 ≡ self.disk }
         ensures show { S.value result.1 ≡ self.value }

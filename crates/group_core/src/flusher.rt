@@ -18,7 +18,7 @@ use sector_dev::Device;
 impl<D: Device, S: Showcase> State<D, S> {
     /// Writes what is staged after the tail's gate, in one write. While that gate is closed nothing
     /// of it counts, however much of it a stop keeps. A group's write ends with the next gate,
-    /// closed: what was there before may read open, and would be taken for a group's gate once the
+    /// closed: what was there before may read open, and would be read as a group's gate once the
     /// tail's gate is open.
     pub fn write_group(&mut self, value: Staged) -> Result<Written, StepError<AtStaged>>
         ensures step { FlushStep staged written staged value result self.old self.new }
@@ -54,8 +54,8 @@ impl<D: Device, S: Showcase> State<D, S> {
     }
 
     /// Writes the tail's gate open. One byte of this sector decides, so a stop keeps the whole
-    /// group or seal, or nothing of it. Where the write fails that stays in doubt, and the state
-    /// has stopped.
+    /// group or seal, or nothing of it. Where the write fails, it is not known whether the gate is
+    /// open, and the state has stopped.
     pub fn open_gate(&mut self, value: Stable) -> Result<Opened, StepError<AtStable>>
         ensures step { FlushStep stable opened doubtful value result self.old self.new }
         ensures call { StepCall (gate_write self.old) result self.old.disk self.new.disk }
@@ -92,7 +92,8 @@ impl<D: Device, S: Showcase> State<D, S> {
         }
     }
 
-    /// The value, where it is its turn and the state goes on; a state that has stopped spends it.
+    /// Returns the value, where it is its turn and the state goes on. A state that has stopped
+    /// spends the value.
     fn group_turn<P: Copy>(
         &mut self,
         phase: Flush,

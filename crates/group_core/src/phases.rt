@@ -4,11 +4,11 @@
 #[derive(Clone, Copy)]
 pub struct AtStaged;
 
-/// It was written behind the tail's gate.
+/// The group or the seal was written after the tail's gate.
 #[derive(Clone, Copy)]
 pub struct AtWritten;
 
-/// It was synced.
+/// The group or the seal was synced.
 #[derive(Clone, Copy)]
 pub struct AtStable;
 
@@ -16,14 +16,14 @@ pub struct AtStable;
 #[derive(Clone, Copy)]
 pub struct AtOpened;
 
-/// That was synced.
+/// The gate is synced.
 #[derive(Clone, Copy)]
 pub struct AtDurable;
 
 /// A checkpoint is being written.
 #[derive(Clone, Copy)]
 pub struct AtPlan {
-    /// Whether all of it is.
+    /// Whether all of the checkpoint is written.
     pub done: bool,
 }
 
@@ -35,7 +35,7 @@ pub struct AtLaid;
 #[derive(Clone, Copy)]
 pub struct AtSwitched;
 
-/// That was synced.
+/// The gate is synced.
 #[derive(Clone, Copy)]
 pub struct AtLive;
 

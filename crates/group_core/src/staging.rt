@@ -1,4 +1,4 @@
-//! Staging what is written next: a group of the first pending commands, or a seal.
+//! Staging the next write: a group of the first pending commands, or a seal.
 
 ghost use Rattle.std.specs.Prelude.{◌≡◌, ◌≢◌, ◌≤◌, length, take, IfOk, MatchResult};
 ghost use Rattle.std.specs.List.{All};
@@ -27,24 +27,23 @@ use sector_dev::Device;
 use std::alloc::{AllocError, Global};
 use thiserror::Error;
 
-/// Why nothing was staged. The first that holds is answered, in this order: `Stopped`, `InFlight`,
+/// Why nothing was staged. The first that holds is returned, in this order: `Stopped`, `InFlight`,
 /// `Empty`, `NoRoom`, and then `NoMemory`.
 #[derive(Clone, Copy, Debug, PartialEq, Eq, Error)]
 pub enum StageError {
     /// No command is pending.
     #[error("no command is pending")]
     Empty = 1,
-    /// The journal has no room for the group, and the other half isn't ready for what follows a
-    /// seal.
+    /// The journal has no room for the group, and the other half is not ready for a seal.
     #[error("the journal has no room")]
     NoRoom = 2,
-    /// What was staged before isn't published yet.
+    /// What was staged before is not published yet.
     #[error("a group or a seal is in flight")]
     InFlight = 3,
     /// The state has stopped.
     #[error("the state has stopped")]
     Stopped = 4,
-    /// Memory ran out.
+    /// Memory was refused.
     #[error("out of memory")]
     NoMemory = 5,
 }
@@ -57,8 +56,8 @@ impl From<AllocError> for StageError {
     }
 }
 
-/// The longest front of commands that fits one group: how many they are, and how many bytes their
-/// records have.
+/// The longest front of commands that fits one group: its number of commands, and the number of
+/// bytes of their records.
 #[derive(Clone, Copy)]
 struct Front {
     count: usize,
@@ -87,7 +86,7 @@ impl<D: Device, S: Showcase> State<D, S> {
         Ok(Commit::new(self.home, self.group.number, AtStaged))
     }
 
-    /// How many commands are to be staged next; none for a seal.
+    /// The number of commands to stage next, or 0 for a seal.
     fn next_to_take(&self) -> Result<usize, StageError>
         ensures { MatchResult result (Takes self.now) (λ e. (e ≢ NoMemory) × IsStagingRefused e self.now) }
     {
@@ -134,7 +133,7 @@ fn longest_front(commands: &[Command], version: u32) -> Front
     }
 }
 
-/// What is written of a group: its payload, and the gate behind it, closed.
+/// The bytes to write for a group: its payload, and the closed gate after it.
 fn group_bytes(alloc: Global, commands: &[Command], place: u64) -> Result<Vec<u8>, AllocError>
     requires { IsWithinGroupLimits commands.now place }
     ensures { IfOk result (λ bytes. bytes.items ≡ load_bytes command_format place (Commands commands.now)) }
@@ -144,7 +143,7 @@ fn group_bytes(alloc: Global, commands: &[Command], place: u64) -> Result<Vec<u8
     Ok(bytes)
 }
 
-/// What is written of a seal: its payload.
+/// The bytes to write for a seal: its payload.
 fn seal_bytes(alloc: Global, place: u64) -> Result<Vec<u8>, AllocError>
     ensures { IfOk result (λ bytes. bytes.items ≡ load_bytes command_format place Seal) }
 {

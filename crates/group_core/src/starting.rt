@@ -17,17 +17,17 @@ use sector_dev::Device;
 use std::alloc::Global;
 use store_open::Store;
 
-/// Before the first commit value of an actor.
+/// The turn before the first commit value of an actor.
 const NO_TURN: Turn = Turn {
     number: 0,
     out: false,
 };
 
 impl<D: Device, S: Showcase> State<D, S> {
-    /// The state of a store that was opened, and whose rows are shown; the caller gives each state
-    /// of a process a home number of its own. It has stopped from its start where a checkpoint of
-    /// the store has failed, and where its rows, or those up to its seal, have no room in a
-    /// checkpoint area. It takes no memory.
+    /// Makes the state of a store that was opened, and whose rows are shown. The caller gives each
+    /// state of a process a home number of its own. The state has stopped from its start where a
+    /// checkpoint of the store has failed, and where its rows, or those up to its seal, have no
+    /// room in a checkpoint area. The call takes no memory.
     pub fn new(alloc: Global, store: Store<D>, show: S, home: u64) -> State<D, S>
         requires shown { S.value show ≡ value_of_store store }
         requires paid { S.owed show ≡ [] }
@@ -82,7 +82,7 @@ fn goes_on<D: Device>(store: &Store<D>) -> bool
     store.db().encoded_len() <= most && (!store.is_sealed() || store.sealed_len() <= most)
 }
 
-/// Where the checkpointer is at the start: a sealed journal awaits its checkpoint.
+/// The checkpointer's phase at the start: a sealed journal awaits its checkpoint.
 fn check_of(sealed: bool) -> Check
     ensures { result ≡ check_in sealed }
 {

@@ -14,55 +14,56 @@ use store_open::Geometry;
 
 /// A store at work: its device, what it shows, and what is accepted and not committed yet.
 pub struct State<D: Device, S: Showcase> {
-    /// Where the state takes memory from.
+    /// The allocator of the state's memory.
     pub(crate) alloc: Global,
     /// The device that has the store. Nothing else writes it.
     pub(crate) device: D,
     /// The sizes of each half's checkpoint area and journal, in sectors.
     pub(crate) geometry: Geometry,
-    /// The state's own number, which its tickets and its commit values have too; no other state of
+    /// The state's own number, which its tickets and its commit values have too. No other state of
     /// the process has it.
     pub(crate) home: u64,
     /// What shows the committed rows.
     pub(crate) show: S,
-    /// How many commands are committed, since the store was made: the place of the first pending
-    /// one.
+    /// The number of commands that are committed since the store was made, which is the place of
+    /// the first pending command.
     pub(crate) place: u64,
     /// The rows after all accepted commands.
     pub(crate) tip: PathDb,
-    /// The commands that are accepted and not committed yet, in the order of their places; at most
+    /// The commands that are accepted and not committed yet, in the order of their places, at most
     /// 256.
     pub(crate) pending: Vec<Command>,
     /// The outcome of each accepted command whose ticket is not redeemed yet, by the command's
     /// place.
     pub(crate) kept: RisingMap<Outcome>,
-    /// How many of the first pending commands are in flight: 0 while the flusher rests, and where a
-    /// seal is in flight.
+    /// The number of the first pending commands that are in flight: 0 while the flusher rests, and
+    /// where a seal is in flight.
     pub(crate) taken: usize,
     /// The bytes of the one write of what is in flight, in whole sectors: a group with the closed
     /// gate after it, or a seal.
     pub(crate) staged: Vec<u8>,
-    /// How far the flusher is.
+    /// The phase of the flusher.
     pub(crate) flush: Flush,
     /// The flusher's last commit value.
     pub(crate) group: Turn,
-    /// How far the checkpointer is.
+    /// The phase of the checkpointer.
     pub(crate) check: Check,
     /// The checkpointer's last commit value.
     pub(crate) plan: Turn,
-    /// The half whose journal has the tail: the next group or seal goes there.
+    /// The half whose journal has the tail, to which the next group or seal is written.
     pub(crate) half: Half,
-    /// The tail's gate, in sectors from the start of that journal: what is in flight goes after it.
+    /// The tail's gate, in sectors from the start of that journal. What is in flight is written
+    /// after it.
     pub(crate) gate: u64,
     /// The epoch of the half that counts: its checkpoint's number.
     pub(crate) epoch: u64,
     /// The format version of the half that counts, which sets the limits of groups and commands.
     pub(crate) version: u32,
-    /// The last checkpoint that was begun, as far as it isn't written.
+    /// The last checkpoint that was begun, as far as it is not written.
     pub(crate) merge: Option<Merge>,
-    /// How many sectors of it are written.
+    /// The number of sectors of that checkpoint that are written.
     pub(crate) written: u64,
-    /// Whether the state has stopped, which is for good.
+    /// Whether the state has stopped, which is final.
     pub(crate) stopped: bool,
 }
 

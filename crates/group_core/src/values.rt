@@ -1,5 +1,5 @@
-//! Commit values: what an actor holds between two of its steps. One can't be copied or dropped: it
-//! is given to the next step.
+//! Commit values, which an actor holds between two of its steps. A value cannot be copied or
+//! dropped: it is passed to the next step.
 
 ghost use Rattle.std.specs.Prelude.{◌≡◌, ◌↔◌, IsTrue};
 ghost use Rattle.group_core.specs.Values.{IsOf, IsSame};
@@ -19,27 +19,27 @@ pub struct Commit<P> {
 
 /// A group or a seal that is staged.
 pub type Staged = Commit<AtStaged>;
-/// One that was written.
+/// Bytes written, not synced.
 pub type Written = Commit<AtWritten>;
-/// One that was synced.
+/// Bytes written and synced, with the gate still closed.
 pub type Stable = Commit<AtStable>;
-/// One whose gate was written.
+/// The gate was written open, not synced.
 pub type Opened = Commit<AtOpened>;
-/// One whose gate was synced.
+/// No stop can lose the group or the seal.
 pub type Durable = Commit<AtDurable>;
 /// A checkpoint that is being written.
 pub type Plan = Commit<AtPlan>;
 /// A checkpoint that is whole and synced.
 pub type Laid = Commit<AtLaid>;
-/// One whose half was opened.
+/// The new half's gate was written open, not synced.
 pub type Switched = Commit<AtSwitched>;
-/// One whose half counts.
+/// Openings choose the new half.
 pub type Live = Commit<AtLive>;
-/// One whose old half was closed.
+/// The old half's gates were written closed, not synced.
 pub type Closing = Commit<AtClosing>;
 
 impl<P: Copy> Commit<P> {
-    /// The value of a group or plan of this number, at a phase.
+    /// The value of a group or plan of this number, in a phase.
     pub(crate) fn new(home: u64, number: u64, phase: P) -> Commit<P>
         ensures home { result.home ≡ home }
         ensures number { result.number ≡ number }
@@ -52,14 +52,14 @@ impl<P: Copy> Commit<P> {
         }
     }
 
-    /// Whether it is of this home, and has this number.
+    /// Whether the value is of this home, and has this number.
     pub(crate) fn is_of(&self, home: u64, number: u64) -> bool
         ensures { IsTrue result ↔ IsOf home number self.now }
     {
         self.home == home && self.number == number
     }
 
-    /// The value of the same group or plan at another phase.
+    /// The value of the same group or plan in another phase.
     pub(crate) fn at<Q: Copy>(self, phase: Q) -> Commit<Q>
         ensures same { IsSame self result }
         ensures phase { result.phase ≡ phase }
@@ -76,7 +76,7 @@ impl<P: Copy> Commit<P> {
         }
     }
 
-    /// It is no more.
+    /// Consumes the value.
     pub(crate) fn spend(self) {
         let Commit {
             home: _home,

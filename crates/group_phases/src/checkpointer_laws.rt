@@ -1,5 +1,5 @@
 //! Laws of the checkpointer's steps, in any format of databases of type `Db` and commands of type
-//! `C`. `T` and `E` are what a call answers.
+//! `C`. `T` and `E` are the types of what a call returns.
 
 ghost use Rattle.group_phases.specs.CheckpointerSteps.{StaysUnderLargerLimits, TakesTheNewVersion, PublishesSeal, BeginsPlan, WritesBesideJournal, ChunkIsWritten, ChunksAreSynced, OpensHalf, HalfIsSynced, ClosesHalf, CloseIsSynced};
 
@@ -9,8 +9,8 @@ pub fn parts_stay_under_larger_limits<Db, C>()
     ensures base { TakesTheNewVersion Db C }
 {}
 
-/// After a seal that is durable the tail continues in the other journal, and the sealed half awaits
-/// its checkpoint; which is planned then.
+/// After a durable seal, the tail continues in the other journal, and the sealed half awaits its
+/// checkpoint, which is planned then.
 pub fn seals_are_published<Db, C>()
     ensures seal { PublishesSeal Db C }
     ensures plan { BeginsPlan Db C }
@@ -21,16 +21,16 @@ pub fn checkpointer_writes_lie_beside_the_journal<Db, C>()
     ensures { WritesBesideJournal Db C }
 {}
 
-/// The new checkpoint is written by its sectors, and synced: each call leaves the checkpointer's
-/// part of the next phase, or where it fails of the one before.
+/// The sectors of the new checkpoint are written and synced. Each call leaves the checkpointer's
+/// part of the next phase, or that of the phase before where the call fails.
 pub fn checkpoints_are_laid<T, E, Db, C>()
     ensures write { ChunkIsWritten T E Db C }
     ensures sync { ChunksAreSynced T E Db C }
 {}
 
 /// The new half's gate is written open and synced, and then the old half's gates are written closed
-/// and synced: each call leaves the checkpointer's part of the next phase, or where it fails of one
-/// that says so.
+/// and synced. Each call leaves the checkpointer's part of the next phase, or that of a phase for
+/// the failure where the call fails.
 pub fn halves_are_switched<T, E, Db, C>()
     ensures open { OpensHalf T E Db C }
     ensures open_sync { HalfIsSynced T E Db C }

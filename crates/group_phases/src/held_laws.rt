@@ -1,5 +1,5 @@
 //! Laws of the calls on a device that holds what a state represents, in any format of databases of
-//! type `Db` and commands of type `C`. `T` and `E` are what a call answers.
+//! type `Db` and commands of type `C`. `T` and `E` are the types of what a call returns.
 
 ghost use Rattle.group_phases.specs.declared.phases.Flush.TheVariants.{Written, Stable, Opened, Durable};
 ghost use Rattle.group_phases.specs.declared.phases.Check.TheVariants.{Ready, Switched, Live, Closing};
@@ -28,16 +28,16 @@ pub fn checkpointer_calls_are_held<T, E, Db, C>()
     ensures close_sync { HeldWhileHalfIsSynced Closing Ready T E Db C }
 {}
 
-/// Accepting a command, and staging a group or a seal, leave what the device holds as what the
-/// state then represents.
+/// After a command is accepted, or a group or a seal is staged, the device holds what the state
+/// then represents.
 pub fn commands_are_held<Db, C>()
     ensures accepted { HeldWhenAccepted Db C }
     ensures group { HeldWhenGroupIsStaged Db C }
     ensures seal { HeldWhenSealIsStaged Db C }
 {}
 
-/// Publishing a group or a seal that is durable, beginning a plan, and taking the new half's
-/// version leave what the device holds as what the state then represents.
+/// After a durable group or seal is published, a plan begins, or the new half's version counts, the
+/// device holds what the state then represents.
 pub fn turns_are_held<Db, C>()
     ensures group { HeldWhenGroupIsPublished Db C }
     ensures seal { HeldWhenSealIsPublished Db C }
@@ -45,8 +45,8 @@ pub fn turns_are_held<Db, C>()
     ensures version { HeldUnderTheNewVersion Db C }
 {}
 
-/// What a stop within a write leaves opens to a front that a stop before it or after it may keep,
-/// and what one within a sync leaves to one that a stop before it may keep.
+/// A stop within a write leaves what opens to a front that a stop before or after the write may
+/// keep. A stop within a sync leaves what opens to a front that a stop before the sync may keep.
 pub fn calls_leave_fronts<T, E, Db, C>()
     ensures write { WritesLeaveFronts T E Db C }
     ensures sync { SyncsLeaveFronts T E Db C }

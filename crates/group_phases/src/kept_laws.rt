@@ -1,5 +1,5 @@
 //! Laws of what one actor leaves to the other, in any format of databases of type `Db` and commands
-//! of type `C`. `T` and `E` are what a call answers.
+//! of type `C`. `T` and `E` are the types of what a call returns.
 
 ghost use Rattle.group_phases.specs.Kept.{KeepsFlusherPart, KeepsBasePart, TailWritesLeaveBase, BaseWritesLeaveTail, SyncsLeaveBoth};
 
@@ -9,8 +9,8 @@ pub fn parts_stay_where_untouched<Db, C>()
     ensures base { KeepsBasePart Db C }
 {}
 
-/// A write into the tail's journal leaves the checkpointer's ranges, one beside it the flusher's,
-/// and a sync both, whatever they answer.
+/// A write into the tail's journal leaves the checkpointer's ranges untouched, a write beside it
+/// the flusher's, and a sync both, whatever the results.
 pub fn calls_leave_the_other_part<T, E>()
     ensures tail { TailWritesLeaveBase T E }
     ensures base { BaseWritesLeaveTail T E }

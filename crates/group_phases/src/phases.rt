@@ -1,4 +1,4 @@
-//! How far the two actors are.
+//! The phases of the two actors.
 
 /// How far the flusher is with the group or seal that it has staged.
 ///
@@ -32,11 +32,11 @@
 pub enum Flush {
     /// Nothing is in flight.
     Resting,
-    /// What has to be written is made.
+    /// The bytes to write are made.
     Staged,
-    /// It was written after the tail's gate.
+    /// The bytes were written after the tail's gate.
     Written,
-    /// A sync after that succeeded.
+    /// A sync after the write succeeded.
     Stable,
     /// The tail's gate was written open.
     Opened,
@@ -81,13 +81,13 @@ pub enum Flush {
 /// checkpoint's, which is why that half is in use no more.
 #[derive(Clone, Copy, Debug, PartialEq, Eq)]
 pub enum Check {
-    /// The half without the tail is closed, and its journal too.
+    /// The half without the tail is closed, and so is its journal.
     Ready,
     /// The half without the tail has a sealed journal.
     Sealed,
     /// The new checkpoint is being written.
     Planned,
-    /// All of it is written, and a sync after that succeeded.
+    /// The new checkpoint is written, and a sync after that succeeded.
     Laid,
     /// The new half's gate was written open.
     Switched,

@@ -9,7 +9,7 @@ use std::mem;
 
 /// The flusher's value.
 pub(crate) enum HeldGroup {
-    /// None is out.
+    /// No value held.
     None,
     Staged(Staged),
     Written(Written),
@@ -20,7 +20,7 @@ pub(crate) enum HeldGroup {
 
 /// The checkpointer's value.
 pub(crate) enum HeldPlan {
-    /// None is out.
+    /// No value held.
     None,
     Plan(Plan),
     Laid(Laid),

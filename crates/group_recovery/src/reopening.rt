@@ -34,17 +34,16 @@ pub fn reopen<D: Device>(alloc: Global, device: D) -> Result<Store<D>, (D, OpenE
     open(alloc, device)
 }
 
-/// Why the device of a state isn't opened again.
+/// Why the device of a state is not opened again.
 pub enum NotReopened<D: Device, S: Showcase> {
     /// An outcome is still kept, or a commit value is still out. The state is returned.
     InUse(State<D, S>),
-    /// The device isn't opened. It is returned with the error.
+    /// The device is not opened. It is returned with the error.
     Refused(D, OpenError),
 }
 
-/// Takes the device out of a state, and opens it. Where nothing is pending, the store has the
-/// committed rows, at their place; else it has the committed rows after a front of the pending
-/// commands.
+/// Takes the device out of a state, and opens it. The store has the committed rows after a front of
+/// the pending commands. Where nothing is pending, those are the committed rows, at their place.
 pub fn reopen_state<D: Device, S: Showcase>(
     alloc: Global,
     state: State<D, S>,

@@ -9,8 +9,8 @@ pub fn events_make_machine_steps()
     ensures { EventsMakeMachineSteps }
 {}
 
-/// Each event changes what the state keeps beside its machine as its reply determines; a state that
-/// has stopped stays stopped.
+/// Each event changes the bookkeeping of a state as its reply determines. A state that has stopped
+/// stays stopped.
 pub fn events_keep_the_books()
     ensures books { EventsKeepTheBooks }
     ensures stopped { StopsAreForGood }

@@ -39,7 +39,8 @@ impl<D: Device> Model for Run<D> {
 }
 
 impl<D: Device> Run<D> {
-    /// A run of this state, where none of its commit values is out; else the state is returned.
+    /// A run of this state, where none of its commit values is out. Otherwise the state is
+    /// returned.
     pub fn new(alloc: Global, state: State<D, PlainShow>) -> Result<Run<D>, State<D, PlainShow>>
         ensures { StartsRun result state }
     {
@@ -76,7 +77,7 @@ impl<D: Device> Run<D> {
     }
 
     /// The device, where no outcome is kept and no value is out: then no values and tickets are
-    /// left. Else the run is returned.
+    /// left. Otherwise the run is returned.
     pub(crate) fn into_device(self) -> Result<D, Run<D>>
         ensures { HandsOutDevice D.disk result self }
     {

@@ -29,9 +29,9 @@ fn endings() -> [Event; 12]
 
 impl<D: Device> Run<D> {
     /// Stops the state, spends the values that are out, redeems every ticket, and returns the
-    /// device: where nothing is pending then, the device opens to the committed rows. Where memory
-    /// is refused for a durable group, or an outcome is kept whose ticket isn't in the run, the run
-    /// is returned.
+    /// device. Where nothing is pending then, the device opens to the committed rows. Where memory
+    /// is refused for a durable group, or an outcome is kept whose ticket is not in the run, the
+    /// run is returned.
     pub fn wind_up(self) -> Result<D, Run<D>>
         ensures { WindsUp D.disk result self }
     {
