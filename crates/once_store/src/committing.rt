@@ -13,15 +13,15 @@ use crate::memory_state::MemoryState;
 use group_core::{Durable, PublishError, Redeemed, Ticket};
 use path_db::Outcome;
 
-/// What is held of an accepted command where memory ran out before it was committed: its ticket,
-/// and the value of its group where that is durable.
+/// What is held of an accepted command where memory was refused before it was committed: its
+/// ticket, and the value of its group where the group is durable.
 pub(crate) struct Held {
     pub(crate) ticket: Ticket,
     pub(crate) durable: Option<Durable>,
 }
 
-/// Commits the one pending command: in a group, and where the journal has no room for that, after a
-/// seal.
+/// Commits the one pending command, in a group. Where the journal has no room for the group, a seal
+/// comes first.
 pub(crate) fn commit_pending(state: &mut MemoryState, ticket: Ticket) -> Result<Outcome, Held>
     requires one { HasOnePending ticket state.old }
     requires rests { state.old.flush ≡ resting }
@@ -53,8 +53,8 @@ pub(crate) fn commit_pending(state: &mut MemoryState, ticket: Ticket) -> Result<
     }
 }
 
-/// Commits it after a seal: the checkpoint of the sealed half is made, and the tail's journal is
-/// empty, so that the group has room.
+/// Commits the one pending command after a seal. The checkpoint of the sealed half is made, and the
+/// tail's journal is empty, so that the group has room.
 fn commit_after_seal(state: &mut MemoryState, ticket: Ticket) -> Result<Outcome, Held>
     requires one { HasOnePending ticket state.old }
     requires rests { state.old.flush ≡ resting }

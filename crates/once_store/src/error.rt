@@ -1,25 +1,26 @@
-//! What taking a command answers.
+//! The results of taking a command.
 
 use path_db::Outcome;
 use thiserror::Error;
 
-/// A command that was taken: its place, which is how many commands were taken before it, and what
-/// it did.
+/// A command that was taken.
 #[derive(Clone, Copy)]
 pub struct Taken {
+    /// The place of the command: the number of commands that were taken before it.
     pub place: u64,
+    /// What the command did.
     pub outcome: Outcome,
 }
 
-/// Why a command wasn't taken, or why its outcome isn't known.
+/// Why a command was not taken, or why its outcome is not known.
 #[derive(Clone, Copy, Debug, PartialEq, Eq, Error)]
 pub enum TakeError {
-    /// Memory ran out: the command wasn't taken, or it was and its outcome isn't reported. The
-    /// place of the next command shows which of the two it is.
+    /// Memory was refused. The command was not taken, or it was taken and its outcome is not
+    /// reported. The place of the next command shows which of the two it is.
     #[error("out of memory")]
     NoMemory,
-    /// The rows after it would have more bytes than a checkpoint area of 4,096 sectors has room
-    /// for.
+    /// The rows after the command would have more bytes than a checkpoint area of 4,096 sectors has
+    /// room for.
     #[error("the rows would not fit the checkpoint area")]
     Full,
     /// The next place is 2^64 - 1.

@@ -1,7 +1,7 @@
 //! A store on a device in memory, for one caller: each command is committed before the next one is
 //! taken.
 //!
-//! To the layer above it is rows and a place, which each command that is taken changes; its
+//! To the layer above, the store is rows and a place, which each command that is taken changes. Its
 //! contracts name nothing of the device, its journals and its checkpoints.
 #![tactic(auto)]
 

@@ -25,11 +25,12 @@ use std::alloc::{AllocError, Global};
 use std::marker::Model;
 
 /// A store at work on a device in memory, whose halves have checkpoint areas and journals of 4,096
-/// sectors. Each command is committed before the next one is taken. It isn't dropped: `end` ends
-/// it.
+/// sectors. Each command is committed before the next one is taken. The store cannot be dropped:
+/// `end` ends it.
 pub struct OnceStore {
     state: MemoryState,
-    /// What is held of an accepted command, where memory ran out before that was committed.
+    /// What is held of an accepted command, where memory was refused before the command was
+    /// committed.
     held: Option<Held>,
 }
 
@@ -44,7 +45,7 @@ impl Model for OnceStore {
 }
 
 impl OnceStore {
-    /// No rows, at place 0. The device takes 8.4 MB.
+    /// Makes a store without rows, at place 0. The device takes 8.4 MB.
     pub fn new(alloc: Global) -> Result<OnceStore, AllocError>
         ensures { IfOk result (λ store. store ≡ no_rows) }
     {
@@ -52,8 +53,8 @@ impl OnceStore {
         Ok(OnceStore { state, held: None })
     }
 
-    /// Takes a command, and commits it. Where memory runs out it isn't taken, or it is and its
-    /// outcome isn't reported; what comes later goes on from there.
+    /// Takes a command, and commits it. Where memory is refused, the command is not taken, or it is
+    /// taken and its outcome is not reported. The store can still be used then.
     pub fn take(&mut self, command: Command) -> Result<Taken, TakeError>
         requires within { IsWithinLimits command }
         ensures { MayTake self.old command result self.new }

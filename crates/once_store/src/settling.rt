@@ -1,4 +1,4 @@
-//! Committing what is held of a command for which memory had run out.
+//! Committing what is held of a command for which memory was refused.
 
 ghost use Rattle.std.specs.Prelude.{◌≡◌, None, Some, OnOk, IfErr};
 ghost use Rattle.once_store.specs.OnceView.{once_view, IsLone};
@@ -9,7 +9,8 @@ use crate::memory_state::MemoryState;
 use std::alloc::AllocError;
 use std::mem;
 
-/// Commits the command that is held, where one is. Where memory runs out again it is still held.
+/// Commits the command that is held, where one is. Where memory is refused again, the command is
+/// still held.
 pub(crate) fn settle(state: &mut MemoryState, held: &mut Option<Held>) -> Result<(), AllocError>
     requires lone { IsLone state.old held.old }
     ensures lone { IsLone state.new held.new }

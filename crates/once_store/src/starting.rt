@@ -42,7 +42,7 @@ fn new_store(alloc: Global) -> Result<Store<MemDevice>, AllocError>
     };
     match open(alloc, device) {
         Ok(store) => Ok(store),
-        // A new store on an honest device that doesn't fail opens wherever there is memory.
+        // A new store on an honest device that does not fail opens wherever there is memory.
         Err((_device, _refused)) => Err(AllocError),
     }
 }

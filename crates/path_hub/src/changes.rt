@@ -10,19 +10,20 @@ use store_loops::Awaited;
 const LONGEST_REST: u64 = 10;
 
 /// Counts the changes of each kind, and wakes the threads that wait for one. A change is counted
-/// after it was made, outside the state's lock, so that a thread which read the count before a call
-/// was refused sees each change that the call didn't see.
+/// after it was made, outside the state's lock. A thread that read the count before a call was
+/// refused therefore sees each change that the call did not see.
 #[derive(Drop)]
 pub(crate) struct Changes {
     work: Condvar,
     seal: Condvar,
     outcomes: Bells,
-    /// The outcome of each command below this place is there; 2^64 - 1 once the state has stopped.
+    /// The outcome of each command below this place is known. It is 2^64 - 1 once the state has
+    /// stopped.
     reached: AtomicU64,
 }
 
 impl Changes {
-    /// None yet.
+    /// All counts 0.
     pub(crate) fn new() -> Changes {
         Changes {
             work: Condvar::new(),
@@ -32,7 +33,7 @@ impl Changes {
         }
     }
 
-    /// How many changes of a kind there were. The count wraps.
+    /// The number of changes of a kind. The count wraps at 2^64.
     pub(crate) fn count(&self, awaited: Awaited) -> u64 {
         self.bell(awaited).notifications()
     }

@@ -42,10 +42,10 @@ pub trait Crew<D: Device, R: Wait + Clock> {
 }
 
 /// Makes a hub over a store, starts the flusher, the checkpointer and a thread for each guest, and
-/// answers how many guests were attended to (a count that stays at 2^64 - 1) once the last of these
-/// threads has ended. Then the state is stopped, the actors end, and the device comes out; it comes
-/// back, too, where the hub or an actor's thread isn't given, which is `NoMemory` or `NoReader`.
-/// The caller gives each state of a process a home number of its own.
+/// returns the number of guests that were attended to (a count that stays at 2^64 - 1) once the
+/// last of these threads has ended. Then the state is stopped and the actors end. The device is
+/// returned in every case. Where the hub or an actor's thread is not given, the error is `NoMemory`
+/// or `NoReader`. The caller gives each state of a process a home number of its own.
 pub fn with_crew<
     D: Device + Send,
     C: Crew<D, R> + Sync,
@@ -59,7 +59,7 @@ pub fn with_crew<
     named_crew::<Brand, D, C, R>(rt, alloc, store, home, crew)
 }
 
-/// The same, under a name.
+/// `with_crew` for one brand `N`, which ties readers to this hub.
 fn named_crew<
     N: HubName + Send + Sync,
     D: Device + Send,

@@ -1,13 +1,13 @@
-//! The hub: a store's state behind one lock, the two actors that work on it, and readers that wait
+//! The hub: a store's state under one lock, the two actors that work on it, and readers that wait
 //! for nobody.
 //!
 //! A hub has one flusher, which commits accepted commands in groups, one checkpointer, which folds
 //! a sealed journal into the other half, any number of threads that register commands, and 64
 //! readers, which look up what is published without a lock.
 //!
-//! To the layer above: `Hub::register` gives a receipt of the command that was handed in, once it
-//! is committed; `HubReader::lookup` answers from what is published, which is never older than what
-//! this reader was shown or has learnt.
+//! To the layer above: `Hub::register` returns a receipt of the command that was passed, once the
+//! command is committed. `HubReader::lookup` answers from what is published, which is never older
+//! than what this reader was shown or has learnt.
 #![tactic(auto)]
 
 mod bells;

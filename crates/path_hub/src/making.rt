@@ -30,12 +30,13 @@ use store_open::Store;
 /// What is done with a hub, in one thread. It can't name a hub itself, so all that it is handed is
 /// of this one.
 pub trait HubJob<D: Device, R: Wait + Clock> {
-    /// What comes of it.
+    /// The result of the job.
     type Out;
 
-    /// It may come of the job.
+    /// Results that the job may give.
     ghost does: { Self → Self.Out → Type 0 } = { λ _ _. Unit {0} };
 
+    /// Does the job with a hub.
     fn run<N: HubName>(self, hub: &Hub<D, N, R>) -> Self::Out
         ensures { does self result };
 }
@@ -57,7 +58,7 @@ pub fn with_hub<D: Device + Drop, J: HubJob<D, R>, R: Wait + Clock + Copy>(
     do_with::<Brand, D, J, R>(rt, alloc, store, home, job)
 }
 
-/// The same, under a name.
+/// `with_hub` for one brand `N`, which ties readers to this hub.
 fn do_with<N: HubName, D: Device + Drop, J: HubJob<D, R>, R: Wait + Clock + Copy>(
     rt: R,
     alloc: Global,

@@ -7,7 +7,7 @@ use path_db::{Command, PathDb};
 use std::alloc::AllocError;
 use std::marker::Model;
 
-/// Rows, and how many commands have made them. Contracts see both as one value.
+/// Rows, and the number of commands that made them. Contracts see both as one value.
 #[derive(Drop)]
 pub struct Published {
     db: PathDb,
@@ -39,7 +39,7 @@ impl Published {
         &self.db
     }
 
-    /// The place: how many commands have made the rows.
+    /// The place: the number of commands that made the rows.
     pub fn place(&self) -> u64
         ensures { result ≡ self.now.place }
     {

@@ -67,9 +67,9 @@ impl<N: HubName> HubReader<N> {
         ensures fresh { OnOk result (self.old.seen ≤ place_after N.opening self.new.groups) }
         ensures seen { OnOk result (self.new.seen ≡ place_after N.opening self.new.groups) }
 
-        // Memory runs out only for an answer that isn't empty, after the reader has looked.
-        // NoReader comes only where the reader can't look, or where what is published is older than
-        // what it has seen: it has then seen what it had.
+        // Memory is refused only for an answer that is not empty, after the reader has looked.
+        // NoReader is returned only where the reader cannot look, or where what is published is
+        // older than what it has seen. It has then seen what it had.
         ensures why { IfErr result (λ e. (e ≡ NoMemory) ⊎ (e ≡ NoReader)) }
         ensures memory { IfErr result (λ e. e ≡ NoMemory → 1 ≤ length (answer_after N.opening self.new.groups query.now now)) }
         ensures looked { IfErr result (λ e. e ≡ NoMemory → self.new.seen ≡ place_after N.opening self.new.groups) }
@@ -100,7 +100,7 @@ impl<N: HubName> HubReader<N> {
     }
 }
 
-/// What one look at what is published gives.
+/// The result of one look at what is published.
 #[derive(Drop)]
 struct Found {
     found: Result<Vec<Segment>, AllocError>,
@@ -124,7 +124,7 @@ fn look_in<N: HubName>(seat: &mut HubSeat<N>, query: &Query, now: u64) -> Option
     )
 }
 
-/// Looks at what is published from a seat, and gives the seat back.
+/// Looks at what is published from a seat, and returns the seat.
 fn look<N: HubName>(seat: HubSeat<N>, query: &Query, now: u64) -> (HubSeat<N>, Option<Found>)
     ensures later { IsPrefix (view seat.place).groups (view result.0.place).groups }
     ensures place { IfSome result.1 (λ f. f.place ≡ place_after N.opening (view result.0.place).groups) }

@@ -9,6 +9,7 @@ use std::marker::{Brand, PhantomData};
 
 /// The published groups as far as a seat has seen them. It exists in proofs alone.
 pub struct SeenGroups {
+    /// The groups, in the order in which they were published.
     pub groups: LinkedList<LinkedList<Command>>,
 }
 

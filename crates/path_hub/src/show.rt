@@ -20,11 +20,11 @@ use std::alloc::{AllocError, Global};
 use std::marker::{Brand, Model, PhantomData};
 use std::sync::Wait;
 
-/// What publishes to a hub's readers.
+/// The writer that publishes to a hub's readers.
 pub(crate) type HubWriter<N> = Writer<Published, Command, SeenGroups, ReaderRule<N>>;
 
-/// Says that the hub of this name has shown a place: how many commands had made the rows. Contracts
-/// see a note as that number. Only the hub's showcase makes one.
+/// A note that the hub of this name has shown a place, which is the number of commands that had
+/// made the rows. Contracts see a note as that number. Only the hub's showcase makes one.
 #[derive(Drop)]
 pub struct HubNote<N: HubName> {
     shown: u64,
@@ -58,15 +58,16 @@ impl<N: HubName> HubNote<N> {
     }
 }
 
-/// Publishes committed groups to readers that wait for nobody. It is not `Drop`: the hub ends it.
+/// Publishes committed groups to readers that wait for nobody. The hub ends the showcase, which is
+/// not `Drop`.
 ///
-/// Contracts see the groups that it has published, the rows and the place that they lead to, and
-/// which commands of the next group it has already, since memory ran out for that group.
+/// Contracts see the groups that it has published, the rows and the place after them, and the
+/// commands of the next group that it already has, since memory was refused for that group.
 pub struct HubShow<N: HubName, R: Wait> {
     rt: R,
     alloc: Global,
     writer: HubWriter<N>,
-    /// How many commands of the next group the writer has already.
+    /// The number of commands of the next group that the writer already has.
     owed: usize,
 }
 
@@ -108,7 +109,7 @@ impl<N: HubName, R: Wait> Showcase for HubShow<N, R> {
         ensures same { OnErr result (self.new.value ≡ self.old.value) }
         ensures owed { OnErr result (IsFrontOf self.new.owed group.now) }
 
-        // The published list has the group as one more, or is as it was.
+        // The published list has the group as one more, or is unchanged.
         ensures groups { MatchResult result (λ _. self.new.groups ≡ groups_with self.old.groups group.now) (λ _. self.new.groups ≡ self.old.groups) }
     {
         if group.is_empty() {
@@ -140,7 +141,7 @@ impl<N: HubName, R: Wait> ShowsRows for HubShow<N, R> {
 }
 
 impl<N: HubName, R: Wait> HubShow<N, R> {
-    /// Shows by this writer, which has published no group yet.
+    /// Makes the showcase of this writer, which has published no group yet.
     pub(crate) fn over(rt: R, alloc: Global, writer: HubWriter<N>) -> HubShow<N, R>
         requires shown { IsShownAfter N.opening writer.desk.shown.value (view writer.desk.place).groups }
         requires idle { drop writer.behind writer.log.items ≡ [] }
@@ -170,8 +171,8 @@ impl<N: HubName, R: Wait> HubShow<N, R> {
     }
 }
 
-/// Hands the writer copies of the commands of a group from an index on. Answers how many of the
-/// group the writer has then: fewer than all where memory runs out.
+/// Passes copies of the commands of a group, from an index on, to the writer. Returns the number of
+/// commands of the group that the writer then has, which is less than all where memory is refused.
 fn hand_over<N: HubName>(
     alloc: Global,
     writer: &mut HubWriter<N>,
@@ -206,7 +207,7 @@ fn publish_in<N: HubName, R: Wait>(rt: &R, writer: &mut HubWriter<N>) -> Result<
     replace_with(writer, rt, |writer, rt| publish(rt, writer))
 }
 
-/// Publishes what a writer has as one group, and gives the writer back.
+/// Publishes what a writer has as one group, and returns the writer.
 fn publish<N: HubName, R: Wait>(
     rt: &R,
     writer: HubWriter<N>,
@@ -220,7 +221,7 @@ fn publish<N: HubName, R: Wait>(
     publish_group::<N, Brand, R>(rt, writer)
 }
 
-/// The same, under a name for the group.
+/// `publish` for one name `G` of the group.
 fn publish_group<N: HubName, G: GroupName, R: Wait>(
     rt: &R,
     writer: HubWriter<N>,

@@ -5,16 +5,16 @@ use std::sync::atomic::{AtomicU64, Ordering};
 /// How much was completed since a hub was made.
 #[derive(Clone, Copy, Debug, PartialEq, Eq)]
 pub struct Completed {
-    /// How many groups of commands were committed.
+    /// The number of groups of commands that were committed.
     pub groups: u64,
-    /// How many journals were sealed.
+    /// The number of journals that were sealed.
     pub seals: u64,
-    /// How many checkpoints were made.
+    /// The number of checkpoints that were made.
     pub checkpoints: u64,
 }
 
-/// Counts what both actors complete. It is changed and read only by threads that have the state's
-/// lock.
+/// Counts what both actors complete. The counts are changed and read only by threads that have the
+/// state's lock.
 #[derive(Drop)]
 pub(crate) struct Tally {
     groups: AtomicU64,
@@ -23,7 +23,7 @@ pub(crate) struct Tally {
 }
 
 impl Tally {
-    /// Nothing yet.
+    /// All counts 0.
     pub(crate) fn new() -> Tally {
         Tally {
             groups: AtomicU64::new(0),
@@ -44,7 +44,7 @@ impl Tally {
         self.checkpoints.fetch_add(1, Ordering::SeqCst);
     }
 
-    /// How much there was.
+    /// The counts.
     pub(crate) fn completed(&self) -> Completed {
         Completed {
             groups: self.groups.load(Ordering::SeqCst),

@@ -35,50 +35,69 @@ pub trait Steps {
     /// A note may be given of a value.
     ghost tells: { StoreValue (List RowView) → Self.Note → Type 0 };
 
+    /// Submits a command. A command that is refused is returned with the error.
     fn submit(&self, command: Command) -> Result<Ticket, (Command, SubmitError)>
         ensures { IsTicketOrCommand command result };
 
+    /// Redeems a ticket. A ticket that is not redeemed yet, or that is not the state's, is
+    /// returned.
     fn redeem(&self, ticket: Ticket) -> Redeemed<Self::Note>
         ensures { IsRedeemed tells ticket result };
 
+    /// Stops the state. It stays stopped.
     fn halt(&self);
 
+    /// Stages a group of the first pending commands, or a seal.
     fn stage(&self) -> Result<Staged, StageError>;
 
+    /// Writes what is staged after the tail's gate.
     fn write_group(&self, value: Staged) -> Result<Written, StepError<AtStaged>>
         ensures { LeadsOn value result };
 
+    /// Syncs that write.
     fn sync_group(&self, value: Written) -> Result<Stable, StepError<AtWritten>>
         ensures { LeadsOn value result };
 
+    /// Writes the tail's gate open.
     fn open_gate(&self, value: Stable) -> Result<Opened, StepError<AtStable>>
         ensures { LeadsOn value result };
 
+    /// Syncs the tail's gate: from then on every stop keeps the group or the seal.
     fn sync_gate(&self, value: Opened) -> Result<Durable, StepError<AtOpened>>
         ensures { LeadsOn value result };
 
+    /// Publishes a durable group, which is committed then, or moves the tail to the other journal
+    /// after a durable seal.
     fn publish(&self, value: Durable) -> Result<(), PublishError>
         ensures { IsHandedIn value result };
 
+    /// Begins a checkpoint of the sealed half.
     fn begin(&self) -> Result<Plan, BeginError>;
 
+    /// Writes the next sectors of the checkpoint, at most 256. The plan's `done` says whether the
+    /// checkpoint is then whole.
     fn write_chunk(&self, value: Plan) -> Result<Plan, StepError<AtPlan>>
         requires { value.phase.done ≡ false }
         ensures { LeadsOn value result };
 
+    /// Syncs the sectors of the checkpoint, once it is written whole.
     fn sync_chunks(&self, value: Plan) -> Result<Laid, StepError<AtPlan>>
         requires { value.phase.done ≡ true }
         ensures { LeadsOn value result };
 
+    /// Writes the new half's gate open.
     fn open_half(&self, value: Laid) -> Result<Switched, StepError<AtLaid>>
         ensures { LeadsOn value result };
 
+    /// Syncs the new half's gate: from then on the new half counts.
     fn sync_half(&self, value: Switched) -> Result<Live, StepError<AtSwitched>>
         ensures { LeadsOn value result };
 
+    /// Writes the old half's gates closed.
     fn close_half(&self, value: Live) -> Result<Closing, StepError<AtLive>>
         ensures { LeadsOn value result };
 
+    /// Syncs the old half's gates: from then on the old half is ready for the next seal.
     fn sync_close(&self, value: Closing) -> Result<(), StepError<AtClosing>>
         ensures { LeadsOut value result };
 
