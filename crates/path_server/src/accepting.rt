@@ -1,4 +1,4 @@
-//! What a failed accept means.
+//! The server's action after an accept that failed.
 
 ghost use Rattle.std.specs.Prelude.{◌≡◌};
 ghost use Rattle.std.specs.IoError.{raw_os_error};
@@ -7,7 +7,7 @@ ghost use Rattle.path_server.specs.Accepting.{failure_of, failure_after};
 use libc::{EAGAIN, EBADF, EINVAL, EMFILE, ENOMEM, ENOTSOCK};
 use std::io;
 
-// Linux's numbers of errors that `libc` doesn't name here.
+// Linux's numbers of errors that `libc` does not name here.
 const EFAULT: i32 = 14;
 
 const ENFILE: i32 = 23;
@@ -16,10 +16,10 @@ const EOPNOTSUPP: i32 = 95;
 
 const ENOBUFS: i32 = 105;
 
-/// How long descriptors or memory are waited for, in milliseconds.
+/// The time in milliseconds that the server waits for descriptors or memory.
 pub(crate) const PAUSE: u64 = 50;
 
-/// What is done after an accept that failed.
+/// The server's action after an accept that failed.
 #[derive(Clone, Copy, Debug, PartialEq, Eq)]
 pub enum Failure {
     /// The peer or the network failed: the next connection is accepted at once.
@@ -30,8 +30,8 @@ pub enum Failure {
     Broken,
 }
 
-/// What is done after an accept that failed, by the system's number of its error; an error without
-/// one is the peer's.
+/// The action after an accept that failed, by the system's number of its error. An error without a
+/// number is the peer's.
 pub fn after_failure(error: &io::Error) -> Failure
     ensures { result ≡ failure_after (raw_os_error error.now) }
 {
@@ -41,7 +41,7 @@ pub fn after_failure(error: &io::Error) -> Failure
     }
 }
 
-/// What is done after the error of this number, as accept(2) of Linux lists them.
+/// The action after the error of this number, as accept(2) of Linux lists them.
 fn failure_of(number: i32) -> Failure
     ensures { result ≡ failure_of number }
 {

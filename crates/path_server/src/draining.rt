@@ -1,14 +1,15 @@
-//! Reading what nobody answers.
+//! Reading bytes that are not answered.
 
 use std::io;
 use std::io::{ErrorKind, Read};
 use std::net::TcpStream;
 use std::time::{Clock, Duration, Instant};
 
-/// How many bytes one read drops at most.
+/// The most bytes that one read drops.
 const PIECE: usize = 4_096;
 
-/// Drops what has come, in at most this number of reads, until a read fails or finds the end.
+/// Drops the bytes that have arrived, in at most this number of reads, until a read fails or finds
+/// the end.
 pub(crate) fn drain(stream: &TcpStream, reads: u64) {
     for _ in 0..reads {
         match drop_piece(stream) {
@@ -18,8 +19,8 @@ pub(crate) fn drain(stream: &TcpStream, reads: u64) {
     }
 }
 
-/// Drops what comes until the peer has closed the connection, a read fails, or the time is over.
-/// Each read waits as long as the connection's read timeout lets it.
+/// Drops the bytes that arrive until the peer has closed the connection, a read fails, or the time
+/// is over. Each read waits as long as the connection's read timeout allows.
 pub(crate) fn drain_for(clock: &impl Clock, stream: &TcpStream, time: Duration) {
     let Ok(begun) = Instant::now(clock) else {
         return;

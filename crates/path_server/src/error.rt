@@ -5,7 +5,7 @@ use thiserror::Error;
 /// What ends a server before its sessions were served.
 #[derive(Clone, Copy, Debug, PartialEq, Eq, Error)]
 pub enum RunError {
-    /// Memory ran out, or the thread of an actor or the readers of the hub weren't given.
+    /// Memory was refused, or the thread of an actor or the readers of the hub were not given.
     #[error("out of memory")]
     NoMemory = 0,
     /// The listener is no listening socket any more.

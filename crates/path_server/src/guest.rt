@@ -1,8 +1,8 @@
-//! What the threads of a server attend to.
+//! The guests that the threads of a server attend to.
 
 use std::net::TcpStream;
 
-/// What a thread attends to.
+/// A guest that a thread attends to.
 #[derive(Drop)]
 pub(crate) enum Guest<L> {
     /// The session of a peer, for whom a seat was taken.

@@ -1,9 +1,9 @@
 //! The TCP server: sessions over a hub, each in a thread of its own.
 //!
 //! To the layer above, `serve_store` accepts connections of a listener and answers each as a
-//! session of the store, at most 64 at one time, until the number of sessions that its options name
-//! have been started; then the listener is closed, and once the last session has ended, the device
-//! comes out. `run_on` is the same without the device. A second listener, where there is one, is
+//! session of the store, at most 64 at one time, until it has started the number of sessions that
+//! its options name. Then it closes the listener, and once the last session has ended, it returns
+//! the device. `run_on` is the same without the device. A second listener, where there is one, is
 //! for peers that ask for the server's numbers.
 #![tactic(auto)]
 

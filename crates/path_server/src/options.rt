@@ -9,10 +9,11 @@ use std::time::Duration;
 pub struct Options {
     /// The core ASes.
     pub cores: Roster,
-    /// The key by which signatures are checked; without it all are trusted.
+    /// The key by which signatures are checked. Without a key, all signatures are trusted.
     pub key: Option<Keyed>,
-    /// How many sessions are started; 0 is no end.
+    /// The number of sessions to start, or 0 for no limit.
     pub sessions: u64,
-    /// How long each read and each write of a session may wait for its peer; `None` is no end.
+    /// How long each read and each write of a session may wait for its peer, or `None` for no
+    /// limit.
     pub idle: Option<Duration>,
 }

@@ -1,4 +1,4 @@
-//! What a server reports while it runs.
+//! The reports of a server while it runs.
 
 use crate::seats::MOST_SESSIONS;
 use std::fmt;
@@ -7,10 +7,10 @@ use std::fmt::{Display, Formatter};
 /// What happened to a server that its operator should know.
 #[derive(Clone, Copy, Debug, PartialEq, Eq)]
 pub enum Report {
-    /// The device failed, and the store takes no more commands; lookups go on.
+    /// The device failed, and the store takes no more commands. Lookups go on.
     Stopped,
-    /// This number of peers, since the last such report, were turned away, because
-    /// [`MOST_SESSIONS`] sessions were open.
+    /// This number of peers were turned away since the last such report, because [`MOST_SESSIONS`]
+    /// sessions were open.
     TurnedAway(u64),
 }
 
@@ -31,6 +31,7 @@ impl Display for Report {
 /// Takes the reports of a server. The thread that accepts connections and that of the flusher call
 /// it.
 pub trait Reports {
+    /// Takes a report.
     fn report(&self, report: Report);
 }
 

@@ -21,18 +21,21 @@ use std::thread::Threads;
 use std::time::{Clock, Instant};
 use store_open::Store;
 
-/// The home number of the state that a server keeps: a process runs one server.
+/// The home number of a server's state. A process runs one server.
 const HOME: u64 = 1;
 
-/// What the threads of a server take of the system.
+/// The parts of the system that the threads of a server use.
 pub trait System: Wait + Clock + Threads + Copy + Drop + Send + Sync {}
 
 impl<R: Wait + Clock + Threads + Copy + Drop + Send + Sync> System for R {}
 
 /// Serves sessions over a store until the number that the options name has been started and has
-/// ended, and returns that number. The device is dropped. A listener for sessions that breaks is
-/// `Net`, and want of memory for the readers, for an actor's thread or for that of requests of the
-/// numbers `NoMemory`. One for such requests that breaks ends their thread alone.
+/// ended, and returns that number. The device is dropped. Errors:
+///
+/// - `Net`: the listener for sessions broke.
+/// - `NoMemory`: the readers or a thread were not given.
+///
+/// Where the listener for requests of the numbers breaks, only their thread ends.
 pub fn run_on<
     R: System,
     L: OpenListener<Stream = TcpStream> + Drop + Send,
@@ -51,9 +54,9 @@ pub fn run_on<
     served
 }
 
-/// The same, and hands the device out: where it is honest, it opens to the store's rows and place
-/// after the commands that were published and some more that were accepted, whatever the sessions
-/// did.
+/// Serves sessions as `run_on` does, and returns the device. An honest device opens to the store's
+/// rows and place after the commands that were published and some more that were accepted, whatever
+/// the sessions did.
 pub fn serve_store<
     R: System,
     L: OpenListener<Stream = TcpStream> + Drop + Send,

@@ -6,7 +6,7 @@ use std::sync::atomic::{AtomicU64, Ordering};
 /// The most sessions at one time: each needs a reader of the hub.
 pub const MOST_SESSIONS: u64 = READERS as u64;
 
-/// How many seats are taken. Threads share it.
+/// The number of seats that are taken. Threads share the count.
 #[derive(Drop)]
 pub(crate) struct Seats {
     taken: AtomicU64,
@@ -35,7 +35,7 @@ impl Seats {
         self.taken.fetch_sub(1, Ordering::SeqCst);
     }
 
-    /// How many seats are taken.
+    /// The number of seats that are taken.
     pub(crate) fn taken(&self) -> u64 {
         self.taken.load(Ordering::SeqCst)
     }

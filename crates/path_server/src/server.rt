@@ -1,4 +1,4 @@
-//! What a server does with a hub: it attends to each connection in a thread of its own.
+//! A server's work with a hub: it attends to each connection in a thread of its own.
 
 use crate::door::Door;
 use crate::error::RunError;
@@ -22,7 +22,7 @@ use std::sync::Wait;
 use std::sync::atomic::{AtomicBool, Ordering};
 use std::time::{Clock, Instant};
 
-/// A server: where its peers come in, the seats that they take, what each session is answered by,
+/// A server: where its peers arrive, the seats that they take, what each session is answered by,
 /// and what is counted of it.
 #[derive(Drop)]
 pub(crate) struct Server<'a, L, V, O> {
@@ -35,11 +35,11 @@ pub(crate) struct Server<'a, L, V, O> {
     reports: &'a O,
     pub(crate) turned_away: TurnedAway,
     pub(crate) replies: Replies,
-    /// When the server began; `None` where the clock couldn't be read.
+    /// When the server began, or `None` where the clock could not be read.
     pub(crate) begun: Option<Instant>,
-    /// Whether no more peers are to come.
+    /// Whether no more peers are accepted.
     ending: AtomicBool,
-    /// Whether they don't come since the listener is broken.
+    /// Whether the reason for that is a broken listener.
     broken: AtomicBool,
 }
 
@@ -80,7 +80,8 @@ impl<'a, L: OpenListener<Stream = TcpStream> + Drop, V: Verifier, O: Reports> Se
         !self.ending.load(Ordering::SeqCst) || self.seats.taken() > 0
     }
 
-    /// How the server ended: how many sessions it served, or why not all of them.
+    /// The result of the server: the number of sessions that it served, or why it did not serve all
+    /// of them.
     pub(crate) fn served(&self) -> Result<u64, RunError> {
         if self.is_broken() {
             return Err(RunError::Net);
@@ -91,8 +92,8 @@ impl<'a, L: OpenListener<Stream = TcpStream> + Drop, V: Verifier, O: Reports> Se
         Ok(self.door.started())
     }
 
-    /// The next peer for whom there is a seat, which is then taken. Those who come while all are
-    /// taken are turned away.
+    /// The next peer for which there is a seat, which is then taken. Peers that arrive while all
+    /// seats are taken are turned away.
     fn next_seated<R: Wait + Clock>(&self, rt: &R) -> Option<TcpStream> {
         for _ in rt.forever() {
             let stream = self.door.next_peer(rt)?;
@@ -171,7 +172,7 @@ impl<
     }
 
     fn stopped(&self) {
-        // Where nobody is to come or being served, or the listener broke, the server itself has
+        // Where no peer is awaited or being served, or the listener broke, the server itself has
         // stopped the store.
         if self.is_open() && !self.is_broken() {
             self.reports.report(Report::Stopped);

@@ -7,14 +7,14 @@ use std::sync::{Mutex, Wait};
 #[derive(Drop)]
 pub(crate) struct StatusListener<L> {
     listener: Mutex<Option<L>>,
-    /// Whether it was handed out, and no other guest was since.
+    /// Whether the listener was handed out, and no other guest was since.
     is_last: AtomicBool,
-    /// Whether no thread was given for it.
+    /// Whether no thread was given for the listener.
     is_missed: AtomicBool,
 }
 
 impl<L: Drop> StatusListener<L> {
-    /// Of this listener, if there is one.
+    /// Takes the listener, if there is one.
     pub(crate) fn new(listener: Option<L>) -> StatusListener<L> {
         StatusListener {
             listener: Mutex::new(listener),
@@ -30,7 +30,8 @@ impl<L: Drop> StatusListener<L> {
         listener
     }
 
-    /// No thread was given for the last guest: whether that is the listener.
+    /// Records that no thread was given for the last guest. Returns whether that guest is the
+    /// listener.
     pub(crate) fn miss(&self) -> bool {
         let is_last = self.is_last.load(Ordering::SeqCst);
         if is_last {

@@ -1,4 +1,4 @@
-//! How many peers were turned away.
+//! The number of peers that were turned away.
 
 use std::sync::atomic::{AtomicU64, Ordering};
 use std::sync::{Mutex, Wait};
@@ -7,7 +7,8 @@ use std::time::{Clock, Duration, Instant};
 /// The least time from one report to the next, in seconds.
 const BETWEEN: u64 = 1;
 
-/// How many peers were turned away since the last report of them, and when that was.
+/// The number of peers that were turned away since the last report of them, and when that report
+/// was.
 #[derive(Drop)]
 struct Count {
     peers: u64,
@@ -31,12 +32,12 @@ impl Count {
 #[derive(Drop)]
 pub(crate) struct TurnedAway {
     count: Mutex<Count>,
-    /// How many there were since the server began.
+    /// The number of peers that were turned away since the server began.
     all: AtomicU64,
 }
 
 impl TurnedAway {
-    /// None yet.
+    /// All counts 0.
     pub(crate) fn new() -> TurnedAway {
         TurnedAway {
             count: Mutex::new(Count {
@@ -47,12 +48,12 @@ impl TurnedAway {
         }
     }
 
-    /// How many there were since the server began.
+    /// The number of peers that were turned away since the server began.
     pub(crate) fn all(&self) -> u64 {
         self.all.load(Ordering::SeqCst)
     }
 
-    /// Counts one more. If a report is due, it is of this number.
+    /// Counts one more peer. If a report is due, returns its number of peers.
     pub(crate) fn count<R: Wait + Clock>(&self, rt: &R) -> Option<u64> {
         self.all.fetch_add(1, Ordering::SeqCst);
         let mut count = self.count.lock(rt);

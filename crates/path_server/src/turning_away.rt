@@ -12,13 +12,13 @@ use std::io;
 use std::io::Write;
 use std::net::{Shutdown, TcpStream};
 
-/// How often what a peer has sent is read before its connection is closed.
+/// The number of reads of what a peer has sent before its connection is closed.
 const READS: u64 = 4;
 
-/// Refuses a peer for want of a seat and closes its side of the connection: one reply, with the
-/// code of `Refusal::NoReader`. The call waits for nothing: the buffer of a new connection has room
-/// for the reply. What the peer has already sent is read, so that the close doesn't take the reply
-/// back.
+/// Refuses a peer where no seat is free, and closes its side of the connection. The peer is sent
+/// one reply, with the code of `Refusal::NoReader`. The call does not wait: the buffer of a new
+/// connection has room for the reply. What the peer has already sent is read, since a close over
+/// unread input would reset the connection and lose the reply.
 pub(crate) fn turn_away(stream: &TcpStream) {
     let mut output = stream;
     if stream.set_nonblocking(true).is_err() || write_refusal(&mut output).is_err() {

@@ -36,7 +36,7 @@ impl<'a, K: Clock> Model for SystemNow<'a, K> {
 }
 
 impl<'a, K: Clock> SystemNow<'a, K> {
-    /// The clock, which has given no moment yet.
+    /// Makes the clock, which has given no moment yet.
     pub fn new(clock: &'a K) -> SystemNow<'a, K>
         ensures { result ≡ 0 }
     {
@@ -44,7 +44,7 @@ impl<'a, K: Clock> SystemNow<'a, K> {
     }
 }
 
-/// Where the clock can't be read, it gives its last moment again.
+/// Where the clock cannot be read, the result is its last moment again.
 impl<K: Clock> Now for SystemNow<'_, K> {
     ghost moment = { λ s. s };
 
@@ -60,7 +60,7 @@ fn since_1970(clock: &impl Clock) -> Option<Duration> {
     now.duration_since(SystemTime::UNIX_EPOCH).ok()
 }
 
-/// The moment of a reading, or the last one again.
+/// The moment of a reading. Where there is none, the last moment again.
 fn moment_after(last: u64, reading: Option<Duration>) -> u64
     ensures { MatchOption reading (result ≡ last) (λ time. result ≡ half_seconds_of (as_nanos time)) }
 {
@@ -70,8 +70,8 @@ fn moment_after(last: u64, reading: Option<Duration>) -> u64
     }
 }
 
-/// Twice the seconds, and one more from the middle of a second on. What doesn't fit is the greatest
-/// number.
+/// Twice the seconds, and one more from the middle of a second on. Where that does not fit 64 bits,
+/// it is 2^64 - 1.
 fn half_seconds(time: Duration) -> u64
     ensures { result ≡ half_seconds_of (as_nanos time) }
 {

@@ -1,4 +1,4 @@
-//! What a hub refuses, as the refusal of a message.
+//! The refusal of a message, where a hub refused its call.
 
 ghost use Rattle.std.specs.Prelude.{◌≡◌};
 ghost use Rattle.path_session.specs.Refused.{hub_refusal};

@@ -27,8 +27,8 @@ use std::alloc::Global;
 use std::sync::Wait;
 use std::time::Clock;
 
-/// Answers the messages of one session from a hub, by a reader of its own. A service can't be
-/// dropped: at its end the reader is taken out, which the hub is then given back.
+/// Answers the messages of one session from a hub, by a reader of its own. A service cannot be
+/// dropped. End it by `into_reader`, and give the reader back.
 ///
 /// The clock is asked once for each registration that was read, and once for each lookup that was
 /// classified. Signatures are checked before the hub is called, so under no lock. Lookups wait for
@@ -39,7 +39,7 @@ pub struct HubService<'a, D: Device, N: HubName, R: Wait + Clock, V: Verifier, C
     verifier: &'a V,
     clock: C,
     roster: &'a Roster,
-    /// Of the last command that was committed. Its note is taken.
+    /// The receipt of the last command that was committed. Its note is taken.
     last: Option<Receipt<HubNote<N>>>,
 }
 
@@ -71,7 +71,7 @@ impl<'a, D: Device, N: HubName, R: Wait + Clock, V: Verifier, C: Now> HubService
         }
     }
 
-    /// Takes the reader out.
+    /// Ends the service, and returns its reader.
     pub fn into_reader(self) -> HubReader<N>
     where
         C: Drop,
@@ -89,7 +89,7 @@ impl<'a, D: Device, N: HubName, R: Wait + Clock, V: Verifier, C: Now> HubService
         reader
     }
 
-    /// Has a command committed, learns its receipt and keeps it.
+    /// Commits a command, learns its receipt and keeps it.
     fn take(&mut self, command: Command) -> Result<Ack, Refusal>
         ensures { IsCommandAnswered (serving V.verifies C.moment self.old) command result (serving V.verifies C.moment self.new) }
     {
@@ -115,7 +115,7 @@ impl<'a, D: Device, N: HubName, R: Wait + Clock, V: Verifier, C: Now> HubService
         self.take(Command::Register(Registration::new(segments)))
     }
 
-    /// Drops what has expired by a moment.
+    /// Drops the rows that have expired by a moment.
     #[tactic(auto, unfolding(crate::specs::Answered::IsAnswered))]
     fn drop_expired(&mut self, moment: u64) -> Result<Ack, Refusal>
         ensures { HubAnswers N.opening (serving V.verifies C.moment self.old) (Purge moment) (reply_to_command Purged result)

@@ -8,7 +8,7 @@ use seg_check::{CheckError, Verifier, check};
 use seg_core::{SegType, Segment};
 
 /// Checks segments in their order, at a moment in half seconds since 1970. The error is the refusal
-/// of the first segment that isn't accepted.
+/// of the first segment that is not accepted.
 pub fn check_all<V: Verifier>(
     segments: &[(SegType, Segment)],
     verifier: &V,

@@ -43,7 +43,7 @@ fn wire_code(error: WireError) -> u8
     }
 }
 
-/// The code of a segment that isn't accepted.
+/// The code of why a segment is not accepted.
 pub(crate) fn check_code(error: CheckError) -> u8
     ensures { result ≡ check_code error }
 {
@@ -64,7 +64,7 @@ pub(crate) fn lookup_code(error: LookupError) -> u8
     }
 }
 
-/// The code of a command that isn't accepted.
+/// The code of why a command is not accepted.
 pub(crate) fn submit_code(error: SubmitError) -> u8
     ensures { result ≡ submit_code error }
 {

@@ -2,7 +2,7 @@
 //! reply, and the check of a registration's segments.
 //!
 //! To the layer above, `Refusal::code` is the code in a reply, and `check_all` returns the refusal
-//! of the first segment that isn't accepted.
+//! of the first segment that is not accepted.
 #![tactic(auto)]
 
 mod checking;

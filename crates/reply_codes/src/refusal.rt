@@ -20,13 +20,13 @@ pub enum Refusal {
     /// The bytes are not a message of their kind.
     #[error("{0}")]
     Message(SegError),
-    /// A segment of the registration isn't accepted.
+    /// A segment of the registration is not accepted.
     #[error("{0}")]
     Check(CheckError),
     /// The lookup asks for no segments.
     #[error("{0}")]
     Lookup(LookupError),
-    /// The command isn't accepted.
+    /// The command is not accepted.
     #[error("{0}")]
     Submit(SubmitError),
     /// No reader was free for the lookup.

@@ -1,19 +1,19 @@
-//! What a peer is answered.
+//! The responses to a peer.
 
 ghost use Rattle.std.specs.Prelude.{◌≡◌, IfOk, string_bytes};
 ghost use Rattle.status_page.specs.Response.{page_head, response_text};
 
 use std::alloc::{AllocError, Global};
 
-/// The response to a request for something that is not there.
+/// The response to a request for another path.
 pub const NOT_FOUND: &str =
     "HTTP/1.1 404 Not Found\r\nContent-Length: 0\r\nConnection: close\r\n\r\n";
 
-/// The response to a request for something else of the page than to get it.
+/// The response to a request for the page by another method than GET.
 pub const NOT_ALLOWED: &str =
     "HTTP/1.1 405 Method Not Allowed\r\nAllow: GET\r\nContent-Length: 0\r\nConnection: close\r\n\r\n";
 
-/// The response to what is no request.
+/// The response to bytes that are no request.
 pub const BAD_REQUEST: &str =
     "HTTP/1.1 400 Bad Request\r\nContent-Length: 0\r\nConnection: close\r\n\r\n";
 
@@ -25,7 +25,7 @@ pub fn response(alloc: Global, page: &str) -> Result<String, AllocError>
     format!(in alloc; "{head}{page}")
 }
 
-/// The head of the response that carries a page of this number of bytes.
+/// The head of the response that carries a page of `len` bytes.
 #[tactic(auto, unfolding(crate::specs::Response::page_head))]
 fn page_head(alloc: Global, len: usize) -> Result<String, AllocError>
     ensures { IfOk result (λ text. string_bytes text ≡ page_head len) }

@@ -3,35 +3,35 @@
 /// What a server has done since it started.
 #[derive(Clone, Copy, Debug, PartialEq, Eq)]
 pub struct Counts {
-    /// How many groups of commands were committed.
+    /// The number of groups of commands that were committed.
     pub groups: u64,
-    /// How many journals were sealed.
+    /// The number of journals that were sealed.
     pub seals: u64,
-    /// How many checkpoints were completed.
+    /// The number of checkpoints that were completed.
     pub checkpoints: u64,
-    /// How many sessions are open.
+    /// The number of sessions that are open.
     pub sessions: u64,
-    /// How many sessions were started.
+    /// The number of sessions that were started.
     pub started: u64,
-    /// How many sessions were refused, as too many were open.
+    /// The number of sessions that were refused because too many were open.
     pub refused: u64,
-    /// How many registrations were accepted.
+    /// The number of registrations that were accepted.
     pub registered: u64,
-    /// How many lookups were answered.
+    /// The number of lookups that were answered.
     pub found: u64,
-    /// How many purges were accepted.
+    /// The number of purges that were accepted.
     pub purged: u64,
-    /// How many removals were accepted.
+    /// The number of removals that were accepted.
     pub removed: u64,
-    /// How many seconds the server has run.
+    /// The number of seconds that the server has run.
     pub seconds: u64,
 }
 
-/// How many messages were refused with one code.
+/// The number of messages that were refused with one code.
 #[derive(Clone, Copy, Debug, PartialEq, Eq)]
 pub struct CodeCount {
     /// The code of the refusals.
     pub code: u8,
-    /// How many there were.
+    /// The number of those refusals.
     pub count: u64,
 }

@@ -1,8 +1,8 @@
 //! The page of a server's numbers, as text in the exposition format of Prometheus, version 0.0.4,
-//! and how it is asked for by HTTP.
+//! and how it is requested by HTTP.
 //!
 //! To the layer above: `page` is the text of a state's numbers and of what the server has done, to
-//! the byte; `read_head` says what the bytes of a peer ask for, by the grammar of HTTP/1.1; and
+//! the byte. `read_head` returns what the bytes of a peer ask for, by the grammar of HTTP/1.1.
 //! `response` is the response that carries a page.
 #![tactic(auto)]
 

@@ -13,7 +13,7 @@ pub(crate) fn type_line(alloc: Global, name: &str, kind: &str) -> Result<String,
     format!(in alloc; "# TYPE {name} {kind}\n")
 }
 
-/// A metric with a number.
+/// The line of a metric with a number.
 #[tactic(auto, unfolding(crate::specs::Lines::sample))]
 fn sample(alloc: Global, name: &str, number: u64) -> Result<String, AllocError>
     ensures { IfOk result (λ line. string_bytes line ≡ sample name.now number) }
@@ -21,7 +21,7 @@ fn sample(alloc: Global, name: &str, number: u64) -> Result<String, AllocError>
     format!(in alloc; "{name} {number}\n")
 }
 
-/// A metric with a number under a label.
+/// The line of a metric with a number under a label.
 #[tactic(auto, unfolding(crate::specs::Lines::labelled))]
 pub(crate) fn labelled(
     alloc: Global,
@@ -54,7 +54,7 @@ pub(crate) fn gauge(alloc: Global, name: &str, number: u64) -> Result<String, Al
     format!(in alloc; "{kind}{line}")
 }
 
-/// The number of a truth.
+/// The number of a truth: 0 for false, and 1 for true.
 pub(crate) fn flag(is: bool) -> u64
     ensures { result ≡ flag is }
 {

@@ -1,4 +1,4 @@
-//! How far the two actors of a store are, as lines of a page.
+//! The phases of the two actors of a store, as lines of a page.
 
 ghost use Rattle.std.specs.Prelude.{◌≡◌, IfOk, string_bytes};
 ghost use Rattle.status_page.specs.Phases.{flush_number, check_number, phase_line, flush_begins, flush_ends, flush_lines, check_begins, check_switches, check_ends, check_lines, actor_lines};
@@ -13,7 +13,7 @@ const FLUSHER: &str = "pathd_flusher_phase";
 /// The name of the metric of the checkpointer.
 const CHECKPOINTER: &str = "pathd_checkpointer_phase";
 
-/// How far both actors are.
+/// The lines of both actors' phases.
 #[tactic(auto, unfolding(crate::specs::Phases::actor_lines))]
 pub(crate) fn actor_lines(alloc: Global, flush: Flush, check: Check) -> Result<String, AllocError>
     ensures { IfOk result (λ lines. string_bytes lines ≡ actor_lines flush check) }
@@ -37,7 +37,7 @@ fn phase_line(
     labelled(alloc, name, label, if number == now { 1 } else { 0 })
 }
 
-/// How far the flusher is: a line for each phase.
+/// The flusher's phases, a line each.
 #[tactic(auto, unfolding(crate::specs::Phases::flush_lines))]
 fn flush_lines(alloc: Global, flush: Flush) -> Result<String, AllocError>
     ensures { IfOk result (λ lines. string_bytes lines ≡ flush_lines flush) }
@@ -71,7 +71,7 @@ fn flush_ends(alloc: Global, now: u64) -> Result<String, AllocError>
     format!(in alloc; "{opened}{doubtful}{durable}")
 }
 
-/// How far the checkpointer is: a line for each phase.
+/// The checkpointer's phases, a line each.
 #[tactic(auto, unfolding(crate::specs::Phases::check_lines))]
 fn check_lines(alloc: Global, check: Check) -> Result<String, AllocError>
     ensures { IfOk result (λ lines. string_bytes lines ≡ check_lines check) }

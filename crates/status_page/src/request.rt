@@ -11,7 +11,7 @@ const MOST_FIELDS: usize = 64;
 /// The path of the page.
 const PATH: &[u8] = b"/metrics";
 
-/// The method that gets it.
+/// The method of a request for the page.
 const METHOD: &[u8] = b"GET";
 
 /// What a peer asks for.
@@ -19,18 +19,18 @@ const METHOD: &[u8] = b"GET";
 pub enum Asked {
     /// The page.
     Page,
-    /// Something that is not there.
+    /// Another path.
     OtherPath,
-    /// Something else of the page than to get it.
+    /// The page, by another method than GET.
     OtherMethod,
     /// The peer has not sent the whole head of a request yet.
     More,
-    /// What the peer has sent can be no request of at most 64 fields.
+    /// The bytes that the peer has sent can be no request of at most 64 fields.
     Unreadable,
 }
 
 /// What a peer asks for by these bytes, which may be the head of a request of HTTP/1.1 or HTTP/1.0.
-/// What is after the head is not looked at. Methods and paths are compared to the byte.
+/// The bytes after the head are not read. Methods and paths are compared to the byte.
 pub fn read_head(bytes: &[u8]) -> Asked
     ensures { IsAsked bytes.now result }
 {

@@ -16,8 +16,8 @@ const REPLIES: &str = "pathd_replies_total";
 const REFUSALS: &str = "pathd_refusals_total";
 
 /// The page of a state's numbers, of what the server has done, and of how many messages it refused
-/// with which codes: for each metric a line with its type, and then its lines. It is text in the
-/// exposition format of Prometheus, version 0.0.4.
+/// with which codes. Each metric has a line with its type, and then its own lines. The page is text
+/// in the exposition format of Prometheus, version 0.0.4.
 pub fn page(
     alloc: Global,
     numbers: &Numbers,
@@ -32,7 +32,7 @@ pub fn page(
     format!(in alloc; "{store}{work}{refused}")
 }
 
-/// What is known of the store.
+/// The lines of a store's numbers.
 #[tactic(auto, unfolding(crate::specs::Page::store_text))]
 fn store_text(alloc: Global, numbers: &Numbers) -> Result<String, AllocError>
     ensures { IfOk result (λ text. string_bytes text ≡ store_metrics numbers.now) }
@@ -44,7 +44,7 @@ fn store_text(alloc: Global, numbers: &Numbers) -> Result<String, AllocError>
     format!(in alloc; "{rows}{commands}{versions}{actors}")
 }
 
-/// The rows, their bytes, and how many bytes have room.
+/// The lines of the rows: their number, their bytes, and how many bytes have room.
 #[tactic(auto, unfolding(crate::specs::Page::row_lines))]
 fn row_lines(alloc: Global, numbers: &Numbers) -> Result<String, AllocError>
     ensures { IfOk result (λ text. string_bytes text ≡ row_lines numbers.now) }
@@ -55,7 +55,7 @@ fn row_lines(alloc: Global, numbers: &Numbers) -> Result<String, AllocError>
     format!(in alloc; "{rows}{bytes}{most}")
 }
 
-/// The commands that are committed and that are pending, and whether more are taken.
+/// The lines of the commands that are committed and that are pending, and whether more are taken.
 #[tactic(auto, unfolding(crate::specs::Page::command_lines))]
 fn command_lines(alloc: Global, numbers: &Numbers) -> Result<String, AllocError>
     ensures { IfOk result (λ text. string_bytes text ≡ command_lines numbers.now) }
@@ -66,7 +66,7 @@ fn command_lines(alloc: Global, numbers: &Numbers) -> Result<String, AllocError>
     format!(in alloc; "{place}{pending}{stopped}")
 }
 
-/// The epoch, the version, and whether a sealed journal awaits its checkpoint.
+/// The lines of the epoch, the version, and whether a sealed journal awaits its checkpoint.
 #[tactic(auto, unfolding(crate::specs::Page::version_lines))]
 fn version_lines(alloc: Global, numbers: &Numbers) -> Result<String, AllocError>
     ensures { IfOk result (λ text. string_bytes text ≡ version_lines numbers.now) }
@@ -77,7 +77,7 @@ fn version_lines(alloc: Global, numbers: &Numbers) -> Result<String, AllocError>
     format!(in alloc; "{epoch}{version}{sealed}")
 }
 
-/// What the server has done.
+/// The lines of what the server has done.
 #[tactic(auto, unfolding(crate::specs::Page::work_text))]
 fn work_text(alloc: Global, counts: &Counts) -> Result<String, AllocError>
     ensures { IfOk result (λ text. string_bytes text ≡ work_text counts.now) }
@@ -89,7 +89,7 @@ fn work_text(alloc: Global, counts: &Counts) -> Result<String, AllocError>
     format!(in alloc; "{commits}{sessions}{replies}{seconds}")
 }
 
-/// What both actors have done.
+/// The lines of what both actors have done.
 #[tactic(auto, unfolding(crate::specs::Page::commit_lines))]
 fn commit_lines(alloc: Global, counts: &Counts) -> Result<String, AllocError>
     ensures { IfOk result (λ text. string_bytes text ≡ commit_lines counts.now) }
@@ -100,7 +100,7 @@ fn commit_lines(alloc: Global, counts: &Counts) -> Result<String, AllocError>
     format!(in alloc; "{groups}{seals}{checkpoints}")
 }
 
-/// The sessions.
+/// The lines of the sessions.
 #[tactic(auto, unfolding(crate::specs::Page::session_lines))]
 fn session_lines(alloc: Global, counts: &Counts) -> Result<String, AllocError>
     ensures { IfOk result (λ text. string_bytes text ≡ session_lines counts.now) }
@@ -111,7 +111,7 @@ fn session_lines(alloc: Global, counts: &Counts) -> Result<String, AllocError>
     format!(in alloc; "{open}{started}{refused}")
 }
 
-/// The replies by their kinds, but refusals.
+/// The lines of the replies by their kinds, except refusals.
 #[tactic(auto, unfolding(crate::specs::Page::reply_lines))]
 fn reply_lines(alloc: Global, counts: &Counts) -> Result<String, AllocError>
     ensures { IfOk result (λ text. string_bytes text ≡ reply_lines counts.now) }
@@ -122,7 +122,7 @@ fn reply_lines(alloc: Global, counts: &Counts) -> Result<String, AllocError>
     format!(in alloc; "{kind}{found}{accepted}")
 }
 
-/// The replies to commands that were accepted.
+/// The lines of the replies to commands that were accepted.
 #[tactic(auto, unfolding(crate::specs::Page::accepted_lines))]
 fn accepted_lines(alloc: Global, counts: &Counts) -> Result<String, AllocError>
     ensures { IfOk result (λ text. string_bytes text ≡ accepted_lines counts.now) }
@@ -133,7 +133,7 @@ fn accepted_lines(alloc: Global, counts: &Counts) -> Result<String, AllocError>
     format!(in alloc; "{registered}{purged}{removed}")
 }
 
-/// The refusals by their codes.
+/// The lines of the refusals by their codes.
 #[tactic(auto, unfolding(crate::specs::Page::refusals_text))]
 fn refusals_text(alloc: Global, refusals: &[CodeCount]) -> Result<String, AllocError>
     ensures { IfOk result (λ text. string_bytes text ≡ refusals_text refusals.now) }

@@ -1,4 +1,4 @@
-//! What a peer is sent.
+//! The responses that a peer is sent.
 
 ghost use Rattle.std.specs.Prelude.{◌≡◌, IfOk, string_bytes};
 ghost use Rattle.status_server.specs.Answers.{answer_text};
@@ -8,7 +8,7 @@ use status_page::{Asked, BAD_REQUEST, CodeCount, Counts, NOT_ALLOWED, NOT_FOUND,
 use std::alloc::{AllocError, Global};
 
 /// The text that a peer is sent for what it asks: the page of a state's numbers, of what the server
-/// has done and of what it has refused; or why it isn't sent.
+/// has done and of what it has refused, or why the page is not sent.
 pub fn answer(
     alloc: Global,
     asked: Asked,

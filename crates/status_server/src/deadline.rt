@@ -14,8 +14,8 @@ pub struct Deadline {
 }
 
 impl Deadline {
-    /// This time from now on. The error is that the clock can't be read. No clause can say which
-    /// moment is now.
+    /// A deadline after this time from now. The error is that the clock cannot be read. No clause
+    /// can say which moment is now.
     pub fn after(clock: &impl Clock, time: Duration) -> io::Result<Deadline>
         ensures { IfOk result (λ deadline. deadline.time ≡ time) }
     {
@@ -23,8 +23,8 @@ impl Deadline {
         Ok(Deadline { begun, time })
     }
 
-    /// The time that is left: some, and no more than there was at first. `None`: there is none, or
-    /// the clock can't be read. No clause can say how much has gone.
+    /// The time that is left: some, and no more than there was at first. It is `None` where no time
+    /// is left, or where the clock cannot be read. No clause can say how much time has passed.
     pub fn left(&self, clock: &impl Clock) -> Option<Duration>
         ensures some { IfSome result (λ left. 0 < as_nanos left) }
         ensures most { IfSome result (λ left. as_nanos left ≤ as_nanos self.now.time) }
@@ -34,7 +34,7 @@ impl Deadline {
     }
 }
 
-/// What is left of a time of which some has gone.
+/// What is left of a time of which some has passed.
 fn time_left(time: Duration, gone: Duration) -> Option<Duration>
     ensures variant { IsSome result ↔ (as_nanos gone < as_nanos time) }
     ensures some { IfSome result (λ left. as_nanos left + as_nanos gone ≡ as_nanos time) }

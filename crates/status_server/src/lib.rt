@@ -1,8 +1,8 @@
 //! What a server counts of its replies, and how it answers the peers that ask for its numbers.
 //!
-//! To the layer above: `Counted` is a service that changes no reply of another and counts each in
-//! `Replies`, which threads share; `answer` is the text that a peer is sent for what it asks;
-//! `read_request` and `send` are its connection, by a `Deadline` over all reads and writes.
+//! To the layer above: `Counted` is a service that changes no reply of another service and counts
+//! each in `Replies`, which threads share. `answer` is the text that a peer is sent for what it
+//! asks. `read_request` and `send` use its connection, by a `Deadline` over all reads and writes.
 #![tactic(auto)]
 
 mod answers;

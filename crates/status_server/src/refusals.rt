@@ -6,7 +6,7 @@ ghost use Rattle.status_server.specs.Refusals.{refusals_below};
 use status_page::CodeCount;
 use std::alloc::{AllocError, Global};
 
-/// How many codes there are.
+/// The number of codes.
 pub(crate) const CODES: usize = 256;
 
 /// The codes whose count is above 0, in rising order.

@@ -1,4 +1,4 @@
-//! How many replies of each kind there were.
+//! The number of replies of each kind.
 
 ghost use Rattle.std.specs.Prelude.{IfOk};
 ghost use Rattle.status_server.specs.Refusals.{AreRefusals};
@@ -10,20 +10,20 @@ use std::alloc::{AllocError, Global};
 use std::array;
 use std::sync::atomic::{AtomicU64, Ordering};
 
-/// How many replies of each kind there were. Threads share it, so that no clause says what a count
-/// is: the type has one for each kind, and for each code.
+/// The number of replies of each kind, and of refusals with each code. Threads share the counts, so
+/// that no clause says what a count is.
 #[derive(Drop)]
 pub struct Replies {
     registered: AtomicU64,
     found: AtomicU64,
     purged: AtomicU64,
     removed: AtomicU64,
-    /// By the code.
+    /// The refusals, by their codes.
     refused: [AtomicU64; CODES],
 }
 
 impl Replies {
-    /// None yet. No clause says that the counts are 0.
+    /// All counts 0. No clause says so.
     pub fn new() -> Replies {
         Replies {
             registered: AtomicU64::new(0),
@@ -39,8 +39,8 @@ impl Replies {
         self.counter(kind).fetch_add(1, Ordering::SeqCst);
     }
 
-    /// How many replies of a kind there were, by one look at its count. No clause says which number
-    /// that is.
+    /// The number of replies of a kind, by one read of its count. No clause says which number that
+    /// is.
     pub fn of(&self, kind: ReplyKind) -> u64 {
         self.counter(kind).load(Ordering::SeqCst)
     }
@@ -56,8 +56,8 @@ impl Replies {
         }
     }
 
-    /// How many messages were refused with each code, for codes with which one was, in rising
-    /// order. Which numbers the counts had is open.
+    /// The number of messages that were refused with each code, for codes with which a message was,
+    /// in rising order. No clause says which numbers the counts had.
     #[tactic(auto, using(crate::proofs::RefusalLemmas::are_refusals))]
     pub fn refusals(&self, alloc: Global) -> Result<Vec<CodeCount>, AllocError>
         ensures { IfOk result (λ refusals. AreRefusals CODES refusals.items) }
