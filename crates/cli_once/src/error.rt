@@ -8,7 +8,7 @@ use session_core::FrameError;
 use std::error::Error;
 use std::fmt;
 
-/// What ends the program. It prints these words after `error: `.
+/// What ends the program. The program prints these words after `error: `.
 #[derive(Clone, Copy, Debug, PartialEq, Eq)]
 pub enum Fault {
     /// A text in the list of core ASes is no ISD-AS.
@@ -17,7 +17,7 @@ pub enum Fault {
     Hex,
     /// The session ended with a fault.
     Frame(FrameError),
-    /// Memory ran out.
+    /// Memory was refused.
     Memory,
     /// A print outside the session failed.
     Output,

@@ -7,8 +7,8 @@ ghost use Rattle.cli_once.specs.HexInput.{is_blank, without_blanks, RefusesDigit
 use crate::error::Fault;
 use std::alloc::Global;
 
-/// The bytes of a hexadecimal text, whose spaces and ends of lines count for nothing, even between
-/// two digits. A text that is none is found without memory.
+/// The bytes of a hexadecimal text. Spaces and ends of lines are left out, even between two digits.
+/// A text that is not hexadecimal is refused without memory.
 pub fn bytes_of(alloc: Global, text: Vec<u8>) -> Result<Vec<u8>, Fault>
     ensures ok { IfOk result (λ bytes. decode_of (without_blanks text.items) ≡ Ok bytes.items) }
     ensures err { IfErr result (RefusesHex text.items) }
@@ -36,7 +36,7 @@ fn encode_bytes(digits: &[u8]) -> bool
     digits.len() % 2 == 0 && digits.iter().all(|digit| digit.is_ascii_hexdigit())
 }
 
-/// A space or the end of a line.
+/// Whether a byte is a space, a line feed or a carriage return.
 fn is_blank(byte: u8) -> bool
     ensures { result ≡ is_blank byte }
 {

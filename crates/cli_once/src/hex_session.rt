@@ -13,8 +13,8 @@ use std::alloc::Global;
 use std::io::Write;
 
 /// Reads all of a hexadecimal text, in at most `turns` reads, and then answers the session that it
-/// encodes, from no rows and place 0, as `once` does. Each reply is a line of digits. Returns how
-/// many there were, a count that stays at 2^64 - 1.
+/// encodes, from no rows and place 0, as `once` does. Each reply is a line of digits. Returns the
+/// number of replies, a count that stays at 2^64 - 1.
 pub fn once_in_hex<R: Source, W: Write, V: Verifier>(
     alloc: Global,
     reader: &mut R,

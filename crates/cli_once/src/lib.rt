@@ -1,8 +1,8 @@
 //! The commands and the lookups of a path segment server, over a store in memory.
 //!
 //! To the layer above, `once` serves one session: each reply is the one that the messages so far
-//! determine, unless memory ran out for it. Then nothing changes, or the message's command was
-//! taken, and its outcome isn't reported. `OnceService` is that service, `cores_of` reads its core
+//! determine, unless memory was refused for it. Then nothing changes, or the message's command was
+//! taken and its outcome is not reported. `OnceService` is that service, `cores_of` reads its core
 //! ASes from a text, `key_of` a key, and `bytes_of` a stream from hexadecimal text.
 #![tactic(auto)]
 

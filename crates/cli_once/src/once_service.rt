@@ -22,18 +22,18 @@ use seg_lookup::{Roster, classify};
 use session_core::{Ack, Code, Service};
 use std::alloc::{AllocError, Global};
 
-/// The core ASes, who judges signatures and the moment, and a store in memory. It isn't dropped:
-/// `end` ends it.
+/// The core ASes, the verifier of signatures, the moment, and a store in memory. The service cannot
+/// be dropped: `end` ends it.
 pub struct OnceService<'a, V: Verifier> {
     roster: &'a Roster,
     checker: &'a V,
-    /// In half seconds since 1970.
+    /// The moment, in half seconds since 1970.
     moment: u64,
     store: OnceStore,
 }
 
 impl<'a, V: Verifier> OnceService<'a, V> {
-    /// No rows, and place 0. The moment is in half seconds since 1970.
+    /// A service with no rows, at place 0. The moment is in half seconds since 1970.
     pub fn new(
         alloc: Global,
         roster: &'a Roster,
@@ -62,8 +62,8 @@ impl<'a, V: Verifier> OnceService<'a, V> {
         store.end();
     }
 
-    /// Applies a command at the next place, and commits it. Where memory runs out nothing changes,
-    /// or the command is taken, and its outcome isn't reported.
+    /// Applies a command at the next place, and commits it. Where memory is refused, nothing
+    /// changes, or the command is taken and its outcome is not reported.
     fn take(&mut self, command: Command) -> Result<Ack, Refusal>
         requires within { IsWithinLimits command }
         ensures { MayAcknowledge (served_by V.verifies self.old) command result (served_by V.verifies self.new) }
@@ -85,7 +85,7 @@ impl<'a, V: Verifier> OnceService<'a, V> {
         self.take(Command::Register(Registration::new(new)))
     }
 
-    /// Drops what has expired by a moment.
+    /// Drops the rows that have expired by a moment.
     #[tactic(auto, unfolding(crate::specs::Memory::message_step))]
     fn drop_expired(&mut self, moment: u64) -> Result<Ack, Refusal>
         ensures { Answers (served_by V.verifies self.old) (Purge moment) (reply_to_command Purged result) (served_by V.verifies self.new) }
@@ -116,7 +116,7 @@ impl<'a, V: Verifier> OnceService<'a, V> {
     }
 }
 
-/// The refusal that says why a store didn't take a command.
+/// The refusal that says why a store did not take a command.
 fn refusal_of(error: TakeError) -> Refusal
     ensures { result ≡ take_refusal error }
 {

@@ -12,9 +12,9 @@ use cli_words::{FORMAT, ONCE, RUN, SHOW, STATUS, UPGRADE, read};
 use std::env;
 use std::io::{Read, Write};
 
-/// Does what the words of the command line ask for. Where that isn't done, the reason is a line on
-/// standard error. The answer is the program's status. No clause says what the words do or which
-/// status it is; those of the commands that it calls do, and `status_of`.
+/// Runs the command line; prints why it failed; returns the status. No clause says what the words
+/// do or which status is returned. The contracts of the commands that it calls do, and that of
+/// `status_of`.
 pub fn carry_out<R: System, I: Read, O: Write + Drop>(rt: &R, input: &mut I, output: O) -> u8 {
     let outcome = run(rt, input, output);
     if let Err(ended) = &outcome {

@@ -102,7 +102,7 @@ fn half_lines(
     format!(in alloc; "{first}{second}{third}")
 }
 
-/// What is said of an area, and of the gate behind it.
+/// The texts of an area, and of the gate after it.
 fn head_texts(alloc: Global, found: HalfFound) -> Result<(String, &'static str), AllocError> {
     let count = found.count;
     let size = found.size;
@@ -122,7 +122,7 @@ fn head_texts(alloc: Global, found: HalfFound) -> Result<(String, &'static str),
     })
 }
 
-/// What is said of a journal that begins in a sector.
+/// The text of a journal that begins in a sector.
 fn journal_text(alloc: Global, start: u64, walk: Walk) -> Result<String, AllocError> {
     let groups = walk.groups;
     let place = walk.place;
@@ -139,7 +139,7 @@ fn journal_text(alloc: Global, start: u64, walk: Walk) -> Result<String, AllocEr
     format!(in alloc; "groups: {groups}, up to place {place}, {end} {sector}")
 }
 
-/// What is behind the store.
+/// The line of the sectors after the store.
 fn behind_line(alloc: Global, store: u64, sectors: u64) -> Result<String, AllocError> {
     if sectors <= store {
         return Ok(String::new(alloc));
@@ -153,7 +153,7 @@ fn behind_line(alloc: Global, store: u64, sectors: u64) -> Result<String, AllocE
     )
 }
 
-/// Which half is chosen, and where the tail is.
+/// The line of which half is chosen, and where the tail is.
 fn choice_line(alloc: Global, geometry: Geometry, halves: &Halves) -> Result<String, AllocError> {
     match halves.choice() {
         Ok(choice) => {

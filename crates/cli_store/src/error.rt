@@ -7,19 +7,19 @@ use std::error::Error;
 use std::fmt;
 use store_open::{FormatError, OpenError, StoreError};
 
-/// What ends a command over a device. The program prints these words behind `error: `: an area, and
-/// the numbers of the error from the outside in.
+/// What ends a command over a device. The program prints these words after `error: `: an area, and
+/// the numbers of the error, the outer one first.
 #[derive(Clone, Copy, Debug, PartialEq, Eq)]
 pub enum Fault {
     /// No store is made.
     Format(FormatError),
-    /// The device isn't opened. Want of memory is never here.
+    /// The device is not opened. `OpenError::NoMemory` is never here.
     Open(OpenError),
-    /// No checkpoint is made. Want of memory is never here.
+    /// No checkpoint is made. `StoreError::NoMemory` is never here.
     Checkpoint(StoreError),
-    /// The file of the device can't be made or opened.
+    /// The file of the device cannot be made or opened.
     File,
-    /// Memory ran out.
+    /// Memory was refused.
     Memory,
     /// A print failed.
     Output,

@@ -15,8 +15,8 @@ use std::alloc::Global;
 use std::io::Write;
 use store_open::Geometry;
 
-/// Makes an empty store of these sizes, whatever stood on the device, and prints how many sectors
-/// it takes.
+/// Makes an empty store of these sizes, whatever the device had on it, and prints how many sectors
+/// the store takes.
 #[tactic(auto, using(store_open::proofs::Behind::kept_here))]
 pub fn format<D: Device, W: Write>(
     alloc: Global,

@@ -1,4 +1,4 @@
-//! What is read of a half, to be drawn.
+//! What is read of a half to draw it.
 
 ghost use Rattle.std.specs.Prelude.{◌≤◌};
 ghost use Rattle.store_layout.specs.Layout.{IsGeometry, image_sectors};
@@ -12,13 +12,13 @@ use sector_dev::{DevError, Device};
 use store_layout::Half;
 use store_open::{Geometry, read_sector};
 
-/// A half: its head, none where its gate is closed; the rows in its area; and its journal.
+/// A half: its head, or none where its gate is closed; the rows in its area; and its journal.
 #[derive(Clone, Copy)]
 pub(crate) struct HalfFound {
     pub head: Result<Option<Head>, PairError>,
     /// The bytes of the rows.
     pub size: u32,
-    /// How many rows there are.
+    /// The number of rows.
     pub count: u32,
     pub journal: Walk,
 }
@@ -31,7 +31,7 @@ pub(crate) struct Halves {
 }
 
 impl Halves {
-    /// One of them.
+    /// What was found of `half`.
     pub(crate) fn get(&self, half: Half) -> HalfFound {
         match half {
             Half::First => self.first,
@@ -39,7 +39,7 @@ impl Halves {
         }
     }
 
-    /// The half that is chosen by both heads, and the half in which the tail is.
+    /// The half that is chosen by both heads, and the half that has the tail.
     pub(crate) fn choice(&self) -> Result<Choice, PairError> {
         let first = self.first.head?;
         let second = self.second.head?;
@@ -58,7 +58,7 @@ impl Halves {
     }
 }
 
-/// The half that is chosen, and the half in which the tail is.
+/// The half that is chosen, and the half that has the tail.
 #[derive(Clone, Copy)]
 pub(crate) struct Choice {
     pub half: Half,

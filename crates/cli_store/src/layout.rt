@@ -1,4 +1,4 @@
-//! Drawing what is where on a device.
+//! Drawing the regions of a device.
 
 ghost use Rattle.std.specs.Prelude.{◌≡◌, ◌≤◌};
 ghost use Rattle.sector_dev.specs.Disk.{IsHonest, reads_of};
@@ -19,8 +19,8 @@ use std::io::Write;
 use store_layout::Half;
 use store_open::{Geometry, OpenError, read_geometry};
 
-/// Draws the regions of a device, a line each: the sectors, the region, and what is read there. It
-/// changes nothing, and goes on where the device would not be opened.
+/// Draws the regions of a device, a line each: the sectors, the region, and what is read there. The
+/// call changes nothing, and also draws a device that would not be opened.
 pub fn show_layout<D: Device, W: Write>(
     alloc: Global,
     device: &mut D,
@@ -29,7 +29,7 @@ pub fn show_layout<D: Device, W: Write>(
     ensures leaves { LeavesDevice (D.disk device.old) (D.disk device.new) }
     ensures drawn { IsHonest (D.disk device.old) → DrawsSo result (geometry_in (reads_of (D.disk device.old))) (W.contents writer.old) (W.contents writer.new) }
 
-    // It answers that the device failed just where it did.
+    // Returns the device's fault exactly when a call failed.
     ensures faults { (D.disk device.new).faults ≡ faults_after_command result (D.disk device.old).faults }
 {
     let sectors = device.sectors();

@@ -24,7 +24,7 @@ pub fn status<D: Device, W: Write>(
     ensures leaves { LeavesDevice (D.disk device.old) (D.disk device.new) }
     ensures answer { ReportsSo result (D.disk device.old) (W.contents writer.old) (W.contents writer.new) }
 
-    // It answers that the device failed just where it did.
+    // Returns the device's fault exactly when a call failed.
     ensures faults { (D.disk device.new).faults ≡ faults_after_command result (D.disk device.old).faults }
 {
     match look(alloc, device) {
@@ -57,7 +57,7 @@ fn head_lines(alloc: Global, folded: &Folded) -> Result<String, AllocError>
     format!(in alloc; "{version}{epoch}{place}{rows}")
 }
 
-/// The lines of how much is used.
+/// The lines of how much of the store is used.
 fn use_lines(alloc: Global, folded: &Folded) -> Result<String, AllocError>
     ensures { IfOk result (λ text. string_bytes text ≡ use_lines (folded_status folded.now)) }
 {

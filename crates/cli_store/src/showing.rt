@@ -15,16 +15,16 @@ use std::io::Write;
 use store_open::open;
 
 /// Opens a device, and prints its rows in the order of their keys, a line each, and its place. The
-/// device comes back.
+/// device is returned.
 pub fn show<D: Device, W: Write>(alloc: Global, device: D, writer: &mut W) -> Result<D, (D, Fault)>
     ensures ok { IfOk result (λ _. ShowsStore (D.disk device) (W.contents writer.old) (W.contents writer.new)) }
     ensures err { IfErr result (λ back. FailsToShow back.1 (D.disk device) (W.contents writer.old) (W.contents writer.new)) }
 
-    // At every moment what a stop leaves is an image of the start, or opens with what one of the
+    // At every moment, what a stop leaves is an image of the start, or opens with what one of the
     // start opens with.
     ensures any_moment { Stretch (D.disk device) (D.disk (device_after result)) (IsFromImage (D.disk device).history.now OpensAlike) }
 
-    // It answers that the device failed just where it did.
+    // Returns the device's fault exactly when a call failed.
     ensures faults { (D.disk (device_after result)).faults ≡ faults_left result (D.disk device).faults }
 {
     match open(alloc, device) {

@@ -1,4 +1,4 @@
-//! What a store is shown as.
+//! The text in which a store is shown.
 
 ghost use Rattle.std.specs.Prelude.{◌≡◌, IfOk, string_bytes};
 ghost use Rattle.std.specs.Option.{option_map};
@@ -12,7 +12,7 @@ use seg_core::{Entry, SegType};
 use std::alloc::{AllocError, Global};
 
 /// The line of a row: its type, its id, its timestamp, when it expires in half seconds since 1970,
-/// its first and its last ISD-AS, and how many entries it has.
+/// its first and its last ISD-AS, and its number of entries.
 #[tactic(auto, unfolding(crate::specs::Text::row_line))]
 pub(crate) fn row_line(alloc: Global, row: &Row) -> Result<String, AllocError>
     ensures { IfOk result (λ line. string_bytes line ≡ row_line (row_view row.now)) }
@@ -42,7 +42,7 @@ fn row_ends(alloc: Global, row: &Row) -> Result<String, AllocError>
     format!(in alloc; "{first} {last} {count}")
 }
 
-/// The ISD-AS of an entry, or no text of no entry.
+/// The text of an entry's ISD-AS. Where there is no entry, the text is empty.
 fn end_text(alloc: Global, entry: Option<&Entry>) -> Result<String, AllocError>
     ensures { IfOk result (λ text. string_bytes text ≡ end_text (option_map (λ e. entry_view e.now) entry.entry)) }
 {

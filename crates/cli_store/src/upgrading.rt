@@ -1,4 +1,4 @@
-//! Having a store in the version that is written.
+//! Bringing a store to the version that is written.
 
 ghost use Rattle.std.specs.Prelude.{◌≡◌, OnOk, OnErr, IfOk, IfErr};
 ghost use Rattle.std.specs.Io.KnownBytes.{Appends};
@@ -21,7 +21,7 @@ use std::io::Write;
 use store_open::{Store, StoreError, open};
 
 /// Opens a device, makes a checkpoint at rest where its store is of version 1, and prints the
-/// version, which is 2 then. The device comes back.
+/// version, which is 2 then. The device is returned.
 #[tactic(auto, using(crate::proofs::Stops::opened_moments))]
 pub fn upgrade<D: Device, W: Write>(
     alloc: Global,
@@ -36,7 +36,7 @@ pub fn upgrade<D: Device, W: Write>(
     // bytes after the store unchanged.
     ensures any_moment { KeepsItsStore (D.disk device) (D.disk (device_after result)) }
 
-    // It answers that the device failed just where it did.
+    // Returns the device's fault exactly when a call failed.
     ensures faults { (D.disk (device_after result)).faults ≡ faults_left result (D.disk device).faults }
 {
     match open(alloc, device) {

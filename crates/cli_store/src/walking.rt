@@ -12,22 +12,22 @@ use store_open::read_sector;
 /// How a journal ends.
 #[derive(Clone, Copy, Debug, PartialEq, Eq)]
 pub(crate) enum End {
-    /// At a closed gate.
+    /// The journal ends at a closed gate.
     Closed,
-    /// With a seal.
+    /// The journal ends with a seal.
     Sealed,
-    /// With what is neither a group nor a seal.
+    /// The journal ends with what is neither a group nor a seal.
     Broken,
-    /// Behind the last sector of the journal.
+    /// The journal ends after its last sector.
     Past,
 }
 
-/// What the headers of a journal say.
+/// What the headers of a journal contain.
 #[derive(Clone, Copy)]
 pub(crate) struct Walk {
-    /// How many groups there are.
+    /// The number of groups.
     pub groups: u64,
-    /// The place behind the last of them.
+    /// The place after the last of them.
     pub place: u64,
     /// The sector of the gate where it ends, from the journal's start.
     pub gate: u64,
@@ -35,7 +35,7 @@ pub(crate) struct Walk {
 }
 
 /// Goes from gate to gate over the journal in this number of sectors, which the device has. Records
-/// aren't read.
+/// are not read.
 pub(crate) fn walk_journal<D: Device>(
     device: &mut D,
     start: u64,
@@ -72,15 +72,15 @@ pub(crate) fn walk_journal<D: Device>(
     })
 }
 
-/// What is after a gate.
+/// What follows a gate.
 #[derive(Clone, Copy)]
 enum Step {
-    /// A group: the next gate, and the place behind the group.
+    /// A group: the next gate, and the place after the group.
     Group(u64, u64),
     End(End),
 }
 
-/// Reads a gate, and where it is open the header behind it.
+/// Reads a gate, and where it is open the header after it.
 fn next_step<D: Device>(
     device: &mut D,
     start: u64,
@@ -102,7 +102,7 @@ fn next_step<D: Device>(
     Ok(step_behind(&header, gate))
 }
 
-/// What the header after an open gate says.
+/// The step that the header after an open gate leads to.
 fn step_behind(header: &[u8; 512], gate: u64) -> Step
     requires { gate < 2 ^ 63 }
     ensures { GoesOnBehind gate result }

@@ -1,4 +1,4 @@
-//! Text on its way to a writer.
+//! Writing text.
 
 ghost use Rattle.std.specs.Prelude.{◌≡◌, OnOk, IfErr};
 ghost use Rattle.std.specs.Io.KnownBytes.{Appends};
@@ -13,7 +13,7 @@ use std::io::Write;
 use whole_writes::WriteFailed;
 
 /// Writes the lines of all rows, in the order of their keys, and that of a place. Where memory for
-/// a line runs out, those before it are kept.
+/// a line is refused, the lines before it are written.
 pub(crate) fn write_store<W: Write>(
     alloc: Global,
     db: &PathDb,
@@ -50,7 +50,7 @@ fn write_place<W: Write>(alloc: Global, place: u64, writer: &mut W) -> Result<()
     write_all(writer, line.as_bytes())
 }
 
-/// Writes all of the bytes. A write that takes none is a fault, and none is tried again.
+/// Writes all of the bytes. A write that takes no byte is a fault, and no failed write is repeated.
 pub(crate) fn write_all<W: Write>(writer: &mut W, bytes: &[u8]) -> Result<(), Fault>
     ensures ok { OnOk result (Appends (W.contents writer.old) (W.contents writer.new) bytes.now) }
     ensures err { IfErr result (TextWriteFails (W.contents writer.old) (W.contents writer.new) bytes.now) }
