@@ -71,7 +71,7 @@ is_linked [] = true
 is_linked (e ∷ []) = e.next == 0 && e.egress == 0
 is_linked (e ∷ f ∷ es) = (e.next == f.ia && (not (e.egress == 0) && not (f.ingress == 0))) && is_linked (f ∷ es)
 
--- `IsChain` as a test: the entries are linked, and the first one has no ingress.
+-- `IsEntryChain` as a test: the entries are linked, and the first one has no ingress.
 abbrev pub is_chain : List EntryView → Bool
 is_chain [] = true
 is_chain (e ∷ es) = e.ingress == 0 && is_linked (e ∷ es)

@@ -101,7 +101,7 @@ misfit_at shape before f =
 abbrev pub AllFit : List FieldKind → List FieldView → Type 0
 AllFit shape fs = (before after : List FieldView) (f : FieldView) → fs ≡ before ++ f ∷ after → misfit_at shape before f ≡ None
 
--- The first of the fields with which something is wrong is refused for this reason.
+-- The first field that does not fit is refused for this reason.
 pub record HasFirstMisfit (shape : List FieldKind) (fs : List FieldView) (refusal : SegError) : Type 0 where
   pub before : List FieldView
   pub field : FieldView
