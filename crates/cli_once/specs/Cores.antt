@@ -31,12 +31,19 @@ RefusesText text fault.Output = ⊥
 
 -- The first text that is no ISD-AS, and why.
 pub record FirstRefusal (texts : List (List ℕ)) (e : IaError) : Type 0 where
+  -- The texts before it.
   pub front : List (List ℕ)
+  -- The core ASes of the texts before it.
   pub cores : List IsdAs
+  -- The first text that is no ISD-AS.
   pub text : List ℕ
+  -- The texts after it.
   pub rest : List (List ℕ)
+  -- These are all texts.
   pub parts : texts ≡ front ++ text ∷ rest
+  -- The texts before it are the texts of core ASes.
   pub before : AreCores front cores
+  -- The reason why the text is no ISD-AS.
   pub refused : IsNoIsdAs text e
 
 -- Each of the texts is an ISD-AS.

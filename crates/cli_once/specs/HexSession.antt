@@ -23,16 +23,24 @@ InputEndsEarly turns pieces error.Turns = length pieces ≡ turns
 
 -- The input was not read whole, and nothing was written.
 pub record IsUnread (turns : ℕ) (pieces : List (List ℕ)) (output output_left : Option (List ℕ)) (result : Result ℕ Fault) : Type 0 where
+  -- The error of the reads.
   pub error : FrameError
+  -- The reads ended early for that error.
   pub ends : InputEndsEarly turns pieces error
+  -- Nothing was written.
   pub kept : Appends output output_left []
+  -- The result is the program's fault for the error.
   pub said : result ≡ Err (frame_fault error)
 
 -- The input is refused as a text, and nothing was written.
 pub record IsNoText (text : List ℕ) (output output_left : Option (List ℕ)) (result : Result ℕ Fault) : Type 0 where
+  -- Nothing was written.
   pub kept : Appends output output_left []
+  -- The fault of the text.
   pub refusal : Fault
+  -- The text is refused for that fault.
   pub refused : RefusesHex text refusal
+  -- The result is that fault.
   pub said : result ≡ Err refusal
 
 -- The program's result for a session's result.
@@ -47,10 +55,15 @@ pub record AreAnsweredInLines (start : Served) (bytes : List ℕ) (output output
 
 -- The input is a text that encodes bytes, whose messages were answered in lines.
 pub record IsAnsweredText (start : Served) (text : List ℕ) (output output_left : Option (List ℕ)) (result : Result ℕ Fault) : Type 0 where
+  -- The bytes that the text encodes.
   pub bytes : List ℕ
+  -- The text encodes those bytes.
   pub encoded : decode_of (without_blanks text) ≡ Ok bytes
+  -- The result of the session.
   pub outcome : Result ℕ FrameError
+  -- The messages of those bytes were answered in lines.
   pub answered : AreAnsweredInLines start bytes output output_left outcome
+  -- The result is the program's for the session's.
   pub said : result ≡ answer_for outcome
 
 -- The input was read to its end, and checked as a text before anything was answered.

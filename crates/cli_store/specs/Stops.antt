@@ -10,10 +10,15 @@ use Rattle.store_open.specs.PathStores.{IsStoreOf}
 -- Both images open to the same rows at the same place, and the bytes after their store are the
 -- same.
 pub record OpenToTheSame (before behind : List ℕ) : Type 0 where
+  -- The rows.
   pub rows : List RowView
+  -- The place.
   pub place : ℕ
+  -- The image before opens to them.
   pub before_is : IsStoreOf rows place before
+  -- The image afterwards opens to them.
   pub behind_is : IsStoreOf rows place behind
+  -- The bytes after the store are the same.
   pub beyond : SameBehind before_is.opening.geometry before behind
 
 -- The image is what it was, or opens to the rows at the place that it opened to. So it opens to

@@ -24,21 +24,33 @@ BecomesLatest (Err e) old new = (old.head.version ≡ 1) × Checkpoints (Err e) 
 -- The device holds a store at rest in the version that is written, with the rows and the place that
 -- reads gave before.
 pub record IsUpgraded (old new : Disk) : Type 0 where
+  -- The store.
   pub store : StoreView
+  -- The store is on the device.
   pub device : store.disk ≡ new
+  -- Its version is the one that is written.
   pub version : store.head.version ≡ latest
+  -- It is at rest.
   pub rest : IsAtRest store
+  -- Reads gave its rows and its place before.
   pub same : IsStoreOf store.rows store.place (reads_of old)
 
 -- The store was opened, in version 1, and no checkpoint was made for this reason. Nothing was
 -- written.
 pub record IsNotUpgraded (e : StoreError) (old new : Disk) (output output_left : Option (List ℕ)) : Type 0 where
+  -- The store that was opened.
   pub store : StoreView
+  -- The store after the refusal.
   pub after : StoreView
+  -- An honest device opens to the store.
   pub opened : IsHonest old → IsOpened (reads_of old) store
+  -- The store is of version 1.
   pub version : store.head.version ≡ 1
+  -- The checkpoint was refused for this reason.
   pub refused : Checkpoints (Err e) store after
+  -- The device is that of the store after the refusal.
   pub device : after.disk ≡ new
+  -- Nothing was written.
   pub nothing : Appends output output_left []
 
 -- Why a store is not in that version, or why its version is not printed.

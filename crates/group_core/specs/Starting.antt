@@ -16,8 +16,11 @@ value_of_store store = record { db = store.rows; place = store.place }
 -- A state of the store goes on: no checkpoint of the store has failed, and its rows, and those up
 -- to its seal, have room in an area.
 pub record CanContinue (store : StoreView) : Type 0 where
+  -- No checkpoint of the store has failed.
   pub whole : store.broken ≡ false
+  -- The rows have room in an area.
   pub rows : 32 + rows_len store.rows ≤ 512 * store.geometry.checkpoint
+  -- The rows up to the seal have room in an area.
   pub sealed : store.sealed ≡ true → 32 + store.sealed_len ≤ 512 * store.geometry.checkpoint
 
 -- The checkpointer's phase at the start: a sealed journal awaits its checkpoint.

@@ -52,26 +52,40 @@ pub record FoldsTo {Db C : Type 0} (format : StoreFormat Db C) (base : Checkpoin
 
 -- The other half counts, and its journal is sealed.
 pub record OldStands {Db C : Type 0} (config : StoreConfig Db C) (base : CheckpointPair Db C) (moment : Moment) : Type 0 where
+  -- The sealed half folded is the new checkpoint.
   pub folds : FoldsTo config.format base
+  -- The other half's gate is open and clean.
   pub gate : IsOpenHalf config.geometry (other base.half) moment
+  -- The other half has the old checkpoint.
   pub area : HasCheckpoint config (other base.half) base.old moment
+  -- The other half's journal ends with a durable seal.
   pub journal : FlusherPart Durable config.format.commands (limits_of base.old.head.version) config.geometry (sealed_of base) Seal moment
 
 -- The half that has the tail counts, and a checkpoint that the other half may have is older.
 pub record NewStands {Db C : Type 0} (config : StoreConfig Db C) (base : CheckpointPair Db C) (moment : Moment) : Type 0 where
+  -- The old checkpoint is older.
   pub epoch : base.old.head.epoch < base.new.head.epoch
+  -- The version of the tail's limits is at most the new checkpoint's.
   pub tail : base.version ≤ base.new.head.version
+  -- The gate of the half that has the tail is open and clean.
   pub gate : IsOpenHalf config.geometry base.half moment
+  -- The half that has the tail has the new checkpoint.
   pub area : HasCheckpoint config base.half base.new moment
+  -- The other half has the old checkpoint's head.
   pub old : HasHead config (other base.half) base.old.head moment
 
 -- The half that has the tail counts. The other half's gate is closed, and so is the first gate of
 -- its journal.
 pub record IsOtherHalfReady {Db C : Type 0} (config : StoreConfig Db C) (base : CheckpointPair Db C) (moment : Moment) : Type 0 where
+  -- The version of the tail's limits is at most the new checkpoint's.
   pub tail : base.version ≤ base.new.head.version
+  -- The gate of the half that has the tail is open and clean.
   pub gate : IsOpenHalf config.geometry base.half moment
+  -- The half that has the tail has the new checkpoint.
   pub area : HasCheckpoint config base.half base.new moment
+  -- The other half's gate is closed and clean.
   pub closed : IsClosedHalf config.geometry (other base.half) moment
+  -- The first gate of the other half's journal is closed and clean.
   pub first : IsFirstClosed config.geometry (other base.half) moment
 
 -- The new checkpoint can be one, of a known version, and has room in its area.

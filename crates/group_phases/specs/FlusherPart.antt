@@ -43,7 +43,7 @@ pub record HasLoad {C : Type 0} (format : CommandFormat C) (geometry : Geometry)
   pub spelled : part (512 * (tail.gate + 1)) (512 * load_sectors format load) (tail_bytes geometry tail moment) ≡ payload_of format (tail_place tail) load
   pub next : NextIsClosed format load (tail_bytes geometry tail moment) tail.gate
 
--- The sectors that are written with what is in flight are clean.
+-- What is in flight is clean, with the gate that is written after a group.
 abbrev pub IsLoadClean : {C : Type 0} → CommandFormat C → Geometry → Tail C → GroupOrSeal C → Moment → Type 0
 IsLoadClean format geometry tail load moment = AreCleanSectors geometry tail.half (tail.gate + 1) (written_sectors format load) moment
 
@@ -64,8 +64,11 @@ AtPhase Durable format geometry tail load moment =
 -- What the flusher relies on in each phase.
 pub record FlusherPart {C : Type 0} (phase : Flush) (format : CommandFormat C) (limits : Limits) (geometry : Geometry) (tail : Tail C) (load : GroupOrSeal C)
     (moment : Moment) : Type 0 where
+  -- The tail's groups are in its journal.
   pub groups : HasGroups format limits geometry tail moment
+  -- What is in flight may be after the tail.
   pub can : CanBeLoad format limits geometry tail load
+  -- The facts of the phase hold.
   pub facts : AtPhase phase format geometry tail load moment
 
 -- The journal of an image, in the half that has the tail, has this reading.

@@ -85,7 +85,11 @@ run_view state tickets = record { state = state; tickets = map ticket_place tick
 -- The invariant of a run between its events: the values and tickets that it holds are of its state,
 -- and it holds each value that is out.
 pub record IsHolding (view : StateView) (held : List (Option Ticket)) (held_group : HeldGroup) (held_plan : HeldPlan) : Type 0 where
+  -- The run's tickets are of the state.
   pub tickets : HoldsTickets held view
+  -- The flusher's value is held exactly where it is out.
   pub group : HoldsGroup held_group view
+  -- The checkpointer's value is held exactly where it is out.
   pub plan : HoldsPlan held_plan view
+  -- A seal in flight waits for a half that is ready.
   pub seal : SealWaits view

@@ -29,8 +29,11 @@ machine_with start order = record (machine_of start) { pending = order }
 
 -- The image opens to this machine, reopened with a front of its pending commands.
 pub record OpensToMachine (machine : Machine) (image : List ℕ) : Type 0 where
+  -- The number of the first pending commands that the image has.
   pub kept : ℕ
+  -- It is no more than are pending.
   pub inside : kept ≤ length machine.pending
+  -- The image opens to the machine that is reopened with those commands.
   pub opens : OpensTo store_format latest image (machine_value (reopened machine kept))
 
 -- A stop within a run leaves the machine at the run's start, with the commands in the order of the
@@ -50,8 +53,11 @@ HasValueOf image store = (value : StoreValue (List RowView)) → OpensTo store_f
 
 -- The store is this machine, reopened with a front of its pending commands.
 pub record IsReopened (machine : Machine) (store : StoreView) : Type 0 where
+  -- The number of the first pending commands that the store has.
   pub kept : ℕ
+  -- It is no more than are pending.
   pub inside : kept ≤ length machine.pending
+  -- The store has the value of the machine that is reopened with those commands.
   pub value : value_of_store store ≡ machine_value (reopened machine kept)
 
 -- The store is reopened as every machine to which the image opens.

@@ -32,20 +32,27 @@ accepted_in (e ∷ events) (r ∷ replies) = accepted_by e r ++ accepted_in even
 abbrev pub lock_order : StateView → List Event → List Reply → List Command
 lock_order start events replies = start.pending ++ accepted_in events replies
 
--- A front of the order is committed at the end, and the rest of the order is pending. The front is
--- all that was shown since the start.
+-- A front of the order is committed at the end, and the rest of the order is pending.
 pub record IsFrontCommitted (start : StateView) (order : List Command) (end : StateView) : Type 0 where
+  -- The length of that front, which is all that was committed since the start.
   pub done : ℕ
+  -- The front is within the order.
   pub inside : done ≤ length order
+  -- The value at the end is that after the front.
   pub value : end.value ≡ value_after store_format start.value (take done order)
+  -- The rest of the order is pending at the end.
   pub pending : end.pending ≡ drop done order
 
 -- The image opens to the rows that were committed at the start, after a front of this order that
 -- has at least `least` commands.
 pub record OpensToPrefix (start : StateView) (order : List Command) (least : ℕ) (image : List ℕ) : Type 0 where
+  -- The length of the front that the image has.
   pub kept : ℕ
+  -- The front has at least `least` commands.
   pub enough : least ≤ kept
+  -- The front is within the order.
   pub inside : kept ≤ length order
+  -- The image opens to the value after the front.
   pub opens : OpensTo store_format latest image (value_after store_format start.value (take kept order))
 
 -- What a run leaves.

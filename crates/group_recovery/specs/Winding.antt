@@ -28,11 +28,17 @@ winding_events tickets = ending_events ++ redeeming_events tickets
 
 -- The run has done these events, which accept no command.
 pub record HasWound (old new : RunView) : Type 0 where
+  -- The events that were done.
   pub events : List Event
+  -- The replies to them.
   pub replies : List Reply
+  -- The events are those that wind up a run with this number of tickets.
   pub are : events ≡ winding_events (length old.tickets)
+  -- The run did these events, with these replies.
   pub runs : IsRun events replies old new
+  -- No command was accepted.
   pub none : accepted_in events replies ≡ []
+  -- What a stop within these events leaves.
   pub leaves : RunLeaves old.state (lock_order old.state events replies) new.state
 
 -- A device opens to the rows that a state shows, at their place, where nothing is pending.

@@ -18,9 +18,13 @@ use Rattle.once_store.specs.Resting.{IsSteady, HasOnePending}
 -- The one pending command is durable, or a seal is. There is a seal only where the journal already
 -- has a group.
 pub record IsNextDurable (value : Commit AtDurable) (old new : StateView) : Type 0 where
+  -- It is the turn of this value to be published.
   pub turn : IsFlushTurn Durable value new
+  -- At most one command is in flight.
   pub taken : new.taken ≤ 1
+  -- Where a seal is in flight, the journal already had a group.
   pub seal : new.taken ≡ 0 → 1 ≤ old.gate
+  -- Nothing else has changed.
   pub state : new ≡ record old { disk = new.disk; taken = new.taken; flush = Durable; group = new.group }
 
 -- What publishing and redeeming return. A group's command is committed. A seal leaves its ticket
@@ -43,11 +47,17 @@ pub record SameAbove (old new : StateView) : Type 0 where
 
 -- The pending command is committed, and this is its outcome.
 pub record IsOnePendingCommitted (outcome : Outcome) (old new : StateView) : Type 0 where
+  -- The outcome is the one that was kept for the command.
   pub outcome_is : outcome_at old.value.place old.kept ≡ Some outcome
+  -- The state is steady.
   pub steady : IsSteady new
+  -- Nothing is in flight.
   pub rests : new.flush ≡ Resting
+  -- No command is pending.
   pub pending : new.pending ≡ []
+  -- No outcome is kept.
   pub kept : new.kept ≡ []
+  -- The layer above sees no change.
   pub same : SameAbove old new
 
 -- The value of a durable group is held, or nothing is in flight.
@@ -58,11 +68,17 @@ HoldsDurable (Some value) view = IsFlushTurn Durable value view × (view.taken �
 -- The command is still pending, and its ticket is returned, with the value of its group where the
 -- group is durable.
 pub record IsHeldBack (back : Ticket) (durable : Option (Commit AtDurable)) (ticket : Ticket) (old new : StateView) : Type 0 where
+  -- The ticket is returned as it was.
   pub same_ticket : back ≡ ticket
+  -- The command is still pending, and the ticket is its own.
   pub one : HasOnePending ticket new
+  -- The state is steady.
   pub steady : IsSteady new
+  -- The value of a durable group is held.
   pub holds : HoldsDurable durable new
+  -- The outcomes that are kept are unchanged.
   pub kept : new.kept ≡ old.kept
+  -- The layer above sees no change.
   pub same : SameAbove old new
 
 -- A step that commits nothing keeps what is committed, and the pending command with its outcome.

@@ -18,7 +18,9 @@ pub record IsFoldedFrom (old new : StateView) : Type 0 where
 
 -- The checkpoint of a sealed half was made.
 pub record IsFolded (old new : StateView) : Type 0 where
+  -- No plan is out.
   pub plan : new.plan.out ≡ false
+  -- The new half counts, with the next epoch and the latest version, and the other one is ready.
   pub state : new ≡ record old {
     disk = new.disk;
     check = Ready;
@@ -32,9 +34,13 @@ pub record IsFolded (old new : StateView) : Type 0 where
 -- A checkpoint may be made: no plan is out, and either no journal is sealed, or one is and an epoch
 -- is left.
 pub record MayFold (view : StateView) : Type 0 where
+  -- The state goes on.
   pub going : view.stopped ≡ false
+  -- No plan is out.
   pub free : view.plan.out ≡ false
+  -- The other half is ready, or a sealed half awaits its checkpoint.
   pub check : (view.check ≡ Ready) ⊎ (view.check ≡ Sealed)
+  -- An epoch is left for the checkpoint of a sealed half.
   pub epoch : view.check ≡ Sealed → view.epoch < 2 ^ 64 - 1
 
 -- No journal was sealed and nothing has changed, or a journal was sealed and its checkpoint was
@@ -44,8 +50,11 @@ IsReadyOrFolded old new = ((old.check ≡ Ready) × (new ≡ old)) ⊎ ((old.che
 
 -- No journal is sealed any more. Where one was, its checkpoint was made.
 pub record IsRoomMade (old new : StateView) : Type 0 where
+  -- The state is steady.
   pub steady : IsSteady new
+  -- The other half is ready for the next seal.
   pub ready : new.check ≡ Ready
+  -- Nothing has changed but what a checkpoint changes.
   pub state : new ≡ record old {
     disk = new.disk;
     check = Ready;

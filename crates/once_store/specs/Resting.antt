@@ -29,18 +29,30 @@ CheckRests CloseFailed view = ⊥
 
 -- The state goes on, in the latest version, no plan is out, and the checkpointer rests.
 pub record IsSteady (view : StateView) : Type 0 where
+  -- The sizes are those of a store in memory.
   pub geometry : view.geometry ≡ sizes
+  -- The version is the latest.
   pub version : view.version ≡ latest
+  -- The state goes on.
   pub going : view.stopped ≡ false
+  -- No plan is out.
   pub plan : view.plan.out ≡ false
+  -- The checkpointer rests.
   pub check : CheckRests view.check view
 
 -- One command is pending, and this is its ticket. Its outcome is kept, and no other is.
 pub record HasOnePending (ticket : Ticket) (view : StateView) : Type 0 where
+  -- The pending command.
   pub command : Command
+  -- No other command is pending.
   pub pending : view.pending ≡ command ∷ []
+  -- The ticket is of this state.
   pub home : ticket.home ≡ view.home
+  -- The ticket's place is that of the pending command.
   pub place : ticket.place ≡ view.value.place
+  -- The command has a place.
   pub last : view.value.place < last_place
+  -- The command's outcome is kept.
   pub kept : IsSome (outcome_at ticket.place view.kept)
+  -- No other outcome is kept.
   pub alone : kept_without ticket.place view.kept ≡ []

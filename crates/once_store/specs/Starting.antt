@@ -8,12 +8,19 @@ use Rattle.once_store.specs.OnceView.{once_view, no_rows, IsLone}
 
 -- A new store, as it is opened.
 pub record IsFirst (store : StoreView) : Type 0 where
+  -- The sizes are those of a store in memory.
   pub geometry : store.geometry ≡ sizes
+  -- The head is that of a new store.
   pub head : store.head ≡ first_head
+  -- No journal is sealed.
   pub unsealed : store.sealed ≡ false
+  -- The tail's gate is the journal's first sector.
   pub gate : store.gate ≡ 0
+  -- No command was committed.
   pub place : store.place ≡ 0
+  -- There are no rows.
   pub rows : store.rows ≡ []
+  -- No checkpoint has failed.
   pub whole : store.broken ≡ false
 
 -- The state of a new store.

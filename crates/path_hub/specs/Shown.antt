@@ -41,8 +41,11 @@ pub record IsShownAfter (opening value : StoreValue (List RowView)) (groups : Li
 -- The readers' rule: there are groups after which this value is shown, and each seat has seen a
 -- front of them.
 pub record KeepsRule (opening value : StoreValue (List RowView)) (views : List SeenGroups) : Type 0 where
+  -- The groups that were published.
   pub groups : List (List Command)
+  -- The value is the one that is shown after them.
   pub shown : IsShownAfter opening value groups
+  -- Each seat has seen a front of them.
   pub seats : (seat : ℕ) (view : SeenGroups) → get_elem? views seat ≡ some view → IsPrefix view.groups groups
 
 -- A reader's step: the reader has then seen all groups after which the value is shown, and they

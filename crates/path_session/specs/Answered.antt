@@ -94,11 +94,14 @@ module _ (opening : StoreValue (List RowView)) where
   abbrev pub found_after : List (List Command) → QueryView → ℕ → List RowView
   found_after groups query moment = answer_to (shown_after opening groups).db query moment
 
-  -- The reader was shown what is published: all groups that it was shown before, and maybe more. It
-  -- has then seen the place of that, which is no less than what it had seen.
+  -- The reader was shown what is published.
   pub record HasLooked (old new : Serving) : Type 0 where
+    -- The service has the groups that were shown, and has seen their place. Nothing else has
+    -- changed.
     pub kept : new ≡ record old { groups = new.groups; seen = place_after opening new.groups }
+    -- The groups are all that the reader was shown before, and maybe more.
     pub later : IsPrefix old.groups new.groups
+    -- Their place is no less than what the service had seen.
     pub fresh : old.seen ≤ place_after opening new.groups
 
   -- The reply has the segments that the query shows, of what the reader was shown.

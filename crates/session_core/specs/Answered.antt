@@ -16,10 +16,15 @@ use Rattle.session_core.specs.Session.{WritesReplies, SessionEndsEarly}
 
 -- The message at the front was answered, and its frame was removed.
 pub record IsFirstAnswered {S : Type 0} (answers : S → MessageView → ReplyView → S → Type 0) (old : S) (bytes : List ℕ) (reply : ReplyView) (new : S) (rest : List ℕ) : Type 0 where
+  -- The message.
   pub message : MessageView
+  -- The bytes begin with its frame, and the rest follows.
   pub framed : bytes ≡ message_frame message ++ rest
+  -- The message fits a frame.
   pub fits : FitsFrame message
+  -- The service answered the message with the reply.
   pub answered : answers old message reply new
+  -- The reply fits into a frame.
   pub sized : HasReplySize reply
 
 -- Nothing was answered, and nothing was removed.

@@ -75,8 +75,11 @@ pub record HasRightLength (bytes : List ℕ) : Type 0 where
 -- The bytes are less than a whole frame, without a fault. The length is checked once four bytes
 -- have arrived, and again with the kind once five bytes have.
 pub record IsPartial (bytes : List ℕ) : Type 0 where
+  -- Four bytes or more begin with the right length of a frame.
   pub length_is_right : 4 ≤ length bytes → HasRightLength bytes
+  -- Five bytes or more have the kind of a message.
   pub kind_is_right : 5 ≤ length bytes → IsMessageKind (frame_kind_at bytes)
+  -- The bytes are less than the frame.
   pub incomplete : 4 ≤ length bytes → length bytes < 4 + length_at bytes
 
 -- The bytes begin with a length that no frame has, or that no frame of the kind after it has.

@@ -19,21 +19,33 @@ IsBeginningOf front bytes = (rest : List ℕ) × (bytes ≡ front ++ rest)
 
 -- The replies to all messages were written, or to all but the last one.
 pub record TellsAllBefore (form : Form) (written : List ℕ) (exchanges : List Exchange) : Type 0 where
+  -- The exchanges whose replies were written.
   pub before : List Exchange
+  -- The last exchange, or none.
   pub last : List Exchange
+  -- These are all exchanges.
   pub parts : exchanges ≡ before ++ last
+  -- At most one exchange is left out.
   pub one : length last ≤ 1
+  -- The replies of the others were written.
   pub written_is : written ≡ all_told form before
 
 -- The replies to all messages but the last one were written, and a front of the last one's reply,
 -- which may be all of it.
 pub record TellsFrontOfLast (form : Form) (written : List ℕ) (exchanges : List Exchange) : Type 0 where
+  -- The exchanges whose replies were written whole.
   pub before : List Exchange
+  -- The last exchange, or none.
   pub last : List Exchange
+  -- These are all exchanges.
   pub parts : exchanges ≡ before ++ last
+  -- At most one exchange is the last.
   pub one : length last ≤ 1
+  -- The front of the last reply that was written.
   pub front : List ℕ
+  -- The front is the beginning of the last reply.
   pub begins : IsBeginningOf front (all_told form last)
+  -- The replies of the others and the front were written.
   pub written_is : written ≡ all_told form before ++ front
 
 -- The written bytes are those of the replies to the messages that were answered. All replies were
@@ -51,15 +63,25 @@ WritesReplies form (Err error.Turns) written exchanges = written ≡ all_told fo
 -- All whole frames of the pieces before the last one were answered, those pieces have no fault, and
 -- the replies to their messages were written.
 pub record IsPrompt (pieces : List (List ℕ)) (exchanges : List Exchange) (written : List ℕ) : Type 0 where
+  -- The pieces before the last one.
   pub earlier : List (List ℕ)
+  -- The last piece, or none.
   pub last : List (List ℕ)
+  -- These are all pieces.
   pub pieces_are : pieces ≡ earlier ++ last
+  -- At most one piece is the last.
   pub one : length last ≤ 1
+  -- The exchanges whose messages are in the earlier pieces.
   pub told : List Exchange
+  -- The exchanges after those.
   pub others : List Exchange
+  -- These are all exchanges.
   pub exchanges_are : exchanges ≡ told ++ others
+  -- The bytes after the whole frames of the earlier pieces.
   pub rest : List ℕ
+  -- The earlier pieces are the frames of those messages, and a rest without a fault.
   pub framed : AreFrames (concat earlier) (messages_of told) (Rest rest)
+  -- The replies to those messages were written.
   pub kept : IsBeginningOf (reply_frames told) written
 
 -- ---- why a session ends

@@ -19,9 +19,13 @@ IsJudged method path Unreadable = ⊥
 
 -- The bytes begin with the head of a request, by whose method and target this is asked.
 pub record IsHeadOf (bytes : List ℕ) (asked : Asked) : Type 0 where
+  -- The head.
   pub head : RequestHead
+  -- The bytes after the head.
   pub rest : List ℕ
+  -- The bytes are read as the head, and the rest.
   pub reads : ReadsRequest bytes head rest
+  -- The head's method and target ask for this.
   pub judged : IsJudged head.method head.target asked
 
 -- What the bytes of a peer ask for. The head of a request may be at the front. There may be none
