@@ -26,7 +26,7 @@ StaysUnderLargerLimits C =
     (phase : Flush) (format : CommandFormat C) (small large : Limits) (geometry : Geometry) (tail : Tail C) (load : GroupOrSeal C) (moment : Moment)
     → AreAsLarge small large → FlusherPart phase format small geometry tail load moment → FlusherPart phase format large geometry tail load moment
 
--- The checkpointer's part for the tail's version is its part for the new checkpoint's version.
+-- Once the new half counts, the tail may be written under the limits of its version.
 abbrev pub TakesTheNewVersion : Type 0 → Type 0 → Type 0
 TakesTheNewVersion Db C =
     (config : StoreConfig Db C) (base : CheckpointPair Db C) (written : ℕ) (moment : Moment)

@@ -47,7 +47,8 @@ pub record IsHeldFrom {Db C : Type 0} (format : StoreFormat Db C) (latest : ℕ)
   -- The device holds the state for these contents.
   pub by : IsHeldBy (config_at_opening format latest opening) (commit_state_at_opening format opening) behind moment
 
--- Nothing is dirty, and reads open with a journal that is not sealed, beside a half that is closed.
+-- The device holds the state after an opening where nothing is dirty, and reads open with a journal
+-- that is not sealed, beside a half that is closed.
 abbrev pub HeldAtRest : Type 0 → Type 0 → Type 0
 HeldAtRest Db C =
     (format : StoreFormat Db C) (latest : ℕ) (opening : Opening Db C) (moment : Moment) → moment.dirty ≡ []
@@ -62,8 +63,9 @@ pub record IsHeldBehindSeal {Db C : Type 0} (format : StoreFormat Db C) (latest 
   -- The old checkpoint is that of the half with the sealed journal.
   pub old_is : held.behind.old ≡ opening.checkpoint
 
--- Nothing is dirty, and reads open with a sealed journal: any checkpoint of a later epoch that
--- folds the journal can be the one still to be written.
+-- The device holds the state after an opening where nothing is dirty, and reads open with a sealed
+-- journal. Any checkpoint of a later epoch that folds the journal can be the one still to be
+-- written.
 abbrev pub HeldBehindSeal : Type 0 → Type 0 → Type 0
 HeldBehindSeal Db C =
     (format : StoreFormat Db C) (latest : ℕ) (opening : Opening Db C) (moment : Moment) (last : Reading C) (next : Checkpoint Db)

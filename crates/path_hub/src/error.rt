@@ -7,14 +7,14 @@ use thiserror::Error;
 /// Why a call of a hub was refused.
 #[derive(Clone, Copy, Debug, PartialEq, Eq, Error)]
 pub enum HubError {
-    /// Memory ran out, or a thread of an actor was not given.
+    /// Memory was refused, or a thread of an actor was not given.
     #[error("out of memory")]
     NoMemory,
     /// All 64 readers are taken, or the library gave none.
     #[error("no reader is left")]
     NoReader,
-    /// The state stopped before the command of this place was committed: whether the store keeps
-    /// the command is not known.
+    /// The state stopped before the command of this place was committed. It is not known whether
+    /// the store keeps the command.
     #[error("the state stopped before place {0}")]
     Stopped(u64),
     /// The command was not accepted.
