@@ -39,7 +39,7 @@ pub record FirstRefusal (texts : List (List ℕ)) (e : IaError) : Type 0 where
   pub text : List ℕ
   -- The texts after it.
   pub rest : List (List ℕ)
-  -- These are all texts.
+  -- These parts together are the texts.
   pub parts : texts ≡ front ++ text ∷ rest
   -- The texts before it are the texts of core ASes.
   pub before : AreCores front cores

@@ -51,7 +51,7 @@ impl<'a, V: Verifier> OnceService<'a, V> {
         })
     }
 
-    /// Ends the service, and drops its store. It takes no memory.
+    /// Ends the service, and drops its store. The call takes no memory.
     pub fn end(self) {
         let OnceService {
             roster: _roster,

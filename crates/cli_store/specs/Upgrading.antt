@@ -30,7 +30,7 @@ pub record IsUpgraded (old new : Disk) : Type 0 where
   pub device : store.disk ≡ new
   -- Its version is the one that is written.
   pub version : store.head.version ≡ latest
-  -- It is at rest.
+  -- The store is at rest.
   pub rest : IsAtRest store
   -- Reads gave its rows and its place before.
   pub same : IsStoreOf store.rows store.place (reads_of old)

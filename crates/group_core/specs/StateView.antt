@@ -19,8 +19,8 @@ pub record StateView : Type 0 where
   pub geometry : Geometry
   -- The state's own number, which its tickets and its commit values have too.
   pub home : ℕ
-  -- The rows that are committed, and the number of commands that are. That number is the place of
-  -- the first pending command.
+  -- The rows that are committed, and the number of commands that are, which is the place of the
+  -- first pending command.
   pub value : StoreValue (List RowView)
   -- The commands that are accepted and not committed yet, in the order of their places.
   pub pending : List Command

@@ -31,9 +31,9 @@ commit_state_of view = record {
   written = view.written;
 }
 
--- What a stop may leave of a state. It opens to what is committed, with a front of the pending
--- commands as long as the flusher's phase allows, and by a half of the state's version or a later
--- one.
+-- What a stop may leave of a state. Such an image opens to what is committed, with a front of the
+-- pending commands as long as the flusher's phase allows, and by a half of the state's version or a
+-- later one.
 abbrev pub MayOpen : StateView → List ℕ → Type 0
 MayOpen view image = OpensToFront (config_of view) (commit_state_of view) image
 

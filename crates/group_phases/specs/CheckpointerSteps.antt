@@ -66,12 +66,12 @@ BeginsPlan Db C =
 
 -- The checkpointer writes beside the tail's journal.
 pub record WritesBeside {Db C : Type 0} (config : StoreConfig Db C) (base : CheckpointPair Db C) (written more : ℕ) : Type 0 where
-  -- It writes sectors of the new checkpoint there.
+  -- The sectors of the new checkpoint are beside it.
   pub chunk : IsBesideJournal config.geometry base.half (area_at config.geometry base.half + written)
       (length (part (512 * written) (512 * more) (checkpoint_encoding config.format.rows base.new)))
-  -- It writes the new half's gate there.
+  -- The new half's gate is beside it.
   pub gate : IsBesideJournal config.geometry base.half (gate_at config.geometry base.half) (length open_gate)
-  -- It writes the old half's gate and the first gate of the old journal there.
+  -- The old half's gate and the first gate of its journal are beside it.
   pub gates : IsBesideJournal config.geometry base.half (gate_at config.geometry (other base.half)) (length (closed_gate ++ closed_gate))
 
 -- The checkpointer writes beside the tail's journal, whatever it has to write.

@@ -136,7 +136,7 @@ pub record OpensToFront {Db C : Type 0} (config : StoreConfig Db C) (state : Com
   pub kept : ℕ
   -- A stop in the flusher's phase may keep that number.
   pub may : MayKeep state.flush state.taken kept
-  -- It is no more than are pending.
+  -- The number is at most that of the pending commands.
   pub inside : kept ≤ length state.pending
   -- The half that is chosen has a version that allows what the tail's limits do.
   pub opens : OpensSince config state.version image (value_after config.format state.value (take kept state.pending))

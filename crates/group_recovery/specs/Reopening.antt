@@ -31,7 +31,7 @@ machine_with start order = record (machine_of start) { pending = order }
 pub record OpensToMachine (machine : Machine) (image : List ℕ) : Type 0 where
   -- The number of the first pending commands that the image has.
   pub kept : ℕ
-  -- It is no more than are pending.
+  -- The number is at most that of the pending commands.
   pub inside : kept ≤ length machine.pending
   -- The image opens to the machine that is reopened with those commands.
   pub opens : OpensTo store_format latest image (machine_value (reopened machine kept))
@@ -55,7 +55,7 @@ HasValueOf image store = (value : StoreValue (List RowView)) → OpensTo store_f
 pub record IsReopened (machine : Machine) (store : StoreView) : Type 0 where
   -- The number of the first pending commands that the store has.
   pub kept : ℕ
-  -- It is no more than are pending.
+  -- The number is at most that of the pending commands.
   pub inside : kept ≤ length machine.pending
   -- The store has the value of the machine that is reopened with those commands.
   pub value : value_of_store store ≡ machine_value (reopened machine kept)

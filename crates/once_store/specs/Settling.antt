@@ -9,7 +9,7 @@ pub record IsNothingHeld (old new : StateView) : Type 0 where
   pub lone : IsLone new None
   pub same : once_view new ≡ once_view old
 
--- This is still held, and the layer above sees no change.
+-- The command is still held, and the layer above sees no change.
 pub record IsUnsettled (held : Held) (old new : StateView) : Type 0 where
   pub lone : IsLone new (Some held)
   pub same : once_view new ≡ once_view old

@@ -6,7 +6,7 @@ use crate::committing::Held;
 use crate::memory_state::MemoryState;
 use group_core::Redeemed;
 
-/// Stops the state, ends what is held of a command, and drops the device. It takes no memory.
+/// Stops the state, ends what is held of a command, and drops the device. The call takes no memory.
 pub(crate) fn end(state: MemoryState, held: Option<Held>)
     requires lone { IsLone state held }
 {

@@ -91,7 +91,7 @@ impl OnceStore {
         self.state.look_up(query, now)
     }
 
-    /// Ends the store, and drops its device. It takes no memory.
+    /// Ends the store, and drops its device. The call takes no memory.
     pub fn end(self) {
         let OnceStore { state, held } = self;
         end(state, held);

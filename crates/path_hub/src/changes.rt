@@ -17,7 +17,7 @@ pub(crate) struct Changes {
     work: Condvar,
     seal: Condvar,
     outcomes: Bells,
-    /// The outcome of each command below this place is known. It is 2^64 - 1 once the state has
+    /// The place below which the outcome of each command is known, or 2^64 - 1 once the state has
     /// stopped.
     reached: AtomicU64,
 }

@@ -25,7 +25,7 @@ impl Model for Published {
 }
 
 impl Published {
-    /// These rows, at this place.
+    /// Makes the value of these rows, at this place.
     pub(crate) fn new(db: PathDb, place: u64) -> Published
         ensures { result ≡ record { db = db; place = place } }
     {

@@ -52,10 +52,10 @@ impl<N: HubName> HubReader<N> {
         HubReader { seat, seen: 0 }
     }
 
-    /// The segments that a query asks for, at a moment in half seconds since 1970, of what is
-    /// published at one moment within the call: no older than what this reader was shown before or
-    /// has learnt. It takes no lock and waits for nobody. The segments are shared with the
-    /// published rows, not copied.
+    /// The segments that a query asks for, at a moment in half seconds since 1970. The answer is
+    /// from what is published at one moment within the call, which is no older than what this
+    /// reader was shown before or has learnt. The call takes no lock and waits for nobody. The
+    /// segments are shared with the published rows, not copied.
     pub fn lookup(&mut self, query: &Query, now: u64) -> Result<Vec<Segment>, HubError>
         ensures answer { IfOk result (λ found. found.items ≡ segments_of (answer_after N.opening self.new.groups query.now now)) }
         ensures few { IfOk result (λ found. length found.items ≤ ANSWER_LIMIT) }
@@ -69,7 +69,7 @@ impl<N: HubName> HubReader<N> {
 
         // Memory is refused only for an answer that is not empty, after the reader has looked.
         // NoReader is returned only where the reader cannot look, or where what is published is
-        // older than what it has seen. It has then seen what it had.
+        // older than what the reader has seen. What the reader has seen is then unchanged.
         ensures why { IfErr result (λ e. (e ≡ NoMemory) ⊎ (e ≡ NoReader)) }
         ensures memory { IfErr result (λ e. e ≡ NoMemory → 1 ≤ length (answer_after N.opening self.new.groups query.now now)) }
         ensures looked { IfErr result (λ e. e ≡ NoMemory → self.new.seen ≡ place_after N.opening self.new.groups) }

@@ -7,7 +7,7 @@ use path_db::Command;
 use std::collections::LinkedList;
 use std::marker::{Brand, PhantomData};
 
-/// The published groups as far as a seat has seen them. It exists in proofs alone.
+/// The published groups as far as a seat has seen them. The type exists in proofs alone.
 pub struct SeenGroups {
     /// The groups, in the order in which they were published.
     pub groups: LinkedList<LinkedList<Command>>,

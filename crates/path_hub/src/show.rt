@@ -156,7 +156,7 @@ impl<N: HubName, R: Wait> HubShow<N, R> {
         }
     }
 
-    /// Ends the showcase. It waits for readers that are within a lookup.
+    /// Ends the showcase. The call waits for readers that are within a lookup.
     pub(crate) fn close(self)
     where
         R: Drop,

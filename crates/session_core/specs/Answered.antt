@@ -56,7 +56,7 @@ pub record AreFrontsAnswered {S : Type 0} (form : Form) (answers : S → Message
     (output output_left : Option (List ℕ)) (count : ℕ) (result : Result ℕ FrameError) : Type 0 where
   -- The messages that were answered, with their replies.
   pub exchanges : List Exchange
-  -- The bytes after the frames of those messages. They are what is left, unless there is an error.
+  -- The bytes after the frames of those messages, which are what is left, unless there is an error.
   pub rest : List ℕ
   -- The bytes that were written.
   pub written : List ℕ

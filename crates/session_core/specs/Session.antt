@@ -23,7 +23,7 @@ pub record TellsAllBefore (form : Form) (written : List ℕ) (exchanges : List E
   pub before : List Exchange
   -- The last exchange, or none.
   pub last : List Exchange
-  -- These are all exchanges.
+  -- Both together are the exchanges.
   pub parts : exchanges ≡ before ++ last
   -- At most one exchange is left out.
   pub one : length last ≤ 1
@@ -37,7 +37,7 @@ pub record TellsFrontOfLast (form : Form) (written : List ℕ) (exchanges : List
   pub before : List Exchange
   -- The last exchange, or none.
   pub last : List Exchange
-  -- These are all exchanges.
+  -- Both together are the exchanges.
   pub parts : exchanges ≡ before ++ last
   -- At most one exchange is the last.
   pub one : length last ≤ 1
@@ -67,7 +67,7 @@ pub record IsPrompt (pieces : List (List ℕ)) (exchanges : List Exchange) (writ
   pub earlier : List (List ℕ)
   -- The last piece, or none.
   pub last : List (List ℕ)
-  -- These are all pieces.
+  -- Both together are the pieces.
   pub pieces_are : pieces ≡ earlier ++ last
   -- At most one piece is the last.
   pub one : length last ≤ 1
@@ -75,7 +75,7 @@ pub record IsPrompt (pieces : List (List ℕ)) (exchanges : List Exchange) (writ
   pub told : List Exchange
   -- The exchanges after those.
   pub others : List Exchange
-  -- These are all exchanges.
+  -- Both together are the exchanges.
   pub exchanges_are : exchanges ≡ told ++ others
   -- The bytes after the whole frames of the earlier pieces.
   pub rest : List ℕ

@@ -23,8 +23,9 @@ impl Deadline {
         Ok(Deadline { begun, time })
     }
 
-    /// The time that is left: some, and no more than there was at first. It is `None` where no time
-    /// is left, or where the clock cannot be read. No clause can say how much time has passed.
+    /// The time that is left: some, and no more than there was at first. The result is `None` where
+    /// no time is left, or where the clock cannot be read. No clause can say how much time has
+    /// passed.
     pub fn left(&self, clock: &impl Clock) -> Option<Duration>
         ensures some { IfSome result (λ left. 0 < as_nanos left) }
         ensures most { IfSome result (λ left. as_nanos left ≤ as_nanos self.now.time) }
