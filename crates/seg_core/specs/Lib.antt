@@ -16,3 +16,4 @@ pub mod Kept
 pub mod Equality
 pub mod EqualityLaws
 pub mod Earlier
+pub mod TypeLens

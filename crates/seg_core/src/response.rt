@@ -2,6 +2,9 @@
 
 ghost use Rattle.std.specs.Prelude.{◌≡◌, ℕ, ◌+◌, ◌++◌, List, length, IfOk, IsOk, OnOk};
 ghost use Rattle.pw_wire.specs.Field.{bytes_field_encoding};
+ghost use Rattle.seg_core.specs.declared.seg_type.SegType.{SegType};
+ghost use Rattle.seg_core.specs.SegmentView.{SegmentView};
+ghost use Rattle.seg_core.specs.TypeLens.{AreTypeLens};
 ghost use Rattle.seg_core.specs.Encoding.{segments_encoding, of_type, map_entry_encoding, response_encoding, referred_rows};
 
 use crate::lengths::head_len;
@@ -25,18 +28,33 @@ fn sum(a: usize, b: usize) -> Result<usize, AllocError>
     a.checked_add(b).ok_or(AllocError)
 }
 
-/// The length of the segments of a type, each with its tag and its length prefix.
-fn segments_len(segments: &[(SegType, &Segment)], kind: SegType) -> Result<usize, AllocError>
-    ensures { IfOk result (λ len. len ≡ length (segments_encoding (of_type kind (referred_rows segments.now)))) }
+/// How many bytes the segments of each type have, each with its tag and its length prefix.
+#[derive(Clone, Copy)]
+struct TypeLens {
+    up: usize,
+    down: usize,
+    core: usize,
+}
+
+/// The lengths of the segments of each type, by one pass.
+fn type_lens(segments: &[(SegType, &Segment)]) -> Result<TypeLens, AllocError>
+    ensures { IfOk result (AreTypeLens (referred_rows segments.now)) }
 {
-    let mut len = 0;
-    for (of, segment) in segments {
-        if *of == kind {
-            let bytes = encoded_len(segment);
-            len = sum(len, head_len(bytes) + bytes)?;
+    let mut lens = TypeLens {
+        up: 0,
+        down: 0,
+        core: 0,
+    };
+    for (kind, segment) in segments {
+        let bytes = encoded_len(segment);
+        let len = head_len(bytes) + bytes;
+        match kind {
+            SegType::Up => lens.up = sum(lens.up, len)?,
+            SegType::Down => lens.down = sum(lens.down, len)?,
+            SegType::Core => lens.core = sum(lens.core, len)?,
         }
     }
-    Ok(len)
+    Ok(lens)
 }
 
 /// Appends the segments of a type, each with its tag and its length prefix.
@@ -63,11 +81,11 @@ fn content_len(value: usize) -> Result<usize, AllocError>
     sum(KEY_LEN + head_len(value), value)
 }
 
-/// The length of the map entry of a type, 0 where the type has no segments.
-fn type_len(segments: &[(SegType, &Segment)], kind: SegType) -> Result<usize, AllocError>
-    ensures { IfOk result (λ len. len ≡ length (map_entry_encoding kind (of_type kind (referred_rows segments.now)))) }
+/// The length of the map entry of a type, given the length of its segments: 0 where there are none.
+fn map_entry_len(value: usize) -> Result<usize, AllocError>
+    ensures { (kind : SegType) (segments : List SegmentView) → value ≡ length (segments_encoding segments)
+        → IfOk result (λ len. len ≡ length (map_entry_encoding kind segments)) }
 {
-    let value = segments_len(segments, kind)?;
     if value == 0 {
         return Ok(0);
     }
@@ -75,15 +93,16 @@ fn type_len(segments: &[(SegType, &Segment)], kind: SegType) -> Result<usize, Al
     sum(head_len(content), content)
 }
 
-/// Appends the map entry of a type, where the type has segments.
+/// Appends the map entry of a type, given the length of its segments: nothing where there are none.
 fn put_type(
     out: &mut Vec<u8>,
     segments: &[(SegType, &Segment)],
     kind: SegType,
+    value: usize,
 ) -> Result<(), AllocError>
+    requires { value ≡ length (segments_encoding (of_type kind (referred_rows segments.now))) }
     ensures { OnOk result (out.new.items ≡ out.old.items ++ map_entry_encoding kind (of_type kind (referred_rows segments.now))) }
 {
-    let value = segments_len(segments, kind)?;
     if value == 0 {
         return Ok(());
     }
@@ -93,14 +112,14 @@ fn put_type(
     put_segments(out, segments, kind)
 }
 
-/// The length of a response in bytes.
+/// The length of a response in bytes, given the lengths of its segments.
 #[tactic(auto, unfolding(crate::specs::Encoding::response_encoding))]
-fn response_len(segments: &[(SegType, &Segment)]) -> Result<usize, AllocError>
-    ensures { IfOk result (λ len. len ≡ length (response_encoding (referred_rows segments.now))) }
+fn response_len(lens: &TypeLens) -> Result<usize, AllocError>
+    ensures { (rows : List (SegType × SegmentView)) → AreTypeLens rows lens.now → IfOk result (λ len. len ≡ length (response_encoding rows)) }
 {
-    let up = type_len(segments, SegType::Up)?;
-    let down = type_len(segments, SegType::Down)?;
-    let core = type_len(segments, SegType::Core)?;
+    let up = map_entry_len(lens.up)?;
+    let down = map_entry_len(lens.down)?;
+    let core = map_entry_len(lens.core)?;
     sum(up, sum(down, core)?)
 }
 
@@ -117,10 +136,11 @@ pub fn write_response_of(
     if segments.is_empty() {
         return Ok(Vec::new(alloc));
     }
-    let mut out = Vec::with_capacity(alloc, sum(response_len(segments)?, SLACK)?)?;
-    put_type(&mut out, segments, SegType::Up)?;
-    put_type(&mut out, segments, SegType::Down)?;
-    put_type(&mut out, segments, SegType::Core)?;
+    let lens = type_lens(segments)?;
+    let mut out = Vec::with_capacity(alloc, sum(response_len(&lens)?, SLACK)?)?;
+    put_type(&mut out, segments, SegType::Up, lens.up)?;
+    put_type(&mut out, segments, SegType::Down, lens.down)?;
+    put_type(&mut out, segments, SegType::Core, lens.core)?;
     Ok(out)
 }
 

@@ -1,7 +1,0 @@
-use Rattle.std.proofs.Common.{◌≡◌, ◌+◌, length, drop}
-use Rattle.seg_core.specs.Encoding.{segments_encoding, of_type, referred_rows}
-use Rattle.seg_core.proofs.response.segments_len.Given as goal
-
-abbrev pub invariant-loop-of : goal.invariant-loop-of
-invariant-loop-of l =
-    l.len + length (segments_encoding (of_type l.kind (referred_rows (drop l.of-index l.segments)))) ≡ length (segments_encoding (of_type l.kind (referred_rows l.segments)))
