@@ -6,4 +6,4 @@
 # The edits are tried by `rt must-fail` in a copy of the repository, which begins with the proofs that `rt check` kept on this machine. The status is 1 where
 # the prover accepts an edit, cannot read it, or refuses it for a reason that is no clause of a contract. It needs rt, git and Python 3.
 set -euo pipefail
-exec python3 -B "$(dirname "${BASH_SOURCE[0]}")/pages/edits.py" "$@"
+exec "$(dirname "${BASH_SOURCE[0]}")/pathd-tools" edits "$@"

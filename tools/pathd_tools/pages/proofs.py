@@ -7,11 +7,11 @@ page of a crate it is [`name`](src/FILE.rt): `clause`, `clause`, and several are
 from __future__ import annotations
 
 import re
-import sys
 from pathlib import Path
 
-import source
-from source import CRATES, TOP
+from pathd_tools.pages import source
+from pathd_tools.pages.source import CRATES, TOP
+from pathd_tools.toolbox import parser
 
 HEADER = "| claim | contract | file | edit |"
 CRATE_HEADER = "| claim | contract | edit that it refuses |"
@@ -94,7 +94,8 @@ def crate_problems(crate: Path, cells: list[str]) -> list[str]:
     return found
 
 
-def main() -> int:
+def main(words: list[str]) -> int:
+    parser(__doc__).parse_args(words)
     proofs = TOP / "docs" / "PROOFS.md"
     found = [(proofs, at, it) for at, cells in rows(proofs, HEADER) for it in problems(cells)]
     for page in sorted(CRATES.glob("*/README.md")):
@@ -102,7 +103,3 @@ def main() -> int:
     for path, at, it in found:
         print(f"{path.relative_to(TOP)}:{at}: {it}")
     return 1 if found else 0
-
-
-if __name__ == "__main__":
-    sys.exit(main())

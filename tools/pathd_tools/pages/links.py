@@ -4,12 +4,12 @@ in capital letters, as in `crates/NAME`. It prints each link and each path that 
 from __future__ import annotations
 
 import re
-import sys
 from functools import cache
 from pathlib import Path
 
-from pages import pages, prose
-from source import TOP
+from pathd_tools.pages.pages import pages, prose
+from pathd_tools.pages.source import TOP
+from pathd_tools.toolbox import parser
 
 LINK = re.compile(r"\[[^\]]*\]\(([^()\s]*(?:\([^()\s]*\))?)\)")
 
@@ -58,12 +58,9 @@ def dead_paths(page: Path) -> list[str]:
     return [path for path, target in found if not target.exists()]
 
 
-def main() -> int:
+def main(words: list[str]) -> int:
+    parser(__doc__).parse_args(words)
     dead = [f"{page.relative_to(TOP)}: {link}" for page in pages() for link in LINK.findall(prose(page)) if is_dead(page, link)]
     dead += [f"{page.relative_to(TOP)}: {path}" for page in pages() for path in dead_paths(page)]
     print("".join(it + "\n" for it in dead), end="")
     return 1 if dead else 0
-
-
-if __name__ == "__main__":
-    sys.exit(main())

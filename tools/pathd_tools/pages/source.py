@@ -6,15 +6,14 @@ from dataclasses import dataclass, field
 from functools import cache
 from pathlib import Path
 
-TOP = Path(__file__).resolve().parent.parent.parent
+from pathd_tools import TOP
+
 CRATES = TOP / "crates"
 
 FUNCTION = re.compile(r"^(\s*)(pub )?(?:pub\([a-z]+\) )?(?:const |unsafe |final )*fn (\w+)")
 TYPE = re.compile(r"^(pub )?(?:pub\([a-z]+\) )?(struct|enum|trait|type) (\w+)")
 CLAUSE = re.compile(r"^\s*(ensures|requires)\s+(\w+)?\s*\{")
 DEFINITION = re.compile(r"^(\s*)(?:unfoldable (?:pub )?|abbrev (?:pub )?|(?:pub )?(?:data|record) (?=.* (?:: Type|where)))([^\s:{]+)(?=\s|$)")
-# What only crates of tests use.
-OF_TESTS = ("test_support", "test_support", "test_group_scripts", "run_scripts", "stream_scripts", "test_hub_scripts", "loopback_server", "test_program")
 IMPORT = re.compile(r"^\s*(?:pub )?(?:ghost )?use ([\w.◌]+)(?:\.\{([^}]*)\}| as (\w+));?\s*$")
 WORD = re.compile(r"[^\s(){}\[\];,λ]+")
 
@@ -52,15 +51,25 @@ class Definition:
         return self.text.count("\n") + 1
 
 
+def uses() -> dict[str, list[str]]:
+    """The crates that each crate uses, as crates.txt has them: from the lowest up."""
+    rows = (it.split("#")[0].partition(":") for it in (TOP / "crates.txt").read_text().splitlines())
+    return {name.split()[0]: used.split() for name, _, used in rows if name.strip()}
+
+
 def crates() -> list[str]:
     """The crates, in the order of crates.txt, which is from the lowest up."""
-    listed = [it.split(":")[0] for it in (TOP / "crates.txt").read_text().splitlines() if ":" in it and not it.startswith("#")]
-    return [it for it in listed if (CRATES / it).is_dir()]
+    return [it for it in uses() if (CRATES / it).is_dir()]
+
+
+def is_of_tests(crate: str) -> bool:
+    """Whether a crate has tests, or is a program or a library of tests."""
+    return crate.startswith("test_")
 
 
 def libraries() -> list[str]:
-    """The crates that are neither of tests nor a program or a library of tests."""
-    return [it for it in crates() if not it.endswith("_tests") and it not in OF_TESTS]
+    """The crates that are not of tests."""
+    return [it for it in crates() if not is_of_tests(it)]
 
 
 @cache

@@ -2,25 +2,14 @@
 test by `TestHost`, so what its functions ensure holds only where they return. It prints each use that breaks this, and nothing else."""
 from __future__ import annotations
 
-import sys
-
-from source import OF_TESTS, TOP
-
-
-def uses() -> dict[str, list[str]]:
-    """The crates that each crate uses, as crates.txt has them."""
-    rows = (it.partition(":") for it in (TOP / "crates.txt").read_text().splitlines() if not it.startswith("#"))
-    return {name.split()[0]: used.split() for name, _, used in rows if name.strip()}
+from pathd_tools.pages.source import is_of_tests, uses
+from pathd_tools.toolbox import parser
 
 
-def is_of_tests(name: str) -> bool:
-    return name in OF_TESTS or name.endswith("_tests")
-
-
-def main() -> int:
+def main(words: list[str]) -> int:
+    """Prints the uses."""
+    parser(__doc__).parse_args(words)
     found = [f"{name} uses {it}" for name, used in uses().items() if not is_of_tests(name) for it in used if is_of_tests(it)]
     print("\n".join(found), end="\n" if found else "")
     return 1 if found else 0
 
-
-sys.exit(main())

@@ -3,11 +3,11 @@ library of src/ that has no use. It prints nothing where the pages agree with th
 from __future__ import annotations
 
 import re
-import sys
 from pathlib import Path
 
-import source
-from source import CRATES
+from pathd_tools.pages import source
+from pathd_tools.pages.source import CRATES
+from pathd_tools.toolbox import parser
 
 USE = re.compile(r"^```rust\n(.*?)^```\n\n(.*?)(?:\n\n|\Z)", re.S | re.M)
 
@@ -34,11 +34,8 @@ def strange_lines(crate: str) -> list[str]:
     return found
 
 
-def main() -> int:
+def main(words: list[str]) -> int:
+    parser(__doc__).parse_args(words)
     found = [it for crate in source.libraries() for it in strange_lines(crate)]
     print("".join(it + "\n" for it in found), end="")
     return 1 if found else 0
-
-
-if __name__ == "__main__":
-    sys.exit(main())

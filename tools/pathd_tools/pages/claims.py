@@ -3,11 +3,11 @@ specs/ that is on no page of its crate. tools/claims.txt has the words of the cl
 prints nothing where nothing is lacking."""
 from __future__ import annotations
 
-import sys
 
-import source
-from pages import pages, quoted
-from source import CRATES, TOP
+from pathd_tools.pages import source
+from pathd_tools.pages.pages import pages, quoted
+from pathd_tools.pages.source import CRATES, TOP
+from pathd_tools.toolbox import parser
 
 
 def lost_claims() -> list[str]:
@@ -39,11 +39,8 @@ def lacking(crate: str) -> list[str]:
     return found
 
 
-def main() -> int:
+def main(words: list[str]) -> int:
+    parser(__doc__).parse_args(words)
     found = lost_claims() + [it for crate in source.libraries() for it in lacking(crate)]
     print("".join(it + "\n" for it in found), end="")
     return 1 if found else 0
-
-
-if __name__ == "__main__":
-    sys.exit(main())

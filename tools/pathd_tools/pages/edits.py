@@ -7,7 +7,7 @@ import sys
 import tempfile
 from pathlib import Path
 
-from source import CRATES, TOP
+from pathd_tools.pages.source import CRATES, TOP
 
 
 def main(names: list[str]) -> int:

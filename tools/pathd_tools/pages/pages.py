@@ -5,7 +5,7 @@ import re
 from functools import cache
 from pathlib import Path
 
-from source import CRATES, TOP
+from pathd_tools.pages.source import CRATES, TOP
 
 
 def pages() -> list[Path]:

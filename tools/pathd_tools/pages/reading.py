@@ -1,8 +1,9 @@
 """What a reader of contracts has to believe: the definitions that they cite, with all that these cite in turn.
 
-    tools/reading.sh                       a table, one line for each promise of docs/PROOFS.md
-    tools/reading.sh --check               whether docs/PROOFS.md has this table; --write puts it there
-    tools/reading.sh MODULE::FUNCTION ..   the definitions of these contracts, with file and line; --imports which files to split so that imports reach less
+    tools/pathd-tools reading                        a table, one line for each promise of docs/PROOFS.md
+    tools/pathd-tools reading --check                whether docs/PROOFS.md has this table; --write puts it there
+    tools/pathd-tools reading CONTRACT ..            the definitions of these contracts, with file and line;
+                                                     --imports: which files to split so that imports reach less
 
 A definition's lines are those without blank lines and comments. 'Files by imports' are the files of specs/ that one gets to by following all
 imports of each file, in place of the words that are cited.
@@ -13,11 +14,12 @@ import re
 import sys
 from pathlib import Path
 
-import source
-from source import CRATES, TOP, Definition, Function
+from pathd_tools.pages import source
+from pathd_tools.pages.source import CRATES, TOP, Definition, Function
+from pathd_tools.toolbox import parser
 
 PROOFS = TOP / "docs" / "PROOFS.md"
-BEGIN, END = "<!-- tools/reading.sh --write -->", "<!-- end -->"
+BEGIN, END = "<!-- tools/pathd-tools reading --write -->", "<!-- end -->"
 
 # The contracts that carry each promise.
 PROMISES = [
@@ -215,26 +217,27 @@ def show_splits(starts: list[tuple[Path, str]]) -> None:
         print(f"{path.relative_to(TOP)}, lines {', '.join(map(str, lines))}: {len(left)} files are left")
 
 
-def main() -> int:
-    words = [it for it in sys.argv[1:] if not it.startswith("--")]
-    if words:
-        show(words, "--imports" in sys.argv)
+def main(words: list[str]) -> int:
+    options = parser(__doc__)
+    options.add_argument("--check", action="store_true", help="whether docs/PROOFS.md has the table")
+    options.add_argument("--write", action="store_true", help="write the table to docs/PROOFS.md")
+    options.add_argument("--imports", action="store_true", help="which files to split so that imports reach less")
+    options.add_argument("contracts", nargs="*", metavar="CONTRACT", help="`[CRATE ]MODULE::FUNCTION[ CLAUSE ..]`, as one word")
+    chosen = options.parse_args(words)
+    if chosen.contracts:
+        show(chosen.contracts, chosen.imports)
         return 0
     made = f"{BEGIN}\n{table()}\n{END}"
     text = PROOFS.read_text()
     kept = re.search(rf"{re.escape(BEGIN)}.*?{re.escape(END)}", text, re.S)
-    if "--write" in sys.argv:
+    if chosen.write:
         if not kept:
             sys.exit(f"no {BEGIN} in {PROOFS}")
         PROOFS.write_text(text.replace(kept[0], made))
-    elif "--check" in sys.argv:
+    elif chosen.check:
         if not kept or kept[0] != made:
-            print("docs/PROOFS.md: the table of what a reader has to believe is another: run tools/reading.sh --write")
+            print("docs/PROOFS.md: the table of what a reader has to believe is another: run tools/pathd-tools reading --write")
             return 1
     else:
         print(table())
     return 0
-
-
-if __name__ == "__main__":
-    sys.exit(main())
