@@ -13,10 +13,56 @@ PAGES = [
     Tool("edits", "pages.edits", "tries the wrong bodies of crates by the prover, in a copy of the repository"),
 ]
 
+CHECKS = [
+    Tool("vectors", "checks.vectors", "the cases of folders such as tools/cases"),
+    Tool("client", "client.sh", "sessions of the Python client, with and without a key, and after a kill"),
+    Tool("protobuf", "checks.protobuf", "docs/segments.proto and the worked example, with Google's protobuf"),
+    Tool("syscalls", "syscalls.sh", "the calls on a store's file, in the order that docs/FORMATS.md draws"),
+    Tool("server-calls", "checks.server_calls", "the reads and writes of a session"),
+    Tool("locks", "locks.sh", "the commands beside another process's lock"),
+    Tool("faults", "faults.sh", "the commands while calls on the store's file fail or are interrupted"),
+    Tool("block-device", "block_device.sh", "the commands over a loop device, also one that loses writes; as root"),
+    Tool("units", "units.sh", "the steps of docs/OPERATING.md and the units of deploy/ in a container; as root"),
+    Tool("units-inside", "checks.units_inside", "the steps alone, on a system that is thrown away; as root"),
+]
+
+ATTACKS = [
+    Tool("power-cuts", "attacks.power_cuts", "cuts the power at each write and sync of a recorded server, and opens what is left"),
+    Tool("histories", "attacks.histories", "one order of the commands explains all replies of 32 sessions, over kills"),
+    Tool("hostile", "attacks.hostile", "mutated frames and images, each answer compared with the model's"),
+    Tool("refused-calls", "attacks.refused_calls", "refuses each allocation, read, write and sync of four commands and a server"),
+    Tool("refused-memory", "attacks.refused_memory", "refuses each allocation of `once`"),
+    Tool("refused-tests", "attacks.refused_tests", "refuses each allocation of each test"),
+    Tool("refused", "attacks.refused", "refused-memory, refused-calls and refused-tests"),
+    Tool("peers", "attacks.peers", "slow, silent, deaf and resetting peers, 10,000 connections, and the server's memory"),
+    Tool("soak", "attacks.soak", "a mixed load for an hour, with many checkpoints"),
+    Tool("full-disk", "attacks.full_disk", "a file system that runs out of room; as root"),
+    Tool("snapshots", "attacks.snapshots", "snapshots of a store beside its running server; as root"),
+    Tool("attacks", "attacks.together", "power-cuts, histories, refused, peers, hostile and soak"),
+]
+
+LOAD = [
+    Tool("load", "load.load", "puts a load on a server, and checks each reply"),
+    Tool("plot", "load.plot", "draws a series of `load` over time"),
+    Tool("layout", "load.layout", "draws the regions of a store's file"),
+    Tool("short-load", "short_load.sh", "load, plot and layout, for two seconds"),
+]
+
+OTHERS = [
+    Tool("need", "need", "what the tools need and is missing on this machine"),
+    Tool("all", "everything", "the checks of pages, and those of the program that need packages"),
+]
+
 TOOLS = Toolbox(
     program="tools/pathd-tools",
     about="Checks the repository's pages, and tries the built program; none of it is part of the gate.",
     package="pathd_tools",
     scripts=TOP / "tools" / "shell",
-    groups={"the repository's pages": PAGES},
+    groups={
+        "the repository's pages": PAGES,
+        "the built program, beside its pages and the system": CHECKS,
+        "attacks on the built program (docs/RELIABILITY.md)": ATTACKS,
+        "a load, and pictures": LOAD,
+        "others": OTHERS,
+    },
 )

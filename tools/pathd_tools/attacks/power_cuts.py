@@ -1,0 +1,362 @@
+"""Cuts the power of a server at every moment of a recorded run, and opens what is left.
+
+    tools/pathd-tools power-cuts [--program PROGRAM] [--seed N] [--images N] [--commands N] [--restarts N] [--jobs N] [--swallowed KIND]
+
+A server on a real file is recorded by a preloaded library (tools/native/recorded_calls.c) while 6 sessions register, remove, purge and look up: each
+write with its bytes, each sync, each request and each reply, in order. A run over a store of version 2 and one over a store of version 1 are recorded, and after
+each of them N shorter ones, each over an image that a power cut at a random moment of the one before it leaves.
+
+Then images are made of the file after each write and each sync. Of a sector that was written since the last sync that covers it, an image holds what it
+held before, what was written, a front of the new bytes, zeros, 0xA5, an open gate or random bytes, sector by sector. `pathd show` opens each
+image. It has to print the rows and the place of a front of the commands, by the places of their acknowledgements, that
+
+- holds every command acknowledged before the next call on the device,
+- has no command that hadn't come before,
+- contains a front of which each lookup that was answered before is the answer.
+
+Openings that write are recorded too, and cut at each of their calls: the next opening has to print the same. So are upgrades of stores of version 1.
+
+With --swallowed every second sync of a kind isn't made (`group`, `gate`, `chunks`, `half`, `close`): the script then has to find losses, and ends with the
+status 0 where it does. A lost sync of the kind `close` is covered by the next sync of any kind before the half is used, so that none is found.
+
+It needs Python 3 and gcc, and the loopback. It ends with the status 1 where an image opens to anything else, and prints the first ones.
+"""
+from __future__ import annotations
+
+import argparse
+import multiprocessing
+import os
+import random
+import shutil
+import subprocess
+import time
+from collections import Counter
+from pathlib import Path
+
+from pathd_model import model
+from pathd_tools import runs, toolbox
+from pathd_tools.recording import Disk, Moment, Recorded, events_of, record
+
+SECTOR = model.SECTOR
+LAYOUT = model.Layout(64, 516)
+SWALLOWED = ["group", "gate", "chunks", "half", "close"]
+# The kinds of losses of syncs that images can show.
+FOUND_KINDS = SWALLOWED[:4]
+# How many losses show that this script sees those that were made on purpose.
+ENOUGH = 20
+
+
+# Images
+
+
+def fixed_images(held: dict[int, list[bytes]]) -> list[tuple[str, dict[int, bytes]]]:
+    """The images in which all sectors that aren't kept for certain fare alike."""
+    gate = bytes([model.OPEN]) + bytes(SECTOR - 1)
+    alike = {
+        "old": lambda versions: versions[0],
+        "new": lambda versions: versions[-1],
+        "zeros": lambda versions: bytes(SECTOR),
+        "0xa5": lambda versions: b"\xa5" * SECTOR,
+        "open gates": lambda versions: gate,
+        "open gates over new bytes": lambda versions: gate[:1] + versions[-1][1:],
+    }
+    return [(name, {sector: fare(versions) for sector, versions in held.items()}) for name, fare in alike.items()]
+
+
+def random_sector(versions: list[bytes], chance: random.Random) -> bytes:
+    """Anything that may be found in a sector."""
+    fate = chance.randrange(8)
+    cut = chance.randrange(SECTOR + 1)
+    old, new = chance.choice(versions), versions[-1]
+    if fate == 0:
+        return new[:cut] + old[cut:]
+    if fate == 1:
+        return old[:cut] + new[cut:]
+    if fate == 2:
+        return new[:cut] + bytes([chance.choice((0, 0xA5, model.OPEN, 0xFF))]) * (SECTOR - cut)
+    if fate == 3:
+        return chance.randbytes(SECTOR)
+    if fate == 4:
+        return bytes([model.OPEN]) + chance.randbytes(SECTOR - 1)
+    return old if fate < 6 else new
+
+
+def random_image(held: dict[int, list[bytes]], chance: random.Random) -> tuple[str, dict[int, bytes]]:
+    """One of three kinds of images of sectors that fare each for itself."""
+    kind = chance.choice(("subset", "cut", "any", "any"))
+    if kind == "subset":
+        return kind, {sector: chance.choice(versions) for sector, versions in held.items()}
+    if kind == "any":
+        return kind, {sector: random_sector(versions, chance) for sector, versions in held.items()}
+    # Bytes up to one are new, and those after it are old.
+    sectors = list(held)
+    cut = chance.randrange(len(sectors) * SECTOR + 1)
+    image = {}
+    for number, sector in enumerate(sectors):
+        within = min(max(cut - number * SECTOR, 0), SECTOR)
+        image[sector] = held[sector][-1][:within] + held[sector][0][within:]
+    return kind, image
+
+
+def differing(held: bytes, kept: bytes, among: set[int]) -> set[int]:
+    """The sectors among some in which two images differ."""
+    return {it for it in among if held[it * SECTOR : (it + 1) * SECTOR] != kept[it * SECTOR : (it + 1) * SECTOR]}
+
+
+class Cutter:
+    """Opens images by `show`, in a file of its own."""
+
+    def __init__(self, program: str, libraries: tuple[str, str], folder: Path, first: bytes) -> None:
+        self.words = [program, "show", str(folder / "image")]
+        self.upgrade_words = [program, "upgrade", str(folder / "image")]
+        self.library, self.folder = libraries[0], folder
+        self.forked = runs.Forked(libraries[1], self.words, folder)
+        self.file = os.open(folder / "image", os.O_RDWR | os.O_CREAT | os.O_TRUNC, 0o644)
+        os.pwrite(self.file, first, 0)
+        self.gates = gates_of(LAYOUT)
+        self.losses: list[str] = []
+
+    def lay(self, sectors: dict[int, bytes]) -> None:
+        """Writes sectors to the file."""
+        for sector, content in sectors.items():
+            os.pwrite(self.file, content, sector * SECTOR)
+
+    def restore(self, kept: bytes, written: set[int]) -> set[int]:
+        """Makes the file what is kept again, and answers which sectors weren't; those that were written are looked at first."""
+        held = os.pread(self.file, len(kept) + SECTOR, 0)
+        if len(held) != len(kept):
+            raise RuntimeError("the file has another length")
+        changed = differing(held, kept, written | self.gates)
+        self.lay({sector: kept[sector * SECTOR : (sector + 1) * SECTOR] for sector in changed})
+        held = os.pread(self.file, len(kept) + SECTOR, 0)
+        if held != kept:
+            more = differing(held, kept, set(range(len(kept) // SECTOR)))
+            self.lay({sector: kept[sector * SECTOR : (sector + 1) * SECTOR] for sector in more})
+            changed |= more
+        return changed
+
+    def show(self, env: dict | None = None, words: list[str] | None = None) -> tuple[int, bytes, bytes]:
+        """What `show` or another command answers of the file."""
+        if not env and not words:
+            return self.forked.run()
+        done = subprocess.run(words or self.words, capture_output=True, check=False, env={**os.environ, **env} if env else None)
+        return done.returncode, done.stdout, done.stderr
+
+    def judge(self, run: Recorded, moment: Moment, answer: tuple[int, bytes, bytes], where: str) -> None:
+        """Notes a loss where an answer isn't that of a front that has to be there."""
+        status, out, err = answer
+        if status != 0 or err:
+            self.losses.append(f"{where}: status {status}, {err.decode(errors='replace').strip()}")
+            return
+        place = int(out.rsplit(b"place ", 1)[1]) - run.start
+        if not max(moment.acknowledged, moment.seen) <= place <= moment.come:
+            self.losses.append(
+                f"{where}: {place} commands, where {moment.acknowledged} were acknowledged, {moment.seen} seen and {moment.come} had come"
+            )
+        elif runs.digest(out) != run.texts[place]:
+            self.losses.append(f"{where}: the rows aren't those after {place} commands")
+
+
+def is_about(kind: str, held: dict[int, list[bytes]]) -> bool:
+    """Whether sectors that aren't kept for certain are those that a kind of swallowed sync is about; so is any where it is a group's."""
+    if kind in ("", "group", "gate"):
+        return True
+    areas = {sector for half in (0, 1) for sector in range(LAYOUT.area(half), LAYOUT.gate(half) + (kind != "chunks"))}
+    return not areas.isdisjoint(held)
+
+
+def gates_of(layout: model.Layout) -> set[int]:
+    """The sectors that an opening may write."""
+    return {layout.gate(half) + after for half in (0, 1) for after in (0, 1)}
+
+
+def cut_opening(cutter: Cutter, kept: bytes, image: dict[int, bytes], answer: tuple, chance: random.Random, words: list[str]) -> int:
+    """Records a command over an image, cuts it at each of its calls, and opens what is left; answers the number of images."""
+    log = cutter.folder / "opening"
+    log.unlink(missing_ok=True)
+    cutter.lay(image)
+    before = os.pread(cutter.file, len(kept), 0)
+    cutter.show({"LD_PRELOAD": cutter.library, "RECORD": str(log)}, words)
+    everywhere = set(range(len(kept) // SECTOR))
+    cutter.restore(kept, everywhere)
+    disk, count = Disk(before), 0
+    for number, call in enumerate(events_of(log)):
+        disk.follow(call)
+        held = disk.dirty()
+        images = fixed_images(held) + [random_image(held, chance) for _ in range(6)] if held else [("old", {})]
+        for name, torn in images:
+            changed = differing(disk.kept, kept, everywhere)
+            cutter.lay({**{it: bytes(disk.kept[it * SECTOR : (it + 1) * SECTOR]) for it in changed}, **torn})
+            again = cutter.show()
+            cutter.restore(kept, changed | set(torn))
+            count += 1
+            if again != answer:
+                cutter.losses.append(f"{words[1]} cut at its call {number}, {name}: {again[2].decode(errors='replace').strip()} {again[1][-12:]!r}")
+    return count
+
+
+def cut_run(given: tuple) -> tuple[Counter, list[str]]:
+    """Checks the images of a run at each of its points that are a worker's own."""
+    program, libraries, folder, run, has_upgrades, worker, each, options = given
+    openings = options.openings
+    folder.mkdir()
+    disk = Disk(run.first)
+    cutter = Cutter(program, libraries, folder, run.first)
+    chance = random.Random(f"{options.seed}/{run.name}/{worker}")
+    seen: set = set()
+    kept, written = run.first, set()
+    counts: Counter = Counter()
+    for number, call in enumerate(run.calls):
+        disk.follow(call)
+        if call.letter == "s":
+            before, kept = kept, bytes(disk.kept)
+            changed = differing(before, kept, written)
+            cutter.lay({it: kept[it * SECTOR : (it + 1) * SECTOR] for it in changed})
+            written = set(disk.dirty())
+            seen.clear()
+        elif call.letter == "W":
+            written |= set(disk.dirty())
+        if call.letter not in "Ws" or number % options.jobs != worker:
+            continue
+        held = disk.dirty()
+        if not is_about(options.swallowed, held):
+            continue
+        images = fixed_images(held) if held else [("old", {})]
+        if held:
+            images += [random_image(held, chance) for _ in range(max(0, each - len(images)))]
+        moment = run.moments[number + 1]
+        counts["points"] += 1
+        for name, image in images:
+            key = tuple(sorted(image.items()))
+            if key in seen and name != "new":
+                continue
+            seen.add(key)
+            cutter.lay(image)
+            answer = cutter.show()
+            changed = cutter.restore(kept, set(image))
+            counts["images"] += 1
+            counts[f"image: {name}"] += 1
+            if len(held) > 1 or call.letter == "W":
+                counts["within writes"] += 1
+            cutter.judge(run, moment, answer, f"{run.name}, call {number}, {name}")
+            if not changed <= cutter.gates | set(image):
+                cutter.losses.append(f"{run.name}, call {number}, {name}: `show` wrote the sectors {sorted(changed - cutter.gates - set(image))}")
+            if changed - set(image) and answer[0] == 0:
+                counts["openings that write"] += 1
+                if counts["openings that write"] <= openings:
+                    counts["images of cut openings"] += cut_opening(cutter, kept, image, answer, chance, cutter.words)
+        if has_upgrades and counts["upgrades"] < openings and number % 37 == worker and held:
+            counts["upgrades"] += 1
+            cut_upgrade(cutter, kept, chance, counts)
+        if len(cutter.losses) > (ENOUGH if options.swallowed else 200):
+            break
+    cutter.forked.close()
+    return counts, cutter.losses
+
+
+def cut_upgrade(cutter: Cutter, kept: bytes, chance: random.Random, counts: Counter) -> None:
+    """Cuts an upgrade of what is kept at each of its calls."""
+    everywhere = set(range(len(kept) // SECTOR))
+    answer = cutter.show()
+    cutter.restore(kept, everywhere)
+    upgraded = cutter.show(words=cutter.upgrade_words)
+    if upgraded[0] == 0 and upgraded[1] == b"version 2\n":
+        held = os.pread(cutter.file, len(kept), 0)
+        if model.open_image(held).version != 2:
+            cutter.losses.append("an upgraded store isn't of version 2")
+        after = cutter.show()
+        if after != answer:
+            cutter.losses.append("an upgraded store shows something else")
+    elif upgraded[2] != b"error: device 2\n":
+        cutter.losses.append(f"upgrade: {upgraded}")
+    cutter.restore(kept, everywhere)
+    counts["images of cut upgrades"] += cut_opening(cutter, kept, {}, answer, chance, cutter.upgrade_words)
+
+
+# The script
+
+
+def cut_all(
+    program: str, libraries: tuple[str, str], folder: Path, run: Recorded, has_upgrades: bool, each: int, options: argparse.Namespace
+) -> tuple[Counter, list[str]]:
+    """Checks the images of a run in several processes, this number of them within each write."""
+    given = [
+        (program, libraries, folder / f"images_{worker}", run, has_upgrades, worker, each, options) for worker in range(options.jobs)
+    ]
+    counts: Counter = Counter()
+    losses: list[str] = []
+    with multiprocessing.Pool(options.jobs) as pool:
+        for of_worker, found in pool.imap_unordered(cut_run, given):
+            counts += of_worker
+            losses += found
+    for worker in range(options.jobs):
+        shutil.rmtree(folder / f"images_{worker}")
+    return counts, losses
+
+
+def left_of(run: Recorded, chance: random.Random) -> bytes:
+    """What a power cut at a random moment of a run leaves."""
+    disk = Disk(run.first)
+    for call in run.calls[: chance.randrange(len(run.calls) // 4, len(run.calls))]:
+        disk.follow(call)
+    held = disk.dirty()
+    image = bytearray(disk.kept)
+    for sector, content in (random_image(held, chance)[1] if held else {}).items():
+        image[sector * SECTOR : (sector + 1) * SECTOR] = content
+    return bytes(image)
+
+
+def cut_lives(program: str, libraries: tuple[str, str], folder: Path, version: int, options: argparse.Namespace) -> tuple[Counter, list[str]]:
+    """Records a run over a store of a version and the runs after power cuts, and cuts each of them."""
+    total, losses = Counter(), []
+    first, each = None, 0
+    restarts = 0 if options.swallowed else options.restarts
+    for restart in range(1 + restarts):
+        seed = f"{options.seed}/{version}/{restart}"
+        commands = options.commands if restart == 0 else options.commands // 4
+        run = record(program, libraries[0], folder, seed, commands, LAYOUT, version, first, options.swallowed)
+        letters = Counter(call.letter for call in run.calls)
+        words = ", ".join(f"{count} {name}" for name, count in sorted(run.replies.items()))
+        from_ = f"version {version}" if restart == 0 else f"what a power cut left, {run.start} commands"
+        print(f"server over {from_}: {letters['W']} writes, {letters['s']} syncs, {len(run.texts) - 1} commands; {words}", flush=True)
+        # The later runs have a quarter of the first one's writes.
+        each = each or max(7, 2 * options.images // (4 + restarts) // letters["W"])
+        counts, found = cut_all(program, libraries, folder, run, version == 1 and restart == 0, each, options)
+        total += counts + Counter({"recorded runs": 1})
+        losses += found
+        if losses:
+            break
+        first = left_of(run, random.Random(seed))
+    return total, losses
+
+
+def main(words: list[str]) -> int:
+    """Records, cuts, and prints what was found."""
+    parser = toolbox.parser(__doc__)
+    parser.add_argument("--program", help="the built program; crates/pathd/out/pathd if left out")
+    parser.add_argument("--seed", type=int, default=1)
+    parser.add_argument("--images", type=int, default=100_000, help="about how many images are made")
+    parser.add_argument("--commands", type=int, default=6_000, help="how many requests each recorded run has")
+    parser.add_argument("--restarts", type=int, default=3, help="how many runs there are after power cuts of each of the two")
+    parser.add_argument("--jobs", type=int, default=2)
+    parser.add_argument("--openings", type=int, default=40, help="how many openings and upgrades each process cuts")
+    parser.add_argument("--swallowed", choices=SWALLOWED, default="", help="leave out every second sync of a kind")
+    options = parser.parse_args(words)
+    program = runs.program_of(options.program)
+    begun = time.monotonic()
+    total, losses = Counter(), []
+    print(f"{runs.commit_name(program)}, seed {options.seed}")
+    with runs.scratch() as folder:
+        libraries = runs.compiled("recorded_calls.c", folder), runs.compiled("fork_server.c", folder)
+        for version in (2, 1):
+            counts, found = cut_lives(program, libraries, folder, version, options)
+            total += counts
+            losses += found
+    for name, count in sorted(total.items()):
+        print(f"  {name}: {count}")
+    for loss in losses[:5]:
+        print(f"  {loss}")
+    images = total["images"] + total["images of cut openings"] + total["images of cut upgrades"]
+    print(f"{images} images, {len(losses)} losses, {time.monotonic() - begun:.0f} seconds")
+    is_right = bool(losses) == bool(options.swallowed in FOUND_KINDS)
+    return 0 if is_right else 1

@@ -1,0 +1,359 @@
+"""Runs `format`, `show`, `status`, `upgrade` and a served session, once for each allocation and for each call on the store's file, which is refused in that run.
+
+    tools/pathd-tools refused-calls [--program PROGRAM] [--every N] [--jobs N] [--only COMMAND] [--kind KIND]
+
+A preloaded library (tools/native/refused_calls.c) refuses: an allocation; a read, a write or a sync with EIO or ENOSPC, once or from then on; it interrupts one (EINTR),
+moves a part of its bytes, or none, or a part with EIO. What has to come of it:
+
+- a transfer that is interrupted or moves a part is made again, and nothing else is seen of it;
+- `format`, `show`, `status` and `upgrade` end with the status 1 and the line of that refusal, and what a store held before it still shows;
+- a server ends so while it opens its store. Later it reports that the store has stopped, answers commands by 0x62 and 0x54, and lookups as before. What it
+  acknowledged is there when the file is opened again, and beyond that at most what had no other reply than 0x62;
+- an allocation ends a command with `error: memory`, a server too if it has answered nobody yet, or the reply to a request is 0x01, or its session ends; the next
+  requests are answered as before.
+
+No run may take longer than 60 seconds. --every N tries each N-th allocation and read alone. It needs Python 3 and gcc, and the loopback. It prints a table of what was tried, and ends
+with the status 1 where something else came of one.
+"""
+from __future__ import annotations
+
+import multiprocessing
+import os
+import shutil
+import struct
+import subprocess
+import time
+from collections import Counter
+from pathlib import Path
+
+from pathd_model import model
+from pathd_tools import messages, runs, toolbox
+
+SMALL = model.Layout(2, 516)
+PASSING = ("EINTR", "part", "one")
+HOWS = {
+    "memory": ["refused"],
+    "read": ["EIO", "none", "EIO+", *PASSING],
+    "write": ["EIO", "ENOSPC", "torn", "none", "EIO+", "ENOSPC+", *PASSING],
+    "sync": ["EIO", "ENOSPC", "EIO+", "EINTR"],
+    "length": ["EIO", "ENOSPC"],
+}
+COMMANDS = ["format", "show", "status", "upgrade", "run"]
+STOPPED = "the store has stopped"
+SECONDS = 60
+GROUPS = 252
+
+
+class Wrong(Exception):
+    """What came of a refusal isn't what has to."""
+
+
+def refusing(library: str, folder: Path, kind: str, how: str, number: int) -> dict:
+    """The environment in which a call is refused."""
+    mark = folder / "mark"
+    mark.unlink(missing_ok=True)
+    return {"LD_PRELOAD": library, "REFUSED_KIND": kind, "REFUSED_HOW": how, "REFUSED_NUMBER": str(number), "REFUSED_MARK": str(mark)}
+
+
+def called(words: list[str], env: dict) -> tuple[int, bytes, bytes]:
+    """Status, output and errors of a command."""
+    done = subprocess.run(words, capture_output=True, check=False, env={**os.environ, **env}, timeout=SECONDS)
+    return done.returncode, done.stdout, done.stderr
+
+
+# Commands
+
+
+def try_command(program: str, store: Path, command: str, env: dict, kind: str, how: str, first: bytes | None) -> str:
+    """Runs a command over a store, and answers what came of it."""
+    words = [program, command, str(store)]
+    if command == "format":
+        words += ["--checkpoint", "2", "--journal", "516"]
+        store.unlink(missing_ok=True)
+    else:
+        store.write_bytes(first)
+    wanted = called(words, {})
+    held = store.read_bytes()
+    before = None
+    if command == "format":
+        store.unlink()
+    else:
+        before = shown_of(program, store, first)
+        store.write_bytes(first)
+    status, out, err = called(words, env)
+    if not Path(env["REFUSED_MARK"]).exists():
+        return "none"
+    if status == 0:
+        if (status, out, err) != wanted or (command != "format" or how in PASSING) and store.read_bytes() != held:
+            raise Wrong(f"status 0, {out!r}, {err!r}")
+        if how not in PASSING and kind != "memory":
+            raise Wrong("ends as if nothing had failed")
+        return "passed"
+    lines = {"error: open 2", "error: device 1", "error: format 3"}
+    if kind == "memory":
+        # The system's own allocations for a path are those of making the file.
+        lines = {"error: memory", "error: device 1"} if command == "format" else {"error: memory"}
+    if status != 1 or not wanted[1].startswith(out) or err.decode().strip() not in lines:
+        raise Wrong(f"status {status}, {out!r}, {err!r}")
+    if how in PASSING:
+        raise Wrong(f"ends at an interrupted or shorter transfer: {err!r}")
+    if before and called([program, "show", str(store)], {}) != before:
+        raise Wrong("what was there isn't shown any more")
+    return err.decode().strip()
+
+
+def shown_of(program: str, store: Path, first: bytes) -> tuple[int, bytes, bytes]:
+    """What `show` prints of an image."""
+    store.write_bytes(first)
+    return called([program, "show", str(store)], {})
+
+
+# Sessions
+
+
+def requests_of_session(count: int = 14) -> list[tuple]:
+    """This number of commands, with lookups between them; 14 fill a journal that has room for five groups, and some more."""
+    commands = runs.Commands("refusals", 9)
+    requests: list[tuple] = []
+    for number in range(count):
+        requests.append(commands.next(0.2 if number > 9 else 0, 0.1))
+        requests.append(("lookup", *runs.QUERIES[number % len(runs.QUERIES)]))
+    return requests
+
+
+def frame_of(request: tuple) -> bytes:
+    """The frame of a command or a lookup."""
+    return messages.lookup_frame(*request[1:]) if request[0] == "lookup" else messages.command_frame(request)
+
+
+class Worlds:
+    """What a store may hold, by what was answered: lists of commands after a first place."""
+
+    def __init__(self, opened: model.Opened) -> None:
+        self.db, self.place = opened.fold()
+        self.lists: list[tuple] = [()]
+        self.has_stopped = False
+        self.has_answered = False
+
+    def fold(self, commands: tuple) -> dict:
+        """The database after these."""
+        db = dict(self.db)
+        for command in commands:
+            model.apply(db, command)
+        return db
+
+    def take(self, request: tuple, content: bytes | None, how: str) -> None:
+        """Takes a reply, or None where the session ended without one."""
+        self.has_answered |= content is not None
+        if request[0] == "lookup":
+            self._take_lookup(request, content, how)
+        elif content is None or content in (b"\xff\x01", b"\xff\x62"):
+            if how in PASSING or (content != b"\xff\x62") != (how == "refused"):
+                raise Wrong(f"the reply {content}")
+            self.has_stopped |= content == b"\xff\x62"
+            self.lists += [commands + (request,) for commands in self.lists]
+        elif content[0] == model.REFUSED:
+            self.has_stopped |= content == b"\xff\x54"
+            if content not in (b"\xff\x54", b"\xff\x57") or (content == b"\xff\x54" and (how in PASSING or how == "refused")):
+                raise Wrong(f"the reply {content.hex()}")
+        else:
+            self._take_ack(request, content)
+
+    def _take_ack(self, request: tuple, content: bytes) -> None:
+        place, *counts = struct.unpack(">QIIII", content[1:])
+        if self.has_stopped:
+            raise Wrong("a command was acknowledged after the store had stopped")
+        left = []
+        for commands in self.lists:
+            if self.place + len(commands) == place and model.apply(self.fold(commands), request) == tuple(counts):
+                left.append(commands + (request,))
+        if not left:
+            raise Wrong(f"the acknowledgement {content.hex()}")
+        self.lists = left
+
+    def _take_lookup(self, request: tuple, content: bytes | None, how: str) -> None:
+        if how == "refused" and content in (None, b"\xff\x01"):
+            return
+        kind, start, end = model.classify(runs.CORES, *request[1:])
+        found = [model.found_body(kind, model.matching(self.fold(commands), (kind, start, end))) for commands in self.lists]
+        if content is None or content[0] != 0x82 or content[1:] not in found:
+            raise Wrong(f"a lookup's reply {content}")
+
+    def has(self, out: bytes) -> bool:
+        """Whether `show` prints one of these."""
+        return any(out == model.show_text(self.fold(commands), self.place + len(commands)) for commands in self.lists)
+
+
+def try_session(program: str, store: Path, env: dict, kind: str, how: str, first: bytes) -> str:
+    """Serves a session over a store, and answers what came of it."""
+    store.write_bytes(first)
+    worlds = Worlds(model.open_image(first))
+    mark = Path(env["REFUSED_MARK"])
+    try:
+        server = runs.Server(program, store, env=env)
+    except RuntimeError as ended:
+        line = str(ended).split("ended: ")[-1].strip()
+        if line not in ({"error: memory"} if kind == "memory" else {"error: open 2"}) or how in PASSING:
+            raise Wrong(str(ended)) from ended
+        result = line
+    else:
+        with server:
+            is_early = mark.exists()
+            hold_session(server, worlds, how)
+            result = result_of(server, worlds, mark, kind, how, is_early)
+    if result == "none":
+        return result
+    status, out, err = called([program, "show", str(store)], {})
+    if status != 0 or err or not worlds.has(out):
+        raise Wrong(f"afterwards `show` ends with the status {status}, {out[-20:]!r}, {err!r}")
+    return result
+
+
+def hold_session(server: runs.Server, worlds: Worlds, how: str, count: int = 14) -> None:
+    """Sends requests one after the other, in a new session where one has ended."""
+    connection = None
+    try:
+        for request in requests_of_session(count):
+            content = None
+            try:
+                if connection is None:
+                    connection = server.connect(SECONDS)
+                    replies = runs.Replies(connection)
+                connection.sendall(frame_of(request))
+                content = replies.next()
+            except TimeoutError as hung:
+                raise Wrong("no reply came") from hung
+            except OSError:
+                connection = None
+            worlds.take(request, content, how)
+    finally:
+        if connection:
+            connection.close()
+
+
+def result_of(server: runs.Server, worlds: Worlds, mark: Path, kind: str, how: str, is_early: bool) -> str:
+    """What came of a refusal while a server served."""
+    time.sleep(0.02)
+    if not mark.exists():
+        return "none"
+    notices = server.notices.read_text()
+    if server.process.poll() is not None:
+        # The readers and the threads of the actors are made once the server listens, before any session.
+        if kind == "memory" and notices.endswith("\nerror: memory\n") and not worlds.has_answered:
+            return "error: memory"
+        raise Wrong(f"the server ended: {notices}")
+    if how in PASSING or kind == "memory":
+        if STOPPED in notices:
+            raise Wrong("the store has stopped")
+        return "passed"
+    if is_early:
+        raise Wrong("the server serves a store whose opening failed")
+    if STOPPED not in notices:
+        time.sleep(1)
+        if STOPPED not in server.notices.read_text():
+            raise Wrong(f"the server doesn't say that the store has stopped: {notices}")
+    return "stopped" if worlds.has_stopped else "stopped after the last command"
+
+
+# The script
+
+
+def make_store(program: str, folder: Path) -> bytes:
+    """A store of version 1 with rows, whose journal has room for some groups more."""
+    store = folder / "first"
+    runs.format_store(program, store, SMALL, 1)
+    commands = runs.Commands("first", 9)
+    with runs.Server(program, store) as server, server.connect() as connection:
+        replies = runs.Replies(connection)
+        for number in range(GROUPS):
+            command = commands.next(0, 0) if number % 40 == 5 else ("purge", 0)
+            connection.sendall(messages.command_frame(command))
+            if replies.next()[0] not in (0x81, 0x83):
+                raise SystemExit("the first store can't be filled")
+    image = bytearray(store.read_bytes())
+    # An opening closes the first gate of the half that isn't used.
+    image[(SMALL.gate(1) + 1) * model.SECTOR] = model.OPEN
+    return bytes(image)
+
+
+def sweep(given: tuple) -> tuple[str, str, str, Counter, list[str]]:
+    """Refuses each call of a kind in one way."""
+    program, library, top, command, kind, how, first, every = given
+    folder = Path(top) / f"{command}_{kind}_{how}"
+    folder.mkdir()
+    store = folder / "store"
+    results: Counter = Counter()
+    wrong = []
+    number, passed_by = 1, 0
+    step = every if kind in ("memory", "read") else 1
+    while passed_by < 3:
+        env = refusing(library, folder, kind, how, number)
+        try:
+            if command == "run":
+                result = try_session(program, store, env, kind, how, first)
+            else:
+                result = try_command(program, store, command, env, kind, how, first)
+        except (Wrong, subprocess.TimeoutExpired, RuntimeError, model.NoStore) as fault:
+            wrong.append(f"{command}, {kind} {number}, {how}: {fault}")
+            result = "wrong"
+        # Threads make calls in another order from run to run, so one run without the call isn't the end.
+        passed_by = passed_by + 1 if result == "none" else 0
+        if result != "none":
+            results[result] += 1
+        number += step
+        if len(wrong) > 20:
+            break
+    shutil.rmtree(folder)
+    return command, kind, how, results, wrong
+
+
+def summary(swept: list[tuple[str, str, str, Counter]]) -> str:
+    """A table of what came of the calls of each kind: of those that are made again, and of the others."""
+    rows: dict[tuple[str, str, bool], tuple[list[str], Counter]] = {}
+    for command, kind, how, results in swept:
+        if results:
+            hows, together = rows.setdefault((command, kind, how in PASSING), ([], Counter()))
+            hows.append(how)
+            together.update(results)
+    lines = ["| command | call | how it fails | runs | what came of it |", "|---|---|---|---|---|"]
+    for (command, kind, _), (hows, results) in rows.items():
+        came = ", ".join(f"`{name}` {count}" if name.startswith("error") else f"{name} {count}" for name, count in sorted(results.items()))
+        lines.append(f"| `{command}` | {kind} | {', '.join(hows)} | {sum(results.values())} | {came} |")
+    return "\n".join(lines)
+
+
+def main(words: list[str]) -> int:
+    """Sweeps, and prints a table."""
+    parser = toolbox.parser(__doc__)
+    parser.add_argument("--program", help="the built program; crates/pathd/out/pathd if left out")
+    parser.add_argument("--every", type=int, default=1)
+    parser.add_argument("--jobs", type=int, default=2)
+    parser.add_argument("--only", choices=COMMANDS)
+    parser.add_argument("--kind", choices=list(HOWS))
+    options = parser.parse_args(words)
+    program = runs.program_of(options.program)
+    begun = time.monotonic()
+    print(runs.commit_name(program), flush=True)
+    total, wrongs = 0, []
+    with runs.scratch() as folder:
+        library = runs.compiled("refused_calls.c", folder)
+        first = make_store(program, folder)
+        given = [
+            (program, library, str(folder), command, kind, how, first, options.every)
+            for command in ([options.only] if options.only else COMMANDS)
+            for kind, hows in HOWS.items()
+            if options.kind in (None, kind)
+            for how in hows
+        ]
+        swept = []
+        with multiprocessing.Pool(options.jobs) as pool:
+            for command, kind, how, results, wrong in pool.imap(sweep, given):
+                total += sum(results.values())
+                wrongs += wrong
+                swept.append((command, kind, how, results))
+                print(f"  {command}, {kind}, {how}: {sum(results.values())} runs", flush=True)
+                for line in wrong[:3]:
+                    print(f"  {line}", flush=True)
+    print(summary(swept))
+    print(f"{total} runs, {len(wrongs)} end otherwise, {time.monotonic() - begun:.0f} seconds")
+    return 1 if wrongs else 0

@@ -1,0 +1,144 @@
+"""Serves a mixed load for long, with many checkpoints, and watches the server's memory.
+
+    tools/pathd-tools soak [--program PROGRAM] [--seed N] [--minutes N] [--sessions N] [--rate N]
+
+Sessions, a process each, register, remove, purge and look up, at --rate requests a second each (0: as many as they can), for an hour if nothing else is said. At the end
+
+- each request has its reply, and the places of the acknowledgements are those from 0 on, without a gap;
+- each acknowledgement has the counts that the fold of the commands before it gives;
+- the server is killed (-9), and what `show` prints is the fold of all commands;
+- resident memory hasn't grown: its greatest in the last third is at most a tenth and 1 MiB above its greatest in the second third.
+
+It needs Python 3, and the loopback. It ends with the status 1 where something doesn't hold.
+"""
+from __future__ import annotations
+
+import multiprocessing
+import random
+import socket
+import struct
+import time
+from pathlib import Path
+
+from pathd_model import model
+from pathd_tools import messages, runs, toolbox
+
+POOL = 5_000
+KEYS = 60
+LAYOUT = model.Layout(64, 516)
+# The place, the counts and the number of the command.
+RECORD = struct.Struct("<QIIIII")
+
+
+def hold_session(connection: socket.socket, seed: str, frames: list[bytes], until: float, rate: float, path: Path) -> None:
+    """Sends requests until a moment, and writes the acknowledgements to a file; the last record has the numbers of requests and replies."""
+    chance = random.Random(seed)
+    replies = runs.Replies(connection)
+    asking = [messages.lookup_frame(*query) for query in runs.QUERIES]
+    asked = answered = found = 0
+    next_at = time.monotonic()
+    with open(path, "wb") as file:
+        try:
+            while time.monotonic() < until:
+                window = [chance.randrange(2 * POOL) for _ in range(chance.choice((1, 2, 4)))]
+                connection.sendall(b"".join(frames[it] if it < POOL else asking[it % len(asking)] for it in window))
+                asked += len(window)
+                for number in window:
+                    content = replies.next()
+                    answered += 1
+                    if number >= POOL:
+                        found += content[0] == 0x82
+                    elif content[0] in (0x81, 0x83, 0x84):
+                        file.write(RECORD.pack(*struct.unpack(">QIIII", content[1:]), number))
+                if rate:
+                    next_at = max(next_at, time.monotonic() - 1) + len(window) / rate
+                    time.sleep(max(0.0, next_at - time.monotonic()))
+        except OSError:
+            pass
+        file.write(RECORD.pack((1 << 64) - 1, asked, answered, found, 0, 0))
+
+
+def main(words: list[str]) -> int:
+    """Serves, watches, and prints what was found."""
+    parser = toolbox.parser(__doc__)
+    parser.add_argument("--program", help="the built program; crates/pathd/out/pathd if left out")
+    parser.add_argument("--seed", type=int, default=1)
+    parser.add_argument("--minutes", type=float, default=60)
+    parser.add_argument("--sessions", type=int, default=8)
+    parser.add_argument("--rate", type=float, default=250)
+    options = parser.parse_args(words)
+    program = runs.program_of(options.program)
+    print(f"{runs.commit_name(program)}, seed {options.seed}", flush=True)
+    source = runs.Commands(f"{options.seed}/soak", KEYS)
+    pool = [source.next(0.2, 0.02) for _ in range(POOL)]
+    frames = [messages.command_frame(command) for command in pool]
+    faults: list[str] = []
+    resident: list[int] = []
+    with runs.scratch() as folder:
+        store = folder / "store"
+        runs.format_store(program, store, LAYOUT)
+        paths = [folder / f"session{it}" for it in range(options.sessions)]
+        with runs.Server(program, store) as server:
+            until = time.monotonic() + 60 * options.minutes
+            processes = []
+            for number, path in enumerate(paths):
+                given = (server.connect(), f"{options.seed}/{number}", frames, until, options.rate, path)
+                processes.append(multiprocessing.Process(target=hold_session, args=given))
+                processes[-1].start()
+            while any(process.is_alive() for process in processes):
+                if server.process.poll() is None:
+                    resident.append(server.status("VmRSS"))
+                time.sleep(min(1.0, 60 * options.minutes / 60))
+            for process in processes:
+                process.join()
+            if server.process.poll() is not None:
+                faults.append("the server ended")
+            notices = server.notices.read_text()
+        counts = check(paths, pool, program, store, faults)
+    print_memory(resident, faults)
+    print(f"  {notices.strip()}")
+    print(f"  {counts}")
+    for fault in faults[:5]:
+        print(f"  {fault}")
+    print(f"{options.minutes} minutes, {len(faults)} faults")
+    return 1 if faults else 0
+
+
+def check(paths: list[Path], pool: list[tuple], program: str, store: Path, faults: list[str]) -> str:
+    """Folds all commands, and compares."""
+    asked = answered = found = 0
+    acknowledged = {}
+    for path in paths:
+        data = path.read_bytes()
+        for at in range(0, len(data), RECORD.size):
+            place, *counts, number = RECORD.unpack_from(data, at)
+            if place == (1 << 64) - 1:
+                asked, answered, found = asked + counts[0], answered + counts[1], found + counts[2]
+            elif acknowledged.setdefault(place, (tuple(counts), number)) != (tuple(counts), number):
+                faults.append(f"two commands have the place {place}")
+    if asked != answered:
+        faults.append(f"of {asked} requests {answered} were answered")
+    if answered != found + len(acknowledged):
+        faults.append(f"{answered - found - len(acknowledged)} requests were refused")
+    if sorted(acknowledged) != list(range(len(acknowledged))):
+        faults.append("the places have gaps")
+        return ""
+    db: dict = {}
+    for place in range(len(acknowledged)):
+        counts, number = acknowledged[place]
+        if model.apply(db, pool[number]) != counts:
+            faults.append(f"the place {place} counts {counts}")
+    image = store.read_bytes()
+    heads = [model.head_of(image, LAYOUT.area(half)) for half in (0, 1) if image[LAYOUT.gate(half) * model.SECTOR] == model.OPEN]
+    if runs.shown(program, store) != (0, model.show_text(db, len(acknowledged)), b""):
+        faults.append("`show` doesn't print the fold of all commands")
+    return f"{answered} replies: {len(acknowledged)} acknowledgements, {found} lookups; {max(head[1] for head in heads) - 1} checkpoints"
+
+
+def print_memory(resident: list[int], faults: list[str]) -> None:
+    """Prints how memory went, and notes whether it grew."""
+    third = max(1, len(resident) // 3)
+    parts = [max(resident[at : at + third]) for at in range(0, 3 * third, third) if resident[at : at + third]]
+    print(f"  greatest resident memory of each third: {', '.join(f'{it} KiB' for it in parts)}")
+    if len(parts) == 3 and parts[2] > parts[1] * 1.1 + 1024:
+        faults.append("resident memory grows")

@@ -1,0 +1,1 @@
+"""Checks of the built program against its pages and against the system."""

@@ -1,0 +1,682 @@
+"""Tries the steps of docs/OPERATING.md on a system whose first process is systemd; tools/pathd-tools units starts it in a container.
+
+    tools/pathd-tools units-inside --loop DEVICE [--short]
+    tools/pathd-tools units-inside --after-restart
+
+It installs programs, makes a user, formats stores and kills servers: it is for a container or a machine that is thrown away. It has to be run as root, with the
+packages that tools/pathd-tools units names. The first line runs all steps, the second is for the next start of the same system. It prints a line for each step, and ends with the status 1
+where one did not come out as the page says.
+"""
+from __future__ import annotations
+
+import argparse
+import os
+import pickle
+import re
+import socket
+import struct
+import subprocess
+import time
+import urllib.request
+from collections.abc import Callable
+from pathlib import Path
+
+from pathd_model import model
+from pathd_tools import TOP, messages, toolbox
+
+PAGE = (TOP / "docs/OPERATING.md").read_text(encoding="utf-8")
+STORE = Path("/var/lib/pathd/store")
+STATE = Path("/var/lib/pathd-units.state")
+DROP_IN = Path("/etc/systemd/system/pathd.service.d")
+TIMER_DROP_IN = Path("/etc/systemd/system/pathd-purge.timer.d")
+PORT = 30252
+NUMBERS_PORT = 30253
+CORE = 0x0001_FF00_0000_0110
+LEAF = 0x0001_FF00_0000_0111
+PAGE_BYTES = 4096
+# Segments of 2096, and how long after its timestamp one expires.
+MADE = 4_000_000_000
+LASTS = 675 * 64 // 2
+FULL = 64
+
+
+class Steps:
+    """What was tried, and how often it came out otherwise."""
+
+    def __init__(self) -> None:
+        self.count = self.wrong = self.left_out = 0
+
+    def expect(self, what: str, is_so: bool, seen: object = "") -> None:
+        """Notes a step."""
+        self.count += 1
+        self.wrong += not is_so
+        print(f"{'ok' if is_so else 'WRONG'}: {what}" + (f": {seen}" if seen != "" and not is_so else ""), flush=True)
+
+    def leave_out(self, what: str, why: str) -> None:
+        """Notes a step that can't be tried here."""
+        self.left_out += 1
+        print(f"left out: {what}: {why}", flush=True)
+
+
+STEPS = Steps()
+
+
+def run(*words: object, **options: object) -> subprocess.CompletedProcess:
+    """Runs a command to its end, with what it prints as text."""
+    return subprocess.run([str(word) for word in words], capture_output=True, text=True, check=False, **options)
+
+
+def must(*words: object) -> str:
+    """What a command prints that has to succeed."""
+    done = run(*words)
+    if done.returncode:
+        raise SystemExit(f"{' '.join(map(str, words))}: status {done.returncode}: {done.stdout}{done.stderr}")
+    return done.stdout
+
+
+def block(heading: str, number: int = 0) -> str:
+    """One of the blocks of commands below a heading of the page."""
+    section = PAGE.split(f"\n## {heading}\n")[1].split("\n## ")[0]
+    return section.split("```")[1 + 2 * number].split("\n", 1)[1]
+
+
+def run_block(heading: str, number: int = 0) -> subprocess.CompletedProcess:
+    """Runs a block of the page as it is written, at the top of the repository."""
+    return run("bash", "-euo", "pipefail", "-c", block(heading, number), cwd=TOP)
+
+
+def until(is_so: Callable[[], bool], seconds: float = 60) -> bool:
+    """Waits until something is so, and answers whether it came to be."""
+    end = time.monotonic() + seconds
+    while time.monotonic() < end:
+        if is_so():
+            return True
+        time.sleep(0.1)
+    return is_so()
+
+
+def property_of(name: str, unit: str = "pathd.service") -> str:
+    """A property of a unit, as `systemctl show` prints it."""
+    return must("systemctl", "show", "--value", "-p", name, unit).strip()
+
+
+def is_served() -> bool:
+    """Whether somebody listens at the port."""
+    try:
+        socket.create_connection(("127.0.0.1", PORT), 2).close()
+        return True
+    except OSError:
+        return False
+
+
+def is_up() -> bool:
+    """Whether the unit is active and its server listens."""
+    return property_of("ActiveState") == "active" and is_served()
+
+
+def is_down() -> bool:
+    """Whether the unit has ended, and nothing is to be started."""
+    return property_of("ActiveState") in ("inactive", "failed")
+
+
+def start() -> bool:
+    """Starts the unit anew, without a count of earlier starts."""
+    run("systemctl", "reset-failed", "pathd")
+    must("systemctl", "start", "pathd")
+    return until(is_up)
+
+
+def journal(unit: str, since: float) -> str:
+    """What a unit wrote since a moment of this run."""
+    must("journalctl", "--sync")
+    return run("journalctl", "-o", "cat", "--no-pager", "-u", unit, "--since", f"@{since:.3f}").stdout
+
+
+class Session:
+    """A session with the server."""
+
+    def __init__(self, host: str = "127.0.0.1", timeout: float = 10) -> None:
+        self.socket = socket.create_connection((host, PORT), timeout)
+        self.rest = b""
+
+    def read(self) -> bytes:
+        """The next reply's content."""
+        while True:
+            contents, rest = messages.whole_frames(self.rest)
+            if contents:
+                self.rest = self.rest[4 + len(contents[0]) :]
+                return contents[0]
+            piece = self.socket.recv(1 << 18)
+            if not piece:
+                raise ConnectionError("the server ended the session")
+            self.rest = rest + piece
+
+    def ask(self, request: bytes) -> bytes:
+        """The reply to a request."""
+        self.socket.sendall(request)
+        return self.read()
+
+    def __enter__(self) -> Session:
+        return self
+
+    def __exit__(self, *_ended: object) -> None:
+        self.socket.close()
+
+
+def row(number: int, made: int = MADE) -> tuple:
+    """The registration of one row, which is another for each number."""
+    return ("register", ((model.DOWN, messages.make_segment([messages.Hop(CORE, 0, 1 + number), messages.Hop(LEAF, 1, 0)], made)),))
+
+
+class Rows:
+    """The rows that were acknowledged: what the store has to hold."""
+
+    def __init__(self) -> None:
+        self.db: dict = {}
+        self.place = 0
+        self.number = 0
+
+    def register(self, session: Session) -> bytes:
+        """Registers one more row, and answers the reply."""
+        command = row(self.number)
+        reply = session.ask(messages.command_frame(command))
+        self.number += 1
+        if reply[0] == 0x81:
+            self.take(command, reply)
+        return reply
+
+    def take(self, command: tuple, reply: bytes) -> None:
+        """Takes a command that was acknowledged."""
+        self.place = struct.unpack(">QIIII", reply[1:])[0] + 1
+        model.apply(self.db, command)
+
+    def register_many(self, count: int) -> None:
+        """Registers more rows, each of which has to be acknowledged."""
+        with Session() as session:
+            for _ in range(count):
+                reply = self.register(session)
+                if reply[0] != 0x81:
+                    raise SystemExit(f"a registration was answered by {reply.hex()}")
+
+    def has_all(self, shown: str) -> bool:
+        """Whether each row that was acknowledged is in what `show` prints."""
+        wanted = set(model.show_text(self.db, self.place).decode().splitlines()[:-1])
+        return wanted <= set(shown.splitlines())
+
+
+ROWS = Rows()
+
+
+def shown(store: Path = STORE) -> str:
+    """What `show` prints of a store at rest."""
+    return must("/usr/local/bin/pathd", "show", store)
+
+
+# The steps, each a part of the page
+
+
+def install() -> None:
+    """'Installing', as it is written."""
+    begun = time.time()
+    done = run_block("Installing")
+    STEPS.expect("the block of 'Installing' runs", done.returncode == 0, done.stdout + done.stderr)
+    STEPS.expect("the unit is active, and the server listens", until(is_up), run("systemctl", "status", "pathd").stdout)
+    text = journal("pathd", begun)
+    STEPS.expect("the journal has `ready` and the line of the address", "ready" in text and "at 127.0.0.1:30252: version 2, place 0, 0 rows" in text, text)
+    STEPS.expect("the file has its room on the disk", STORE.stat().st_blocks * 512 >= STORE.stat().st_size)
+
+
+def look_at_walls() -> None:
+    """What 'Installing' says of the unit: its user, its rights, its limits."""
+    pid = property_of("MainPID")
+    status = dict(line.split(":\t", 1) for line in Path(f"/proc/{pid}/status").read_text().splitlines() if ":\t" in line)
+    uid = must("id", "-u", "pathd").strip()
+    STEPS.expect("the server runs as the user pathd", status["Uid"].split() == [uid] * 4, status["Uid"])
+    STEPS.expect("it has no capability, no new privileges, and a filter of calls", (int(status["CapEff"], 16), int(status["CapBnd"], 16), status["NoNewPrivs"], status["Seccomp"]) == (0, 0, "1", "2"), status)
+    within = ["nsenter", "-t", pid, "-m", "sh", "-c"]
+    for path in ("/etc", "/usr/local/bin", "/var/lib", "/home", "/opt"):
+        STEPS.expect(f"in its view {path} can't be written", run(*within, f"touch {path}/.pathd-units").returncode != 0)
+    STEPS.expect("in its view /var/lib/pathd can be written", run(*within, "touch /var/lib/pathd/.new && rm /var/lib/pathd/.new").returncode == 0)
+    devices = run(*within, "find /dev -type b").stdout
+    STEPS.expect("in its view /dev has no block device", devices == "", devices)
+    listens = must("ss", "-Hltnp", f"sport = :{PORT}")
+    STEPS.expect("it listens at 127.0.0.1 alone", listens.count("\n") == 1 and "127.0.0.1:30252" in listens, listens)
+    limits = Path(f"/proc/{pid}/limits").read_text()
+    STEPS.expect("it may have 256 descriptors", re.search(r"Max open files +256 +256", limits) is not None, limits)
+    controllers = Path("/sys/fs/cgroup/cgroup.controllers").read_text().split()
+    group = Path("/sys/fs/cgroup" + property_of("ControlGroup"))
+    for controller, file, wanted in (("memory", "memory.max", str(2 << 30)), ("pids", "pids.max", "128")):
+        if controller in controllers:
+            STEPS.expect(f"{file} is {wanted}", (group / file).read_text().strip() == wanted)
+        else:
+            STEPS.leave_out(f"{file} of the unit", f"this hierarchy of cgroups has no controller {controller}")
+    for unit in ("pathd.service", "pathd-purge.service", "pathd-purge.timer"):
+        done = run("systemd-analyze", "verify", TOP / "deploy" / unit)
+        lines = [line for line in done.stderr.splitlines() if "pathd" in line and "pathd-client is not executable" not in line]
+        STEPS.expect(f"systemd-analyze verify prints nothing of {unit}", not lines, lines)
+    rated = re.search(r"exposure level for pathd.service: (\S+)", must("systemd-analyze", "security", "--no-pager", "pathd.service"))
+    said = re.search(r"rates its exposure as ([0-9]+\.[0-9]+)", PAGE.replace("\n", " "))
+    STEPS.expect("its exposure is rated as the page says", bool(rated and said) and rated.group(1) == said.group(1), (rated and rated.group(1), said and said.group(1)))
+
+
+def fill_sessions() -> None:
+    """64 sessions under the limits of the unit, and the 65th."""
+    nothing = messages.lookup_frame(LEAF, CORE)
+    held = [Session() for _ in range(FULL)]
+    STEPS.expect("64 sessions are served at one time under the unit's limits", all(session.ask(nothing)[0] == 0x82 for session in held))
+    with Session() as one_more:
+        STEPS.expect("the 65th gets 0x61", one_more.read() == b"\xff\x61")
+    for session in held:
+        session.socket.close()
+
+
+def restarted(count: int) -> bool:
+    """Whether the unit was started again this number of times, and listens."""
+    return until(lambda: property_of("NRestarts") == str(count) and is_up(), 90)
+
+
+def stop_and_kill() -> None:
+    """'Stopping' and 'Statuses and errors': what the unit does after each end."""
+    ROWS.register_many(40)
+    must("systemctl", "stop", "pathd")
+    STEPS.expect("systemctl stop: the unit is inactive, with success", (property_of("ActiveState"), property_of("Result")) == ("inactive", "success"))
+    text = shown()
+    STEPS.expect("what was acknowledged is shown after SIGTERM", ROWS.has_all(text) and text.endswith(f"place {ROWS.place}\n"), text[-60:])
+    for count, signal in enumerate(("KILL", "ABRT", "SEGV"), 1):
+        if count == 1:
+            start()
+        pid = property_of("MainPID")
+        ROWS.register_many(40)
+        must("systemctl", "kill", "-s", signal, "--kill-whom=main", "pathd")
+        STEPS.expect(f"SIG{signal}: the unit is started again", restarted(count) and property_of("MainPID") != pid, property_of("NRestarts"))
+    must("systemctl", "restart", "pathd")
+    STEPS.expect("systemctl restart: the server listens again", until(is_up))
+    must("systemctl", "stop", "pathd")
+    text = shown()
+    STEPS.expect("what was acknowledged is shown after SIGKILL, SIGABRT and SIGSEGV", ROWS.has_all(text) and text.endswith(f"place {ROWS.place}\n"), text[-60:])
+    start()
+    must("kill", "-TERM", property_of("MainPID"))
+    until(is_down)
+    time.sleep(3)
+    STEPS.expect("SIGTERM that systemctl didn't send: the unit stays down", (property_of("ActiveState"), property_of("Result")) == ("inactive", "success"))
+
+
+def end_by_status() -> None:
+    """The statuses 1 and 2, after which the unit stays down; and too many starts."""
+    begun = time.time()
+    with socket.create_server(("127.0.0.1", PORT)):
+        run("systemctl", "reset-failed", "pathd")
+        run("systemctl", "start", "pathd")
+        until(is_down)
+        time.sleep(3)
+        STEPS.expect("status 1, as the address is in use: the unit stays down", (property_of("ActiveState"), property_of("ExecMainStatus"), property_of("NRestarts")) == ("failed", "1", "0"))
+    STEPS.expect("the journal has `error: net`", "error: net" in journal("pathd", begun), journal("pathd", begun))
+    DROP_IN.mkdir(exist_ok=True)
+    (DROP_IN / "words.conf").write_text("[Service]\nExecStart=\nExecStart=/usr/local/bin/pathd run\n")
+    must("systemctl", "daemon-reload")
+    run("systemctl", "reset-failed", "pathd")
+    run("systemctl", "start", "pathd")
+    until(is_down)
+    time.sleep(3)
+    STEPS.expect("status 2, of words that can't be read: the unit stays down", (property_of("ActiveState"), property_of("ExecMainStatus"), property_of("NRestarts")) == ("failed", "2", "0"))
+    (DROP_IN / "words.conf").unlink()
+    must("systemctl", "daemon-reload")
+    start()
+    for count in range(1, 5):
+        must("systemctl", "kill", "-s", "KILL", "--kill-whom=main", "pathd")
+        if not restarted(count):
+            break
+    must("systemctl", "kill", "-s", "KILL", "--kill-whom=main", "pathd")
+    STEPS.expect("the sixth start within 300 seconds isn't made", until(lambda: property_of("ActiveState") == "failed") and property_of("NRestarts") == "5", (property_of("Result"), property_of("NRestarts")))
+    STEPS.expect("`systemctl reset-failed pathd` and a start serve again", start())
+
+
+def register_expiring(seconds: int, number: int) -> None:
+    """Registers a row that expires soon."""
+    command = row(60_000 + number, int(time.time()) - LASTS + seconds)
+    with Session() as session:
+        reply = session.ask(messages.command_frame(command))
+    STEPS.expect(f"a row is taken that expires in {seconds} seconds", reply[0] == 0x81 and reply[9:13] == b"\0\0\0\1", reply.hex())
+
+
+def purge(is_short: bool) -> None:
+    """'Purging', as it is written, and the timer."""
+    # How long is waited at the most; on a busy machine the client alone takes seconds.
+    first, later = (30, 40) if is_short else (100, 340)
+    if is_short:
+        TIMER_DROP_IN.mkdir(exist_ok=True)
+        (TIMER_DROP_IN / "short.conf").write_text("[Timer]\nOnActiveSec=\nOnUnitActiveSec=\nOnActiveSec=2s\nOnUnitActiveSec=6s\nAccuracySec=100ms\n")
+    begun = time.time()
+    done = run_block("Purging")
+    STEPS.expect("the block of 'Purging' runs, and its purge prints the counts", done.returncode == 0 and re.search(r"^place \d+: 0 inserted, 0 updated, 0 kept, 0 purged$", done.stdout, re.M) is not None, done.stdout + done.stderr)
+    STEPS.expect("the timer purges for the first time", until(lambda: "0 purged" in journal("pathd-purge", begun), first), journal("pathd-purge", begun))
+    done = run("systemctl", "show", "-p", "Result", "-p", "ExecMainStatus", "pathd-purge.service").stdout
+    STEPS.expect("the service of the purge ends with success", "Result=success" in done and "ExecMainStatus=0" in done, done)
+    register_expiring(3, 1)
+    STEPS.expect("the timer's next purge drops the row that has expired", until(lambda: "1 purged" in journal("pathd-purge", begun), later), journal("pathd-purge", begun))
+    if is_short:
+        must("systemctl", "stop", "pathd")
+        time.sleep(15)
+        begun = time.time()
+        start()
+        STEPS.expect("the timer goes on after the server was down at its moments", until(lambda: "0 purged" in journal("pathd-purge", begun), later), must("systemctl", "list-timers", "--no-pager", "--all"))
+    begun = time.time()
+    register_expiring(1, 2)
+    time.sleep(2)
+    must("systemctl", "start", "pathd-purge.service")
+    STEPS.expect("a purge by hand through the unit drops a row, too", "1 purged" in journal("pathd-purge", begun), journal("pathd-purge", begun))
+    rated = must("systemd-analyze", "security", "--no-pager", "pathd-purge.service").strip().splitlines()[-1]
+    print(f"   {rated}")
+    must("systemctl", "stop", "pathd-purge.timer")
+
+
+def back_up() -> None:
+    """'Backup and restore', at rest."""
+    copy = Path("/var/tmp/copy")
+    words = ["flock", "--shared", "--nonblock", STORE, "cp", STORE, copy]
+    done = run(*words)
+    STEPS.expect("a copy beside a server isn't made, with the status 1", done.returncode == 1 and not copy.exists(), done.stderr)
+    ROWS.register_many(5)
+    must("systemctl", "stop", "pathd")
+    must(*words)
+    status = must("/usr/local/bin/pathd", "status", copy)
+    text = shown()
+    STEPS.expect("`status` of a copy at rest prints its place", f"place {text.split()[-1]}\n" in status, status)
+    start()
+    with Session() as session:
+        session.ask(messages.command_frame(row(59_000)))
+    must("systemctl", "stop", "pathd")
+    must("cp", "--sparse=never", copy, STORE)
+    must("chown", "pathd:pathd", STORE)
+    STEPS.expect("after a restore the server listens, and has what the copy had", start())
+    must("systemctl", "stop", "pathd")
+    STEPS.expect("what a restored store shows", shown() == text)
+    copy.unlink()
+    start()
+
+
+def numbers(host: str = "127.0.0.1", timeout: float = 10) -> dict[str, float]:
+    """The numbers of the server, by the name and the labels of each."""
+    with urllib.request.urlopen(f"http://{host}:{NUMBERS_PORT}/metrics", timeout=timeout) as answer:
+        lines = answer.read().decode("ascii").splitlines()
+    return {name: float(value) for name, value in (line.rsplit(" ", 1) for line in lines if not line.startswith("#"))}
+
+
+def watch() -> None:
+    """'Watching a server': its numbers under the unit."""
+    exec_start = re.search(r"^ExecStart=.*", (TOP / "deploy/pathd.service").read_text(), re.M).group()
+    drop_in = DROP_IN / "watch.conf"
+    DROP_IN.mkdir(exist_ok=True)
+    drop_in.write_text(f"[Service]\nExecStart=\n{exec_start} --status 127.0.0.1:{NUMBERS_PORT}\n")
+    must("systemctl", "daemon-reload")
+    must("systemctl", "stop", "pathd")
+    begun = time.time()
+    STEPS.expect("with `--status` the unit starts", start(), run("systemctl", "status", "pathd").stdout)
+    text = journal("pathd", begun)
+    STEPS.expect("the journal has the line of the second address", f"pathd: status at 127.0.0.1:{NUMBERS_PORT}" in text, text)
+    before = numbers()
+    ROWS.register_many(3)
+    after = numbers()
+    more = {name: after[name] - before[name] for name in ("pathd_rows", "pathd_commands_total", 'pathd_replies_total{kind="registered"}')}
+    STEPS.expect("the numbers have three registrations more", set(more.values()) == {3.0}, more)
+    STEPS.expect("they say that the store takes commands", after["pathd_stopped"] == 0)
+    drop_in.unlink()
+    must("systemctl", "daemon-reload")
+    must("systemctl", "stop", "pathd")
+    STEPS.expect("without the option it starts and nothing listens there", start() and must("ss", "-Hltn", f"sport = :{NUMBERS_PORT}") == "")
+
+
+def lost_pages(device: str, disk: Path) -> int:
+    """How many pages of a device read otherwise than its disk has them."""
+    with open(device, "rb") as held, disk.open("rb") as kept:
+        pages = iter(lambda: (held.read(PAGE_BYTES), kept.read(PAGE_BYTES)), (b"", b""))
+        return sum(page[0] != page[1] for page in pages)
+
+
+class Volume:
+    """A loop device over a file in a file system of its own, which can be left without room: then its writes fail."""
+
+    def __init__(self, device: str) -> None:
+        self.device = device
+        self.folder = Path("/var/tmp/small")
+        self.disk = self.folder / "disk"
+        self.filler = self.folder / "filler"
+        self.layout = model.Layout(64, 4096)
+        self.folder.mkdir()
+        must("mount", "-t", "tmpfs", "-o", "size=6m", "tmpfs", self.folder)
+        with self.disk.open("wb") as file:
+            file.truncate(-(-self.layout.sectors // 8) * PAGE_BYTES)
+        must("losetup", device, self.disk)
+
+    def take_room(self, pages: int) -> None:
+        """Leaves room for a number of pages."""
+        free = os.statvfs(self.folder).f_bavail
+        self.filler.write_bytes(bytes(PAGE_BYTES) * (free - pages))
+
+    def give_room(self) -> None:
+        """Mends the disk."""
+        self.filler.unlink()
+
+    def close(self) -> None:
+        """Takes the device apart."""
+        must("losetup", "-d", self.device)
+        must("umount", self.folder)
+        self.folder.rmdir()
+
+
+def serve_volume(device: str) -> None:
+    """A volume as DEV under the unit, by the lines of 'Installing'."""
+    must("chown", "pathd", device)
+    must("runuser", "-u", "pathd", "--", "/usr/local/bin/pathd", "format", device, "--checkpoint", "64", "--journal", "4096")
+    DROP_IN.mkdir(exist_ok=True)
+    drop_in = DROP_IN / "volume.conf"
+    exec_start = re.search(r"^ExecStart=.*", (TOP / "deploy/pathd.service").read_text(), re.M).group().replace(str(STORE), device)
+    drop_in.write_text(f"[Service]\nExecStart=\n{exec_start}\n")
+    must("systemctl", "daemon-reload")
+    begun = time.time()
+    run("systemctl", "reset-failed", "pathd")
+    run("systemctl", "start", "pathd")
+    until(is_down)
+    STEPS.expect("the unit as it is doesn't see a volume: `error: device 1`", "error: device 1" in journal("pathd", begun), journal("pathd", begun))
+    drop_in.write_text(f"[Service]\nExecStart=\n{exec_start}\nPrivateDevices=no\nDevicePolicy=closed\nDeviceAllow={device} rw\n")
+    must("systemctl", "daemon-reload")
+    STEPS.expect("with the three lines of the page it serves the volume", start(), run("systemctl", "status", "pathd").stdout)
+
+
+def fail_device(device: str, by_hand: bool) -> None:
+    """'After a device fault': a disk without room, the same after it was mended, and the store opened again."""
+    volume = Volume(device)
+    rows = Rows()
+    serve_volume(device)
+    rows.register_many(20)
+    with open(device, "rb"):
+        begun = time.time()
+        volume.take_room(12)
+        with Session() as session:
+            replies = [rows.register(session) for _ in range(200)]
+            last = {reply[:2] for reply in replies if reply[0] == 0xFF}
+            STEPS.expect("commands are answered by 0x62 and 0x54 once the disk is full", last == {b"\xff\x62", b"\xff\x54"}, last)
+            found = session.ask(messages.lookup_frame(CORE, LEAF))
+            STEPS.expect("lookups go on", found[0] == 0x82 and len(found) > 1000)
+        STEPS.expect("the journal has the line of the fault", "the store has stopped at a fault of its device; lookups go on" in journal("pathd", begun), journal("pathd", begun))
+        STEPS.expect("the unit stays active", property_of("ActiveState") == "active")
+        must("systemctl", "stop", "pathd")
+        volume.give_room()
+        lost = lost_pages(device, volume.disk)
+        STEPS.expect("the kernel still gives pages that the disk doesn't have", lost > 0)
+        if by_hand:
+            must("sh", "-c", "sync; echo 3 > /proc/sys/vm/drop_caches")
+            STEPS.expect(f"after `sync` and drop_caches none of {lost} such pages is left", lost_pages(device, volume.disk) == 0)
+        STEPS.expect("the next start opens the store", start(), journal("pathd", begun))
+        STEPS.expect("after the unit's start no such page is left", lost_pages(device, volume.disk) == 0)
+        rows.register_many(20)
+        must("systemctl", "stop", "pathd")
+    text = shown(Path(device))
+    beyond = int(text.split()[-1]) - rows.place
+    STEPS.expect("what was acknowledged before and after the fault is shown", rows.has_all(text) and beyond == 0, text[-60:])
+    volume.close()
+    (DROP_IN / "volume.conf").unlink()
+    must("systemctl", "daemon-reload")
+
+
+def reaches(source: str, host: str, *more: str) -> bool:
+    """Whether a lookup from a network namespace is answered, or with `--numbers` a request of the numbers; '' is the server's own."""
+    words = [TOP / "tools/pathd-tools", "units-inside", "--probe", host, *more]
+    return run(*(["ip", "netns", "exec", source] if source else []), *words, timeout=30).returncode == 0
+
+
+def probe(host: str) -> bool:
+    """Asks a server once."""
+    try:
+        with Session(host, 2) as session:
+            return session.ask(messages.lookup_frame(LEAF, CORE))[0] == 0x82
+    except OSError:
+        return False
+
+
+def probe_numbers(host: str) -> bool:
+    """Asks for the numbers once."""
+    try:
+        return "pathd_rows" in numbers(host, 2)
+    except OSError:
+        return False
+
+
+def all_reach(*more: str) -> tuple[bool, bool, bool]:
+    """Whether the server is reached from itself, from 192.0.2.0/24 and from another network."""
+    return reaches("", "127.0.0.1", *more), reaches("near", "192.0.2.1", *more), reaches("far", "198.51.100.1", *more)
+
+
+def seats_of(source: str, host: str, count: int) -> int:
+    """How many connections from a network namespace are let through at one time."""
+    words = [TOP / "tools/pathd-tools", "units-inside", "--probe", host, "--connections", count]
+    return int(run("ip", "netns", "exec", source, *words, timeout=60).stdout)
+
+
+def probe_seats(host: str, count: int) -> int:
+    """Opens connections, and counts those that are answered while all are held."""
+    held = []
+    for _ in range(count):
+        try:
+            session = Session(host, 1)
+            session.ask(messages.lookup_frame(LEAF, CORE))
+            held.append(session)
+        except OSError:
+            pass
+    return len(held)
+
+
+def limit_access() -> None:
+    """'Access': the unit's addresses, and the firewall."""
+    for name, net in (("near", "192.0.2"), ("far", "198.51.100")):
+        must("ip", "netns", "add", name)
+        must("ip", "link", "add", name, "type", "veth", "peer", "name", "peer", "netns", name)
+        must("ip", "address", "add", f"{net}.1/24", "dev", name)
+        must("ip", "link", "set", name, "up")
+        must("ip", "-n", name, "address", "add", f"{net}.2/24", "dev", "peer")
+        must("ip", "-n", name, "link", "set", "peer", "up")
+        must("ip", "-n", name, "link", "set", "lo", "up")
+    exec_start = re.search(r"^ExecStart=.*", (TOP / "deploy/pathd.service").read_text(), re.M).group().replace("127.0.0.1:", "0.0.0.0:")
+    exec_start += f" --status 0.0.0.0:{NUMBERS_PORT}"
+    drop_in = DROP_IN / "access.conf"
+    DROP_IN.mkdir(exist_ok=True)
+
+    def allow(addresses: str) -> tuple[bool, bool, bool]:
+        drop_in.write_text(f"[Service]\nExecStart=\n{exec_start}\n{addresses}")
+        must("systemctl", "daemon-reload")
+        must("systemctl", "stop", "pathd")
+        start()
+        return all_reach()
+
+    begun = time.time()
+    seen = allow("")
+    if "does not support BPF/cgroup firewalling" in must("journalctl", "-b", "-o", "cat", "--no-pager", "--since", f"@{begun - 600:.0f}"):
+        STEPS.leave_out("IPAddressAllow=", "systemd finds no support of the kernel")
+    else:
+        STEPS.expect("with the unit's IPAddressAllow= the loopback alone reaches a server at 0.0.0.0", seen == (True, False, False), seen)
+        seen = all_reach("--numbers")
+        STEPS.expect("the same holds for the address of its numbers", seen == (True, False, False), seen)
+        seen = allow("IPAddressAllow=192.0.2.0/24\n")
+        STEPS.expect("with IPAddressAllow=192.0.2.0/24 these addresses do, too", seen == (True, True, False), seen)
+    seen = allow("IPAddressAllow=any\n")
+    STEPS.expect("with IPAddressAllow=any all do", seen == (True, True, True), seen)
+    done = run_block("Access")
+    STEPS.expect("the block of 'Access' runs", done.returncode == 0, done.stdout + done.stderr)
+    seen = all_reach()
+    STEPS.expect("by the firewall's rules 192.0.2.0/24 and the loopback reach it, and no other address", seen == (True, True, False), seen)
+    seats = seats_of("near", "192.0.2.1", 20)
+    STEPS.expect("by these rules an address has at most 8 connections", seats == 8, seats)
+    STEPS.expect("others are served beside them", reaches("", "127.0.0.1"))
+    seen = all_reach("--numbers")
+    STEPS.expect("these rules are for the port of sessions alone", seen == (True, True, True), seen)
+    must("nft", "delete", "table", "inet", "pathd")
+    drop_in.unlink()
+    must("systemctl", "daemon-reload")
+    must("systemctl", "restart", "pathd")
+    STEPS.expect("after the drop-in and the table were taken away the unit serves as before", until(is_up))
+    for name in ("near", "far"):
+        must("ip", "netns", "delete", name)
+
+
+def deny_settings() -> None:
+    """The line ExecStartPre=+ where the system's settings can't be written, as they can't in most containers."""
+    mounted = [line.split()[4] for line in Path("/proc/self/mountinfo").read_text().splitlines()]
+    if "/proc/sys" not in mounted:
+        STEPS.leave_out("a start where /proc/sys can't be written", "this is no container")
+        return
+    must("systemctl", "stop", "pathd")
+    must("mount", "-o", "remount,bind,ro", "/proc/sys")
+    begun = time.time()
+    run("systemctl", "start", "pathd")
+    until(is_down)
+    text = journal("pathd", begun)
+    STEPS.expect("where /proc/sys can't be written the unit doesn't start", property_of("ActiveState") == "failed" and "drop_caches" in text, text)
+    must("mount", "-o", "remount,bind,rw", "/proc/sys")
+    STEPS.expect("where it can be, it does", start())
+
+
+def after_restart() -> None:
+    """What the next start of the system finds: the unit is enabled."""
+    STEPS.expect("after a restart of the system the unit is active by itself", until(is_up))
+    STEPS.expect("so is the timer", property_of("ActiveState", "pathd-purge.timer") == "active")
+    must("systemctl", "stop", "pathd-purge.timer", "pathd")
+    STEPS.expect("what was acknowledged before the restart is shown", pickle.loads(STATE.read_bytes()).has_all(shown()))
+
+
+def main(words: list[str]) -> int:
+    """Tries all steps."""
+    parser = toolbox.parser(__doc__)
+    parser.add_argument("--loop", help="a loop device that is free")
+    parser.add_argument("--short", action="store_true", help="the timer's times are seconds")
+    parser.add_argument("--after-restart", action="store_true")
+    parser.add_argument("--probe", help=argparse.SUPPRESS)
+    parser.add_argument("--connections", type=int, help=argparse.SUPPRESS)
+    parser.add_argument("--numbers", action="store_true", help=argparse.SUPPRESS)
+    options = parser.parse_args(words)
+    if options.probe and options.connections:
+        print(probe_seats(options.probe, options.connections))
+        return 0
+    if options.probe:
+        is_reached = (probe_numbers if options.numbers else probe)(options.probe)
+        return 0 if is_reached else 1
+    if options.after_restart:
+        after_restart()
+    else:
+        install()
+        look_at_walls()
+        fill_sessions()
+        deny_settings()
+        stop_and_kill()
+        end_by_status()
+        purge(options.short)
+        back_up()
+        watch()
+        must("systemctl", "stop", "pathd")
+        fail_device(options.loop, by_hand=True)
+        fail_device(options.loop, by_hand=False)
+        start()
+        limit_access()
+        ROWS.register_many(20)
+        STATE.write_bytes(pickle.dumps(ROWS))
+    print(f"{STEPS.count} steps, {STEPS.wrong} came out otherwise, {STEPS.left_out} left out")
+    return 1 if STEPS.wrong else 0

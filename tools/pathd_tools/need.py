@@ -1,0 +1,111 @@
+"""Says which of these things are missing, and how to get each on Debian. The status is 2 where one is missing, and else 0.
+
+    tools/pathd-tools need [THING ..]
+
+All things are looked for if none is given. The tools and the benchmarks call this before they begin.
+"""
+from __future__ import annotations
+
+import os
+import shutil
+import subprocess
+import sys
+from collections.abc import Callable
+from dataclasses import dataclass
+
+from pathd_tools import TOP, toolbox
+
+DEBIANS_PYTHON = "/usr/bin/python3"
+
+
+@dataclass(frozen=True)
+class Thing:
+    """Something that a tool needs: whether it is there, and how to get it."""
+
+    name: str
+    is_there: Callable[[], bool]
+    how: str
+
+
+def runs(*words: str, given: str = "") -> bool:
+    """Whether a command ends with the status 0."""
+    try:
+        return subprocess.run(words, input=given, text=True, capture_output=True, check=False).returncode == 0
+    except OSError:
+        return False
+
+
+def program(name: str, package: str, command: str = "") -> Thing:
+    """A command that is on the PATH, of a package of Debian."""
+    return Thing(name, lambda: shutil.which(command or name) is not None, f"apt-get install {package}")
+
+
+def modules(name: str, imported: str, packages: str) -> Thing:
+    """Modules of Debian's Python."""
+    return Thing(name, lambda: runs(DEBIANS_PYTHON, "-c", f"import {imported}"), f"apt-get install {packages}")
+
+
+def header(name: str, file: str) -> Thing:
+    """A package whose header the C++ compiler finds."""
+    words = ("g++", "-fsyntax-only", "-x", "c++", "-")
+    return Thing(name, lambda: runs(*words, given=f"#include <{file}>\n"), f"apt-get install {name}")
+
+
+def is_new_python() -> bool:
+    """Whether Debian's Python has the version that the tools are written for."""
+    return runs(DEBIANS_PYTHON, "-c", "import sys; sys.exit(sys.version_info < (3, 11))")
+
+
+THINGS = [
+    Thing("rt", lambda: shutil.which("rt") is not None, "the toolchain, whose folder bin/ has to be on the PATH"),
+    Thing("pathd", lambda: os.access(TOP / "crates/pathd/out/pathd", os.X_OK), "cd crates/pathd && rt run -- --help"),
+    Thing("root", lambda: os.geteuid() == 0, "run it as root"),
+    Thing("python3", is_new_python, "apt-get install python3 (3.11 or later)"),
+    modules("python3-protobuf", "google.protobuf", "python3-protobuf"),
+    modules("python3-matplotlib", "matplotlib", "python3-matplotlib"),
+    program("protoc", "protobuf-compiler"),
+    program("strace", "strace"),
+    program("valgrind", "valgrind", "callgrind_annotate"),
+    program("perl", "perl"),
+    program("bc", "bc"),
+    Thing("time", lambda: os.access("/usr/bin/time", os.X_OK), "apt-get install time"),
+    program("losetup", "mount"),
+    program("nspawn", "systemd-container", "systemd-nspawn"),
+    program("nft", "nftables"),
+    program("ip", "iproute2"),
+    program("btrfs", "btrfs-progs", "mkfs.btrfs"),
+    modules("python3-venv", "ensurepip, setuptools, wheel", "python3-venv python3-setuptools python3-wheel"),
+    program("gcc", "gcc"),
+    program("g++", "g++"),
+    header("libprotobuf-dev", "google/protobuf/message.h"),
+    header("libleveldb-dev", "leveldb/db.h"),
+    header("libsqlite3-dev", "sqlite3.h"),
+    header("liblmdb-dev", "lmdb.h"),
+]
+
+
+def missing(names: list[str]) -> list[str]:
+    """A line for each of these things that is missing."""
+    known = {thing.name: thing for thing in THINGS}
+    unknown = [name for name in names if name not in known]
+    if unknown:
+        raise SystemExit(f"{unknown[0]} is not among the things of tools/pathd_tools/need.py")
+    return [f"missing: {name} ({known[name].how})" for name in names if not known[name].is_there()]
+
+
+def require(*names: str) -> None:
+    """Ends the tool with the status 2 where one of these things is missing, and says which."""
+    lines = missing(list(names))
+    if lines:
+        print(*lines, sep="\n", file=sys.stderr)
+        raise SystemExit(2)
+
+
+def main(words: list[str]) -> int:
+    """Says what is missing."""
+    parser = toolbox.parser(__doc__)
+    parser.add_argument("things", nargs="*", metavar="THING")
+    lines = missing(parser.parse_args(words).things or [thing.name for thing in THINGS])
+    for line in lines:
+        print(line, file=sys.stderr)
+    return 2 if lines else 0

@@ -1,0 +1,299 @@
+"""Runs of the built program for the scripts that attack it: a server on the loopback, a session's replies, random commands, and the histories
+by which what was answered is judged."""
+from __future__ import annotations
+
+import bisect
+import hashlib
+import os
+import random
+import re
+import shutil
+import signal
+import socket
+import subprocess
+import sys
+import tempfile
+import time
+from collections.abc import Iterator, Sequence
+from contextlib import contextmanager
+from pathlib import Path
+
+from pathd_model import model
+from pathd_tools import TOP, messages
+
+NATIVE = TOP / "tools" / "native"
+PROGRAM = TOP / "crates/pathd/out/pathd"
+# Segments of 2096, so that none expires by the machine's clock.
+MADE = 4_000_000_000
+CORE_A, CORE_B = 0x0001_FF00_0000_0110, 0x0002_0000_0000_FC00
+LEAVES = [0x0001_FF00_0000_0111 + n for n in range(4)]
+CORES = {CORE_A, CORE_B}
+LARGE = 3_000
+CORE_WORDS = ["--cores", "1-ff00:0:110,2-64512"]
+# Lookups of each kind, with wildcards among them.
+QUERIES = [(CORE_A, leaf) for leaf in LEAVES] + [(leaf, CORE_A) for leaf in LEAVES] + [
+    (CORE_A, CORE_B), (CORE_B, CORE_A), (1 << 48, LEAVES[0]), (LEAVES[1], 2 << 48), (0, LEAVES[2]), (LEAVES[3], 0), (CORE_A, 0),
+]
+
+
+def program_of(path: str | None) -> str:
+    """The program at a path, or the built one; ends the script where there is none."""
+    program = Path(path) if path else PROGRAM
+    if not os.access(program, os.X_OK):
+        raise SystemExit(f"no program: {program}; `rt run -- --help` in crates/pathd builds it")
+    return str(program.resolve())
+
+
+def compiled(source: str, folder: Path) -> str:
+    """A library to be preloaded, built from a C file of tools/native/."""
+    if shutil.which("cc") is None:
+        raise SystemExit("no C compiler: apt-get install gcc libc6-dev")
+    library = folder / (Path(source).stem + ".so")
+    subprocess.run(["cc", "-shared", "-fPIC", "-O1", str(NATIVE / source), "-o", str(library), "-ldl", "-lpthread"], check=True)
+    return str(library)
+
+
+@contextmanager
+def scratch() -> Iterator[Path]:
+    """A folder in memory, where there is one, which is removed at the end."""
+    where = "/dev/shm" if os.access("/dev/shm", os.W_OK) else None
+    folder = Path(tempfile.mkdtemp(prefix="pathd-", dir=where))
+    try:
+        yield folder
+    finally:
+        shutil.rmtree(folder, ignore_errors=True)
+
+
+def commit_name(program: str) -> str:
+    """What the figures are of: the commit of this tree, and the start of the program's SHA-256."""
+    words = ["git", "-C", str(TOP), "rev-parse", "--short=12", "HEAD"]
+    commit = subprocess.run(words, capture_output=True, text=True, check=False).stdout.strip() or "no commit"
+    return f"commit {commit}, program {hashlib.sha256(Path(program).read_bytes()).hexdigest()[:12]}"
+
+
+def format_store(program: str, store: Path, layout: model.Layout, version: int = 2) -> None:
+    """Makes a store, of version 1 where that is asked for."""
+    words = [program, "format", str(store), "--checkpoint", str(layout.checkpoint), "--journal", str(layout.journal)]
+    subprocess.run(words, check=True, stdout=subprocess.DEVNULL)
+    if version == 1:
+        with open(store, "r+b") as file:
+            file.seek(model.SECTOR + 7)
+            file.write(b"\1")
+
+
+class Server:
+    """A server of a store on a free port of the loopback, run by the words `under` where there are some."""
+
+    def __init__(
+        self,
+        program: str,
+        store: Path,
+        words: Sequence[str] = (),
+        env: dict | None = None,
+        limits: str = "",
+        notices: Path | None = None,
+        under: Sequence[str] = (),
+    ) -> None:
+        self.notices = notices or Path(f"{store}.notices")
+        command = [*under, program, "run", str(store), "--listen", "127.0.0.1:0", *CORE_WORDS, *words]
+        if limits:
+            command = ["bash", "-c", f'{limits} && exec "$@"', "bash", *command]
+        with open(self.notices, "wb") as lines:
+            self.process = subprocess.Popen(
+                command, stdin=subprocess.DEVNULL, stdout=subprocess.DEVNULL, stderr=lines, env={**os.environ, **(env or {})}
+            )
+        self.port = self._port()
+
+    def _port(self) -> int:
+        for _ in range(2000):
+            found = re.search(r" at 127\.0\.0\.1:(\d+):", self.notices.read_text())
+            if found:
+                return int(found.group(1))
+            if self.process.poll() is not None:
+                raise RuntimeError(f"the server ended: {self.notices.read_text()}")
+            time.sleep(0.005)
+        self.kill()
+        raise RuntimeError("the server doesn't listen")
+
+    def status_port(self) -> int:
+        """The port at which the server's numbers are asked for, where `--status` is among its words."""
+        return int(re.search(r"^pathd: status at 127\.0\.0\.1:(\d+)$", self.notices.read_text(), re.M).group(1))
+
+    def connect(self, timeout: float = 60.0) -> socket.socket:
+        """A connection to the server."""
+        connection = socket.create_connection(("127.0.0.1", self.port), timeout)
+        connection.setsockopt(socket.IPPROTO_TCP, socket.TCP_NODELAY, 1)
+        return connection
+
+    def status(self, name: str) -> int:
+        """A number of /proc/PID/status, as VmRSS or VmHWM in KiB, or Threads."""
+        text = Path(f"/proc/{self.process.pid}/status").read_text()
+        return int(re.search(rf"^{name}:\s+(\d+)", text, re.M).group(1))
+
+    def kill(self) -> None:
+        """Ends the server at once, as a crash does."""
+        if self.process.poll() is None:
+            self.process.send_signal(signal.SIGKILL)
+        self.process.wait()
+
+    def __enter__(self) -> Server:
+        return self
+
+    def __exit__(self, *_ended: object) -> None:
+        self.kill()
+
+
+class Replies:
+    """The contents of the frames that come over a connection."""
+
+    def __init__(self, connection: socket.socket) -> None:
+        self.connection = connection
+        self.rest = b""
+        self.contents: list[bytes] = []
+
+    def next(self) -> bytes:
+        """The next one; ConnectionError where the peer has ended."""
+        while not self.contents:
+            piece = self.connection.recv(1 << 18)
+            if not piece:
+                raise ConnectionError("the server ended the session")
+            self.contents, self.rest = messages.whole_frames(self.rest + piece)
+            self.contents.reverse()
+        return self.contents.pop()
+
+
+def shown(program: str, store: Path) -> tuple[int, bytes, bytes]:
+    """Status, output and errors of `show`."""
+    done = subprocess.run([program, "show", str(store)], capture_output=True, check=False)
+    return done.returncode, done.stdout, done.stderr
+
+
+class Forked:
+    """A command that is run again and again, without being loaded anew (tools/native/fork_server.c)."""
+
+    def __init__(self, library: str, words: list[str], folder: Path) -> None:
+        self.out, self.err = folder / "out", folder / "err"
+        asked, self.asking = os.pipe()
+        self.told, telling = os.pipe()
+        env = {**os.environ, "LD_PRELOAD": library, "FORK_OUT": str(self.out), "FORK_ERR": str(self.err)}
+        env |= {"FORK_ASKED": str(asked), "FORK_TOLD": str(telling)}
+        self.process = subprocess.Popen(words, env=env, pass_fds=(asked, telling), stdin=subprocess.DEVNULL)
+        os.close(asked)
+        os.close(telling)
+
+    def run(self) -> tuple[int, bytes, bytes]:
+        """Status, output and errors of a run."""
+        os.write(self.asking, b"\0")
+        told = os.read(self.told, 4)
+        if len(told) != 4:
+            raise RuntimeError("the program can't be started again")
+        status = int.from_bytes(told, sys.byteorder)
+        return os.waitstatus_to_exitcode(status), self.out.read_bytes(), self.err.read_bytes()
+
+    def close(self) -> None:
+        """Ends the process that starts the others."""
+        os.close(self.asking)
+        os.close(self.told)
+        self.process.wait()
+
+
+def make_rows(keys: int) -> list[tuple[int, list[messages.Hop]]]:
+    """This number of types and paths, of each type, between the ends of QUERIES."""
+    rows = []
+    for number in range(keys):
+        kind = 1 + number % 3
+        leaf = LEAVES[number // 3 % len(LEAVES)]
+        ends = (CORE_B, CORE_A) if kind == model.CORE else (CORE_A, leaf)
+        hops = [messages.Hop(ends[0], 0, 1 + number), messages.Hop(ends[1], 1 + number // 5, 0)]
+        if number % 4 == 3:
+            middle = messages.Hop(0x0001_FF00_0000_0200 + number, 7, 8)
+            hops = [hops[0], middle, hops[1]]
+        rows.append((kind, hops))
+    return rows
+
+
+class Commands:
+    """Random commands over a fixed number of keys; a share of the segments has sizes up to LARGE bytes."""
+
+    def __init__(self, seed: str, keys: int, share: float = 0) -> None:
+        self.random = random.Random(seed)
+        self.share = share
+        self.rows = make_rows(keys)
+        self.ids = {}
+
+    def segment(self, number: int) -> tuple[int, bytes]:
+        """A segment of the key of a number, made at a random time."""
+        kind, hops = self.rows[number]
+        made, exp_time = MADE + self.random.randrange(100_000), self.random.choice((60, 63))
+        if self.share and self.random.random() < self.share:
+            return kind, messages.segment_of_size(hops, made, self.random.randrange(400, LARGE), exp_time)
+        return kind, messages.make_segment(hops, made, exp_time)
+
+    def next(self, removals: float = 0.25, purges: float = 0.04) -> tuple:
+        """A registration, removal or purge."""
+        chosen = self.random.random()
+        if chosen < purges:
+            return ("purge", 2 * (MADE + self.random.randrange(-100, 25_000)) + 675 * 62)
+        if chosen < purges + removals:
+            kind, segment = self.segment(self.random.randrange(len(self.rows)))
+            return ("remove", kind, model.row_of(segment).id)
+        count = self.random.choice((1, 1, 1, 1, 2, 3, 5))
+        segments = [self.segment(self.random.randrange(len(self.rows))) for _ in range(count)]
+        return ("register", tuple(sorted(segments, key=lambda row: row[0])))
+
+
+def digest(body: bytes) -> bytes:
+    """A short name of a reply's body."""
+    return hashlib.blake2b(body, digest_size=12).digest()
+
+
+class Answers:
+    """What each query finds after each front of a list of commands, and what each command counts."""
+
+    def __init__(self, queries: Sequence[tuple[int, int]], start: dict | None = None) -> None:
+        self.db = dict(start or {})
+        self.count = 0
+        self.outcomes: list[tuple[int, int, int, int]] = []
+        self.asked = {query: model.classify(CORES, *query) for query in queries}
+        self.versions = {query: [0] for query in queries}
+        self.digests = {query: [self._digest(query)] for query in queries}
+
+    def _digest(self, query: tuple[int, int]) -> bytes:
+        asked = self.asked[query]
+        return digest(model.found_body(asked[0], model.matching(self.db, asked)))
+
+    def add(self, command: tuple) -> None:
+        """Folds the next command on."""
+        outcome = model.apply(self.db, command)
+        self.count += 1
+        self.outcomes.append(outcome)
+        if outcome == (0, 0, outcome[2], 0):
+            return
+        for query, asked in self.asked.items():
+            if self._touches(command, asked):
+                found = self._digest(query)
+                if found != self.digests[query][-1]:
+                    self.versions[query].append(self.count)
+                    self.digests[query].append(found)
+
+    @staticmethod
+    def _touches(command: tuple, asked: tuple[int, int, int]) -> bool:
+        kind, start, end = asked
+        if command[0] == "purge":
+            return True
+        if command[0] == "remove":
+            return command[1] == kind
+        for its, segment in command[1]:
+            row = model.row_of(segment)
+            if its == kind and model.covers(start, row.first) and model.covers(end, row.last):
+                return True
+        return False
+
+    def first_version(self, query: tuple[int, int], found: bytes, least: int) -> int | None:
+        """The length of the shortest front, of `least` commands or more, after which a query finds this."""
+        versions, digests = self.versions[query], self.digests[query]
+        at = bisect.bisect_right(versions, least) - 1
+        for index in range(at, len(versions)):
+            if digests[index] == found:
+                return max(versions[index], least)
+        return None

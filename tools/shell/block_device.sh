@@ -1,0 +1,78 @@
+#!/usr/bin/env bash
+# Runs the commands of the built program over a block device: a loop device of as many sectors as a store of C = 2 and J = 516
+# takes. It holds what a file would; a store that is too large for it is refused and leaves it as it is. Then over one that
+# loses what is written to it, as its own file lies in a folder without room: `format` is refused, and `show` finds no store,
+# though the kernel still gives the lost pages to reads. It needs to be run as root, and is no part of the gate.
+#
+#     tools/pathd-tools block-device [PROGRAM]
+#
+# PROGRAM is crates/pathd/out/pathd if left out, which `rt run` builds.
+set -u
+top=$(cd "$(dirname "${BASH_SOURCE[0]}")/../.." && pwd)
+"$top/tools/pathd-tools" need root losetup || exit
+program=$(realpath "${1:-$top/crates/pathd/out/pathd}") || exit 2
+[ -x "$program" ] || { echo "no program: $program" >&2; exit 2; }
+work=$(mktemp -d) || exit 2
+device=
+end() {
+  [ -z "$device" ] || losetup -d "$device"
+  mountpoint -q "$work/small" && umount "$work/small"
+  rm -rf "$work"
+}
+trap end EXIT
+
+runs=0
+differences=0
+
+ends() { # the wanted status, the wanted lines of standard output and error, and the words of a command
+  local wanted=$1 lines=$2 status
+  shift 2
+  "$program" "$@" >"$work/out" 2>&1
+  status=$?
+  runs=$((runs + 1))
+  if [ "$status" != "$wanted" ] || [ "$(cat "$work/out")" != "$lines" ]; then
+    echo "$*: status $status, $(cat "$work/out")"
+    differences=$((differences + 1))
+  fi
+}
+
+holds() { # the bytes of a file
+  cmp "$1" "$device" || differences=$((differences + 1))
+}
+
+truncate -s $((1039 * 512)) "$work/disk" || exit 2
+device=$(losetup -f --show "$work/disk") || exit 2
+"$program" format "$work/store" --checkpoint 2 --journal 516 >/dev/null || exit 2
+ends 1 "error: format 2" format "$device" --checkpoint 3 --journal 516
+ends 1 "error: open 1" show "$device"
+holds "$work/disk"
+ends 0 "formatted 1039 sectors" format "$device" --checkpoint 2 --journal 516
+holds "$work/store"
+ends 0 "place 0" show "$device"
+ends 0 "version 2" upgrade "$device"
+"$program" show "$work/store" --layout >"$work/layout" || exit 2
+ends 0 "$(cat "$work/layout")" show "$device" --layout
+holds "$work/store"
+exec 9<"$device"
+flock -x 9
+ends 1 "error: device 1" show "$device"
+ends 1 "error: device 1" format "$device" --checkpoint 2 --journal 516
+holds "$work/store"
+exec 9<&-
+losetup -d "$device"
+
+# A folder of 64 KiB with a file of 1,040 sectors, of which none has room once the folder is full. As long as the device is open
+# the kernel holds its pages, also those that it could not write.
+mkdir "$work/small"
+mount -t tmpfs -o size=64k tmpfs "$work/small" || exit 2
+truncate -s $((1040 * 512)) "$work/small/disk"
+dd if=/dev/zero of="$work/small/full" bs=4096 status=none 2>/dev/null
+device=$(losetup -f --show "$work/small/disk") || exit 2
+exec 9<"$device"
+ends 1 "error: format 3" format "$device" --checkpoint 2 --journal 516
+[ "$(head -c 8 "$device")" = SCPATHDB ] || echo "this kernel holds no lost page, so the last run shows nothing"
+ends 1 "error: open 1" show "$device"
+exec 9<&-
+
+echo "$runs runs, $differences differ"
+[ "$differences" = 0 ]

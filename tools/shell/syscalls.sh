@@ -1,0 +1,198 @@
+#!/usr/bin/env bash
+# Compares the calls that the built program makes of the system, on the file of a store, with the order that docs/FORMATS.md
+# draws for C = 2 and J = 516: which sectors are written, and where the syncs are between them. It needs Debian's strace, and
+# is no part of the gate.
+#
+#     tools/pathd-tools syscalls [PROGRAM [GROUPS]]
+#
+# PROGRAM is crates/pathd/out/pathd if left out, which `rt run` builds. GROUPS is the program that `bench/pathd-bench groups` copies to its
+# third argument; with it the calls of two groups of 32 registrations are compared, too. Offsets and lengths are counted in sectors of 512
+# bytes. Reads in a row are one line. What differs is printed as diff does, the calls that were made with '+'.
+set -u
+top=$(cd "$(dirname "${BASH_SOURCE[0]}")/../.." && pwd)
+"$top/tools/pathd-tools" need strace perl || exit
+program=$(realpath "${1:-$top/crates/pathd/out/pathd}") || exit 2
+[ -x "$program" ] || { echo "no program: $program" >&2; exit 2; }
+work=$(mktemp -d) || exit 2
+trap 'rm -rf "$work"' EXIT
+store=$work/store
+calls=openat,flock,ftruncate,fsync,fdatasync,fadvise64,pread64,pwrite64,read,write
+
+traces=0
+differences=0
+
+calls_made() { # what was traced, as the lines below
+  STORE=$store FOLDER=$work perl -ne '
+    sub sectors { $_[0] % 512 ? "$_[0] bytes" : $_[0] / 512 }
+    my ($store, $folder) = map quotemeta, @ENV{qw(STORE FOLDER)};
+    s/^\d+ +//;
+    my $line =
+        /^openat\(.*"$store", (\S+), 0666\)/ || /^openat\(.*"$store", (\S+)\)/ ? "open $1" =~ s/O_CLOEXEC|O_NOCTTY//gr
+      : /^flock\(\d+<$store>, (\S+)\)/ ? "lock $1"
+      : /^fadvise64\(\d+<$store>, 0, 0, (\w+)\)/ ? "advise $1"
+      : /^ftruncate\(\d+<$store>, (\d+)\)/ ? "length " . sectors($1)
+      : /^pread64\(\d+<$store>/ ? "read"
+      : /^pwrite64\(\d+<$store>, .*, (\d+), (\d+)\)/ ? "write " . sectors($1) . " at " . sectors($2)
+      : /^(fsync|fdatasync)\(\d+<$store>\)/ ? $1
+      : /^fsync\(\d+<$folder>\)/ ? "fsync of the folder"
+      : /^write\(1</ ? "print"
+      : /<$store>/ ? $_ : next;
+    $line =~ s/\|+/|/g; $line =~ s/\|$//;
+    print "$line\n" unless $line eq "read" && $last eq "read";
+    $last = $line' "$work/trace"
+}
+
+makes() { # the words of a command; standard input has the calls that it is to make, in order
+  strace -y -s 8 -o "$work/trace" -e trace=$calls "$program" "$@" >/dev/null || differences=$((differences + 1))
+  traces=$((traces + 1))
+  calls_made >"$work/made"
+  diff -u --label drawn --label "$*" - "$work/made" || differences=$((differences + 1))
+}
+
+put() { # a sector, an offset in it, and bytes as printf takes them
+  printf "$3" | dd of="$store" bs=1 seek=$(($1 * 512 + $2)) conv=notrunc status=none
+}
+
+# A new store: its file first, and then the sectors of line 1.
+makes format "$store" --checkpoint 2 --journal 516 <<'LINES'
+open O_RDWR|O_CREAT
+lock LOCK_EX|LOCK_NB
+length 0
+length 1039
+fsync
+fsync of the folder
+write 1 at 0
+write 1 at 1
+write 1 at 3
+write 1 at 4
+write 1 at 522
+write 1 at 523
+fdatasync
+print
+LINES
+
+# A store at rest: nothing is written.
+makes show "$store" <<'LINES'
+open O_RDWR
+lock LOCK_EX|LOCK_NB
+advise POSIX_FADV_DONTNEED
+fdatasync
+read
+fdatasync
+print
+LINES
+
+makes show "$store" --layout <<'LINES'
+open O_RDONLY
+lock LOCK_SH|LOCK_NB
+advise POSIX_FADV_DONTNEED
+read
+print
+LINES
+
+makes status "$store" <<'LINES'
+open O_RDONLY
+lock LOCK_SH|LOCK_NB
+advise POSIX_FADV_DONTNEED
+read
+print
+LINES
+
+# A store as at line 9: the second half is open beside the first one, with epoch 2. The first half's gates are closed.
+put 520 0 'PCKP\0\0\0\2\0\0\0\0\0\0\0\2'
+put 522 0 '\xa7'
+makes show "$store" <<'LINES'
+open O_RDWR
+lock LOCK_EX|LOCK_NB
+advise POSIX_FADV_DONTNEED
+fdatasync
+read
+write 2 at 3
+fdatasync
+print
+LINES
+
+# One whose other half is closed and has an open gate in its journal: that one is closed.
+put 4 0 '\xa7'
+makes show "$store" <<'LINES'
+open O_RDWR
+lock LOCK_EX|LOCK_NB
+advise POSIX_FADV_DONTNEED
+fdatasync
+read
+write 1 at 4
+fdatasync
+print
+LINES
+
+# A store of version 1: the checkpoint is laid in the first half, that half is opened, and the second one is closed.
+put 520 4 '\0\0\0\1'
+makes upgrade "$store" <<'LINES'
+open O_RDWR
+lock LOCK_EX|LOCK_NB
+advise POSIX_FADV_DONTNEED
+fdatasync
+read
+fdatasync
+write 1 at 1
+fdatasync
+write 1 at 3
+fdatasync
+write 2 at 522
+fdatasync
+print
+LINES
+
+# One of version 2: nothing is written.
+makes upgrade "$store" <<'LINES'
+open O_RDWR
+lock LOCK_EX|LOCK_NB
+advise POSIX_FADV_DONTNEED
+fdatasync
+read
+fdatasync
+print
+LINES
+
+# Two groups in a store of C = 64: each is its payload with the next gate, closed, and then its own gate, open; each write is synced
+# before the next one.
+commits() { # the program of `bench/pathd-bench groups`
+  local folder=$work/groups sectors
+  mkdir "$folder" || exit 2
+  python3 "$top/bench/walks_rows.py" "$folder/segments" 32 0 32
+  echo "64 516 2" >"$folder/plan"
+  truncate -s $((512 * (1 + 2 * (64 + 1 + 516)))) "$folder/store"
+  sectors=$(((16 + $(stat -c %s "$folder/segments") + 7 * 32 + 511) / 512 + 1))
+  (cd "$folder" && strace -y -s 8 -o "$work/trace" -e trace=pread64,pwrite64,fsync,fdatasync "$1" >/dev/null) \
+    || differences=$((differences + 1))
+  traces=$((traces + 1))
+  store=$folder/store calls_made >"$work/made"
+  diff -u --label drawn --label "two groups" - "$work/made" <<LINES || differences=$((differences + 1))
+write 1 at 0
+write 1 at 1
+write 1 at 65
+write 1 at 66
+write 1 at 646
+write 1 at 647
+fdatasync
+fdatasync
+read
+fdatasync
+write $sectors at 67
+fdatasync
+write 1 at 66
+fdatasync
+write $sectors at $((67 + sectors))
+fdatasync
+write 1 at $((66 + sectors))
+fdatasync
+fdatasync
+read
+fdatasync
+LINES
+}
+
+[ $# -lt 2 ] || commits "$(realpath "$2")"
+
+echo "$traces commands, $differences differ"
+[ "$differences" = 0 ]
