@@ -1,6 +1,6 @@
 /* Rows in LMDB by an index of one end: what a lookup takes that shows the rows of one ISD-AS.
  *
- *     lmdb_walks fill KEYED FOLDER                          keeps the rows of walks_rows.py
+ *     lmdb_walks fill KEYED FOLDER                          keeps the rows of `bench/pathd-bench walks-rows`
  *     lmdb_walks read FOLDER LEAVES LOOKUPS point|copy|each     prints the rows shown, and the nanoseconds of a lookup
  *
  * `rows` has under its key, the type and the id, a row's two ends and when it expires, which a lookup judges, and the encoding.

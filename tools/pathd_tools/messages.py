@@ -153,3 +153,12 @@ def whole_frames(data: bytes) -> tuple[list[bytes], bytes]:
         contents.append(data[at + 4 : at + 4 + length])
         at += 4 + length
     return contents, data[at:]
+
+
+def count_frames(data: bytes) -> int:
+    """How many frames there are, of which all are whole."""
+    at = count = 0
+    while at < len(data):
+        at += 4 + int.from_bytes(data[at : at + 4], "big")
+        count += 1
+    return count

@@ -159,7 +159,7 @@ LINES
 commits() { # the program of `bench/pathd-bench groups`
   local folder=$work/groups sectors
   mkdir "$folder" || exit 2
-  python3 "$top/bench/walks_rows.py" "$folder/segments" 32 0 32
+  "$top/bench/pathd-bench" walks-rows "$folder/segments" 32 0 32
   echo "64 516 2" >"$folder/plan"
   truncate -s $((512 * (1 + 2 * (64 + 1 + 516)))) "$folder/store"
   sectors=$(((16 + $(stat -c %s "$folder/segments") + 7 * 32 + 511) / 512 + 1))

@@ -4,19 +4,14 @@
 # segments, written and read back. All of it by the processor's time and by the clock, in the same rounds: medians of nine. It
 # needs g++ and Debian's libleveldb-dev. It proves and builds a program in a temporary folder, and leaves no file behind; with a
 # folder as its argument it copies the program and its input there.
-set -euo pipefail
-root=$(cd "$(dirname "$0")/.." && pwd)
-"$root/tools/need.sh" rt python3 g++ libleveldb-dev
-work=$(mktemp -d)
-trap 'rm -rf "$work"' EXIT
-mkdir -p "$work/crates/journals/src"
-"$root/bench/crates.py" "$work" 'journals: gate_journal path_db seg_core'
-cp "$root/bench/journals.rattle" "$work/crates/journals/src/main.rt"
-git init -q "$work"
-python3 "$root/bench/frames.py" segment 4 > "$work/segment"
+source "$(dirname "${BASH_SOURCE[0]}")/common.sh"
+need rt python3 g++ libleveldb-dev
+scratch
+crate journals 'gate_journal path_db seg_core'
+"$bench" frames segment 4 > "$work/segment"
 g++ -O2 "$root/bench/leveldb_log.cc" -o "$work/leveldb_log" -lleveldb
 cd "$work/crates/journals"
-rt run < "$work/segment" > "$work/log" 2>&1 || { cat "$work/log"; exit 1; }
+quietly rt run < "$work/segment"
 for _ in 1 2 3 4 5 6 7 8 9; do
   ours=$(out/journals < "$work/segment")
   rm -rf "$work/store"
@@ -27,4 +22,4 @@ done > "$work/rounds"
 uptime
 echo "of each time the processor's seconds, then those of the clock"
 echo "bytes of journal, commands, to write, to scan, to copy; bytes of segments, LevelDB to write, to read"
-python3 "$root/bench/median.py" < "$work/rounds"
+"$bench" median < "$work/rounds"

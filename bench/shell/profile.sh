@@ -5,14 +5,12 @@
 # of filling the database are taken off: of each session another is run without the part that is asked for, and the
 # difference is printed. It needs Debian's valgrind, Python 3 and the program built.
 #
-#     bench/profile.sh [PROGRAM]
-set -euo pipefail
-top=$(cd "$(dirname "${BASH_SOURCE[0]}")/.." && pwd)
-"$top/tools/need.sh" valgrind python3
-program=$(realpath "${1:-$top/crates/pathd/out/pathd}")
-work=$(mktemp -d)
-trap 'rm -rf "$work"' EXIT
-frames() { python3 "$top/bench/frames.py" "$@"; }
+#     bench/pathd-bench profile [PROGRAM]
+source "$(dirname "${BASH_SOURCE[0]}")/common.sh"
+need valgrind python3
+program=$(built "${1:-}")
+scratch
+frames() { "$bench" frames "$@"; }
 
 profile() { # the name of its figures, and the frames
   cat "${@:2}" >"$work/in"
@@ -26,7 +24,7 @@ profile() { # the name of its figures, and the frames
 tell() { # the title, the name of the figures of the whole, and of the base
   echo "== $1"
   for how in yes no; do
-    python3 "$top/bench/instructions.py" "$work/$2.$how" "$work/$3.$how" "$how"
+    "$bench" instructions "$work/$2.$how" "$work/$3.$how" "$how"
   done
 }
 

@@ -8,23 +8,19 @@
 # libleveldb-dev. It proves and builds a program in a temporary folder, and leaves no file behind; with a folder as its third argument it
 # copies the program there.
 #
-#     bench/groups.sh [GROUPS [MANY [FOLDER]]]
-set -euo pipefail
-root=$(cd "$(dirname "$0")/.." && pwd)
-"$root/tools/need.sh" rt python3 gcc g++ bc libleveldb-dev
+#     bench/pathd-bench groups [GROUPS [MANY [FOLDER]]]
+source "$(dirname "${BASH_SOURCE[0]}")/common.sh"
+need rt python3 gcc g++ bc libleveldb-dev
 groups=${1:-300}
 many=${2:-100000}
-work=$(mktemp -d)
+scratch
 shm=$(mktemp -d -p /dev/shm)
 trap 'rm -rf "$work" "$shm"' EXIT
-mkdir -p "$work/crates/groups/src"
-"$root/bench/crates.py" "$work" 'groups: group_core store_open sector_dev path_db seg_core'
-cp "$root/bench/groups.rattle" "$work/crates/groups/src/main.rt"
-git init -q "$work"
+crate groups 'group_core store_open sector_dev path_db seg_core'
 gcc -O2 "$root/bench/group_writes.c" -o "$work/group_writes"
 gcc -O2 -shared -fPIC "$root/bench/slow_sync.c" -o "$work/slow_sync.so"
 g++ -O2 "$root/bench/leveldb_groups.cc" -o "$work/leveldb_groups" -lleveldb
-python3 "$root/bench/walks_rows.py" "$work/segments" 32 0 32
+"$bench" walks-rows "$work/segments" 32 0 32
 
 # A folder with the 32 segments, the sizes of a store's area and journal and how many groups, and a file of zeros for that store.
 area=64
@@ -45,7 +41,7 @@ prepare "$shm/many" $((36 * sectors + 2)) "$many"
 cp -r "$work/plain/." "$work/crates/groups"
 cd "$work/crates/groups"
 echo "$area 516 10" > plan
-rt run > "$work/log" 2>&1 || { cat "$work/log"; exit 1; }
+quietly rt run
 [ $# -lt 3 ] || cp out/groups "$3"
 
 ours() { # the seconds by the clock and of the processor of so many groups in a folder, and the epoch then
@@ -70,14 +66,14 @@ rounds() { # nine rounds, in lines of the seconds of each
 
 tell() {
   echo "commands a second: ours, the writes and syncs alone, LevelDB; ours over each; with a checkpointer, over each; and the last epoch"
-  awk '{ n = 32 * $1; print n / $4, n / $2, n / $8, $2 / $4, $8 / $4, n / $6, $2 / $6, $8 / $6, $10 }' "$work/rounds" | python3 "$root/bench/median.py"
+  awk '{ n = 32 * $1; print n / $4, n / $2, n / $8, $2 / $4, $8 / $4, n / $6, $2 / $6, $8 / $6, $10 }' "$work/rounds" | "$bench" median
 }
 
 rounds
 uptime
 tell
 echo "microseconds of the processor for a command: ours, the writes and syncs alone, LevelDB; ours with a checkpointer"
-awk '{ n = 32 * $1 / 1e6; print $5 / n, $3 / n, $9 / n, $7 / n }' "$work/rounds" | python3 "$root/bench/median.py"
+awk '{ n = 32 * $1 / 1e6; print $5 / n, $3 / n, $9 / n, $7 / n }' "$work/rounds" | "$bench" median
 for longer in 100 1000; do
   echo "with $longer microseconds more for each sync:"
   export LD_PRELOAD="$work/slow_sync.so" SYNC_MICROSECONDS=$longer

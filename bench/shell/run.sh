@@ -2,18 +2,16 @@
 # Measures `pathd once` (docs/BENCHMARKS.md). It is no part of the gate. It needs Debian's g++, bc, time,
 # protobuf-compiler and libprotobuf-dev, and the program built: `rt run -- --help` in crates/pathd once.
 #
-#     bench/run.sh [PROGRAM [EARLIER]]
+#     bench/pathd-bench run [PROGRAM [EARLIER]]
 #
 # Seconds are those that a program ran on a processor, from its start to its end; each figure is the median of nine
 # rounds, in brackets the least and the greatest. EARLIER is another build of the program, which is measured in the same
 # rounds.
-set -euo pipefail
-top=$(cd "$(dirname "${BASH_SOURCE[0]}")/.." && pwd)
-"$top/tools/need.sh" python3 g++ bc time protoc libprotobuf-dev
-program=$(realpath "${1:-$top/crates/pathd/out/pathd}")
+source "$(dirname "${BASH_SOURCE[0]}")/common.sh"
+need python3 g++ bc time protoc libprotobuf-dev
+program=$(built "${1:-}")
 earlier=${2:+$(realpath "$2")}
-work=$(mktemp -d)
-trap 'rm -rf "$work"' EXIT
+scratch
 cd "$work"
 
 session() { # the seconds of a program's session over a file
@@ -37,18 +35,18 @@ rounds() { # the name of the frames, their file, the frame that protobuf parses,
     echo "$ours $theirs $(echo "$ours / $theirs" | bc -l) ${before:+$before $(echo "$ours / $before" | bc -l)}"
   done >figures
   echo "$name, $(stat -c %s "$2") bytes: seconds of pathd, of protobuf, ratio${earlier:+, of the earlier program, ratio}"
-  python3 "$top/bench/median.py" <figures
+  "$bench" median <figures
 }
 
-protoc --cpp_out="$work" --proto_path="$top/docs" segments.proto
-g++ -O2 -std=c++17 -I"$work" "$top/bench/protobuf_parse.cc" segments.pb.cc -lprotobuf -lpthread -o protobuf_parse
+protoc --cpp_out="$work" --proto_path="$root/docs" segments.proto
+g++ -O2 -std=c++17 -I"$work" "$root/bench/protobuf_parse.cc" segments.pb.cc -lprotobuf -lpthread -o protobuf_parse
 
-python3 "$top/bench/frames.py" pairs 200000 >pairs
-python3 "$top/bench/frames.py" pairs 1000 >few
+"$bench" frames pairs 200000 >pairs
+"$bench" frames pairs 1000 >few
 head -c 101 pairs >first # the registration of a pair
 rounds "200,000 pairs" pairs first 200000
 echo "memory: $(memory few) KiB over 1,000 pairs, $(memory pairs) KiB over 200,000 pairs"
 
-python3 "$top/bench/frames.py" registrations 1 >one
-python3 "$top/bench/frames.py" registrations 4000 >many
+"$bench" frames registrations 1 >one
+"$bench" frames registrations 4000 >many
 rounds "4,000 registrations of 16 segments" many one 4000

@@ -5,28 +5,23 @@
 # and, in KiB, the memory that is resident before the checkpoint, after `begin` and at the end, and the most of it. It needs Python 3, gcc and bc, and 1.5 GB on
 # a disk and of memory for the last. It proves and builds a program in a temporary folder, and leaves no file behind.
 #
-#     bench/checkpoints.sh [ROWS ..]
-set -euo pipefail
-root=$(cd "$(dirname "$0")/.." && pwd)
-"$root/tools/need.sh" rt python3 gcc bc
+#     bench/pathd-bench checkpoints [ROWS ..]
+source "$(dirname "${BASH_SOURCE[0]}")/common.sh"
+need rt python3 gcc bc
 [ $# -gt 0 ] || set -- 10000 100000 1000000
-work=$(mktemp -d)
-trap 'rm -rf "$work"' EXIT
-mkdir -p "$work/crates/checkpoints/src"
-"$root/bench/crates.py" "$work" 'checkpoints: group_core store_open sector_dev'
-cp "$root/bench/checkpoints.rattle" "$work/crates/checkpoints/src/main.rt"
-git init -q "$work"
+scratch
+crate checkpoints 'group_core store_open sector_dev'
 gcc -O2 "$root/bench/write_same.c" -o "$work/write_same"
 cd "$work/crates/checkpoints"
-python3 "$root/bench/store_image.py" store 1000 100 2 sealed
-rt run > "$work/log" 2>&1 || { cat "$work/log"; exit 1; }
+"$bench" store-image store 1000 100 2 sealed
+quietly rt run
 fresh() { # the store again, with a place on the disk for each of its sectors, as it has from its second checkpoint on
   cp --sparse=never "$work/image" store
   sync store
 }
 for rows in "$@"; do
   more=$((rows / 100 > 1000 ? rows / 100 : 1000))
-  python3 "$root/bench/store_image.py" "$work/image" "$rows" "$more" 2 sealed
+  "$bench" store-image "$work/image" "$rows" "$more" 2 sealed
   rm "$work/image.values"
   for _ in 1 2 3; do
     fresh
@@ -40,5 +35,5 @@ print((32 + int.from_bytes(f.read(4), 'big') + 511) // 512 * 512)")
       END { print 1e3 * b, 1e3 * s, 1e3 * w, 1e3 * alone, w / alone, r[1], r[2], r[3], h, size / 1024 }' "$work/ours"
   done > "$work/rounds"
   echo "$rows rows, $more commands: milliseconds of begin, of the slowest chunk, of all, of the writes alone, ratio; KiB before, after begin, at the end, at the most, of the checkpoint"
-  python3 "$root/bench/median.py" < "$work/rounds"
+  "$bench" median < "$work/rounds"
 done

@@ -5,26 +5,21 @@
 # Python 3, g++, bc and Debian's libleveldb-dev and libsqlite3-dev. It proves and builds a program in a temporary folder, and
 # leaves no file behind.
 #
-#     bench/store.sh [ROWS MORE]
-set -euo pipefail
-root=$(cd "$(dirname "$0")/.." && pwd)
-"$root/tools/need.sh" rt python3 gcc g++ bc libleveldb-dev libsqlite3-dev
+#     bench/pathd-bench store [ROWS MORE]
+source "$(dirname "${BASH_SOURCE[0]}")/common.sh"
+need rt python3 gcc g++ bc libleveldb-dev libsqlite3-dev
 rows=${1:-20000}
 more=${2:-2000}
-work=$(mktemp -d)
-trap 'rm -rf "$work"' EXIT
-mkdir -p "$work/crates/stores/src"
-"$root/bench/crates.py" "$work" 'stores: store_open sector_dev path_db'
-cp "$root/bench/stores.rattle" "$work/crates/stores/src/main.rt"
-git init -q "$work"
-python3 "$root/bench/store_image.py" "$work/image" "$rows" "$more"
+scratch
+crate stores 'store_open sector_dev path_db'
+"$bench" store-image "$work/image" "$rows" "$more"
 g++ -O2 "$root/bench/store_rivals.cc" -o "$work/rivals" -lleveldb -lsqlite3
 gcc -O2 "$root/bench/write_same.c" -o "$work/write_same"
 "$work/rivals" fill leveldb "$work/image.values" "$work/leveldb"
 "$work/rivals" fill sqlite "$work/image.values" "$work/sqlite"
 cd "$work/crates/stores"
 cp "$work/image" store
-rt run > "$work/log" 2>&1 || { cat "$work/log"; exit 1; }
+quietly rt run
 fresh() { # the store again, with a place on the disk for each of its sectors, as it has from its second checkpoint on
   cp --sparse=never "$work/image" store
   sync store
@@ -44,4 +39,4 @@ for _ in 1 2 3 4 5 6 7 8 9; do
     "$checkpointed $alone $(echo "$checkpointed / $alone" | bc -l) $memory $(echo "1024 * $memory / $bytes" | bc -l)"
 done > "$work/rounds"
 echo "seconds to open: ours, LevelDB, SQLite, ratios; of a checkpoint, of its writes alone, ratio; KiB of memory, over the rows' bytes"
-python3 "$root/bench/median.py" < "$work/rounds"
+"$bench" median < "$work/rounds"

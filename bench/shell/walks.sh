@@ -5,29 +5,24 @@
 # its encoding. Medians of nine rounds. It needs Python 3, gcc, bc and Debian's liblmdb-dev. It proves and builds a program in a
 # temporary folder, and leaves no file behind; with a folder as its second argument it copies the program there.
 #
-#     bench/walks.sh [ENTRIES [FOLDER]]
-set -euo pipefail
-root=$(cd "$(dirname "$0")/.." && pwd)
-"$root/tools/need.sh" rt python3 gcc bc liblmdb-dev
+#     bench/pathd-bench walks [ENTRIES [FOLDER]]
+source "$(dirname "${BASH_SOURCE[0]}")/common.sh"
+need rt python3 gcc bc liblmdb-dev
 entries=${1:-4}
-work=$(mktemp -d)
-trap 'rm -rf "$work"' EXIT
-mkdir -p "$work/crates/walks/src"
-"$root/bench/crates.py" "$work" 'walks: seg_lookup path_db seg_core isd_as'
-cp "$root/bench/walks.rattle" "$work/crates/walks/src/main.rt"
-git init -q "$work"
+scratch
+crate walks 'seg_lookup path_db seg_core isd_as'
 gcc -O2 "$root/bench/lmdb_walks.c" -o "$work/lmdb_walks" -llmdb
 sizes="1000 20000 200000"
 for rows in $sizes; do
   mkdir -p "$work/$rows/lmdb"
-  python3 "$root/bench/walks_rows.py" "$work/$rows/rows" "$rows" 0 $((rows / 40)) "$entries"
-  python3 "$root/bench/walks_rows.py" "$work/$rows/new" 1000 "$rows" $((rows / 40)) "$entries"
+  "$bench" walks-rows "$work/$rows/rows" "$rows" 0 $((rows / 40)) "$entries"
+  "$bench" walks-rows "$work/$rows/new" 1000 "$rows" $((rows / 40)) "$entries"
   echo 20000 > "$work/$rows/lookups"
   "$work/lmdb_walks" fill "$work/$rows/rows.keyed" "$work/$rows/lmdb"
 done
 cd "$work/crates/walks"
 cp "$work/1000/rows" "$work/1000/new" "$work/1000/lookups" .
-rt run > "$work/log" 2>&1 || { cat "$work/log"; exit 1; }
+quietly rt run
 [ $# -lt 2 ] || cp out/walks "$2"
 
 theirs() { # the nanoseconds of a lookup by LMDB, with an answer of this kind
@@ -55,7 +50,7 @@ done
 uptime
 for rows in $sizes; do
   echo "among $rows rows: nanoseconds of a lookup, by LMDB pointed at, copied, copied apart, times ours of these; of a registration; bytes over encoded"
-  python3 "$root/bench/median.py" < "$work/$rows/rounds"
+  "$bench" median < "$work/$rows/rounds"
 done
 echo "a registration into 20,000 and 200,000 rows beside one into 1,000"
-python3 "$root/bench/median.py" < "$work/growth"
+"$bench" median < "$work/growth"

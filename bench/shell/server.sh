@@ -13,10 +13,9 @@
 #
 # Each figure is taken over SECONDS_EACH seconds, 2 where that variable is not set.
 #
-#     bench/server.sh [ROUNDS [PATHD ECHO]]
-set -euo pipefail
-root=$(cd "$(dirname "$0")/.." && pwd)
-"$root/tools/need.sh" python3 gcc g++ libleveldb-dev libsqlite3-dev
+#     bench/pathd-bench server [ROUNDS [PATHD ECHO]]
+source "$(dirname "${BASH_SOURCE[0]}")/common.sh"
+need python3 gcc g++ libleveldb-dev libsqlite3-dev
 rounds=${1:-5}
 work=$(mktemp -d)
 store=$(mktemp -d -p /dev/shm)
@@ -36,7 +35,7 @@ else
   (cd "$work/echo/crates/echo_server" && RT_SECONDS=1 rt run >/dev/null 2>&1) || true
   echo=$work/echo/crates/echo_server/out/echo_server
 fi
-gcc -O2 -o "$work/load" "$root/tools/load.c" -lpthread
+gcc -O2 -o "$work/load" "$root/tools/native/load.c" -lpthread
 gcc -O2 -shared -fPIC -o "$work/slow_sync.so" "$root/bench/slow_sync.c"
 g++ -O2 -o "$work/rivals" "$root/bench/server_rivals.cc" -lleveldb -lsqlite3 -lpthread
 seconds=${SECONDS_EACH:-2}
@@ -133,7 +132,7 @@ resident() {
   # A thousand sessions a second and more, one after the other in each of 32 threads.
   load 32 10 connect >> "$work/coming"
   gone=$(awk '/VmRSS/ {print $2}' "/proc/$server/status")
-  python3 "$root/bench/server_rows.py" "$port" 100000
+  "$bench" server-rows "$port" 100000
   full=$(awk '/VmRSS/ {print $2}' "/proc/$server/status")
   stop
   echo "$none $one $many $gone $full" >> "$work/resident"
@@ -145,17 +144,16 @@ for _ in $(seq "$rounds"); do
   latencies
   resident
 done
-median="$root/bench/median.py"
 for sessions in 1 8 64; do
-  echo "lookups a second, $sessions sessions: ours, echo, ratio: $(python3 "$median" < "$work/lookups_$sessions")"
+  echo "lookups a second, $sessions sessions: ours, echo, ratio: $("$bench" median < "$work/lookups_$sessions")"
 done
-echo "lookups a second in batches of 100, 1 session: $(python3 "$median" < "$work/batches")"
+echo "lookups a second in batches of 100, 1 session: $("$bench" median < "$work/batches")"
 for delay in 0 100 1000; do
   for sessions in 1 8 64; do
-    echo "registrations a second, $delay us more a sync, $sessions sessions: ours, LevelDB, ratio, SQLite, ratio: $(python3 "$median" < "$work/registrations_${delay}_$sessions")"
+    echo "registrations a second, $delay us more a sync, $sessions sessions: ours, LevelDB, ratio, SQLite, ratio: $("$bench" median < "$work/registrations_${delay}_$sessions")"
   done
 done
-echo "a lookup's 50th, 99th, 99.9th percentile in us, 4 sessions, nobody registers: $(python3 "$median" < "$work/idle")"
-echo "the same while 8 sessions register at half of their greatest rate: $(python3 "$median" < "$work/busy")"
-echo "sessions of one request a second, 32 at one time, and their percentiles in us: $(python3 "$median" < "$work/coming")"
-echo "resident KiB before a session, after 1, after 64 at one time, after 10 seconds of sessions, with 100,000 rows: $(python3 "$median" < "$work/resident")"
+echo "a lookup's 50th, 99th, 99.9th percentile in us, 4 sessions, nobody registers: $("$bench" median < "$work/idle")"
+echo "the same while 8 sessions register at half of their greatest rate: $("$bench" median < "$work/busy")"
+echo "sessions of one request a second, 32 at one time, and their percentiles in us: $("$bench" median < "$work/coming")"
+echo "resident KiB before a session, after 1, after 64 at one time, after 10 seconds of sessions, with 100,000 rows: $("$bench" median < "$work/resident")"

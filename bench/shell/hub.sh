@@ -12,7 +12,7 @@
 # It needs Python 3 and gcc. It proves and builds its program in a temporary folder, and leaves no file there; with a folder as its second
 # argument it copies the program there. A third argument is a program that was built before, which it runs in place of building one.
 #
-#     bench/hub.sh [ROUNDS [FOLDER [PROGRAM]]]
+#     bench/pathd-bench hub [ROUNDS [FOLDER [PROGRAM]]]
 #
 # With `stress` it runs bench/hub_stress.rattle in place of this: eight threads that register, remove and purge, and eight that look up,
 # LOOKUPS times in all (1,000,000 where none is given), at a hub whose journal is sealed every few groups. Each lookup is then checked
@@ -21,18 +21,13 @@
 # time, prints how many errors each check found, and ends with status 1 where one found none. With a FOLDER it keeps the program there, and
 # runs the one that it finds there.
 #
-#     bench/hub.sh stress [LOOKUPS] [--break] [FOLDER]
-set -euo pipefail
-root=$(cd "$(dirname "$0")/.." && pwd)
-"$root/tools/need.sh" rt python3 gcc
-work=$(mktemp -d)
-trap 'rm -rf "$work"' EXIT
+#     bench/pathd-bench hub stress [LOOKUPS] [--break] [FOLDER]
+source "$(dirname "${BASH_SOURCE[0]}")/common.sh"
+need rt python3 gcc
+scratch
 
-crates() { # copies the crates that a program here is built on, and lists them and the program, whose name this is
-  mkdir -p "$work/crates/$1/src"
-  "$root/bench/crates.py" "$work" "$1: path_hub store_open sector_dev seg_lookup path_db seg_core isd_as"
-  git init -q "$work"
-}
+# The crates that the two programs are built on.
+uses='path_hub store_open sector_dev seg_lookup path_db seg_core isd_as'
 
 if [ "${1:-}" = stress ]; then
   shift
@@ -46,12 +41,11 @@ if [ "${1:-}" = stress ]; then
       *) lookups=$word ;;
     esac
   done
-  python3 "$root/bench/walks_rows.py" "$work/segments" 64 0 8
+  "$bench" walks-rows "$work/segments" 64 0 8
   program=${folder:-$work}/hub_stress
   if [ ! -x "$program" ]; then
-    crates hub_stress
-    cp "$root/bench/hub_stress.rattle" "$work/crates/hub_stress/src/main.rt"
-    (cd "$work/crates/hub_stress" && rt run -- "$work/segments" 8) > "$work/log" 2>&1 || { cat "$work/log"; exit 1; }
+    crate hub_stress "$uses"
+    (cd "$work/crates/hub_stress" && quietly rt run -- "$work/segments" 8)
     cp "$work/crates/hub_stress/out/hub_stress" "$program"
   fi
   "$program" "$work/segments" "$lookups" $faults
@@ -59,14 +53,13 @@ if [ "${1:-}" = stress ]; then
 fi
 rounds=${1:-9}
 program=${3:+$(realpath "$3")}
-python3 "$root/bench/walks_rows.py" "$work/segments" 1000 0 1000
+"$bench" walks-rows "$work/segments" 1000 0 1000
 gcc -O2 "$root/bench/group_writes.c" -o "$work/group_writes"
 gcc -O2 -shared -fPIC "$root/bench/slow_sync.c" -o "$work/slow_sync.so"
 if [ -z "$program" ]; then
-  crates hub_figures
-  cp "$root/bench/hub_figures.rattle" "$work/crates/hub_figures/src/main.rt"
+  crate hub_figures "$uses"
   cp "$work/segments" "$work/crates/hub_figures"
-  (cd "$work/crates/hub_figures" && rt run -- alone) > "$work/log" 2>&1 || { cat "$work/log"; exit 1; }
+  (cd "$work/crates/hub_figures" && quietly rt run -- alone)
   program=$work/crates/hub_figures/out/hub_figures
   [ $# -lt 2 ] || cp "$program" "$2"
 fi
@@ -129,7 +122,7 @@ for ((round = 0; round < rounds; round++)); do each_round; done
 uptime
 while read -r file what; do
   echo "$what"
-  python3 "$root/bench/median.py" < "$file"
+  "$bench" median < "$file"
 done <<'LINES'
 lookups lookups a second by 1, 2 and 4 threads, and the last two over the first:
 percentiles nanoseconds of the 99th percentile of a lookup, idle and while groups commit and checkpoints run, and the second over the first:

@@ -1,0 +1,41 @@
+"""The benchmarks of bench/pathd-bench, and their parts."""
+from pathd_tools import TOP
+from pathd_tools.toolbox import Tool, Toolbox
+
+SERVING = [
+    Tool("server", "server.sh", "sessions over the loopback, beside an echo server, LevelDB and SQLite"),
+    Tool("hub", "hub.sh", "lookups and registrations by several threads; `stress` checks each lookup"),
+    Tool("run", "run.sh", "`pathd once`, beside Google's protobuf"),
+    Tool("lookups", "lookups.sh", "lookups that show 1, 8 and 64 segments"),
+    Tool("rows", "rows.sh", "registrations into 1,000, 20,000 and 200,000 rows"),
+    Tool("profile", "profile.sh", "where the program's instructions go"),
+]
+
+LIBRARIES = [
+    Tool("groups", "groups.sh", "durable commands in groups, beside the writes alone and LevelDB"),
+    Tool("checkpoints", "checkpoints.sh", "a checkpoint while the store is in use"),
+    Tool("store", "store.sh", "opening a store and its checkpoint at rest, beside LevelDB and SQLite"),
+    Tool("journal", "journal.sh", "a journal written and scanned, beside LevelDB's log"),
+    Tool("walks", "walks.sh", "a lookup among 1,000, 20,000 and 200,000 rows, beside LMDB"),
+    Tool("segments", "segments.sh", "copies of segments, and their memory"),
+    Tool("device-memory", "device_memory.sh", "memory of a device in memory"),
+]
+
+PARTS = [
+    Tool("frames", "frames", "writes frames and segments"),
+    Tool("walks-rows", "walks_rows", "writes rows of segments, also for another program's index"),
+    Tool("server-rows", "server_rows", "fills a server with rows"),
+    Tool("store-image", "store_image", "writes a store with rows and a journal"),
+    Tool("session", "session", "runs a session of `pathd once` in stages, and takes the processor's seconds of each"),
+    Tool("crates", "crates", "copies the crates that a program of a benchmark uses"),
+    Tool("median", "median", "the median, the least and the greatest of columns of numbers"),
+    Tool("instructions", "instructions", "the shares of functions in listings of callgrind"),
+]
+
+BENCHES = Toolbox(
+    program="bench/pathd-bench",
+    about="Measures the built program and its libraries (docs/BENCHMARKS.md); none of it is part of the gate.",
+    package="pathd_bench",
+    scripts=TOP / "bench" / "shell",
+    groups={"the built program, and the hub": SERVING, "libraries, by programs of their own": LIBRARIES, "parts of these": PARTS},
+)
