@@ -1,8 +1,10 @@
-"""Copies the crates that a program uses, with all that these use, and with what was proved of them if it was.
+"""Copies the crates that a program uses, with all that these use, and with what was proved of them
+if it was.
 
     bench/pathd-bench crates FOLDER LINE
 
-LINE is the program's line in crates.txt: `NAME: USED ..`. The crates go to FOLDER/crates, and FOLDER/crates.txt gets their lines and this one.
+LINE is the program's line in crates.txt: `NAME: USED ..`. The crates go to FOLDER/crates, and
+FOLDER/crates.txt gets their lines and this one.
 """
 from __future__ import annotations
 

@@ -1,4 +1,5 @@
-"""The instructions of each function in one listing of callgrind_annotate, less those in another, over 1,000 calls; the greatest shares.
+"""The instructions of each function in one listing of callgrind_annotate, less those in another,
+over 1,000 calls; the greatest shares.
 
     bench/pathd-bench instructions WHOLE BASE yes|no
 

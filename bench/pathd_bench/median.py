@@ -1,4 +1,5 @@
-"""Reads lines of numbers and prints the median of each column, and the least and the greatest in brackets."""
+"""Reads lines of numbers and prints the median of each column, and the least and the greatest in
+brackets."""
 from __future__ import annotations
 
 import statistics

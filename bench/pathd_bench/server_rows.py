@@ -1,8 +1,10 @@
-"""Fills a server with rows: down segments of two entries from 1-ff00:0:110 to 1-ff00:0:111, each with interfaces of its own.
+"""Fills a server with rows: down segments of two entries from 1-ff00:0:110 to 1-ff00:0:111, each
+with interfaces of its own.
 
     bench/pathd-bench server-rows PORT ROWS
 
-A registration has 16 segments; 64 registrations are sent before their replies are read. It ends with the status 1 where one isn't acknowledged.
+A registration has 16 segments; 64 registrations are sent before their replies are read. It ends
+with the status 1 where one isn't acknowledged.
 """
 from __future__ import annotations
 

@@ -1,11 +1,13 @@
-"""Runs a session of `pathd once` in stages, and prints the processor seconds of the program in each.
+"""Runs a session of `pathd once` in stages, and prints the processor seconds of the program in
+each.
 
     bench/pathd-bench session PROGRAM FILE..
 
-Each FILE holds frames, and is written to the program whole; the stage ends when a reply to each of its frames has come. A line is printed
-for each file: the seconds that the program ran on a processor, as the system counts them (/proc/PID/schedstat, in nanoseconds), the replies,
-the bytes of the replies. Whatever else the machine does, these seconds leave out the time that the program waits. The start of the program
-counts for no stage.
+Each FILE holds frames, and is written to the program whole; the stage ends when a reply to each of
+its frames has come. A line is printed for each file: the seconds that the program ran on a
+processor, as the system counts them (/proc/PID/schedstat, in nanoseconds), the replies, the bytes
+of the replies. Whatever else the machine does, these seconds leave out the time that the program
+waits. The start of the program counts for no stage.
 """
 from __future__ import annotations
 

@@ -1,9 +1,11 @@
-"""Writes a store to a file: rows in its first half's checkpoint, and registrations in that half's journal.
+"""Writes a store to a file: rows in its first half's checkpoint, and registrations in that half's
+journal.
 
     bench/pathd-bench store-image FILE ROWS MORE [VERSION [sealed]]
 
-ROWS segments of 4 entries are rows, and MORE others are registered after them, one in a command, 8 commands in a group. With `sealed` a seal
-ends the journal. The values of all are written to FILE.values, each after its length in four bytes, for other stores to keep.
+ROWS segments of 4 entries are rows, and MORE others are registered after them, one in a command, 8
+commands in a group. With `sealed` a seal ends the journal. The values of all are written to
+FILE.values, each after its length in four bytes, for other stores to keep.
 """
 from __future__ import annotations
 

@@ -1,10 +1,12 @@
-"""Writes rows of down segments of 4 or more entries, each from the first AS of `bench/pathd-bench frames` to one of its leaves.
+"""Writes rows of down segments of 4 or more entries, each from the first AS of `bench/pathd-bench
+frames` to one of its leaves.
 
     bench/pathd-bench walks-rows FILE ROWS FIRST LEAVES [ENTRIES]
 
-The segments are numbered from FIRST, and one of number N ends at the leaf N modulo LEAVES. FILE gets each encoding after its length in four
-bytes. FILE.keyed gets the same after what another program's index needs: the key, which is the type in one byte and the id, then the ISD-AS
-of both ends and the moment at which the segment expires, in eight bytes each. All is big-endian.
+The segments are numbered from FIRST, and one of number N ends at the leaf N modulo LEAVES. FILE
+gets each encoding after its length in four bytes. FILE.keyed gets the same after what another
+program's index needs: the key, which is the type in one byte and the id, then the ISD-AS of both
+ends and the moment at which the segment expires, in eight bytes each. All is big-endian.
 """
 from __future__ import annotations
 

@@ -1,9 +1,12 @@
 #!/usr/bin/env bash
-# A checkpoint while a store is in use, step by step by one thread: 10,000, 100,000 and 1,000,000 rows of 4-entry segments, and as many
-# registrations in the sealed journal as a hundredth of them, at least 1,000. For each it prints medians of three rounds: the milliseconds that `begin`
-# takes, the slowest call of `write_chunk` and the whole checkpoint, those of the same writes and syncs alone in the same places of another copy, and the ratio;
-# and, in KiB, the memory that is resident before the checkpoint, after `begin` and at the end, and the most of it. It needs Python 3, gcc and bc, and 1.5 GB on
-# a disk and of memory for the last. It proves and builds a program in a temporary folder, and leaves no file behind.
+# A checkpoint while a store is in use, step by step by one thread: 10,000, 100,000 and 1,000,000
+# rows of 4-entry segments, and as many registrations in the sealed journal as a hundredth of them,
+# at least 1,000. For each it prints medians of three rounds: the milliseconds that `begin` takes,
+# the slowest call of `write_chunk` and the whole checkpoint, those of the same writes and syncs
+# alone in the same places of another copy, and the ratio; and, in KiB, the memory that is resident
+# before the checkpoint, after `begin` and at the end, and the most of it. It needs Python 3, gcc
+# and bc, and 1.5 GB on a disk and of memory for the last. It proves and builds a program in a
+# temporary folder, and leaves no file behind.
 #
 #     bench/pathd-bench checkpoints [ROWS ..]
 source "$(dirname "${BASH_SOURCE[0]}")/common.sh"

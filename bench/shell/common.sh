@@ -1,5 +1,5 @@
-# What the benchmarks share: each reads this file first. It sets `root`, the top of the repository, `bench`, the program of the parts, and
-# `work`, a folder that is removed at the end.
+# What the benchmarks share: each reads this file first. It sets `root`, the top of the repository,
+# `bench`, the program of the parts, and `work`, a folder that is removed at the end.
 set -euo pipefail
 root=$(cd "$(dirname "${BASH_SOURCE[0]}")/../.." && pwd)
 bench=$root/bench/pathd-bench

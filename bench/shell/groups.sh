@@ -1,12 +1,14 @@
 #!/usr/bin/env bash
-# Durable commands: groups of 32 registrations of a segment of 4 entries each, over a store in a file, submitted, flushed and redeemed by
-# one thread. It prints commands a second by the clock, beside those of the same writes and syncs alone, and beside LevelDB with as many
-# synced batches of the same segments; and the same with a step of a checkpointer behind each of the flusher's, over journals that are
-# sealed behind every 36 groups. Medians of nine rounds, and of nine more each in which every sync of all three takes a tenth of a
-# millisecond more, and a millisecond, as on a device that is slower to keep what it is given. Then the resident memory after 1,000
-# groups and after 100,000, with that checkpointer, over a file in memory. It needs Python 3, gcc, g++, bc and Debian's
-# libleveldb-dev. It proves and builds a program in a temporary folder, and leaves no file behind; with a folder as its third argument it
-# copies the program there.
+# Durable commands: groups of 32 registrations of a segment of 4 entries each, over a store in a
+# file, submitted, flushed and redeemed by one thread. It prints commands a second by the clock,
+# beside those of the same writes and syncs alone, and beside LevelDB with as many synced batches of
+# the same segments; and the same with a step of a checkpointer behind each of the flusher's, over
+# journals that are sealed behind every 36 groups. Medians of nine rounds, and of nine more each in
+# which every sync of all three takes a tenth of a millisecond more, and a millisecond, as on a
+# device that is slower to keep what it is given. Then the resident memory after 1,000 groups and
+# after 100,000, with that checkpointer, over a file in memory. It needs Python 3, gcc, g++, bc and
+# Debian's libleveldb-dev. It proves and builds a program in a temporary folder, and leaves no file
+# behind; with a folder as its third argument it copies the program there.
 #
 #     bench/pathd-bench groups [GROUPS [MANY [FOLDER]]]
 source "$(dirname "${BASH_SOURCE[0]}")/common.sh"

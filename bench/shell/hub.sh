@@ -1,24 +1,28 @@
 #!/usr/bin/env bash
-# The hub: lookups and registrations by several threads, over 1,000 down segments of 4 entries and a device in memory. It prints medians of
-# ROUNDS rounds (9 where none is given), each with the least and the greatest; each ratio is of one round:
+# The hub: lookups and registrations by several threads, over 1,000 down segments of 4 entries and a
+# device in memory. It prints medians of ROUNDS rounds (9 where none is given), each with the least
+# and the greatest; each ratio is of one round:
 #
 # - lookups of one row a second, by 1, 2 and 4 threads;
 # - the 99th percentile of one lookup, of an idle hub, and while groups commit and checkpoints run;
 # - registrations a second by 1, 8 and 64 threads, and the 99th percentile of one by one thread;
-# - registrations a second by 8 and by 64 threads over a file, each sync a tenth of a millisecond longer, beside a C program that makes the
-#   same two writes and two syncs for as many groups;
+# - registrations a second by 8 and by 64 threads over a file, each sync a tenth of a millisecond
+#   longer, beside a C program that makes the same two writes and two syncs for as many groups;
 # - resident bytes of a row in a hub, and in one database.
 #
-# It needs Python 3 and gcc. It proves and builds its program in a temporary folder, and leaves no file there; with a folder as its second
-# argument it copies the program there. A third argument is a program that was built before, which it runs in place of building one.
+# It needs Python 3 and gcc. It proves and builds its program in a temporary folder, and leaves no
+# file there; with a folder as its second argument it copies the program there. A third argument is
+# a program that was built before, which it runs in place of building one.
 #
 #     bench/pathd-bench hub [ROUNDS [FOLDER [PROGRAM]]]
 #
-# With `stress` it runs bench/hub_stress.rattle in place of this: eight threads that register, remove and purge, and eight that look up,
-# LOOKUPS times in all (1,000,000 where none is given), at a hub whose journal is sealed every few groups. Each lookup is then checked
-# against the commands in the order of their places. It prints how many lookups, commands, checkpoints and errors there were, and ends
-# with status 1 where there was an error. With `--break` it then checks the records with four kinds of faults put into them, one kind at a
-# time, prints how many errors each check found, and ends with status 1 where one found none. With a FOLDER it keeps the program there, and
+# With `stress` it runs bench/hub_stress.rattle in place of this: eight threads that register,
+# remove and purge, and eight that look up, LOOKUPS times in all (1,000,000 where none is given), at
+# a hub whose journal is sealed every few groups. Each lookup is then checked against the commands
+# in the order of their places. It prints how many lookups, commands, checkpoints and errors there
+# were, and ends with status 1 where there was an error. With `--break` it then checks the records
+# with four kinds of faults put into them, one kind at a time, prints how many errors each check
+# found, and ends with status 1 where one found none. With a FOLDER it keeps the program there, and
 # runs the one that it finds there.
 #
 #     bench/pathd-bench hub stress [LOOKUPS] [--break] [FOLDER]

@@ -1,9 +1,10 @@
 #!/usr/bin/env bash
-# A journal of 1,000 groups of 8 registrations of a segment of 4 entries: bytes of journal a second, written and scanned, beside
-# memcpy of the same bytes, and bytes of segments a second beside LevelDB's log over as many batches of as many of the same
-# segments, written and read back. All of it by the processor's time and by the clock, in the same rounds: medians of nine. It
-# needs g++ and Debian's libleveldb-dev. It proves and builds a program in a temporary folder, and leaves no file behind; with a
-# folder as its argument it copies the program and its input there.
+# A journal of 1,000 groups of 8 registrations of a segment of 4 entries: bytes of journal a second,
+# written and scanned, beside memcpy of the same bytes, and bytes of segments a second beside
+# LevelDB's log over as many batches of as many of the same segments, written and read back. All of
+# it by the processor's time and by the clock, in the same rounds: medians of nine. It needs g++ and
+# Debian's libleveldb-dev. It proves and builds a program in a temporary folder, and leaves no file
+# behind; with a folder as its argument it copies the program and its input there.
 source "$(dirname "${BASH_SOURCE[0]}")/common.sh"
 need rt python3 g++ libleveldb-dev
 scratch

@@ -1,7 +1,8 @@
 #!/usr/bin/env bash
-# What a lookup costs that shows 1, 8 and 64 segments of 8 entries, of a database of 1,000 rows: replies a second of the
-# program's processor time, bytes of replies a second, and the time of one beside that of one that shows nothing: medians
-# of nine rounds. It needs Python 3 and the program built, and leaves no file behind.
+# What a lookup costs that shows 1, 8 and 64 segments of 8 entries, of a database of 1,000 rows:
+# replies a second of the program's processor time, bytes of replies a second, and the time of one
+# beside that of one that shows nothing: medians of nine rounds. It needs Python 3 and the program
+# built, and leaves no file behind.
 #
 #     bench/pathd-bench lookups [PROGRAM]
 source "$(dirname "${BASH_SOURCE[0]}")/common.sh"

@@ -1,9 +1,10 @@
 #!/usr/bin/env bash
-# Where the program's instructions go (valgrind --tool=callgrind), with all that a function calls and without: 1,000 pairs
-# of the worked segment's registration and its lookup; 1,000 registrations of one segment of 8 entries each, into 1,000
-# rows and into 10,000; as many lookups that show 1 or 64 such segments, of 1,000 rows. The instructions of the start and
-# of filling the database are taken off: of each session another is run without the part that is asked for, and the
-# difference is printed. It needs Debian's valgrind, Python 3 and the program built.
+# Where the program's instructions go (valgrind --tool=callgrind), with all that a function calls
+# and without: 1,000 pairs of the worked segment's registration and its lookup; 1,000 registrations
+# of one segment of 8 entries each, into 1,000 rows and into 10,000; as many lookups that show 1 or
+# 64 such segments, of 1,000 rows. The instructions of the start and of filling the database are
+# taken off: of each session another is run without the part that is asked for, and the difference
+# is printed. It needs Debian's valgrind, Python 3 and the program built.
 #
 #     bench/pathd-bench profile [PROGRAM]
 source "$(dirname "${BASH_SOURCE[0]}")/common.sh"

@@ -1,7 +1,8 @@
 #!/usr/bin/env bash
-# What a registration costs in a larger database, from its frame to the reply: 1,000 segments of 8 entries, one in a frame, into
-# 1,000, 20,000 and 200,000 rows. It prints the processor seconds of each, and their ratios to the first: medians of nine rounds. It
-# needs Python 3 and the program built, and leaves no file behind.
+# What a registration costs in a larger database, from its frame to the reply: 1,000 segments of 8
+# entries, one in a frame, into 1,000, 20,000 and 200,000 rows. It prints the processor seconds of
+# each, and their ratios to the first: medians of nine rounds. It needs Python 3 and the program
+# built, and leaves no file behind.
 #
 #     bench/pathd-bench rows [PROGRAM]
 source "$(dirname "${BASH_SOURCE[0]}")/common.sh"

@@ -1,12 +1,13 @@
 #!/usr/bin/env bash
-# Measures `pathd once` (docs/BENCHMARKS.md). It is no part of the gate. It needs Debian's g++, bc, time,
-# protobuf-compiler and libprotobuf-dev, and the program built: `rt run -- --help` in crates/pathd once.
+# Measures `pathd once` (docs/BENCHMARKS.md). It is no part of the gate. It needs Debian's g++, bc,
+# time, protobuf-compiler and libprotobuf-dev, and the program built: `rt run -- --help` in
+# crates/pathd once.
 #
 #     bench/pathd-bench run [PROGRAM [EARLIER]]
 #
-# Seconds are those that a program ran on a processor, from its start to its end; each figure is the median of nine
-# rounds, in brackets the least and the greatest. EARLIER is another build of the program, which is measured in the same
-# rounds.
+# Seconds are those that a program ran on a processor, from its start to its end; each figure is the
+# median of nine rounds, in brackets the least and the greatest. EARLIER is another build of the
+# program, which is measured in the same rounds.
 source "$(dirname "${BASH_SOURCE[0]}")/common.sh"
 need python3 g++ bc time protoc libprotobuf-dev
 program=$(built "${1:-}")

@@ -1,15 +1,20 @@
 #!/usr/bin/env bash
-# The server over the loopback, beside an echo server with the same sockets and threads, and beside LevelDB and SQLite behind the same
-# sockets. It prints medians of ROUNDS rounds (5 where none is given), each with the least and the greatest; each ratio is of one round:
+# The server over the loopback, beside an echo server with the same sockets and threads, and beside
+# LevelDB and SQLite behind the same sockets. It prints medians of ROUNDS rounds (5 where none is
+# given), each with the least and the greatest; each ratio is of one round:
 #
-# - lookups of one row a second by 1, 8 and 64 sessions, and beside the echo server's replies; lookups in batches of 100;
-# - registrations a second by 1, 8 and 64 sessions, over a file in memory whose syncs take no longer, a tenth of a millisecond longer, and
-#   a millisecond longer, beside LevelDB (each put synced) and SQLite (WAL, synchronous=FULL) on the same file system;
-# - percentiles of one lookup's time while 8 sessions register at half of their greatest rate, and while none does;
+# - lookups of one row a second by 1, 8 and 64 sessions, and beside the echo server's replies;
+#   lookups in batches of 100;
+# - registrations a second by 1, 8 and 64 sessions, over a file in memory whose syncs take no
+#   longer, a tenth of a millisecond longer, and a millisecond longer, beside LevelDB (each put
+#   synced) and SQLite (WAL, synchronous=FULL) on the same file system;
+# - percentiles of one lookup's time while 8 sessions register at half of their greatest rate, and
+#   while none does;
 # - resident memory with 0, 1 and 64 sessions, and with 100,000 rows.
 #
-# It needs Python 3, gcc, g++, and Debian's libleveldb-dev and libsqlite3-dev. It proves and builds the two programs where they aren't given:
-# PATHD is crates/pathd/out/pathd of `rt run`, ECHO that of bench/echo_server.rattle.
+# It needs Python 3, gcc, g++, and Debian's libleveldb-dev and libsqlite3-dev. It proves and builds
+# the two programs where they aren't given: PATHD is crates/pathd/out/pathd of `rt run`, ECHO that
+# of bench/echo_server.rattle.
 #
 # Each figure is taken over SECONDS_EACH seconds, 2 where that variable is not set.
 #

@@ -1,9 +1,10 @@
 #!/usr/bin/env bash
-# A store of 20,000 rows of 4-entry segments with 2,000 more in its journal, in a file: the seconds of opening it, beside LevelDB
-# and SQLite opening stores of as many values and reading them; the seconds of a checkpoint at rest of it, beside the same writes
-# and syncs alone in the same places of another copy; and the most memory. Medians of nine rounds by the clock. It needs
-# Python 3, g++, bc and Debian's libleveldb-dev and libsqlite3-dev. It proves and builds a program in a temporary folder, and
-# leaves no file behind.
+# A store of 20,000 rows of 4-entry segments with 2,000 more in its journal, in a file: the seconds
+# of opening it, beside LevelDB and SQLite opening stores of as many values and reading them; the
+# seconds of a checkpoint at rest of it, beside the same writes and syncs alone in the same places
+# of another copy; and the most memory. Medians of nine rounds by the clock. It needs Python 3, g++,
+# bc and Debian's libleveldb-dev and libsqlite3-dev. It proves and builds a program in a temporary
+# folder, and leaves no file behind.
 #
 #     bench/pathd-bench store [ROWS MORE]
 source "$(dirname "${BASH_SOURCE[0]}")/common.sh"

@@ -1,9 +1,11 @@
 #!/usr/bin/env bash
-# What a lookup takes that shows 40 rows among 1,000, 20,000 and 200,000, in process, beside LMDB with the same rows by the same
-# index: nanoseconds of the processor's time, and LMDB's with its answer only pointed at, copied into one buffer, and each row copied
-# for itself. What a registration of one segment into as many rows takes, and the bytes of resident memory of a row beside those of
-# its encoding. Medians of nine rounds. It needs Python 3, gcc, bc and Debian's liblmdb-dev. It proves and builds a program in a
-# temporary folder, and leaves no file behind; with a folder as its second argument it copies the program there.
+# What a lookup takes that shows 40 rows among 1,000, 20,000 and 200,000, in process, beside LMDB
+# with the same rows by the same index: nanoseconds of the processor's time, and LMDB's with its
+# answer only pointed at, copied into one buffer, and each row copied for itself. What a
+# registration of one segment into as many rows takes, and the bytes of resident memory of a row
+# beside those of its encoding. Medians of nine rounds. It needs Python 3, gcc, bc and Debian's
+# liblmdb-dev. It proves and builds a program in a temporary folder, and leaves no file behind; with
+# a folder as its second argument it copies the program there.
 #
 #     bench/pathd-bench walks [ENTRIES [FOLDER]]
 source "$(dirname "${BASH_SOURCE[0]}")/common.sh"

@@ -1,6 +1,9 @@
-// Loaded before `pathd` (LD_PRELOAD), it runs the program again and again without loading it anew. Before `main` it waits for a byte on the descriptor that
-// FORK_ASKED names; for each it starts a child that goes on to `main`, with standard output and standard error in the files FORK_OUT and FORK_ERR, which are
-// cut to nothing first, and writes the child's status, as waitpid gives it, to the descriptor that FORK_TOLD names. It ends when nobody asks any more. tools/pathd_tools/runs.py uses it.
+// Loaded before `pathd` (LD_PRELOAD), it runs the program again and again without loading it anew.
+// Before `main` it waits for a byte on the descriptor that FORK_ASKED names; for each it starts a
+// child that goes on to `main`, with standard output and standard error in the files FORK_OUT and
+// FORK_ERR, which are cut to nothing first, and writes the child's status, as waitpid gives it, to
+// the descriptor that FORK_TOLD names. It ends when nobody asks any more. tools/pathd_tools/runs.py
+// uses it.
 #include <fcntl.h>
 #include <stdlib.h>
 #include <sys/wait.h>

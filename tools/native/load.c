@@ -1,11 +1,15 @@
-// Sessions with a server over TCP. Each thread holds one session, sends requests, waits for the replies and checks each of them. The program prints for each
-// kind of request how many replies a second came, and the 50th, 99th and 99.9th percentile and the greatest of their times in microseconds. Its status is 1
-// where a reply was not the one that its request asks for, was a refusal, or where a session ended early; 2 for words that can't be read.
+// Sessions with a server over TCP. Each thread holds one session, sends requests, waits for the
+// replies and checks each of them. The program prints for each kind of request how many replies a
+// second came, and the 50th, 99th and 99.9th percentile and the greatest of their times in
+// microseconds. Its status is 1 where a reply was not the one that its request asks for, was a
+// refusal, or where a session ended early; 2 for words that can't be read.
 //
 //     load ADDRESS PORT [--sessions N] [--seconds S] [--mix KIND=WEIGHT,..] [--rate R] [--window W] [--rows N] [--seed N] [--series FILE] [--every S]
 //
-// `tools/pathd-tools load` compiles and runs it, and says what each option is. Two kinds are for measurements of the server itself: `echo` is the smallest request,
-// which an echo server gives back, and `connect` has each request, the smallest, in a session of its own, from the addresses 127.0.0.2 to 127.0.0.201 in turn.
+// `tools/pathd-tools load` compiles and runs it, and says what each option is. Two kinds are for
+// measurements of the server itself: `echo` is the smallest request, which an echo server gives
+// back, and `connect` has each request, the smallest, in a session of its own, from the addresses
+// 127.0.0.2 to 127.0.0.201 in turn.
 #define _GNU_SOURCE
 #include <arpa/inet.h>
 #include <netinet/in.h>
@@ -24,7 +28,8 @@ enum { MOST_SESSIONS = 256, MOST_WINDOW = 128, MOST_ROWS = 1 << 24, SEGMENT = 88
 enum { LOOKUP, REGISTER, FRESH, PURGE, REMOVE, ECHO, CONNECT, KINDS };
 static const char *const names[KINDS] = {"lookup", "register", "fresh", "purge", "remove", "echo", "connect"};
 
-// A segment of two entries, from 1-ff00:0:110 to an AS that is set for each row, as is its timestamp, a varint of five bytes from 4,000,000,000 on.
+// A segment of two entries, from 1-ff00:0:110 to an AS that is set for each row, as is its
+// timestamp, a varint of five bytes from 4,000,000,000 on.
 static const unsigned char worked_segment[SEGMENT] = {
     0x0a, 0x08, 0x08, 0x80, 0xd0, 0xac, 0xf3, 0x0e, 0x10, 0x07, 0x12, 0x29, 0x0a, 0x27, 0x0a, 0x25, 0x12, 0x23, 0x08, 0x90, 0x82, 0x80,
     0x80, 0x80, 0xe0, 0x7f, 0x10, 0x91, 0x82, 0x80, 0x80, 0x80, 0xe0, 0x7f, 0x1a, 0x0e, 0x0a, 0x0c, 0x10, 0x01, 0x18, 0x3f, 0x22, 0x06,
@@ -91,7 +96,8 @@ static int send_all(int fd, const unsigned char *bytes, size_t len) {
   return 1;
 }
 
-// The next bytes of a session's input, up to this number in one piece; NULL where the server has ended the session.
+// The next bytes of a session's input, up to this number in one piece; NULL where the server has
+// ended the session.
 static const unsigned char *received(struct session *s, size_t len) {
   if (len > sizeof s->in) return NULL;
   if (s->from + len > sizeof s->in) {
@@ -132,7 +138,8 @@ static void put_segment(unsigned char *to, uint64_t row, uint64_t made) {
   put_varint(to + LAST_AS, FIRST_AS + row, 7);
 }
 
-// A registration of some rows, one after the other, as down segments that were made at this time. With another kind it is the answer to a lookup.
+// A registration of some rows, one after the other, as down segments that were made at this time.
+// With another kind it is the answer to a lookup.
 static size_t put_rows(unsigned char *frame, int kind, uint64_t first, uint64_t count, uint64_t made) {
   size_t segments = count * (2 + SEGMENT), len = 5;
   unsigned char nothing[10];
@@ -174,7 +181,8 @@ static size_t put_bytes(unsigned char *frame, int kind, int first, size_t body) 
 
 static uint64_t own_row(const struct session *s) { return rows + s->number; }
 
-// Puts a request of this kind, and the reply that it has to get. Of an acknowledgement only the counts are put: its place is checked by itself.
+// Puts a request of this kind, and the reply that it has to get. Of an acknowledgement only the
+// counts are put: its place is checked by itself.
 static size_t put_request(struct session *s, int kind, unsigned char *frame, unsigned char *reply, size_t *reply_len) {
   s->random = s->random * 6364136223846793005u + 1442695040888963407u;
   uint64_t row = (s->random >> 33) % rows;
@@ -192,7 +200,8 @@ static size_t put_request(struct session *s, int kind, unsigned char *frame, uns
 
 // Replies
 
-// Reads the next reply, and counts it as wrong where it isn't the wanted one. Answers whether one came.
+// Reads the next reply, and counts it as wrong where it isn't the wanted one. Answers whether one
+// came.
 static int check_reply(struct session *s, int kind, const unsigned char *wanted, size_t len) {
   const unsigned char *head = received(s, 4);
   if (!head) return 0;

@@ -1,14 +1,18 @@
-// Loaded before `pathd` (LD_PRELOAD), it writes what the program does with its store and its peers to the file that RECORD names, one record
-// for each, in the order in which things happened:
+// Loaded before `pathd` (LD_PRELOAD), it writes what the program does with its store and its peers
+// to the file that RECORD names, one record for each, in the order in which things happened:
 //
 //     letter (1), thread (4), descriptor (4), offset (8), length (4), bytes
 //
-// all numbers little-endian. The letters are 'W' and 'w', before and after a write of the store, 'S' and 's', before and after a sync, 'R', after
-// bytes came from a peer, and 'T', before bytes go to one. A write that fails or is short is recorded whole by 'W', since any of it may have happened.
+// all numbers little-endian. The letters are 'W' and 'w', before and after a write of the store,
+// 'S' and 's', before and after a sync, 'R', after bytes came from a peer, and 'T', before bytes go
+// to one. A write that fails or is short is recorded whole by 'W', since any of it may have
+// happened.
 //
-// SWALLOWED names a kind of sync, by what the same thread wrote last: `group` (a group's payload), `gate` (a gate of a journal), `chunks` (a checkpoint
-// area), `half` (the gate of a half), `close` (the two gates of a half). Every second sync of that kind isn't made, and the program isn't told. CHECKPOINT and
-// JOURNAL are the sizes of the store's parts in sectors, by which a write is judged. tools/pathd_tools/recording.py uses it.
+// SWALLOWED names a kind of sync, by what the same thread wrote last: `group` (a group's payload),
+// `gate` (a gate of a journal), `chunks` (a checkpoint area), `half` (the gate of a half), `close`
+// (the two gates of a half). Every second sync of that kind isn't made, and the program isn't told.
+// CHECKPOINT and JOURNAL are the sizes of the store's parts in sectors, by which a write is judged.
+// tools/pathd_tools/recording.py uses it.
 #define _GNU_SOURCE
 #include <dlfcn.h>
 #include <fcntl.h>

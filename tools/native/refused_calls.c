@@ -1,9 +1,13 @@
-// Loaded before `pathd` (LD_PRELOAD), it makes one call fail, the one of a kind whose number REFUSED_NUMBER gives, from 1. The kinds, by REFUSED_KIND:
-// `memory` (malloc, realloc, aligned_alloc, posix_memalign), `read` and `write` (pread and pwrite, which only the store's file sees), `sync`
-// (fdatasync, fsync), `length` (ftruncate). How it fails, by REFUSED_HOW: `EIO`, `ENOSPC`, `EINTR`, `part` (half of the bytes are moved), `one` (one byte is moved), `torn`
-// (half of the bytes are moved, and the call says EIO), `none` (it moves nothing and answers 0). With `EIO+` or `ENOSPC+` each further call of the kind fails too.
+// Loaded before `pathd` (LD_PRELOAD), it makes one call fail, the one of a kind whose number
+// REFUSED_NUMBER gives, from 1. The kinds, by REFUSED_KIND: `memory` (malloc, realloc,
+// aligned_alloc, posix_memalign), `read` and `write` (pread and pwrite, which only the store's file
+// sees), `sync` (fdatasync, fsync), `length` (ftruncate). How it fails, by REFUSED_HOW: `EIO`,
+// `ENOSPC`, `EINTR`, `part` (half of the bytes are moved), `one` (one byte is moved), `torn` (half
+// of the bytes are moved, and the call says EIO), `none` (it moves nothing and answers 0). With
+// `EIO+` or `ENOSPC+` each further call of the kind fails too.
 //
-// When it has failed a call it makes the file REFUSED_MARK. tools/pathd_tools/attacks/refused_calls.py uses it.
+// When it has failed a call it makes the file REFUSED_MARK.
+// tools/pathd_tools/attacks/refused_calls.py uses it.
 #define _GNU_SOURCE
 #include <dlfcn.h>
 #include <errno.h>

@@ -1,1 +1,2 @@
-"""The independent model of `pathd`, written from docs/FORMATS.md alone. It imports nothing of the tools that compare the program with it."""
+"""The independent model of `pathd`, written from docs/FORMATS.md alone. It imports nothing of the
+tools that compare the program with it."""

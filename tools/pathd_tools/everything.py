@@ -1,11 +1,13 @@
-"""Runs every check that is no part of the gate: those of the pages, and those of the built program that need packages. It prints a line
-for each, with the output of what failed. The status is 1 where a check failed, else 2 where one was left out for want of something, else 0.
+"""Runs every check that is no part of the gate: those of the pages, and those of the built program
+that need packages. It prints a line for each, with the output of what failed. The status is 1 where
+a check failed, else 2 where one was left out for want of something, else 0.
 
     tools/pathd-tools all [PROGRAM]
 
-PROGRAM is crates/pathd/out/pathd if left out, which `rt run` builds. Traffic goes over the loopback alone. All of it takes minutes: the
-longest are refused-memory, refused-calls, power-cuts and histories, which can be run by themselves with fewer cases. refused-tests is not
-among them, as it needs the programs of the crates of tests.
+PROGRAM is crates/pathd/out/pathd if left out, which `rt run` builds. Traffic goes over the loopback
+alone. All of it takes minutes: the longest are refused-memory, refused-calls, power-cuts and
+histories, which can be run by themselves with fewer cases. refused-tests is not among them, as it
+needs the programs of the crates of tests.
 """
 from __future__ import annotations
 

@@ -1,4 +1,5 @@
-"""Frames and segments, as the tools and the benchmarks send and receive them, written from docs/FORMATS.md ('Wire', 'Messages').
+"""Frames and segments, as the tools and the benchmarks send and receive them, written from
+docs/FORMATS.md ('Wire', 'Messages').
 
 What a request has to be answered by is judged by pathd_model, which imports nothing of this module.
 """
@@ -87,7 +88,8 @@ def segment_of_size(hops: Sequence[Hop], timestamp: int, size: int, exp_time: in
     def written(first: int, last: int) -> bytes:
         return joined(info, contents, [bytes(first), *[b""] * (len(contents) - 2), bytes(last)])
 
-    # The first signature has some bytes of those that the lengths of the last one's fields leave over.
+    # The first signature has some bytes of those that the lengths of the last one's fields leave
+    # over.
     for first in range(8):
         most = size - len(written(first, 1))
         for last in range(max(1, most - 12), most + 2):

@@ -1,8 +1,10 @@
-"""Says which of these things are missing, and how to get each on Debian. The status is 2 where one is missing, and else 0.
+"""Says which of these things are missing, and how to get each on Debian. The status is 2 where one
+is missing, and else 0.
 
     tools/pathd-tools need [THING ..]
 
-All things are looked for if none is given. The tools and the benchmarks call this before they begin.
+All things are looked for if none is given. The tools and the benchmarks call this before they
+begin.
 """
 from __future__ import annotations
 

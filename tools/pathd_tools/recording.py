@@ -1,5 +1,6 @@
-"""Records what a server does with its store and its peers (tools/native/recorded_calls.c), and judges what was answered: the commands in the order of their places, and what
-each reply says of whatever the store's file may hold from then on."""
+"""Records what a server does with its store and its peers (tools/native/recorded_calls.c), and
+judges what was answered: the commands in the order of their places, and what each reply says of
+whatever the store's file may hold from then on."""
 from __future__ import annotations
 
 import struct

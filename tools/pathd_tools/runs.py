@@ -1,5 +1,5 @@
-"""Runs of the built program for the scripts that attack it: a server on the loopback, a session's replies, random commands, and the histories
-by which what was answered is judged."""
+"""Runs of the built program for the scripts that attack it: a server on the loopback, a session's
+replies, random commands, and the histories by which what was answered is judged."""
 from __future__ import annotations
 
 import bisect

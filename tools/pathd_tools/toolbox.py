@@ -1,4 +1,5 @@
-"""A toolbox: one program whose first word names a tool, which is a Python module with `main(words)` or a script of the shell."""
+"""A toolbox: one program whose first word names a tool, which is a Python module with `main(words)`
+or a script of the shell."""
 from __future__ import annotations
 
 import argparse

@@ -1,8 +1,9 @@
 #!/usr/bin/env bash
-# Runs the commands of the built program over a block device: a loop device of as many sectors as a store of C = 2 and J = 516
-# takes. It holds what a file would; a store that is too large for it is refused and leaves it as it is. Then over one that
-# loses what is written to it, as its own file lies in a folder without room: `format` is refused, and `show` finds no store,
-# though the kernel still gives the lost pages to reads. It needs to be run as root, and is no part of the gate.
+# Runs the commands of the built program over a block device: a loop device of as many sectors as a
+# store of C = 2 and J = 516 takes. It holds what a file would; a store that is too large for it is
+# refused and leaves it as it is. Then over one that loses what is written to it, as its own file
+# lies in a folder without room: `format` is refused, and `show` finds no store, though the kernel
+# still gives the lost pages to reads. It needs to be run as root, and is no part of the gate.
 #
 #     tools/pathd-tools block-device [PROGRAM]
 #

@@ -1,9 +1,11 @@
 #!/usr/bin/env bash
-# Runs the client of clients/python against the built program, and compares what it prints with expected.txt there: with `pathd once`, and
-# over TCP with `pathd run`, pipelined and waiting for each reply, each without a key and with one. With a key the last segment is refused,
-# since it is signed with another one. The commands of `python -m pathd_client`
-# are those of commands.txt there, which has what each prints. Then a server is killed (-9) after a registration was acknowledged, started again on the same file,
-# and asked for the segment. It needs Debian's protobuf-compiler and python3-protobuf, uses the loopback alone, and is no part of the gate.
+# Runs the client of clients/python against the built program, and compares what it prints with
+# expected.txt there: with `pathd once`, and over TCP with `pathd run`, pipelined and waiting for
+# each reply, each without a key and with one. With a key the last segment is refused, since it is
+# signed with another one. The commands of `python -m pathd_client` are those of commands.txt there,
+# which has what each prints. Then a server is killed (-9) after a registration was acknowledged,
+# started again on the same file, and asked for the segment. It needs Debian's protobuf-compiler and
+# python3-protobuf, uses the loopback alone, and is no part of the gate.
 #
 #     tools/pathd-tools client [PROGRAM]
 #

@@ -1,7 +1,8 @@
 #!/usr/bin/env bash
-# Runs the built program with calls of the system on the file of a store failing or interrupted. A transfer that a signal
-# interrupts is made again: the command ends as it does without it. Any other failure ends the command with its line of
-# standard error. It needs Debian's strace, which makes the calls fail, and is no part of the gate.
+# Runs the built program with calls of the system on the file of a store failing or interrupted. A
+# transfer that a signal interrupts is made again: the command ends as it does without it. Any other
+# failure ends the command with its line of standard error. It needs Debian's strace, which makes
+# the calls fail, and is no part of the gate.
 #
 #     tools/pathd-tools faults [PROGRAM]
 #

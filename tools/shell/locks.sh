@@ -1,8 +1,9 @@
 #!/usr/bin/env bash
-# Runs the commands of the built program over a file on which another process holds the system's lock. `format`, `show`,
-# `upgrade` and `run` are refused beside any lock, `show --layout` and `status` beside an exclusive one, and a command that is refused
-# leaves the file as it is. Then two `show` at once: while the first one waits in its sync, the second is refused, and the first goes on.
-# It needs Python and Debian's strace, and is no part of the gate.
+# Runs the commands of the built program over a file on which another process holds the system's
+# lock. `format`, `show`, `upgrade` and `run` are refused beside any lock, `show --layout` and
+# `status` beside an exclusive one, and a command that is refused leaves the file as it is. Then two
+# `show` at once: while the first one waits in its sync, the second is refused, and the first goes
+# on. It needs Python and Debian's strace, and is no part of the gate.
 #
 #     tools/pathd-tools locks [PROGRAM]
 #

@@ -1,7 +1,9 @@
 #!/usr/bin/env bash
-# Has tools/pathd-tools load make a load on a server of the built program for two seconds, each reply checked, over a store so small that checkpoints count meanwhile; tools/pathd-tools plot draws
-# the series, and tools/pathd-tools layout the store that is left. It needs gcc, Python 3 and, unless --no-plot is given, Debian's python3-matplotlib; it uses the loopback alone, and is
-# no part of the gate.
+# Has tools/pathd-tools load make a load on a server of the built program for two seconds, each
+# reply checked, over a store so small that checkpoints count meanwhile; tools/pathd-tools plot
+# draws the series, and tools/pathd-tools layout the store that is left. It needs gcc, Python 3 and,
+# unless --no-plot is given, Debian's python3-matplotlib; it uses the loopback alone, and is no part
+# of the gate.
 #
 #     tools/pathd-tools short-load [--no-plot] [PROGRAM]
 #

@@ -1,13 +1,14 @@
 #!/usr/bin/env bash
-# Compares the calls that the built program makes of the system, on the file of a store, with the order that docs/FORMATS.md
-# draws for C = 2 and J = 516: which sectors are written, and where the syncs are between them. It needs Debian's strace, and
-# is no part of the gate.
+# Compares the calls that the built program makes of the system, on the file of a store, with the
+# order that docs/FORMATS.md draws for C = 2 and J = 516: which sectors are written, and where the
+# syncs are between them. It needs Debian's strace, and is no part of the gate.
 #
 #     tools/pathd-tools syscalls [PROGRAM [GROUPS]]
 #
-# PROGRAM is crates/pathd/out/pathd if left out, which `rt run` builds. GROUPS is the program that `bench/pathd-bench groups` copies to its
-# third argument; with it the calls of two groups of 32 registrations are compared, too. Offsets and lengths are counted in sectors of 512
-# bytes. Reads in a row are one line. What differs is printed as diff does, the calls that were made with '+'.
+# PROGRAM is crates/pathd/out/pathd if left out, which `rt run` builds. GROUPS is the program that
+# `bench/pathd-bench groups` copies to its third argument; with it the calls of two groups of 32
+# registrations are compared, too. Offsets and lengths are counted in sectors of 512 bytes. Reads in
+# a row are one line. What differs is printed as diff does, the calls that were made with '+'.
 set -u
 top=$(cd "$(dirname "${BASH_SOURCE[0]}")/../.." && pwd)
 "$top/tools/pathd-tools" need strace perl || exit

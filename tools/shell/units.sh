@@ -1,17 +1,24 @@
 #!/usr/bin/env bash
-# Tries the steps of docs/OPERATING.md and the units of deploy/ in a container of this machine's own system, whose first process is systemd: installing, the unit's
-# walls, purges by the timer, stops and signals, statuses, a backup, a volume as DEV, a fault of that device, the firewall, and a restart of the container.
-# `tools/pathd-tools units-inside` has the list, and runs the blocks of that page as they are written.
+# Tries the steps of docs/OPERATING.md and the units of deploy/ in a container of this machine's own
+# system, whose first process is systemd: installing, the unit's walls, purges by the timer, stops
+# and signals, statuses, a backup, a volume as DEV, a fault of that device, the firewall, and a
+# restart of the container. `tools/pathd-tools units-inside` has the list, and runs the blocks of
+# that page as they are written.
 #
 #     tools/pathd-tools units [--short] [PROGRAM]
 #
-# PROGRAM is crates/pathd/out/pathd if left out, which `rt run` builds. With --short the timer's times are seconds; without it they are its own, and the script waits six
-# minutes for the second purge. It has to be run as root, on Debian 12 with systemd-container, python3-venv, python3-setuptools, python3-wheel, python3-protobuf,
-# protobuf-compiler, nftables and iproute2 (tools/pathd-tools need says what is missing), and a free loop device, which nobody else may take meanwhile.
+# PROGRAM is crates/pathd/out/pathd if left out, which `rt run` builds. With --short the timer's
+# times are seconds; without it they are its own, and the script waits six minutes for the second
+# purge. It has to be run as root, on Debian 12 with systemd-container, python3-venv,
+# python3-setuptools, python3-wheel, python3-protobuf, protobuf-compiler, nftables and iproute2
+# (tools/pathd-tools need says what is missing), and a free loop device, which nobody else may take
+# meanwhile.
 #
-# The container's root is an overlay in memory over the machine's /, its network has nothing but a loopback and what the script makes, and all of it is gone at the end. The one
-# setting of the machine's kernel that is written is drop_caches. What the container's cgroups can't do, as MemoryMax= where the machine has the memory controller in a
-# hierarchy of version 1, is printed as left out. On a machine that was started by systemd the script was not tried.
+# The container's root is an overlay in memory over the machine's /, its network has nothing but a
+# loopback and what the script makes, and all of it is gone at the end. The one setting of the
+# machine's kernel that is written is drop_caches. What the container's cgroups can't do, as
+# MemoryMax= where the machine has the memory controller in a hierarchy of version 1, is printed as
+# left out. On a machine that was started by systemd the script was not tried.
 set -euo pipefail
 top=$(cd "$(dirname "${BASH_SOURCE[0]}")/../.." && pwd)
 "$top/tools/pathd-tools" need root losetup nspawn nft ip protoc python3-protobuf python3-venv || exit

@@ -2,11 +2,14 @@
 
     tools/pathd-tools full-disk [--program PROGRAM] [--rounds N]
 
-The store's file has no pages yet where its journals are, as `format` leaves them, so that a write fails with the system's own ENOSPC at another moment in each round. From that fault on
-commands have to be answered by 0x62 and 0x54 and lookups as before, and the server has to say that the store has stopped. Then there is room, and `show` has to print what was
-acknowledged, with at most the commands whose reply was 0x62 beyond it.
+The store's file has no pages yet where its journals are, as `format` leaves them, so that a write
+fails with the system's own ENOSPC at another moment in each round. From that fault on commands have
+to be answered by 0x62 and 0x54 and lookups as before, and the server has to say that the store has
+stopped. Then there is room, and `show` has to print what was acknowledged, with at most the
+commands whose reply was 0x62 beyond it.
 
-It needs Python 3, the loopback, and to be run as root, since it mounts a file system in memory. It ends with the status 1 where something else comes.
+It needs Python 3, the loopback, and to be run as root, since it mounts a file system in memory. It
+ends with the status 1 where something else comes.
 """
 from __future__ import annotations
 

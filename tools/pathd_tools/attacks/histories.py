@@ -1,21 +1,28 @@
-"""Records what 32 sessions of a server ask and are answered, with times, and shows that one order of the commands explains all of it.
+"""Records what 32 sessions of a server ask and are answered, with times, and shows that one order
+of the commands explains all of it.
 
     tools/pathd-tools histories [--program PROGRAM] [--seed N] [--replies N] [--kills N] [--sessions N]
 
-Sessions over TCP, a process each, send random registrations, removals, purges and lookups, some of them several at once. The server is killed (-9) while they
-do, and started again on the same file, N times. The order is that of the places. It is shown that
+Sessions over TCP, a process each, send random registrations, removals, purges and lookups, some of
+them several at once. The server is killed (-9) while they do, and started again on the same file, N
+times. The order is that of the places. It is shown that
 
-- each place up to the one at which the store opens again is that of one command; the commands without a reply are read from the journal, and were
-  sent;
+- each place up to the one at which the store opens again is that of one command; the commands
+  without a reply are read from the journal, and were sent;
 - each acknowledgement has the counts that the fold of all commands before it gives;
-- within a session places rise, and a command that was acknowledged before another was sent has the smaller place;
-- each lookup is the answer after a front of the commands, which is at least as long as what its session's last acknowledgement and last lookup showed, and
-  has no command that was sent only after the lookup's reply had come;
+- within a session places rise, and a command that was acknowledged before another was sent has the
+  smaller place;
+- each lookup is the answer after a front of the commands, which is at least as long as what its
+  session's last acknowledgement and last lookup showed, and has no command that was sent only after
+  the lookup's reply had come;
 - what `show` prints after each kill is the fold of all commands.
 
-That the checker sees faults is tried on the first round, by altering a reply. Beyond what is promised the script counts the lookups that no front explains that holds all commands acknowledged to anybody before the lookup was sent.
+That the checker sees faults is tried on the first round, by altering a reply. Beyond what is
+promised the script counts the lookups that no front explains that holds all commands acknowledged
+to anybody before the lookup was sent.
 
-It needs Python 3, and the loopback. It ends with the status 1 where something doesn't hold, and prints the first ones.
+It needs Python 3, and the loopback. It ends with the status 1 where something doesn't hold, and
+prints the first ones.
 """
 from __future__ import annotations
 
@@ -38,7 +45,8 @@ from pathd_tools import messages, runs, toolbox
 KEYS = 60
 POOL = 20_000
 LAYOUT = model.Layout(64, 4096)
-# When it was sent, when its reply came, the request, the reply's first byte or 0, and what is left of the reply.
+# When it was sent, when its reply came, the request, the reply's first byte or 0, and what is left
+# of the reply.
 RECORD = struct.Struct("<QQIB24s")
 NEVER = (1 << 64) - 1
 LOOKUPS = 1 << 31

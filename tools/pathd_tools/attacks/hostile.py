@@ -1,13 +1,18 @@
-"""Sends mutated frames to `pathd once` and opens mutated images by `pathd show`, and compares each answer with the one that docs/FORMATS.md gives.
+"""Sends mutated frames to `pathd once` and opens mutated images by `pathd show`, and compares each
+answer with the one that docs/FORMATS.md gives.
 
     tools/pathd-tools hostile [--program PROGRAM] [--seed N] [--frames N] [--images N] [--jobs N]
 
-Frames are mutated bytewise, and field by field with the lengths around a field set right; among them are registrations, segments and lookups' replies of the greatest
-sizes, and some sessions begin by filling the store. Each reply has to be, to the byte, that of tools/pathd_model: its code, the place,
-the counts, the segments found. Each session ends with a frame that is none: the status and the line have to be those of its fault. Images come from recorded stores of both versions, with and without seals; what `show` prints of a mutated one, or the line by which it refuses it,
-has to be that of the model.
+Frames are mutated bytewise, and field by field with the lengths around a field set right; among
+them are registrations, segments and lookups' replies of the greatest sizes, and some sessions begin
+by filling the store. Each reply has to be, to the byte, that of tools/pathd_model: its code, the
+place, the counts, the segments found. Each session ends with a frame that is none: the status and
+the line have to be those of its fault. Images come from recorded stores of both versions, with and
+without seals; what `show` prints of a mutated one, or the line by which it refuses it, has to be
+that of the model.
 
-It needs Python 3 and gcc. It ends with the status 1 where an answer is another one, and prints the first ones.
+It needs Python 3 and gcc. It ends with the status 1 where an answer is another one, and prints the
+first ones.
 """
 from __future__ import annotations
 
@@ -28,7 +33,8 @@ from pathd_tools.recording import Disk, record
 SESSION = 2_000
 ONCE_WORDS = ["--cores", "1-ff00:0:110,2-64512"]
 SMALL = model.Layout(8, 516)
-# The greatest body of a frame; how many bytes of rows the store of `once` holds, and the code of what exceeds them.
+# The greatest body of a frame; how many bytes of rows the store of `once` holds, and the code of
+# what exceeds them.
 MOST_BODY = 131_072
 ROOM = 2_097_120
 FULL = 0x52
@@ -120,7 +126,8 @@ def greatest_bodies() -> list[tuple[int, bytes]]:
 def filling_requests() -> list[tuple[int, bytes]]:
     """Registrations that fill the store of `once` to the byte, some that don't fit, and the lookup of the greatest reply."""
     bodies = [filled_registration(2_000 + 100 * it, 8, 16_384) for it in range(15)]
-    # The records of each of these have 131,071 bytes: 131,055 are left, which the third of the next ones takes.
+    # The records of each of these have 131,071 bytes: 131,055 are left, which the third of the next
+    # ones takes.
     bodies += [filled_registration(4_000 + 100 * less, 8, 16_384, MOST_BODY - less) for less in (0, 15, 16)]
     bodies.append(far_registration([far_segment(9_000, 700)]))
     return [*((model.REGISTER, body) for body in bodies), (model.LOOKUP, messages.lookup_frame(*FAR_QUERY)[5:])]

@@ -1,19 +1,25 @@
-"""Holds the sessions that a server has to bear, beside one that has to be served all the time, and measures the server's memory.
+"""Holds the sessions that a server has to bear, beside one that has to be served all the time, and
+measures the server's memory.
 
     tools/pathd-tools peers [--program PROGRAM] [--connections N] [--seconds N]
 
 - half frames: peers that send a part of a frame and wait;
 - slow peers: each sends one byte a second, and gets its reply;
-- connections: N at one time, 10,000 if nothing else is said. Each is a session or is answered `00000002ff61` and closed;
+- connections: N at one time, 10,000 if nothing else is said. Each is a session or is answered
+  `00000002ff61` and closed;
 - resets: peers that end the connection by a reset in the middle of replies;
 - deaf peers: 63 that ask for the greatest replies and never read;
-- greatest frames: 63 sessions that send registrations of the greatest size at one time, held back before their last byte;
-- watchers: at the second listener, peers that are silent, send a part of a request or bytes that are none, or reset the connection; the page has to come after them;
-- descriptors: a server that may open 40 files gets 60 connections: those that wait are served once others have ended.
+- greatest frames: 63 sessions that send registrations of the greatest size at one time, held back
+  before their last byte;
+- watchers: at the second listener, peers that are silent, send a part of a request or bytes that
+  are none, or reset the connection; the page has to come after them;
+- descriptors: a server that may open 40 files gets 60 connections: those that wait are served once
+  others have ended.
 
-Meanwhile a session registers, looks up and measures how long replies take. It ends with the status 1 where that session is answered wrongly or later than after 10 seconds, where a
-peer isn't answered as said, where seats stay taken, or where the server's memory (VmHWM) is above the bound that docs/RELIABILITY.md names.
-It needs Python 3, 10,100 descriptors, and the loopback.
+Meanwhile a session registers, looks up and measures how long replies take. It ends with the status
+1 where that session is answered wrongly or later than after 10 seconds, where a peer isn't answered
+as said, where seats stay taken, or where the server's memory (VmHWM) is above the bound that
+docs/RELIABILITY.md names. It needs Python 3, 10,100 descriptors, and the loopback.
 """
 from __future__ import annotations
 
@@ -33,7 +39,8 @@ LAYOUT = model.Layout(65_536, 4_096)
 MOST_SESSIONS = 64
 TURNED_AWAY = bytes.fromhex("00000002ff61")
 LATEST = 10.0
-# What docs/RELIABILITY.md names, in KiB: for the program, for a journal, for the rows that are registered here, and for each of 64 sessions.
+# What docs/RELIABILITY.md names, in KiB: for the program, for a journal, for the rows that are
+# registered here, and for each of 64 sessions.
 OF_PROGRAM, OF_JOURNAL, OF_SESSION = 16 * 1024, LAYOUT.journal // 2, 3 * 1024
 OF_ROWS = 4 * ((MOST_SESSIONS - 1) * 16 * 8_185 + 64 * 16_375) // 1024
 BOUND = OF_PROGRAM + OF_JOURNAL + OF_ROWS + MOST_SESSIONS * OF_SESSION
@@ -178,7 +185,8 @@ class Attack:
                 data = b""
                 try:
                     if event & select.EPOLLOUT and not event & select.EPOLLIN:
-                        # A request, so that the system finds out where it has dropped the connection.
+                        # A request, so that the system finds out where it has dropped the
+                        # connection.
                         connection.send(NOTHING)
                         poll.modify(descriptor, select.EPOLLIN)
                         continue

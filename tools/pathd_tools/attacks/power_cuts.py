@@ -2,24 +2,32 @@
 
     tools/pathd-tools power-cuts [--program PROGRAM] [--seed N] [--images N] [--commands N] [--restarts N] [--jobs N] [--swallowed KIND]
 
-A server on a real file is recorded by a preloaded library (tools/native/recorded_calls.c) while 6 sessions register, remove, purge and look up: each
-write with its bytes, each sync, each request and each reply, in order. A run over a store of version 2 and one over a store of version 1 are recorded, and after
-each of them N shorter ones, each over an image that a power cut at a random moment of the one before it leaves.
+A server on a real file is recorded by a preloaded library (tools/native/recorded_calls.c) while 6
+sessions register, remove, purge and look up: each write with its bytes, each sync, each request and
+each reply, in order. A run over a store of version 2 and one over a store of version 1 are
+recorded, and after each of them N shorter ones, each over an image that a power cut at a random
+moment of the one before it leaves.
 
-Then images are made of the file after each write and each sync. Of a sector that was written since the last sync that covers it, an image holds what it
-held before, what was written, a front of the new bytes, zeros, 0xA5, an open gate or random bytes, sector by sector. `pathd show` opens each
-image. It has to print the rows and the place of a front of the commands, by the places of their acknowledgements, that
+Then images are made of the file after each write and each sync. Of a sector that was written since
+the last sync that covers it, an image holds what it held before, what was written, a front of the
+new bytes, zeros, 0xA5, an open gate or random bytes, sector by sector. `pathd show` opens each
+image. It has to print the rows and the place of a front of the commands, by the places of their
+acknowledgements, that
 
 - holds every command acknowledged before the next call on the device,
 - has no command that hadn't come before,
 - contains a front of which each lookup that was answered before is the answer.
 
-Openings that write are recorded too, and cut at each of their calls: the next opening has to print the same. So are upgrades of stores of version 1.
+Openings that write are recorded too, and cut at each of their calls: the next opening has to print
+the same. So are upgrades of stores of version 1.
 
-With --swallowed every second sync of a kind isn't made (`group`, `gate`, `chunks`, `half`, `close`): the script then has to find losses, and ends with the
-status 0 where it does. A lost sync of the kind `close` is covered by the next sync of any kind before the half is used, so that none is found.
+With --swallowed every second sync of a kind isn't made (`group`, `gate`, `chunks`, `half`,
+`close`): the script then has to find losses, and ends with the status 0 where it does. A lost sync
+of the kind `close` is covered by the next sync of any kind before the half is used, so that none is
+found.
 
-It needs Python 3 and gcc, and the loopback. It ends with the status 1 where an image opens to anything else, and prints the first ones.
+It needs Python 3 and gcc, and the loopback. It ends with the status 1 where an image opens to
+anything else, and prints the first ones.
 """
 from __future__ import annotations
 

@@ -1,12 +1,14 @@
-"""Refuses what the system may refuse, one call in each run: allocations of `once` (refused-memory); allocations, and reads, writes and
-syncs of the store's file, of `format`, `show`, `status`, `upgrade` and a served session (refused-calls); and allocations of each test of the
-crates of tests whose program `rt test` has built (refused-tests). Each says what it counts as right; docs/RELIABILITY.md has a table of what
-was tried.
+"""Refuses what the system may refuse, one call in each run: allocations of `once` (refused-memory);
+allocations, and reads, writes and syncs of the store's file, of `format`, `show`, `status`,
+`upgrade` and a served session (refused-calls); and allocations of each test of the crates of tests
+whose program `rt test` has built (refused-tests). Each says what it counts as right;
+docs/RELIABILITY.md has a table of what was tried.
 
     tools/pathd-tools refused [--short] [PROGRAM]
 
-PROGRAM is crates/pathd/out/pathd if left out, which `rt run` builds. With --short each 40th allocation and read is refused, and no
-allocation of `once`. It needs Python 3 and gcc, uses the loopback alone, and is no part of the gate.
+PROGRAM is crates/pathd/out/pathd if left out, which `rt run` builds. With --short each 40th
+allocation and read is refused, and no allocation of `once`. It needs Python 3 and gcc, uses the
+loopback alone, and is no part of the gate.
 """
 from __future__ import annotations
 

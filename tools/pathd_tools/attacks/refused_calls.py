@@ -1,19 +1,24 @@
-"""Runs `format`, `show`, `status`, `upgrade` and a served session, once for each allocation and for each call on the store's file, which is refused in that run.
+"""Runs `format`, `show`, `status`, `upgrade` and a served session, once for each allocation and for
+each call on the store's file, which is refused in that run.
 
     tools/pathd-tools refused-calls [--program PROGRAM] [--every N] [--jobs N] [--only COMMAND] [--kind KIND]
 
-A preloaded library (tools/native/refused_calls.c) refuses: an allocation; a read, a write or a sync with EIO or ENOSPC, once or from then on; it interrupts one (EINTR),
-moves a part of its bytes, or none, or a part with EIO. What has to come of it:
+A preloaded library (tools/native/refused_calls.c) refuses: an allocation; a read, a write or a sync
+with EIO or ENOSPC, once or from then on; it interrupts one (EINTR), moves a part of its bytes, or
+none, or a part with EIO. What has to come of it:
 
 - a transfer that is interrupted or moves a part is made again, and nothing else is seen of it;
-- `format`, `show`, `status` and `upgrade` end with the status 1 and the line of that refusal, and what a store held before it still shows;
-- a server ends so while it opens its store. Later it reports that the store has stopped, answers commands by 0x62 and 0x54, and lookups as before. What it
-  acknowledged is there when the file is opened again, and beyond that at most what had no other reply than 0x62;
-- an allocation ends a command with `error: memory`, a server too if it has answered nobody yet, or the reply to a request is 0x01, or its session ends; the next
-  requests are answered as before.
+- `format`, `show`, `status` and `upgrade` end with the status 1 and the line of that refusal, and
+  what a store held before it still shows;
+- a server ends so while it opens its store. Later it reports that the store has stopped, answers
+  commands by 0x62 and 0x54, and lookups as before. What it acknowledged is there when the file is
+  opened again, and beyond that at most what had no other reply than 0x62;
+- an allocation ends a command with `error: memory`, a server too if it has answered nobody yet, or
+  the reply to a request is 0x01, or its session ends; the next requests are answered as before.
 
-No run may take longer than 60 seconds. --every N tries each N-th allocation and read alone. It needs Python 3 and gcc, and the loopback. It prints a table of what was tried, and ends
-with the status 1 where something else came of one.
+No run may take longer than 60 seconds. --every N tries each N-th allocation and read alone. It
+needs Python 3 and gcc, and the loopback. It prints a table of what was tried, and ends with the
+status 1 where something else came of one.
 """
 from __future__ import annotations
 
@@ -238,7 +243,8 @@ def result_of(server: runs.Server, worlds: Worlds, mark: Path, kind: str, how: s
         return "none"
     notices = server.notices.read_text()
     if server.process.poll() is not None:
-        # The readers and the threads of the actors are made once the server listens, before any session.
+        # The readers and the threads of the actors are made once the server listens, before any
+        # session.
         if kind == "memory" and notices.endswith("\nerror: memory\n") and not worlds.has_answered:
             return "error: memory"
         raise Wrong(f"the server ended: {notices}")
@@ -296,7 +302,8 @@ def sweep(given: tuple) -> tuple[str, str, str, Counter, list[str]]:
         except (Wrong, subprocess.TimeoutExpired, RuntimeError, model.NoStore) as fault:
             wrong.append(f"{command}, {kind} {number}, {how}: {fault}")
             result = "wrong"
-        # Threads make calls in another order from run to run, so one run without the call isn't the end.
+        # Threads make calls in another order from run to run, so one run without the call isn't the
+        # end.
         passed_by = passed_by + 1 if result == "none" else 0
         if result != "none":
             results[result] += 1

@@ -1,11 +1,13 @@
-"""Runs the built program over stored sessions, once for each of its allocations, which is refused in that run.
+"""Runs the built program over stored sessions, once for each of its allocations, which is refused
+in that run.
 
     tools/pathd-tools refused-memory [PROGRAM]
 
-A run ends as it should in one of three ways: it prints all replies; or it says `error: memory`, and printed a front of them; or one reply is
-the code of want of memory, and all others are those of the session, as that request's command was taken, or those of the session without
-that request, which changed nothing. The sessions are the worked one, in hexadecimal text and in binary, and those named below of
-tools/cases. It needs Python 3 and gcc, and is no part of the gate.
+A run ends as it should in one of three ways: it prints all replies; or it says `error: memory`, and
+printed a front of them; or one reply is the code of want of memory, and all others are those of the
+session, as that request's command was taken, or those of the session without that request, which
+changed nothing. The sessions are the worked one, in hexadecimal text and in binary, and those named
+below of tools/cases. It needs Python 3 and gcc, and is no part of the gate.
 """
 from __future__ import annotations
 

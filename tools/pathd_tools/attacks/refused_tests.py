@@ -1,10 +1,14 @@
-"""Runs each test of the crates of tests, once for each of its allocations, which is refused in that run.
+"""Runs each test of the crates of tests, once for each of its allocations, which is refused in that
+run.
 
     tools/pathd-tools refused-tests [--folder FOLDER] [--most N] [--jobs N] [WORD..]
 
-The programs are crates/NAME/out/NAME_tests, as `rt test` builds them in a crate's folder, or those of FOLDER. A test passes, or it ends with an error that names want of
-memory; a failed assertion, a signal or more than 60 seconds is wrong. A test of something else may assert a value in whose place want of memory came. A test of which the first N allocations were refused is tried at 200 later ones, evenly
-spread. With words only tests whose crate and name have one of them are run. It needs Python 3 and gcc.
+The programs are crates/NAME/out/NAME_tests, as `rt test` builds them in a crate's folder, or those
+of FOLDER. A test passes, or it ends with an error that names want of memory; a failed assertion, a
+signal or more than 60 seconds is wrong. A test of something else may assert a value in whose place
+want of memory came. A test of which the first N allocations were refused is tried at 200 later
+ones, evenly spread. With words only tests whose crate and name have one of them are run. It needs
+Python 3 and gcc.
 """
 from __future__ import annotations
 
@@ -23,7 +27,8 @@ from pathd_tools.attacks.refused_calls import refusing
 SECONDS = 60
 # How tests name want of memory, in the line of standard error that the error of their result gives.
 REFUSALS = re.compile(rb"NoMemory|AllocError|AllocFailed|OutOfMemory|Memory")
-# The tests of want of memory, which judge what a refusal leaves: by their names, as `memory::..` or `..::refused_calls_may_be_tried_again`.
+# The tests of want of memory, which judge what a refusal leaves: by their names, as `memory::..` or
+# `..::refused_calls_may_be_tried_again`.
 OF_MEMORY = ("memory", "refused_")
 RETURNED = b"the test failed: its result gives status 1"
 LATER = 200

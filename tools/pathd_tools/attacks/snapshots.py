@@ -2,7 +2,8 @@
 
     tools/pathd-tools snapshots [--program PROGRAM] [--kind KIND] [--snapshots N] [--sessions N] [--seed N]
 
-Sessions register, remove and purge as fast as they can, over a store whose journals are so small that checkpoints come all the time. KIND is
+Sessions register, remove and purge as fast as they can, over a store whose journals are so small
+that checkpoints come all the time. KIND is
 
     btrfs      `btrfs subvolume snapshot -r` of the subvolume in which the store is
     reflink    `cp --reflink=always` of the store on btrfs
@@ -11,11 +12,13 @@ Sessions register, remove and purge as fast as they can, over a store whose jour
     lvm-ext4   the same of the volume on whose file system, ext4, the store is
     plain      `cp --reflink=never`, which is no snapshot: what comes of it is counted, and nothing is wanted of it
 
-`pathd status` of each snapshot has to print the place and the number of rows, and `pathd show` the rows, after a front of the commands that has all that were acknowledged before the
-snapshot was asked for, and none that was sent after it was made. The commands' order is that of their places.
+`pathd status` of each snapshot has to print the place and the number of rows, and `pathd show` the
+rows, after a front of the commands that has all that were acknowledged before the snapshot was
+asked for, and none that was sent after it was made. The commands' order is that of their places.
 
-It needs Python 3, the loopback, a free loop device, and to be run as root, since it mounts a file system in a file in memory. btrfs needs btrfs-progs, xfs xfsprogs, and lvm
-lvm2 and a kernel with the device mapper. It ends with the status 1 where a snapshot opens to anything else.
+It needs Python 3, the loopback, a free loop device, and to be run as root, since it mounts a file
+system in a file in memory. btrfs needs btrfs-progs, xfs xfsprogs, and lvm lvm2 and a kernel with
+the device mapper. It ends with the status 1 where a snapshot opens to anything else.
 """
 from __future__ import annotations
 

@@ -2,12 +2,15 @@
 
     tools/pathd-tools soak [--program PROGRAM] [--seed N] [--minutes N] [--sessions N] [--rate N]
 
-Sessions, a process each, register, remove, purge and look up, at --rate requests a second each (0: as many as they can), for an hour if nothing else is said. At the end
+Sessions, a process each, register, remove, purge and look up, at --rate requests a second each (0:
+as many as they can), for an hour if nothing else is said. At the end
 
-- each request has its reply, and the places of the acknowledgements are those from 0 on, without a gap;
+- each request has its reply, and the places of the acknowledgements are those from 0 on, without a
+  gap;
 - each acknowledgement has the counts that the fold of the commands before it gives;
 - the server is killed (-9), and what `show` prints is the fold of all commands;
-- resident memory hasn't grown: its greatest in the last third is at most a tenth and 1 MiB above its greatest in the second third.
+- resident memory hasn't grown: its greatest in the last third is at most a tenth and 1 MiB above
+  its greatest in the second third.
 
 It needs Python 3, and the loopback. It ends with the status 1 where something doesn't hold.
 """

@@ -1,11 +1,12 @@
-"""Runs each tool that attacks the built program from outside: power cuts, histories, refusals, peers, hostile bytes and a soak.
-docs/RELIABILITY.md says what each tries.
+"""Runs each tool that attacks the built program from outside: power cuts, histories, refusals,
+peers, hostile bytes and a soak. docs/RELIABILITY.md says what each tries.
 
     tools/pathd-tools attacks [--short] [--seed N] [PROGRAM]
 
-PROGRAM is crates/pathd/out/pathd if left out, which `rt run` builds. With --short all of it is meant for ten minutes on a machine that does
-nothing else; without it the counts are those of docs/RELIABILITY.md, and it takes some hours. It needs Python 3 and gcc (apt-get install
-python3 gcc libc6-dev), 10,100 descriptors, and the loopback, and is no part of the gate.
+PROGRAM is crates/pathd/out/pathd if left out, which `rt run` builds. With --short all of it is
+meant for ten minutes on a machine that does nothing else; without it the counts are those of
+docs/RELIABILITY.md, and it takes some hours. It needs Python 3 and gcc (apt-get install python3 gcc
+libc6-dev), 10,100 descriptors, and the loopback, and is no part of the gate.
 """
 from __future__ import annotations
 

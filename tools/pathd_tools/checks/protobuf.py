@@ -2,8 +2,9 @@
 
     tools/pathd-tools protobuf
 
-It encodes the example segment, its registration and its lookup, and compares them with the bytes that the program's stored run has
-(crates/pathd/stdin). It is no part of the gate. It needs Debian's protobuf-compiler and python3-protobuf.
+It encodes the example segment, its registration and its lookup, and compares them with the bytes
+that the program's stored run has (crates/pathd/stdin). It is no part of the gate. It needs Debian's
+protobuf-compiler and python3-protobuf.
 """
 from __future__ import annotations
 

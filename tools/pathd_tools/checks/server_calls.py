@@ -2,9 +2,11 @@
 
     tools/pathd-tools server-calls [PROGRAM]
 
-Three sessions with a server on the loopback send a registration, 100 lookups in one piece and 100 purges in one piece. The batch of lookups
-is one read and two writes of the replies' 10,100 bytes, by a buffer of 8,192, and the batch of purges one read and one write. PROGRAM is
-crates/pathd/out/pathd if left out, which `rt run` builds. It needs Python 3 and strace, uses the loopback alone, and is no part of the gate.
+Three sessions with a server on the loopback send a registration, 100 lookups in one piece and 100
+purges in one piece. The batch of lookups is one read and two writes of the replies' 10,100 bytes,
+by a buffer of 8,192, and the batch of purges one read and one write. PROGRAM is
+crates/pathd/out/pathd if left out, which `rt run` builds. It needs Python 3 and strace, uses the
+loopback alone, and is no part of the gate.
 """
 from __future__ import annotations
 
@@ -20,7 +22,8 @@ HOPS = [messages.Hop(runs.CORE_A, 0, 1, bytes.fromhex("010203040506")), messages
 REGISTER = messages.registration([(messages.DOWN, messages.make_segment(HOPS, runs.MADE))])
 LOOKUP = messages.lookup_frame(runs.CORE_A, runs.LEAVES[0])
 PURGE = messages.command_frame(("purge", 0))
-# Of each session the requests, which are sent whole, the bytes of their replies, and the reads and writes that the server has to make.
+# Of each session the requests, which are sent whole, the bytes of their replies, and the reads and
+# writes that the server has to make.
 SESSIONS = [(REGISTER, 29, (1, 1)), (100 * LOOKUP, 100 * 101, (1, 2)), (100 * PURGE, 100 * 29, (1, 1))]
 
 

@@ -1,11 +1,13 @@
-"""Tries the steps of docs/OPERATING.md on a system whose first process is systemd; tools/pathd-tools units starts it in a container.
+"""Tries the steps of docs/OPERATING.md on a system whose first process is systemd;
+tools/pathd-tools units starts it in a container.
 
     tools/pathd-tools units-inside --loop DEVICE [--short]
     tools/pathd-tools units-inside --after-restart
 
-It installs programs, makes a user, formats stores and kills servers: it is for a container or a machine that is thrown away. It has to be run as root, with the
-packages that tools/pathd-tools units names. The first line runs all steps, the second is for the next start of the same system. It prints a line for each step, and ends with the status 1
-where one did not come out as the page says.
+It installs programs, makes a user, formats stores and kills servers: it is for a container or a
+machine that is thrown away. It has to be run as root, with the packages that tools/pathd-tools
+units names. The first line runs all steps, the second is for the next start of the same system. It
+prints a line for each step, and ends with the status 1 where one did not come out as the page says.
 """
 from __future__ import annotations
 

@@ -1,9 +1,11 @@
-"""Draws the regions of a store's file as a picture: halves, gates, journals, and what of each is used.
+"""Draws the regions of a store's file as a picture: halves, gates, journals, and what of each is
+used.
 
     tools/pathd-tools layout DEV PICTURE.svg [--program PROGRAM]
 
-The regions are those that `pathd show DEV --layout` prints, which opens the file for reading alone and changes nothing; PROGRAM is crates/pathd/out/pathd if left
-out. Beside a running server it ends with that command's error. Areas and journals are drawn to scale, each half on a line of its own.
+The regions are those that `pathd show DEV --layout` prints, which opens the file for reading alone
+and changes nothing; PROGRAM is crates/pathd/out/pathd if left out. Beside a running server it ends
+with that command's error. Areas and journals are drawn to scale, each half on a line of its own.
 """
 from __future__ import annotations
 

@@ -1,24 +1,31 @@
-"""Puts a load on a server, checks each reply, and prints how many replies a second came and how long they took.
+"""Puts a load on a server, checks each reply, and prints how many replies a second came and how
+long they took.
 
     tools/pathd-tools load [ADDR] [--sessions N] [--seconds S] [--mix KIND=WEIGHT,..] [--rate R] [--window W] [--rows N] [--series FILE [--store FILE]]
 
-Each session registers its part of the rows first, which takes no part in the figures, and a row of its own. Then it sends requests one after the other, of kinds
-that are drawn by their weights, and compares each reply with the one that the request has to get:
+Each session registers its part of the rows first, which takes no part in the figures, and a row of
+its own. Then it sends requests one after the other, of kinds that are drawn by their weights, and
+compares each reply with the one that the request has to get:
 
     lookup    of one of the rows; the answer is that row, byte for byte
     register  the session's own row, each time with a later timestamp; one row is updated, and the place is above that of the command before
     fresh     a lookup of the session's own row; the answer is what it registered last
     purge     at the moment 0, so that nothing is dropped; remove: of an id that no row has; both are checked by counts and place
 
-For each kind the program prints the replies, how many came a second, the 50th, 99th and 99.9th percentile of their times and the longest one in
-microseconds, and how many were refusals or other than the wanted ones. With --rate a time is counted from the moment at which the request was due, so that
-a wait of the server counts for all requests that would have been sent meanwhile. With --window above 1 it is the time of a batch of one kind.
+For each kind the program prints the replies, how many came a second, the 50th, 99th and 99.9th
+percentile of their times and the longest one in microseconds, and how many were refusals or other
+than the wanted ones. With --rate a time is counted from the moment at which the request was due, so
+that a wait of the server counts for all requests that would have been sent meanwhile. With --window
+above 1 it is the time of a batch of one kind.
 
---series FILE gets a line for each kind and each quarter of a second, for `tools/pathd-tools plot`. With --store FILE, the server's file on the same machine, the series also
-says when a checkpoint counted: this script reads the epochs in the file's halves every ten milliseconds, and changes nothing.
+--series FILE gets a line for each kind and each quarter of a second, for `tools/pathd-tools plot`.
+With --store FILE, the server's file on the same machine, the series also says when a checkpoint
+counted: this script reads the epochs in the file's halves every ten milliseconds, and changes
+nothing.
 
-The rows are registered from 1-ff00:0:110, which has to be a core AS of the server (--cores). The load is made by tools/native/load.c, which is compiled for the run: it
-needs gcc. The status is 0, 1 where a reply was wrong or refused or a session ended early, and 2 for words that can't be read.
+The rows are registered from 1-ff00:0:110, which has to be a core AS of the server (--cores). The
+load is made by tools/native/load.c, which is compiled for the run: it needs gcc. The status is 0, 1
+where a reply was wrong or refused or a session ended early, and 2 for words that can't be read.
 """
 from __future__ import annotations
 

@@ -1,4 +1,5 @@
-"""Draws a series of tools/pathd-tools load: replies a second above, percentiles of their times below, and a line where a checkpoint counted.
+"""Draws a series of tools/pathd-tools load: replies a second above, percentiles of their times
+below, and a line where a checkpoint counted.
 
     tools/pathd-tools plot SERIES PICTURE [--title TEXT]
 

@@ -1,5 +1,6 @@
-"""Sees by crates.txt that the program, and each library that isn't of tests, uses no crate of tests and nothing that only these use. Such a crate may end a
-test by `TestHost`, so what its functions ensure holds only where they return. It prints each use that breaks this, and nothing else."""
+"""Sees by crates.txt that the program, and each library that isn't of tests, uses no crate of tests
+and nothing that only these use. Such a crate may end a test by `TestHost`, so what its functions
+ensure holds only where they return. It prints each use that breaks this, and nothing else."""
 from __future__ import annotations
 
 from pathd_tools.pages.source import is_of_tests, uses

@@ -1,6 +1,7 @@
-"""Prints what the pages lack: each word of tools/claims.txt that is between backticks on no page, each public function and each definition of
-specs/ that is on no page of its crate. tools/claims.txt has the words of the claims that README.md made before the crates had pages. It
-prints nothing where nothing is lacking."""
+"""Prints what the pages lack: each word of tools/claims.txt that is between backticks on no page,
+each public function and each definition of specs/ that is on no page of its crate. tools/claims.txt
+has the words of the claims that README.md made before the crates had pages. It prints nothing where
+nothing is lacking."""
 from __future__ import annotations
 
 

@@ -1,6 +1,8 @@
-"""Tries every link of the repository's pages: that its file is there, and that a heading of that page has its anchor. Links to the web are
-not followed. Of a path between backticks that begins with a folder of the repository or of a crate it tries that it is there, unless a part of it is
-in capital letters, as in `crates/NAME`. It prints each link and each path that leads nowhere, and nothing else."""
+"""Tries every link of the repository's pages: that its file is there, and that a heading of that
+page has its anchor. Links to the web are not followed. Of a path between backticks that begins with
+a folder of the repository or of a crate it tries that it is there, unless a part of it is in
+capital letters, as in `crates/NAME`. It prints each link and each path that leads nowhere, and
+nothing else."""
 from __future__ import annotations
 
 import re

@@ -1,8 +1,9 @@
-"""Checks the tables of claims: that each function or definition is in its file, that it has each clause that is named, and that each edit
-exists. It prints what is missing, and nothing else.
+"""Checks the tables of claims: that each function or definition is in its file, that it has each
+clause that is named, and that each edit exists. It prints what is missing, and nothing else.
 
-In docs/PROOFS.md a contract is `name` or `name`: `clause`, `clause`, and several names are joined by commas; the file is a column of its own. On the
-page of a crate it is [`name`](src/FILE.rt): `clause`, `clause`, and several are joined by semicolons.
+In docs/PROOFS.md a contract is `name` or `name`: `clause`, `clause`, and several names are joined
+by commas; the file is a column of its own. On the page of a crate it is [`name`](src/FILE.rt):
+`clause`, `clause`, and several are joined by semicolons.
 """
 from __future__ import annotations
 

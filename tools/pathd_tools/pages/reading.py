@@ -1,12 +1,13 @@
-"""What a reader of contracts has to believe: the definitions that they cite, with all that these cite in turn.
+"""What a reader of contracts has to believe: the definitions that they cite, with all that these
+cite in turn.
 
     tools/pathd-tools reading                        a table, one line for each promise of docs/PROOFS.md
     tools/pathd-tools reading --check                whether docs/PROOFS.md has this table; --write puts it there
     tools/pathd-tools reading CONTRACT ..            the definitions of these contracts, with file and line;
                                                      --imports: which files to split so that imports reach less
 
-A definition's lines are those without blank lines and comments. 'Files by imports' are the files of specs/ that one gets to by following all
-imports of each file, in place of the words that are cited.
+A definition's lines are those without blank lines and comments. 'Files by imports' are the files of
+specs/ that one gets to by following all imports of each file, in place of the words that are cited.
 """
 from __future__ import annotations
 

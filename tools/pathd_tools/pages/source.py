@@ -1,4 +1,5 @@
-"""Reads the sources of the repository: functions with their clauses, types, definitions of specs/, and what these import."""
+"""Reads the sources of the repository: functions with their clauses, types, definitions of specs/,
+and what these import."""
 from __future__ import annotations
 
 import re

@@ -1,5 +1,6 @@
-"""Prints each line of a use on a crate's page that is a line of no source file which the paragraph after the use links, and each page of a
-library of src/ that has no use. It prints nothing where the pages agree with the sources."""
+"""Prints each line of a use on a crate's page that is a line of no source file which the paragraph
+after the use links, and each page of a library of src/ that has no use. It prints nothing where the
+pages agree with the sources."""
 from __future__ import annotations
 
 import re
