@@ -1,4 +1,4 @@
-"""The benchmarks of bench/pathd-bench, and their parts."""
+"""The benchmarks of bench/pathd-bench, which are scripts of bench/shell, and their parts."""
 from pathd_tools import TOP
 from pathd_tools.toolbox import Tool, Toolbox
 

@@ -1,4 +1,5 @@
-"""The tools of tools/pathd-tools."""
+"""The tools of tools/pathd-tools. A tool is a module with `main(words)` or a script of tools/shell,
+and has a line here."""
 from pathd_tools import TOP
 from pathd_tools.toolbox import Tool, Toolbox
 
