@@ -28,13 +28,14 @@ pub fn can_be_group(commands: &[Command], place: u64) -> bool
 }
 
 /// The payload of a group whose first command has this place: a header, each command's record after
-/// its length, and zeros up to a whole sector.
+/// its length, and zeros up to a whole sector. The list has room for one more sector, the gate that
+/// is written after the payload.
 pub fn encode_group(alloc: Global, commands: &[Command], place: u64) -> Result<Vec<u8>, AllocError>
     requires { IsWithinGroupLimits commands.now place }
     ensures { IfOk result (λ payload. payload.items ≡ group_encoding command_format place commands.now) }
 {
     let size = records_len(commands);
-    let mut out = Vec::with_capacity(alloc, HEADER + size + SECTOR)?;
+    let mut out = Vec::with_capacity(alloc, HEADER + size + 2 * SECTOR)?;
     put_header(commands.len() as u8, size as u32, place, &mut out)?;
     put_records(commands, &mut out)?;
     pad(&mut out)?;

@@ -89,6 +89,21 @@ fn a_registration_stands_behind_its_length(rt: HostRuntime) -> Result<(), Fail> 
     Ok(())
 }
 
+// Nine purges and ten removals have records of 497 bytes: after the header, a byte more than a
+// sector.
+#[test]
+fn payloads_have_room_for_a_gate(rt: HostRuntime) -> Result<(), Fail> {
+    let mut commands = purges(rt.alloc(), 9)?;
+    for _ in 0..10 {
+        commands.push(Command::Remove(SegType::Down, [0; 32]))?;
+        assert!(rt; can_be_group(&commands, 0));
+        let payload = encode_group(rt.alloc(), &commands, 0)?;
+        let rest = payload.capacity().wrapping_sub(payload.len());
+        assert!(rt; 512 <= rest && rest < 1024, "{rest}");
+    }
+    Ok(())
+}
+
 #[test]
 fn groups_have_limits(rt: HostRuntime) -> Result<(), Fail> {
     for (count, place, can) in [
