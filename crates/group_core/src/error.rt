@@ -3,8 +3,8 @@
 use crate::values::{Commit, Durable};
 
 /// Why a step with a value of phase `P` was refused. The first that holds is answered, in this
-/// order: `Stranger`, `Stopped`, and then `Fault`. `NoMemory` and `Damaged` are for a checkpoint of
-/// which only the next sectors are held; now all of them are, and no step answers these two.
+/// order: `Stranger`, `Stopped`, and then `Fault`. `NoMemory` and `Damaged` are reserved for
+/// `write_chunk`, and the contract of each step rules them out.
 pub enum StepError<P> {
     /// The device failed: the value is spent, and the state has stopped.
     Fault,
