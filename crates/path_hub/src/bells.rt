@@ -1,66 +1,34 @@
 //! By which threads wait for the outcomes of their commands.
 
+use std::array;
 use std::sync::Condvar;
 
-/// Eight bells, by the places of commands: the next place has the next bell.
-#[derive(Drop)]
-struct Octave {
-    bells: [Condvar; 8],
-}
+/// How many bells there are: twice as many as a group has commands at the most.
+const BELLS: usize = 64;
 
-impl Octave {
-    fn new() -> Octave {
-        Octave {
-            bells: [
-                Condvar::new(),
-                Condvar::new(),
-                Condvar::new(),
-                Condvar::new(),
-                Condvar::new(),
-                Condvar::new(),
-                Condvar::new(),
-                Condvar::new(),
-            ],
-        }
-    }
-
-    fn of(&self, place: u64) -> &Condvar {
-        &self.bells[(place % 8) as usize]
-    }
-}
-
-/// Sixty-four bells, by the places of commands: twice as many as a group has commands at the most.
+/// The bells, by the places of commands: the next place has the next bell.
 #[derive(Drop)]
 pub(crate) struct Bells {
-    octaves: [Octave; 8],
+    bells: [Condvar; BELLS],
 }
 
 impl Bells {
     /// None was rung yet.
     pub(crate) fn new() -> Bells {
         Bells {
-            octaves: [
-                Octave::new(),
-                Octave::new(),
-                Octave::new(),
-                Octave::new(),
-                Octave::new(),
-                Octave::new(),
-                Octave::new(),
-                Octave::new(),
-            ],
+            bells: array::from_fn(|_index| Condvar::new()),
         }
     }
 
     /// The bell of the command of a place. It is that of each 64th place after it, too.
     pub(crate) fn of(&self, place: u64) -> &Condvar {
-        self.octaves[(place / 8 % 8) as usize].of(place)
+        &self.bells[(place % BELLS as u64) as usize]
     }
 
     /// Rings them all.
     pub(crate) fn ring_all(&self) {
-        for place in 0..64 {
-            self.of(place).notify_all();
+        for bell in &self.bells {
+            bell.notify_all();
         }
     }
 }
