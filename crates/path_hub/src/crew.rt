@@ -39,6 +39,11 @@ pub trait Crew<D: Device, R: Wait + Clock> {
     /// was called, as it is once all guests have been attended to. The flusher's thread calls this,
     /// where both actors were given their threads.
     fn stopped(&self) {}
+
+    /// The flusher has ended, as the state was halted: a step had refused the value of an actor as
+    /// a stranger. Only a defect of the program leads there. The flusher's thread calls this in
+    /// place of `stopped`.
+    fn met_stranger(&self) {}
 }
 
 /// Makes a hub over a store, starts the flusher, the checkpointer and a thread for each guest, and
@@ -108,14 +113,18 @@ fn act<
     )
 }
 
-/// Runs the flusher until the state stops, and says so to the crew.
+/// Runs the flusher until the state stops, and reports to the crew why it did.
 fn flush<N: HubName, D: Device, C: Crew<D, R>, R: Wait + Clock>(
     rt: &R,
     hub: &Hub<D, N, R>,
     crew: &C,
 ) {
     flusher_loop(rt, hub);
-    crew.stopped();
+    if hub.has_stranger() {
+        crew.met_stranger();
+    } else {
+        crew.stopped();
+    }
 }
 
 /// Starts a thread for each guest, and answers how many were started once all have ended.

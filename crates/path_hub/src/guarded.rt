@@ -9,11 +9,12 @@ use crate::name::HubName;
 use crate::show::HubNote;
 use group_core::{
     AtClosing, AtLaid, AtLive, AtOpened, AtPlan, AtStable, AtStaged, AtSwitched, AtWritten,
-    BeginError, Closing, Durable, Laid, Live, Opened, Plan, PublishError, Redeemed, Stable,
+    BeginError, Closing, Commit, Durable, Laid, Live, Opened, Plan, PublishError, Redeemed, Stable,
     StageError, Staged, StepError, SubmitError, Switched, Ticket, Written,
 };
 use path_db::Command;
 use sector_dev::Device;
+use std::sync::atomic::Ordering;
 use std::sync::{MutexGuard, Wait};
 use std::time::Clock;
 use store_loops::{Awaited, Steps};
@@ -56,6 +57,14 @@ impl<D: Device, N: HubName, R: Wait + Clock> Steps for Hub<D, N, R> {
     fn halt(&self) {
         let mut state = self.state.lock(&self.rt);
         state.halt();
+        MutexGuard::unlock(state);
+        self.changes.announce_stop();
+    }
+
+    fn give_up<P: Copy>(&self, value: Commit<P>) {
+        self.has_stranger.store(true, Ordering::SeqCst);
+        let mut state = self.state.lock(&self.rt);
+        state.give_up(value);
         MutexGuard::unlock(state);
         self.changes.announce_stop();
     }

@@ -14,6 +14,7 @@ use crate::tally::{Completed, Tally};
 use group_core::{Numbers, Receipt, Redeemed, State};
 use path_db::Command;
 use sector_dev::Device;
+use std::sync::atomic::{AtomicBool, Ordering};
 use std::sync::{Mutex, MutexGuard, Wait};
 use std::time::Clock;
 use store_loops::{Awaited, Steps};
@@ -31,6 +32,8 @@ pub struct Hub<D: Device, N: HubName, R: Wait + Clock> {
     pub(crate) state: Mutex<State<D, HubShow<N, R>>>,
     pub(crate) changes: Changes,
     pub(crate) tally: Tally,
+    /// Whether an actor has given up a stranger.
+    pub(crate) has_stranger: AtomicBool,
     pub(crate) readers: Mutex<Vec<HubReader<N>>>,
 }
 
@@ -105,6 +108,11 @@ impl<D: Device, N: HubName, R: Wait + Clock> Hub<D, N, R> {
         let completed = self.tally.completed();
         MutexGuard::unlock(state);
         (numbers, completed)
+    }
+
+    /// Whether an actor has given up a value that a step refused as a stranger.
+    pub(crate) fn has_stranger(&self) -> bool {
+        self.has_stranger.load(Ordering::SeqCst)
     }
 
     /// Stops the state for good: the actors' loops end, and so do the calls that wait for a commit.

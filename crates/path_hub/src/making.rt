@@ -23,6 +23,7 @@ use path_db::PathDb;
 use sector_dev::Device;
 use std::alloc::{AllocError, Global};
 use std::marker::Brand;
+use std::sync::atomic::AtomicBool;
 use std::sync::{Mutex, Wait};
 use std::time::Clock;
 use store_open::Store;
@@ -110,6 +111,7 @@ impl<D: Device, N: HubName, R: Wait + Clock> Hub<D, N, R> {
             state: Mutex::new(State::new(alloc, store, show, home)),
             changes: Changes::new(),
             tally: Tally::new(),
+            has_stranger: AtomicBool::new(false),
             readers: Mutex::new(readers),
         })
     }
@@ -126,6 +128,7 @@ impl<D: Device, N: HubName, R: Wait + Clock> Hub<D, N, R> {
             state,
             changes: _changes,
             tally: _tally,
+            has_stranger: _has_stranger,
             readers: _readers,
         } = self;
         let state = state.into_inner();

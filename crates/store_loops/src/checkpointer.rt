@@ -1,8 +1,8 @@
 //! What the checkpointer does until the state has stopped.
 
-use crate::flusher::after_rest;
+use crate::retrying::{after_refusal, retry};
 use crate::steps::{Awaited, Steps};
-use group_core::{BeginError, Closing, Laid, Live, Plan, Switched};
+use group_core::{BeginError, Closing, Laid, Plan};
 use std::sync::Wait;
 
 /// Folds each sealed journal into the other half. It ends once the state has stopped; where another
@@ -22,15 +22,15 @@ pub fn checkpointer_loop<R: Wait, S: Steps>(rt: &R, steps: &S) {
 /// Takes a plan through all its steps; a state that stops in between spends the value.
 fn fold<R: Wait, S: Steps>(rt: &R, steps: &S, plan: Plan) {
     if let Some(closing) = make_closing(rt, steps, plan) {
-        sync_close(rt, steps, closing);
+        retry(rt, steps, closing, |value| steps.sync_close(value));
     }
 }
 
 fn make_closing<R: Wait, S: Steps>(rt: &R, steps: &S, plan: Plan) -> Option<Closing> {
     let laid = lay(rt, steps, plan)?;
-    let switched = open_half(rt, steps, laid)?;
-    let live = sync_half(rt, steps, switched)?;
-    close_half(rt, steps, live)
+    let switched = retry(rt, steps, laid, |value| steps.open_half(value))?;
+    let live = retry(rt, steps, switched, |value| steps.sync_half(value))?;
+    retry(rt, steps, live, |value| steps.close_half(value))
 }
 
 /// Writes all chunks of a checkpoint, and syncs them.
@@ -40,60 +40,13 @@ fn lay<R: Wait, S: Steps>(rt: &R, steps: &S, plan: Plan) -> Option<Laid> {
         if plan.is_done() {
             match steps.sync_chunks(plan) {
                 Ok(laid) => return Some(laid),
-                Err(refused) => plan = after_rest(steps, refused)?,
+                Err(refused) => plan = after_refusal(steps, refused)?,
             }
         } else {
             match steps.write_chunk(plan) {
                 Ok(next) => plan = next,
-                Err(refused) => plan = after_rest(steps, refused)?,
+                Err(refused) => plan = after_refusal(steps, refused)?,
             }
-        }
-    }
-    unreachable!()
-}
-
-fn open_half<R: Wait, S: Steps>(rt: &R, steps: &S, value: Laid) -> Option<Switched> {
-    let mut value = value;
-    for _ in rt.forever() {
-        match steps.open_half(value) {
-            Ok(next) => return Some(next),
-            Err(refused) => value = after_rest(steps, refused)?,
-        }
-    }
-    unreachable!()
-}
-
-fn sync_half<R: Wait, S: Steps>(rt: &R, steps: &S, value: Switched) -> Option<Live> {
-    let mut value = value;
-    for _ in rt.forever() {
-        match steps.sync_half(value) {
-            Ok(next) => return Some(next),
-            Err(refused) => value = after_rest(steps, refused)?,
-        }
-    }
-    unreachable!()
-}
-
-fn close_half<R: Wait, S: Steps>(rt: &R, steps: &S, value: Live) -> Option<Closing> {
-    let mut value = value;
-    for _ in rt.forever() {
-        match steps.close_half(value) {
-            Ok(next) => return Some(next),
-            Err(refused) => value = after_rest(steps, refused)?,
-        }
-    }
-    unreachable!()
-}
-
-fn sync_close<R: Wait, S: Steps>(rt: &R, steps: &S, value: Closing) {
-    let mut value = value;
-    for _ in rt.forever() {
-        match steps.sync_close(value) {
-            Ok(()) => return,
-            Err(refused) => match after_rest(steps, refused) {
-                Some(back) => value = back,
-                None => return,
-            },
         }
     }
     unreachable!()

@@ -8,6 +8,7 @@
 
 mod checkpointer;
 mod flusher;
+mod retrying;
 mod steps;
 
 pub use checkpointer::checkpointer_loop;

@@ -5,7 +5,7 @@ ghost use Rattle.store_loops.specs.Receipts.{IsTicketOrCommand, IsRedeemed, Lead
 
 use group_core::{
     AtClosing, AtLaid, AtLive, AtOpened, AtPlan, AtStable, AtStaged, AtSwitched, AtWritten,
-    BeginError, Closing, Durable, Laid, Live, Opened, Plan, PublishError, Redeemed, Stable,
+    BeginError, Closing, Commit, Durable, Laid, Live, Opened, Plan, PublishError, Redeemed, Stable,
     StageError, Staged, StepError, SubmitError, Switched, Ticket, Written,
 };
 use path_db::Command;
@@ -46,6 +46,10 @@ pub trait Steps {
 
     /// Stops the state. It stays stopped.
     fn halt(&self);
+
+    /// Stops the state, and gives up a value of an actor that a step refused as a stranger. Only a
+    /// defect of the program leads there, so an implementation also reports the call.
+    fn give_up<P: Copy>(&self, value: Commit<P>);
 
     /// Stages a group of the first pending commands, or a seal.
     fn stage(&self) -> Result<Staged, StageError>;

@@ -36,6 +36,7 @@ pub(crate) struct Guests<E> {
     invited: AtomicU64,
     gone: AtomicU64,
     missed: AtomicU64,
+    strangers: AtomicU64,
 }
 
 impl<E> Guests<E> {
@@ -47,12 +48,18 @@ impl<E> Guests<E> {
             invited: AtomicU64::new(0),
             gone: AtomicU64::new(0),
             missed: AtomicU64::new(0),
+            strangers: AtomicU64::new(0),
         }
     }
 
     /// For how many guests no thread was given.
     pub(crate) fn missed(&self) -> u64 {
         self.missed.load(Ordering::SeqCst)
+    }
+
+    /// How often the flusher ended at a stranger.
+    pub(crate) fn strangers(&self) -> u64 {
+        self.strangers.load(Ordering::SeqCst)
     }
 }
 
@@ -81,6 +88,10 @@ impl<E: Errand, D: Device, R: Wait + Clock + Abort> Crew<D, R> for Guests<E> {
     fn miss(&self) {
         self.missed.fetch_add(1, Ordering::SeqCst);
         self.gone.fetch_add(1, Ordering::SeqCst);
+    }
+
+    fn met_stranger(&self) {
+        self.strangers.fetch_add(1, Ordering::SeqCst);
     }
 }
 

@@ -8,6 +8,8 @@ mod crews;
 #[cfg(test)]
 mod doors;
 #[cfg(test)]
+mod given_up;
+#[cfg(test)]
 mod held;
 #[cfg(test)]
 mod host;

@@ -3,13 +3,14 @@
 use crate::stores::opened;
 use group_core::{
     AtClosing, AtLaid, AtLive, AtOpened, AtPlan, AtStable, AtStaged, AtSwitched, AtWritten,
-    BeginError, Closing, Durable, Laid, Live, Opened, PlainShow, Plan, PublishError, Redeemed,
-    Stable, StageError, Staged, State, StepError, SubmitError, Switched, Ticket, Written,
+    BeginError, Closing, Commit, Durable, Laid, Live, Opened, PlainShow, Plan, PublishError,
+    Redeemed, Stable, StageError, Staged, State, StepError, SubmitError, Switched, Ticket, Written,
 };
 use path_db::Command;
 use path_hub::{Awaited, Steps};
 use sector_dev::MemDevice;
 use std::alloc::Global;
+use std::mem::swap;
 use std::sync::atomic::{AtomicU64, Ordering};
 use std::sync::{Mutex, MutexGuard, Wait};
 pub use test_group_scripts::work::state_of;
@@ -18,26 +19,49 @@ use test_support::{TestHost, assert_true};
 /// More calls, and more rests, than are made of a state here: with more the test ends.
 const MANY: u64 = 10_000;
 
-/// A state that stops before the call of a number, counted from 1; a rest is no call, and ends at
-/// once.
+/// A state that stops before the call of a number, counted from 1, or is exchanged for another one
+/// there; a rest is no call, and ends at once.
 pub struct Fake<R: Wait + TestHost> {
     rt: R,
     state: Mutex<State<MemDevice, PlainShow>>,
+    /// The state that its own one is exchanged for.
+    other: Mutex<Option<State<MemDevice, PlainShow>>>,
     calls: AtomicU64,
     rests: AtomicU64,
     last: AtomicU64,
+    exchanged: AtomicU64,
+    strangers: AtomicU64,
 }
 
 impl<R: Wait + TestHost> Fake<R> {
     /// One over a device, which doesn't stop yet.
     pub fn new(rt: R, alloc: Global, device: MemDevice) -> Fake<R> {
         let state = state_of(&rt, alloc, opened(&rt, alloc, device), 1);
+        Fake::over(rt, state, None)
+    }
+
+    /// The same, with a second state over another device. What either state gives is a stranger to
+    /// the other one.
+    pub fn with_other(rt: R, alloc: Global, device: MemDevice, other: MemDevice) -> Fake<R> {
+        let state = state_of(&rt, alloc, opened(&rt, alloc, device), 1);
+        let other = state_of(&rt, alloc, opened(&rt, alloc, other), 2);
+        Fake::over(rt, state, Some(other))
+    }
+
+    fn over(
+        rt: R,
+        state: State<MemDevice, PlainShow>,
+        other: Option<State<MemDevice, PlainShow>>,
+    ) -> Fake<R> {
         Fake {
             rt,
             state: Mutex::new(state),
+            other: Mutex::new(other),
             calls: AtomicU64::new(0),
             rests: AtomicU64::new(0),
             last: AtomicU64::new(0),
+            exchanged: AtomicU64::new(0),
+            strangers: AtomicU64::new(0),
         }
     }
 
@@ -47,9 +71,20 @@ impl<R: Wait + TestHost> Fake<R> {
         self.last.store(number, Ordering::SeqCst);
     }
 
+    /// Has its two states exchanged before the call of this number, the next one being number 1.
+    pub fn exchange_before(&self, number: u64) {
+        self.calls.store(0, Ordering::SeqCst);
+        self.exchanged.store(number, Ordering::SeqCst);
+    }
+
     /// How many calls there were.
     pub fn calls(&self) -> u64 {
         self.calls.load(Ordering::SeqCst)
+    }
+
+    /// How many strangers were given up.
+    pub fn strangers(&self) -> u64 {
+        self.strangers.load(Ordering::SeqCst)
     }
 
     /// Its device, where all tickets are redeemed and no value is out.
@@ -60,13 +95,40 @@ impl<R: Wait + TestHost> Fake<R> {
         let Fake {
             rt,
             state,
+            other,
             calls: _calls,
             rests: _rests,
             last: _last,
+            exchanged: _exchanged,
+            strangers: _strangers,
         } = self;
+        if let Some(other) = other.into_inner() {
+            let _parts = other.into_parts();
+        }
         match state.into_inner().into_device() {
             Ok(device) => device,
             Err(_state) => rt.fail("something is kept"),
+        }
+    }
+
+    /// Ends both states, whatever is kept or out.
+    pub fn end(self)
+    where
+        R: Drop,
+    {
+        let Fake {
+            rt: _rt,
+            state,
+            other,
+            calls: _calls,
+            rests: _rests,
+            last: _last,
+            exchanged: _exchanged,
+            strangers: _strangers,
+        } = self;
+        let _parts = state.into_inner().into_parts();
+        if let Some(other) = other.into_inner() {
+            let _parts = other.into_parts();
         }
     }
 
@@ -77,6 +139,11 @@ impl<R: Wait + TestHost> Fake<R> {
         let mut state = self.state.lock(&self.rt);
         if number == self.last.load(Ordering::SeqCst) {
             state.halt();
+        }
+        if number == self.exchanged.load(Ordering::SeqCst) {
+            if let Some(other) = &mut *self.other.lock(&self.rt) {
+                swap(&mut *state, other);
+            }
         }
         state
     }
@@ -106,6 +173,13 @@ impl<R: Wait + TestHost> Steps for Fake<R> {
     fn halt(&self) {
         let mut state = self.turn();
         state.halt();
+        MutexGuard::unlock(state);
+    }
+
+    fn give_up<P: Copy>(&self, value: Commit<P>) {
+        self.strangers.fetch_add(1, Ordering::SeqCst);
+        let mut state = self.turn();
+        state.give_up(value);
         MutexGuard::unlock(state);
     }
 

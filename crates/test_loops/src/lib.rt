@@ -11,3 +11,5 @@ mod loops;
 mod rests;
 #[cfg(test)]
 mod scripts;
+#[cfg(test)]
+mod strangers;

@@ -1,0 +1,59 @@
+//! What both actors do with a value that a state refuses as a stranger.
+
+use crate::host::Host;
+use path_hub::{Steps, checkpointer_loop, flusher_loop};
+use std::process::Abort;
+use std::sync::Wait;
+use std::test::Fail;
+use test_hub_scripts::acts::{Unwatched, spend, submit};
+use test_hub_scripts::fakes::Fake;
+use test_hub_scripts::stores::{LEAST, formatted, sealed_row};
+
+/// The calls of the flusher that take a value: from the write of the group to its publishing.
+const FLUSHER_CALLS: [u64; 5] = [2, 3, 4, 5, 6];
+
+/// The calls of the checkpointer that take a value: the write of the only chunk, and all up to the
+/// sync of the closed half.
+const CHECKPOINTER_CALLS: [u64; 6] = [2, 3, 4, 5, 6, 7];
+
+/// Sees that a loop met one stranger at the call of this number, gave it up by the next call, and
+/// ended by the call after that.
+fn assert_given_up<R: Wait + Abort>(rt: &R, fake: &Fake<Host<R>>, number: u64) {
+    assert_eq!(rt; fake.strangers(), 1, "{number}");
+    assert_eq!(rt; fake.calls(), number.wrapping_add(2), "{number}");
+}
+
+#[test]
+fn flusher_gives_up_strangers(rt: HostRuntime) -> Result<(), Fail> {
+    let host = Host(&rt);
+    let alloc = rt.alloc();
+    for number in FLUSHER_CALLS {
+        let device = formatted(&host, alloc, LEAST);
+        let fake = Fake::with_other(host, alloc, device, formatted(&host, alloc, LEAST));
+        let ticket = submit(&host, &fake, &mut Unwatched);
+        fake.exchange_before(number);
+        flusher_loop(&&rt, &fake);
+        assert_given_up(&&rt, &fake, number);
+        // The first state has the ticket's outcome.
+        fake.exchange_before(1);
+        fake.halt();
+        spend(&host, &fake, &mut Unwatched, ticket);
+        fake.end();
+    }
+    Ok(())
+}
+
+#[test]
+fn checkpointer_gives_up_strangers(rt: HostRuntime) -> Result<(), Fail> {
+    let host = Host(&rt);
+    let alloc = rt.alloc();
+    for number in CHECKPOINTER_CALLS {
+        let device = sealed_row(&host, alloc);
+        let fake = Fake::with_other(host, alloc, device, sealed_row(&host, alloc));
+        fake.exchange_before(number);
+        checkpointer_loop(&&rt, &fake);
+        assert_given_up(&&rt, &fake, number);
+        fake.end();
+    }
+    Ok(())
+}
