@@ -1,27 +1,364 @@
-"""Tries the edits of crates in a copy of the repository, and prints what refuses each."""
+"""Tries the wrong bodies of crates over the proofs that are kept, prints the goal that refuses
+each, and writes the page of them all.
+
+An edit is refused well where the prover refuses a clause of a contract, an invariant, or a check of
+the body (an index, an overflow, a loop that has to end) in a function of a file that the edit
+changes. Lines of an edit that `rt` passes over say more of it:
+
+    clause: FUNCTION CLAUSE     the clause that has to refuse it; `clause: FUNCTION` where it has no
+                                name, and `invariant` or `check` in its place for one of these
+    body: TEXT                  what the wrong body does
+    right: TEXT                 after a line `new:`, the right body in the same form, which the
+                                prover has to accept
+
+All else shows nothing of a contract and fails: an edit that is proved or not read; a proof file that
+names a goal which the edit took away; an answer that doesn't fit its goal, where the prover's own
+search proves that goal or isn't asked; and a `requires` of a callee.
+"""
 from __future__ import annotations
 
+import hashlib
+import importlib.machinery
+import importlib.util
+import json
+import os
+import re
+import resource
 import shutil
 import subprocess
 import sys
 import tempfile
+import time
+from dataclasses import dataclass, field
 from pathlib import Path
 
-from pathd_tools.pages.source import CRATES, TOP
+from pathd_tools.pages.source import CRATES, TOP, crates
+
+PAGE = TOP / "docs" / "EDITS.md"
+KINDS = {"must-fail": "gate", "more-edits": "beside"}
+HEADER = "| edit | where | the wrong body | refused by | commit | date |"
+
+# What the prover prints: a goal that no tactic proves, an error in a proof file, and the line of a function after both.
+GOAL = re.compile(r"(?:note: )?src/\S+:\d+:\d+: .*?\(`([\w:-]+)`(?:, [^)]*)?\)(.*)")
+ANSWER = re.compile(r"(?:\./)?proofs/(\S+)/\w+\.antt:\d+:\d+: error: `([^`]+)`: (.*)")
+FUNCTION = re.compile(r"fn (\S+): (?:no proof|not proved)")
+UNPROVED = re.compile(r"`search` did not prove ((?:`[^`]+`(?:, | and )?)+)")
+GONE = re.compile(r"has no field|is not in scope|has no `|was not admitted|that can be named from here")
 
 
-def main(names: list[str]) -> int:
-    chosen = names or sorted({it.parent.parent.name for kind in ("must-fail", "more-edits") for it in CRATES.glob(f"*/{kind}/*.edit")})
-    with tempfile.TemporaryDirectory() as folder:
-        copy = Path(folder) / "pathd"
-        subprocess.run(["git", "clone", "--quiet", str(TOP), str(copy)], check=True)
-        for name in chosen:
-            beside = copy / "crates" / name / "more-edits"
-            inside = copy / "crates" / name / "must-fail"
-            inside.mkdir(exist_ok=True)
-            for edit in sorted(beside.glob("*.edit")):
-                shutil.copy(edit, inside / edit.name)
-        return subprocess.run(["rt", "must-fail", *chosen], cwd=copy).returncode
+@dataclass
+class Edit:
+    """A wrong body: its crate, its file, which kind of edit it is, the clause that has to refuse it, and what it does, in a phrase."""
+
+    path: Path
+    function: str = ""
+    clause: str | None = None
+    phrase: str = ""
+
+    def __post_init__(self) -> None:
+        text = self.path.read_text()
+        if said := re.search(r"^clause: (\S+)(?: (\S+))?$", text, re.M):
+            self.function, self.clause = said[1], said[2] or ""
+        said = re.search(r"^body: (.+)$", text, re.M)
+        self.phrase = said[1] if said else self.path.stem.replace("_", " ")
+
+    @property
+    def crate(self) -> str:
+        return self.path.parent.parent.name
+
+    @property
+    def kind(self) -> str:
+        return KINDS[self.path.parent.name]
+
+    @property
+    def sum(self) -> str:
+        return hashlib.sha256(self.path.read_bytes()).hexdigest()[:16]
+
+    @property
+    def files(self) -> list[str]:
+        return re.findall(r"^file: (\S+)$", self.path.read_text(), re.M)
+
+
+@dataclass
+class Refusal:
+    """A goal that the prover refuses: its function, its name, its kind (a clause, an invariant, a check
+    of the body, a `requires`, an answer that doesn't fit, or one whose goal is gone), and whether the
+    prover found values at which it is false."""
+
+    function: str
+    goal: str
+    kind: str
+    is_false: bool = False
+
+    @property
+    def clause(self) -> str:
+        """The name of the clause; the empty text where it has none, or where all clauses are one goal."""
+        named = re.search(r"-clause-([a-z_]+)$", self.goal)
+        return named[1] if named and named[1] != "whole" else ""
+
+
+@dataclass
+class Verdict:
+    """What came of an edit: whether it shows something, by which goal, and why not."""
+
+    is_well: bool
+    by: str
+    why: str = ""
+    others: list[str] = field(default_factory=list)
+
+
+def edits_of(names: list[str]) -> list[Edit]:
+    found = [it for name in crates() if not names or name in names for kind in KINDS for it in (CRATES / name / kind).glob("*.edit")]
+    order = crates()
+    return [Edit(it) for it in sorted(found, key=lambda it: (order.index(it.parent.parent.name), it.name))]
+
+
+# ---- reading what the prover says
+
+
+def kind_of(goal: str) -> str:
+    """Of which kind a goal is, by its name: `returns..` are the clauses, `invariant_of..`,
+    `loop-..-init` and `loop-..-preserved` the invariants of types and loops."""
+    if "-requires" in goal:
+        return "check" if re.match(r"(index|slice|range|add|sub|mul|div|rem|shl|shr|neg|cast)\b", goal) else "requires"
+    if goal.startswith("returns"):
+        return "clause"
+    if goal.startswith("invariant_of") or re.search(r"^loop-.*-(init|preserved.*)$|^invariant-", goal):
+        return "invariant"
+    return "check"
+
+
+def refusals(text: str) -> list[Refusal]:
+    """All that the prover refuses, by function. What it says of a function comes before the function's own line."""
+    found, waiting = [], []
+    for line in text.splitlines():
+        if its := ANSWER.match(line):
+            fits = "`search`: no proof" in its[3] or "`grind`" in its[3] or "`omega`" in its[3] or "`simp`" in its[3]
+            kind = kind_of(its[2]) if fits else "gone" if GONE.search(its[3]) else "answer"
+            waiting.append(Refusal(its[1].replace("/", "::"), its[2], kind))
+        elif its := GOAL.match(line):
+            waiting.append(Refusal("", its[1], kind_of(its[1]), "is false" in its[2]))
+        elif its := FUNCTION.match(line):
+            function = its[1].partition("::")[2]
+            named = [goal for said in UNPROVED.findall(line) for goal in re.findall(r"`([^`]+)`", said)]
+            known = {it.goal for it in waiting}
+            waiting += [Refusal("", goal, kind_of(goal)) for goal in named if goal not in known]
+            found += [Refusal(function, it.goal, it.kind, it.is_false) for it in waiting]
+            waiting = []
+    return found + waiting
+
+
+def is_within(function: str, edit: Edit) -> bool:
+    """Whether a function is in a file that the edit changes; of a constant it may be anywhere."""
+    if re.search(r"^old: .*\bconst ", edit.path.read_text(), re.M):
+        return True
+    texts = [(CRATES / edit.crate / it).read_text() for it in edit.files if it.startswith("src/")]
+    return any(re.search(rf"\bfn {re.escape(function.split('::')[-1])}\b", it) for it in texts)
+
+
+def judge(edit: Edit, ran: dict) -> Verdict:
+    """What an edit shows, by what the prover said of it."""
+    if ran.get("unread"):
+        return Verdict(False, "", f"it is not read: {ran['unread'][:200]}")
+    if ran["status"] == 0:
+        return Verdict(False, "", "the prover accepts it")
+    if ran.get("is_right_proved") is False:
+        return Verdict(False, "", "the prover refuses the right body in this form too")
+    found = refusals(ran["output"])
+    good = [it for it in found if it.kind in ("clause", "invariant", "check")]
+    if edit.clause is not None:
+        wanted = [it for it in good if it.function.split("::")[-1] == edit.function and fits_clause(it, edit.clause)]
+        others = sorted({f"{it.function} {it.goal}" for it in good if it not in wanted})
+        if wanted:
+            return Verdict(True, name_of(min(wanted, key=lambda it: not it.is_false)), "", others)
+        said = "; ".join(f"{it.function} {it.goal} ({it.kind})" for it in found[:4])
+        return Verdict(False, "", f"not by the clause {edit.function} {edit.clause}, but by {said or 'nothing that is named'}")
+    clauses = sorted([it for it in good if is_within(it.function, edit)], key=lambda it: (it.kind != "clause", it.kind != "invariant", not it.is_false))
+    if clauses:
+        return Verdict(True, name_of(clauses[0]), "", sorted({name_of(it) for it in clauses[1:]}))
+    said = "; ".join(f"{it.function} {it.goal} ({it.kind})" for it in found[:4])
+    return Verdict(False, "", f"by no clause, invariant or check of the body: {said or 'nothing that is named'}")
+
+
+def fits_clause(it: Refusal, clause: str) -> bool:
+    if clause == "check":
+        return it.kind == "check"
+    if clause == "invariant":
+        return it.kind == "invariant"
+    return it.kind == "clause" and it.clause in (clause, "")
+
+
+def name_of(it: Refusal) -> str:
+    kind = "" if it.kind == "clause" else f" ({it.kind})"
+    return f"{it.function} {it.clause or it.goal}{kind}" if it.kind == "clause" and it.clause else f"{it.function}{kind}"
+
+
+# ---- trying edits
+
+
+def load_rt():
+    """The program `rt` of the PATH as a module: its functions apply an edit and check a copy of the crate with it."""
+    path = os.path.realpath(shutil.which("rt") or sys.exit("there is no rt on the PATH"))
+    sys.dont_write_bytecode = True
+    loader = importlib.machinery.SourceFileLoader("rt_of_the_kit", path)
+    made = importlib.util.module_from_spec(importlib.util.spec_from_loader(loader.name, loader))
+    sys.modules[loader.name] = made
+    loader.exec_module(made)
+    return made
+
+
+def try_edits(rt, edits: list[Edit]) -> bool:
+    """Tries edits of one crate, one after the other, over a copy of what its checks kept; prints each,
+    and returns whether all are refused well."""
+    os.chdir(TOP)
+    rt.rtlib.guarded()
+    rt.Crate.allowed = rt.handles_of(str(TOP))
+    rt.rtlib.Crate = rt.Crate
+    crate = next(it for it in rt.rtlib.crates_below(str(TOP)) if it.name == edits[0].crate)
+    if any(it.build_rlib(["--jobs", "1"], anew=False) for it in crate.below()):
+        sys.exit(f"a crate below {crate.name} is not proved")
+    is_well = True
+    with tempfile.TemporaryDirectory(prefix="pathd-edits-") as room:
+        kept = f"{room}/kept"
+        own = f"{crate.folder}/out/incremental"
+        shutil.copytree(own, kept) if os.path.isdir(own) else os.mkdir(kept)
+        for edit in edits:
+            ran = tried(rt, crate, edit, kept)
+            store(edit, ran)
+            is_well &= show(edit, judge(edit, ran), ran)
+    return is_well
+
+
+def tried(rt, crate, edit: Edit, kept: str) -> dict:
+    """One try. Where answers don't fit their goals, the edit is tried once more without these answers,
+    so that the prover's own search judges the goals."""
+    texts, why = rt.read_edit(str(edit.path), crate.folder)
+    before = resource.getrusage(resource.RUSAGE_CHILDREN)
+    ran = {"unread": why} if why else run(rt, crate, texts, kept)
+    misfits = [] if why else [it for it in refusals(ran["output"]) if it.kind in ("answer", "gone")]
+    if misfits and not judge(edit, ran).is_well:
+        first = ran["output"]
+        ran = run(rt, crate, without_answers(crate, texts, misfits), kept)
+        ran["output"] = f"{first}\n---- without the answers that don't fit\n{ran['output']}" if ran["status"] == 0 else ran["output"]
+    if not why and (right := right_form(edit)):
+        ran["is_right_proved"] = run(rt, crate, rt.edited(right, crate.folder)[0], kept)["status"] == 0
+    after = resource.getrusage(resource.RUSAGE_CHILDREN)
+    seconds = after.ru_utime + after.ru_stime - before.ru_utime - before.ru_stime
+    return {**ran, "seconds": round(seconds, 1), "sum": edit.sum, "commit": commit(), "date": time.strftime("%Y-%m-%d")}
+
+
+def right_form(edit: Edit) -> str:
+    """The edit with the right body in the form of the wrong one; the empty text where it has none."""
+    text, count = re.subn(r"^new: .*\nright: (.*)$", r"new: \1", edit.path.read_text(), flags=re.M)
+    return text if count else ""
+
+
+def run(rt, crate, texts: dict, kept: str) -> dict:
+    done = rt.checked(crate, texts, ["--jobs", "1"], kept)
+    unread = next((it for it in done.stdout.splitlines() if rt.unread(it, texts)), "")
+    return {"status": done.returncode, "output": done.stdout, "unread": unread}
+
+
+def without_answers(crate, texts: dict, misfits: list[Refusal]) -> dict:
+    """The edited texts, without the answers of these goals."""
+    made = dict(texts)
+    for it in misfits:
+        path = f"proofs/{it.function.replace('::', '/')}/Answers.antt"
+        text = made.get(path) or (Path(crate.folder) / path).read_text()
+        made[path] = re.sub(rf"^(?:abbrev )?pub {re.escape(it.goal)} : .*\n(?:.+\n?)*", "", text, flags=re.M)
+    return made
+
+
+def commit() -> str:
+    return subprocess.run(["git", "rev-parse", "--short", "HEAD"], cwd=TOP, capture_output=True, text=True, check=True).stdout.strip()
+
+
+def kept_at(edit: Edit) -> Path:
+    return CRATES / edit.crate / "out" / "edits" / f"{edit.path.stem}.json"
+
+
+def store(edit: Edit, ran: dict) -> None:
+    kept_at(edit).parent.mkdir(parents=True, exist_ok=True)
+    kept_at(edit).write_text(json.dumps(ran, indent=1))
+
+
+def show(edit: Edit, verdict: Verdict, ran: dict) -> bool:
+    said = f"refused by {verdict.by}" if verdict.is_well else f"FAILED: {verdict.why}"
+    print(f"{edit.crate}/{edit.path.stem} ({edit.kind}): {said} [{ran.get('seconds', 0)} s]", flush=True)
+    return verdict.is_well
+
+
+# ---- the page
+
+
+def rows_before() -> dict[tuple[str, str], list[str]]:
+    """The rows of the page as it is, by crate and edit."""
+    found, crate = {}, ""
+    for line in PAGE.read_text().splitlines() if PAGE.is_file() else []:
+        if line.startswith("## "):
+            crate = line.removeprefix("## ").strip("`")
+        elif line.startswith("| `"):
+            cells = [it.strip() for it in line.strip("| ").split(" | ")]
+            found[crate, cells[0].strip("`")] = cells
+    return found
+
+
+def is_unchanged(edit: Edit, since: str) -> bool:
+    """Whether the edit is what it was at a commit."""
+    known = subprocess.run(["git", "diff", "--quiet", since, "--", str(edit.path)], cwd=TOP, capture_output=True)
+    return known.returncode == 0
+
+
+def row(edit: Edit, before: dict) -> list[str]:
+    """The row of an edit: by its last try, or as the page has it where the edit is unchanged since then."""
+    cells = [f"`{edit.path.stem}`", edit.kind, edit.phrase]
+    if kept_at(edit).is_file():
+        ran = json.loads(kept_at(edit).read_text())
+        if ran["sum"] == edit.sum:
+            verdict = judge(edit, ran)
+            by = f"`{verdict.by}`" if verdict.is_well else f"**no refusal**: {verdict.why}".replace("|", "/")
+            tried_at = ran["commit"] if is_unchanged(edit, ran["commit"]) else commit()
+            return [*cells, by, tried_at, ran["date"]]
+    old = before.get((edit.crate, edit.path.stem))
+    if old and len(old) == 6 and old[4] and is_unchanged(edit, old[4]):
+        return [*cells, *old[3:]]
+    return [*cells, "", "", ""]
+
+
+def write() -> int:
+    before = rows_before()
+    text, last = HEAD, ""
+    for edit in edits_of([]):
+        if edit.crate != last:
+            text += f"\n## `{edit.crate}`\n\n{HEADER}\n|---|---|---|---|---|---|\n"
+            last = edit.crate
+        text += f"| {' | '.join(row(edit, before))} |\n"
+    PAGE.write_text(text)
+    return 0
+
+
+HEAD = """# Wrong bodies, and the clauses that refuse them
+
+<!-- written by tools/edits.sh --write -->
+
+Each edit is a wrong body of one function. Those of the gate are in `crates/CRATE/must-fail/`, and `rt ci` tries them; those beside it are in
+`crates/CRATE/more-edits/`. `tools/edits.sh CRATE` tries both. The column 'refused by' has the function and the clause whose goal the prover refuses; a function alone has one
+clause without a name. An edit without a date has not been tried since it was last changed.
+"""
+
+
+def main(words: list[str]) -> int:
+    if words == ["--write"]:
+        return write()
+    names = [it for it in words if not it.startswith("--")]
+    only = [it.removeprefix("--only=") for it in words if it.startswith("--only=")]
+    kinds = [it.removeprefix("--") for it in words if it in ("--gate", "--beside")]
+    chosen = [it for it in edits_of(names) if (not only or it.path.stem in only) and (not kinds or it.kind in kinds)]
+    if "--judge" in words:
+        chosen = [it for it in chosen if kept_at(it).is_file()]
+        return not all([show(it, judge(it, ran), ran) for it in chosen for ran in [json.loads(kept_at(it).read_text())]])
+    rt = load_rt()
+    return not all([try_edits(rt, [it for it in chosen if it.crate == name]) for name in dict.fromkeys(it.crate for it in chosen)])
 
 
 if __name__ == "__main__":
