@@ -6,6 +6,7 @@ ghost use Rattle.std.specs.Int.{w32, w64, to_be_bytes};
 ghost use Rattle.byte_lists.specs.Content.{part, AreBytes, AreOverwritten};
 ghost use Rattle.byte_lists.specs.Numbers.{four_at, eight_at};
 ghost use Rattle.byte_lists.specs.Sectors.{sectors_of, padded, IsLeastRoom, IsOpenGate, is_open_gate};
+ghost use Rattle.byte_lists.specs.declared.format.TheConstants.{SECTOR};
 
 /// The parts of a content after one part of the content was overwritten.
 pub fn overwritten_parts()
@@ -29,7 +30,7 @@ pub fn encoded_numbers()
 /// this number of sectors.
 pub fn padded_sectors()
     ensures least { (n : ℕ) → IsLeastRoom n }
-    ensures padded { (bytes : List ℕ) → length (padded bytes) ≡ 512 * sectors_of (length bytes) }
+    ensures padded { (bytes : List ℕ) → length (padded bytes) ≡ SECTOR * sectors_of (length bytes) }
 {}
 
 /// The test of a gate is true exactly when the gate is open.

@@ -2,6 +2,7 @@
 
 ghost use Rattle.std.specs.Prelude.{◌≡◌, ◌+◌, ◌*◌, ◌<◌, ◌^◌, OnOk, OnErr, vec_len};
 ghost use Rattle.byte_lists.specs.Sectors.{sectors_of, padded};
+ghost use Rattle.byte_lists.specs.declared.format.TheConstants.{SECTOR};
 
 use crate::format::SECTOR;
 use std::alloc::AllocError;
@@ -20,7 +21,7 @@ pub fn sector_count(bytes: usize) -> usize
 
 /// Appends zeros up to a whole number of sectors. Where memory is refused, the bytes are unchanged.
 pub fn pad(bytes: &mut Vec<u8>) -> Result<(), AllocError>
-    requires { vec_len bytes.old + 512 < 2 ^ 64 }
+    requires { vec_len bytes.old + SECTOR < 2 ^ 64 }
     ensures ok { OnOk result (bytes.new.items ≡ padded bytes.old.items) }
     ensures err { OnErr result (bytes.new.items ≡ bytes.old.items) }
 {

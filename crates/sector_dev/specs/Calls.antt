@@ -2,6 +2,7 @@
 -- defined under that premise.
 use Rattle.std.specs.Prelude.{◌≡◌, ℕ, ◌+◌, ◌-◌, ◌*◌, ◌^◌, min, List, length, Result, Ok, Err, OnOk, OnErr}
 use Rattle.byte_lists.specs.Content.{part}
+use Rattle.byte_lists.specs.declared.format.TheConstants.{SECTOR}
 use Rattle.sector_dev.specs.Disk.{Disk, IsHonest, History, reads_of, after_write, after_sync}
 
 -- A count of failures plus one. The count stays at 2^64 - 1.
@@ -25,7 +26,7 @@ pub record ReadCall {T E : Type 0} (sector : ℕ) (into : List ℕ) (result : Re
   pub faults : new.faults ≡ count_after result old.faults
   pub history : IsHonest old → new.history ≡ old.history
   -- The bytes that are read are those at the sector.
-  pub bytes : IsHonest old → OnOk result (into ≡ part (512 * sector) (length into) (reads_of old))
+  pub bytes : IsHonest old → OnOk result (into ≡ part (SECTOR * sector) (length into) (reads_of old))
 
 -- What a write leaves in its range.
 pub record Lands {T E : Type 0} (sector : ℕ) (bytes : List ℕ) (result : Result T E) (old new : History) : Type 0 where
@@ -35,7 +36,7 @@ pub record Lands {T E : Type 0} (sector : ℕ) (bytes : List ℕ) (result : Resu
   -- The given bytes landed where the write succeeded.
   pub done : OnOk result (landed ≡ bytes)
   -- Nothing else changed.
-  pub history : new ≡ after_write (512 * sector) landed old
+  pub history : new ≡ after_write (SECTOR * sector) landed old
 
 -- A write of bytes at a sector.
 pub record WriteCall {T E : Type 0} (sector : ℕ) (bytes : List ℕ) (result : Result T E) (old new : Disk) : Type 0 where

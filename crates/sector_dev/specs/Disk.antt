@@ -2,6 +2,7 @@
 -- lengths count bytes.
 use Rattle.std.specs.Prelude.{◌≡◌, ℕ, ◌*◌, Bool, IsTrue, List, [], ◌∷◌, ◌++◌, length}
 use Rattle.byte_lists.specs.Content.{AreBytes, overwrite}
+use Rattle.byte_lists.specs.declared.format.TheConstants.{SECTOR}
 
 -- A range of bytes.
 pub record ByteRange : Type 0 where
@@ -49,7 +50,7 @@ moments history = history.past ++ history.now ∷ []
 
 -- The bytes that reads return fill the device's sectors of 512 bytes.
 pub record IsWhole (disk : Disk) : Type 0 where
-  pub size : length (reads_of disk) ≡ 512 * disk.sectors
+  pub size : length (reads_of disk) ≡ SECTOR * disk.sectors
   pub bytes : AreBytes (reads_of disk)
 
 -- The history after a write that left these bytes at an offset.

@@ -1,6 +1,7 @@
 -- A device over a file, as contracts see it.
 use Rattle.std.specs.Prelude.{◌≡◌, ℕ, ◌+◌, ◌*◌, ◌/◌, ◌≤◌, List, [], length, take, Result, OnOk}
 use Rattle.byte_lists.specs.Content.{overwrite}
+use Rattle.byte_lists.specs.declared.format.TheConstants.{SECTOR}
 use Rattle.sector_dev.specs.Disk.{Disk}
 use Rattle.sector_dev.specs.Calls.{count_after}
 use Rattle.sector_dev.specs.PositionedFile.{FileState, IsHonestFile, DirtiesOnly}
@@ -9,14 +10,14 @@ use Rattle.sector_dev.specs.declared.file_device.FileDevice.{FileDevice}
 
 -- The bytes of a file in its first sectors.
 abbrev pub front : ℕ → List ℕ → List ℕ
-front sectors bytes = take (512 * sectors) bytes
+front sectors bytes = take (SECTOR * sectors) bytes
 
 -- A device is made over a file.
 pub record IsMadeOver (file : FileState) (disk : Disk) : Type 0 where
   -- The device is honest where the file is.
   pub is_honest : disk.is_honest ≡ file.is_honest
   -- The device has the whole sectors of the file.
-  pub sectors : IsHonestFile file → disk.sectors ≡ length file.bytes / 512
+  pub sectors : IsHonestFile file → disk.sectors ≡ length file.bytes / SECTOR
   pub faults : disk.faults ≡ 0
   -- The device returns the bytes of the file, and has its dirty ranges.
   pub history : IsHonestFile file → disk.history ≡ record { past = []; now = record { reads = front disk.sectors file.bytes; dirty = file.dirty } }

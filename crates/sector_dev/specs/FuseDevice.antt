@@ -1,6 +1,7 @@
 -- A device that stops for good after some calls, as contracts see it.
 use Rattle.std.specs.Prelude.{◌≡◌, ◌↔◌, ℕ, ◌-◌, ◌*◌, ◌<◌, List, ◌++◌, length, take, replicate, Result, IsOk, if◌then◌else◌, ◌==◌}
 use Rattle.byte_lists.specs.Content.{part}
+use Rattle.byte_lists.specs.declared.format.TheConstants.{SECTOR}
 use Rattle.sector_dev.specs.Disk.{Disk, History, after_write}
 use Rattle.sector_dev.specs.declared.fuse_device.FuseDevice.{FuseDevice}
 use Rattle.sector_dev.specs.declared.fuse_device.Tear.{Tear}
@@ -38,5 +39,5 @@ pub record BurnsOne {T E : Type 0} (result : Result T E) (old new : FuseDevice) 
 abbrev pub after_stopped_write : FuseDevice → ℕ → List ℕ → History
 after_stopped_write fuse sector bytes =
     let history = (fuse_disk fuse).history in
-    let landed = if fuse.faults == 0 then torn_bytes fuse.tear bytes else part (512 * sector) (length bytes) history.now.reads in
-    after_write (512 * sector) landed history
+    let landed = if fuse.faults == 0 then torn_bytes fuse.tear bytes else part (SECTOR * sector) (length bytes) history.now.reads in
+    after_write (SECTOR * sector) landed history

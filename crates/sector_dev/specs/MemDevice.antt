@@ -1,5 +1,6 @@
 -- A device in memory, as contracts see it.
 use Rattle.std.specs.Prelude.{ℕ, ◌*◌, true, [], replicate}
+use Rattle.byte_lists.specs.declared.format.TheConstants.{SECTOR}
 use Rattle.sector_dev.specs.Disk.{Disk}
 use Rattle.sector_dev.specs.declared.mem_device.MemDevice.{MemDevice}
 
@@ -18,5 +19,5 @@ zeroed_disk sectors = record {
   is_honest = true;
   sectors = sectors;
   faults = 0;
-  history = record { past = []; now = record { reads = replicate (512 * sectors) 0; dirty = [] } };
+  history = record { past = []; now = record { reads = replicate (SECTOR * sectors) 0; dirty = [] } };
 }

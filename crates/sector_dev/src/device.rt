@@ -1,5 +1,6 @@
 //! The contract of a device.
 ghost use Rattle.std.specs.Prelude.{◌≡◌, ◌+◌, ◌*◌, ◌%◌, ◌^◌, ◌<◌, ◌≤◌, length};
+ghost use Rattle.byte_lists.specs.declared.format.TheConstants.{SECTOR};
 ghost use Rattle.sector_dev.specs.Disk.{Disk, IsHonest, IsWhole};
 ghost use Rattle.sector_dev.specs.Calls.{ReadCall, WriteCall, SyncCall};
 
@@ -39,15 +40,15 @@ pub trait Device {
     /// Reads whole sectors from sector `at` on into `into`. After a failed read `into` may have any
     /// bytes.
     fn read(&mut self, at: u64, into: &mut [u8]) -> Result<(), DevError>
-        requires whole { length into.old % 512 ≡ 0 }
-        requires inside { 512 * at + length into.old ≤ 512 * (disk self.old).sectors }
+        requires whole { length into.old % SECTOR ≡ 0 }
+        requires inside { SECTOR * at + length into.old ≤ SECTOR * (disk self.old).sectors }
         ensures read { ReadCall at into.new result (disk self.old) (disk self.new) };
 
     /// Writes whole sectors from sector `at` on. A failed write may leave any bytes in its range.
     /// Until a sync succeeds, a stop may leave any bytes in the range, whatever the write returned.
     fn write(&mut self, at: u64, bytes: &[u8]) -> Result<(), DevError>
-        requires whole { length bytes.now % 512 ≡ 0 }
-        requires inside { 512 * at + length bytes.now ≤ 512 * (disk self.old).sectors }
+        requires whole { length bytes.now % SECTOR ≡ 0 }
+        requires inside { SECTOR * at + length bytes.now ≤ SECTOR * (disk self.old).sectors }
         ensures write { WriteCall at bytes.now result (disk self.old) (disk self.new) };
 
     /// After a sync that succeeds, a stop leaves the bytes that reads return. A sync that fails
@@ -60,7 +61,7 @@ pub trait Device {
         ensures faults { result ≡ (disk self.now).faults };
 
     /// Offsets into the device in bytes fit a `u64`.
-    ghost fits: { (device : Self) → 512 * (disk device).sectors < 2 ^ 64 };
+    ghost fits: { (device : Self) → SECTOR * (disk device).sectors < 2 ^ 64 };
 
     /// Reads of an honest device return bytes, 512 for each sector.
     ghost whole: { (device : Self) → IsHonest (disk device) → IsWhole (disk device) };

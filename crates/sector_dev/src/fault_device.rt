@@ -1,5 +1,6 @@
 //! A device of which one call fails.
 ghost use Rattle.std.specs.Prelude.{◌≡◌, ◌+◌, ◌-◌, ◌*◌, ◌%◌, ◌<◌, ◌≤◌, length, OnErr, Some};
+ghost use Rattle.byte_lists.specs.declared.format.TheConstants.{SECTOR};
 
 use crate::{DevError, Device, MemDevice};
 
@@ -72,8 +73,8 @@ impl Device for FaultDevice {
     }
 
     fn read(&mut self, at: u64, into: &mut [u8]) -> Result<(), DevError>
-        requires whole { length into.old % 512 ≡ 0 }
-        requires inside { 512 * at + length into.old ≤ 512 * (fault_disk self.old).sectors }
+        requires whole { length into.old % SECTOR ≡ 0 }
+        requires inside { SECTOR * at + length into.old ≤ SECTOR * (fault_disk self.old).sectors }
         ensures read { ReadCall at into.new result (fault_disk self.old) (fault_disk self.new) }
         ensures counts { CountsDown result self.old self.new }
     {
@@ -82,12 +83,12 @@ impl Device for FaultDevice {
     }
 
     fn write(&mut self, at: u64, bytes: &[u8]) -> Result<(), DevError>
-        requires whole { length bytes.now % 512 ≡ 0 }
-        requires inside { 512 * at + length bytes.now ≤ 512 * (fault_disk self.old).sectors }
+        requires whole { length bytes.now % SECTOR ≡ 0 }
+        requires inside { SECTOR * at + length bytes.now ≤ SECTOR * (fault_disk self.old).sectors }
         ensures write { WriteCall at bytes.now result (fault_disk self.old) (fault_disk self.new) }
         ensures counts { CountsDown result self.old self.new }
-        ensures unchanged { OnErr result ((fault_disk self.new).history ≡ after_write (512 * at)
-            (part (512 * at) (length bytes.now) (reads_of (fault_disk self.old))) (fault_disk self.old).history) }
+        ensures unchanged { OnErr result ((fault_disk self.new).history ≡ after_write (SECTOR * at)
+            (part (SECTOR * at) (length bytes.now) (reads_of (fault_disk self.old))) (fault_disk self.old).history) }
     {
         if self.count().is_ok() {
             return self.memory.write(at, bytes);

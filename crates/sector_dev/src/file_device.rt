@@ -1,5 +1,6 @@
 //! A device over a file.
 ghost use Rattle.std.specs.Prelude.{◌≡◌, ◌+◌, ◌*◌, ◌%◌, ◌<◌, ◌≤◌, ◌^◌, ◌-◌, length, IfOk};
+ghost use Rattle.byte_lists.specs.declared.format.TheConstants.{SECTOR};
 ghost use Rattle.sector_dev.specs.PositionedFile.{IsHonestFile, CoversDirty};
 
 use crate::trail::{HoldsBytes, Trail};
@@ -16,9 +17,9 @@ pub struct FileDevice<F: PositionedFile> {
     sectors: u64,
     faults: u64,
     trail: Trail,
-    ghost small: { 512 * sectors < 2 ^ 64 },
+    ghost small: { SECTOR * sectors < 2 ^ 64 },
     ghost dirty_covered: { IsHonestFile (F.state file) → CoversDirty trail.dirty (F.state file) },
-    ghost covered: { IsHonestFile (F.state file) → 512 * sectors ≤ length (F.state file).bytes },
+    ghost covered: { IsHonestFile (F.state file) → SECTOR * sectors ≤ length (F.state file).bytes },
 }
 
 impl<F: PositionedFile> HoldsBytes for FileDevice<F> {
@@ -86,8 +87,8 @@ impl<F: PositionedFile> Device for FileDevice<F> {
     }
 
     fn read(&mut self, at: u64, into: &mut [u8]) -> Result<(), DevError>
-        requires whole { length into.old % 512 ≡ 0 }
-        requires inside { 512 * at + length into.old ≤ 512 * (file_disk self.old).sectors }
+        requires whole { length into.old % SECTOR ≡ 0 }
+        requires inside { SECTOR * at + length into.old ≤ SECTOR * (file_disk self.old).sectors }
         ensures read { ReadCall at into.new result (file_disk self.old) (file_disk self.new) }
         ensures failures { FailsWithFile result (file_state self.old) (file_state self.new) }
     {
@@ -98,8 +99,8 @@ impl<F: PositionedFile> Device for FileDevice<F> {
     }
 
     fn write(&mut self, at: u64, bytes: &[u8]) -> Result<(), DevError>
-        requires whole { length bytes.now % 512 ≡ 0 }
-        requires inside { 512 * at + length bytes.now ≤ 512 * (file_disk self.old).sectors }
+        requires whole { length bytes.now % SECTOR ≡ 0 }
+        requires inside { SECTOR * at + length bytes.now ≤ SECTOR * (file_disk self.old).sectors }
         ensures write { WriteCall at bytes.now result (file_disk self.old) (file_disk self.new) }
         ensures failures { FailsWithFile result (file_state self.old) (file_state self.new) }
     {

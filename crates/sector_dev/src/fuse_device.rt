@@ -1,5 +1,6 @@
 //! A device that stops for good after some calls, as at a loss of power.
 ghost use Rattle.std.specs.Prelude.{◌≡◌, ◌+◌, ◌-◌, ◌*◌, ◌%◌, ◌<◌, ◌≤◌, length, OnErr, IsOk};
+ghost use Rattle.byte_lists.specs.declared.format.TheConstants.{SECTOR};
 ghost use Rattle.sector_dev.specs.Calls.{count_after, ReadCall, WriteCall, SyncCall};
 
 use crate::{DevError, Device, MemDevice};
@@ -81,8 +82,8 @@ impl Device for FuseDevice {
     }
 
     fn read(&mut self, at: u64, into: &mut [u8]) -> Result<(), DevError>
-        requires whole { length into.old % 512 ≡ 0 }
-        requires inside { 512 * at + length into.old ≤ 512 * (fuse_disk self.old).sectors }
+        requires whole { length into.old % SECTOR ≡ 0 }
+        requires inside { SECTOR * at + length into.old ≤ SECTOR * (fuse_disk self.old).sectors }
         ensures read { ReadCall at into.new result (fuse_disk self.old) (fuse_disk self.new) }
         ensures burns { BurnsOne result self.old self.new }
     {
@@ -91,8 +92,8 @@ impl Device for FuseDevice {
     }
 
     fn write(&mut self, at: u64, bytes: &[u8]) -> Result<(), DevError>
-        requires whole { length bytes.now % 512 ≡ 0 }
-        requires inside { 512 * at + length bytes.now ≤ 512 * (fuse_disk self.old).sectors }
+        requires whole { length bytes.now % SECTOR ≡ 0 }
+        requires inside { SECTOR * at + length bytes.now ≤ SECTOR * (fuse_disk self.old).sectors }
         ensures write { WriteCall at bytes.now result (fuse_disk self.old) (fuse_disk self.new) }
         ensures burns { BurnsOne result self.old self.new }
         ensures torn { OnErr result ((fuse_disk self.new).history ≡ after_stopped_write self.old at bytes.now) }

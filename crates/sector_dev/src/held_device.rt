@@ -1,5 +1,6 @@
 //! A device with a gate before each sync.
 ghost use Rattle.std.specs.Prelude.{◌≡◌, ◌+◌, ◌*◌, ◌%◌, ◌≤◌, length};
+ghost use Rattle.byte_lists.specs.declared.format.TheConstants.{SECTOR};
 
 use crate::{DevError, Device};
 
@@ -64,8 +65,8 @@ impl<D: Device, G: Gate> Device for HeldDevice<D, G> {
     }
 
     fn read(&mut self, at: u64, into: &mut [u8]) -> Result<(), DevError>
-        requires whole { length into.old % 512 ≡ 0 }
-        requires inside { 512 * at + length into.old ≤ 512 * (D.disk (held_device self.old)).sectors }
+        requires whole { length into.old % SECTOR ≡ 0 }
+        requires inside { SECTOR * at + length into.old ≤ SECTOR * (D.disk (held_device self.old)).sectors }
         ensures read { ReadCall at into.new result (D.disk (held_device self.old)) (D.disk (held_device self.new)) }
         ensures gate { held_gate self.new ≡ held_gate self.old }
     {
@@ -73,8 +74,8 @@ impl<D: Device, G: Gate> Device for HeldDevice<D, G> {
     }
 
     fn write(&mut self, at: u64, bytes: &[u8]) -> Result<(), DevError>
-        requires whole { length bytes.now % 512 ≡ 0 }
-        requires inside { 512 * at + length bytes.now ≤ 512 * (D.disk (held_device self.old)).sectors }
+        requires whole { length bytes.now % SECTOR ≡ 0 }
+        requires inside { SECTOR * at + length bytes.now ≤ SECTOR * (D.disk (held_device self.old)).sectors }
         ensures write { WriteCall at bytes.now result (D.disk (held_device self.old)) (D.disk (held_device self.new)) }
         ensures gate { held_gate self.new ≡ held_gate self.old }
     {

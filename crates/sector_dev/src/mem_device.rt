@@ -2,6 +2,7 @@
 ghost use Rattle.std.specs.Prelude.{◌≡◌, ℕ, ◌+◌, ◌*◌, ◌%◌, ◌^◌, ◌<◌, ◌≤◌, length, IfOk};
 ghost use Rattle.std.proofs.Common.{arith};
 ghost use Rattle.byte_lists.specs.Content.{AreBytes};
+ghost use Rattle.byte_lists.specs.declared.format.TheConstants.{SECTOR};
 
 use crate::fuse_device::Tear;
 use crate::trail::Trail;
@@ -15,7 +16,7 @@ pub struct MemDevice {
     sectors: u64,
     trail: Trail,
     ghost small: { sectors ≤ 2 ^ 32 },
-    ghost size: { length bytes.items ≡ 512 * sectors },
+    ghost size: { length bytes.items ≡ SECTOR * sectors },
     ghost are_bytes: { AreBytes bytes.items },
 }
 
@@ -40,9 +41,9 @@ impl MemDevice {
 
     /// A write that a stop tears, of whole sectors from sector `at` on.
     pub(crate) fn tear(&mut self, at: u64, bytes: &[u8], tear: Tear)
-        requires { 512 * at + length bytes.now ≤ 512 * (memory_disk self.old).sectors }
+        requires { SECTOR * at + length bytes.now ≤ SECTOR * (memory_disk self.old).sectors }
         ensures { memory_disk self.new ≡ record (memory_disk self.old) {
-          history = after_write (512 * at) (torn_bytes tear bytes.now) (memory_disk self.old).history;
+          history = after_write (SECTOR * at) (torn_bytes tear bytes.now) (memory_disk self.old).history;
         } }
     {
         let start = SECTOR * at as usize;
@@ -57,9 +58,9 @@ impl MemDevice {
 
     /// A write of which nothing lands. The range is dirty all the same.
     pub(crate) fn touch(&mut self, at: u64, len: usize)
-        requires { 512 * at + len ≤ 512 * (memory_disk self.old).sectors }
+        requires { SECTOR * at + len ≤ SECTOR * (memory_disk self.old).sectors }
         ensures { memory_disk self.new ≡ record (memory_disk self.old) {
-          history = after_write (512 * at) (part (512 * at) len (reads_of (memory_disk self.old))) (memory_disk self.old).history;
+          history = after_write (SECTOR * at) (part (SECTOR * at) len (reads_of (memory_disk self.old))) (memory_disk self.old).history;
         } }
     {
         self.trail = self.trail.wrote(&self.bytes, SECTOR as u64 * at, len);

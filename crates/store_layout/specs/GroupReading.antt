@@ -5,6 +5,7 @@ use Rattle.std.specs.List.{list_all}
 use Rattle.byte_lists.specs.Content.{part}
 use Rattle.byte_lists.specs.Numbers.{four_at, eight_at}
 use Rattle.byte_lists.specs.Sectors.{whole_sectors}
+use Rattle.byte_lists.specs.declared.format.TheConstants.{SECTOR}
 use Rattle.store_layout.specs.Limits.{Limits}
 use Rattle.store_layout.specs.CommandFormat.{CommandFormat}
 use Rattle.store_layout.specs.Group.{most_record_bytes, last_place, payload_sectors}
@@ -124,7 +125,7 @@ header_kind limits payload = if is_group_header limits payload then OfGroup else
 -- The group of a payload: its records, and its padding.
 abbrev pub group_in : {C : Type 0} → CommandFormat C → Limits → List ℕ → Result (Payload C) JournalRefusal
 group_in format limits payload =
-    refuse_unless (are_zeros (part (16 + size_in payload) (512 * payload_sectors (size_in payload) - (16 + size_in payload)) payload)) BadRecord
+    refuse_unless (are_zeros (part (16 + size_in payload) (SECTOR * payload_sectors (size_in payload) - (16 + size_in payload)) payload)) BadRecord
     (group_of (commands_in format limits (count_in payload) (part 16 (size_in payload) payload)) (size_in payload))
 
 -- The seal of a payload, whose padding is checked.
@@ -142,6 +143,6 @@ by_kind OfGroup format limits payload gate place journal =
 -- The payload after an open gate, where this place is expected.
 abbrev pub payload_at : {C : Type 0} → CommandFormat C → Limits → List ℕ → ℕ → ℕ → Result (Payload C) JournalRefusal
 payload_at format limits bytes gate place =
-    let payload = drop (512 * (gate + 1)) bytes in
+    let payload = drop (SECTOR * (gate + 1)) bytes in
     refuse_unless (nat_le (gate + 2) (whole_sectors bytes)) PastEnd
     (by_kind (header_kind limits payload) format limits payload gate place (whole_sectors bytes))

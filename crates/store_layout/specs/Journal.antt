@@ -3,6 +3,7 @@
 use Rattle.std.specs.Prelude.{◌≡◌, ℕ, ◌+◌, ◌*◌, ◌≤◌, Bool, true, false, List, [], ◌∷◌, ◌++◌, length}
 use Rattle.byte_lists.specs.Content.{part}
 use Rattle.byte_lists.specs.Sectors.{whole_sectors, sector_at, IsOpenGate}
+use Rattle.byte_lists.specs.declared.format.TheConstants.{SECTOR}
 use Rattle.store_layout.specs.Limits.{Limits}
 use Rattle.store_layout.specs.CommandFormat.{CommandFormat}
 use Rattle.store_layout.specs.Group.{group_sectors, JournalHasRoom, IsGroup, IsSeal}
@@ -14,7 +15,7 @@ all_of (commands ∷ more) = commands ++ all_of more
 
 -- After a gate there is a group of these commands, and the journal has room for it.
 pub record HasGroupAfterGate {C : Type 0} (format : CommandFormat C) (limits : Limits) (bytes : List ℕ) (gate place : ℕ) (commands : List C) : Type 0 where
-  pub group : IsGroup format limits place commands (part (512 * (gate + 1)) (512 * group_sectors format commands) bytes)
+  pub group : IsGroup format limits place commands (part (SECTOR * (gate + 1)) (SECTOR * group_sectors format commands) bytes)
   pub room : JournalHasRoom gate (group_sectors format commands) (whole_sectors bytes)
 
 -- After a gate there is a seal.

@@ -3,6 +3,7 @@ use Rattle.std.specs.Prelude.{◌≡◌, ◌↔◌, ℕ, ◌+◌, ◌*◌, ◌<�
 use Rattle.std.specs.List.{AllByRecursion}
 use Rattle.byte_lists.specs.Content.{AreBytes, overwrite}
 use Rattle.byte_lists.specs.Sectors.{whole_sectors, sector_at, IsOpenGate}
+use Rattle.byte_lists.specs.declared.format.TheConstants.{SECTOR}
 use Rattle.store_layout.specs.Limits.{Limits, AreAsLarge}
 use Rattle.store_layout.specs.CommandFormat.{CommandFormat, IsAllowed}
 use Rattle.store_layout.specs.Group.{last_place, group_encoding, seal_encoding, group_sectors, JournalHasRoom, CanBeGroup}
@@ -35,14 +36,14 @@ HasOneReading C =
 abbrev pub GoesByItsFront : Type 0 → Type 0
 GoesByItsFront C =
     (format : CommandFormat C) (limits : Limits) (xs ys : List ℕ) (start : ℕ) (reading : Reading C) → length xs ≡ length ys
-    → take (512 * sectors_read reading) xs ≡ take (512 * sectors_read reading) ys
+    → take (SECTOR * sectors_read reading) xs ≡ take (SECTOR * sectors_read reading) ys
     → IsJournal format limits xs start reading → IsJournal format limits ys start reading
 
 -- A write after the sectors that count leaves the journal unchanged.
 abbrev pub IsKeptByWritesBehind : Type 0 → Type 0
 IsKeptByWritesBehind C =
     (format : CommandFormat C) (limits : Limits) (bytes : List ℕ) (start : ℕ) (reading : Reading C) (at : ℕ) (behind : List ℕ)
-    → IsJournal format limits bytes start reading → 512 * sectors_read reading ≤ at → at + length behind ≤ length bytes
+    → IsJournal format limits bytes start reading → SECTOR * sectors_read reading ≤ at → at + length behind ≤ length bytes
     → IsJournal format limits (overwrite at behind bytes) start reading
 
 -- The bounds of a reading.
@@ -66,7 +67,7 @@ StaysWithinBounds C =
 abbrev pub FillsSectors : Type 0 → Type 0
 FillsSectors C =
     (format : CommandFormat C) (place : ℕ) (commands : List C)
-    → length (group_encoding format place commands) ≡ 512 * group_sectors format commands
+    → length (group_encoding format place commands) ≡ SECTOR * group_sectors format commands
 
 -- A journal without a seal, in which a group and then a closed gate are written after the tail's
 -- gate.
@@ -82,8 +83,8 @@ IsMadeReady C =
     (format : CommandFormat C) (limits : Limits) (bytes : List ℕ) (start : ℕ) (reading : Reading C) (group : List C) (gate : List ℕ)
     → IsJournal format limits bytes start reading → reading.sealed ≡ false
     → CanBeGroup format limits reading.place group → JournalHasRoom reading.tail (group_sectors format group) (whole_sectors bytes)
-    → length gate ≡ 512 → ¬ IsOpenGate gate
-    → let written = overwrite (512 * (reading.tail + 1)) (group_encoding format reading.place group ++ gate) bytes in
+    → length gate ≡ SECTOR → ¬ IsOpenGate gate
+    → let written = overwrite (SECTOR * (reading.tail + 1)) (group_encoding format reading.place group ++ gate) bytes in
     IsJournal format limits written start reading × IsReadyFor format limits written reading group
 
 -- Once a seal is written after the tail's gate, the journal is unchanged, and ready for the seal.
@@ -92,7 +93,7 @@ IsMadeReadyForSeal C =
     (format : CommandFormat C) (limits : Limits) (bytes : List ℕ) (start : ℕ) (reading : Reading C)
     → IsJournal format limits bytes start reading → reading.sealed ≡ false
     → reading.place ≤ last_place → reading.tail + 2 ≤ whole_sectors bytes
-    → let written = overwrite (512 * (reading.tail + 1)) (seal_encoding reading.place) bytes in
+    → let written = overwrite (SECTOR * (reading.tail + 1)) (seal_encoding reading.place) bytes in
     IsJournal format limits written start reading × HasSeal written reading.tail reading.place
 
 -- The tail's gate is written with any bytes. Where these open it, the journal has exactly one more
@@ -100,8 +101,8 @@ IsMadeReadyForSeal C =
 abbrev pub GrowsByItsGate : Type 0 → Type 0
 GrowsByItsGate C =
     (format : CommandFormat C) (limits : Limits) (bytes : List ℕ) (start : ℕ) (reading : Reading C) (group : List C) (gate : List ℕ)
-    → IsJournal format limits bytes start reading → IsReadyFor format limits bytes reading group → length gate ≡ 512
-    → let written = overwrite (512 * reading.tail) gate bytes in
+    → IsJournal format limits bytes start reading → IsReadyFor format limits bytes reading group → length gate ≡ SECTOR
+    → let written = overwrite (SECTOR * reading.tail) gate bytes in
     (IsOpenGate gate → IsJournal format limits written start (reading_with_group format reading group))
     × (¬ IsOpenGate gate → IsJournal format limits written start reading)
 
@@ -110,8 +111,8 @@ GrowsByItsGate C =
 abbrev pub IsSealedByItsGate : Type 0 → Type 0
 IsSealedByItsGate C =
     (format : CommandFormat C) (limits : Limits) (bytes : List ℕ) (start : ℕ) (reading : Reading C) (gate : List ℕ)
-    → IsJournal format limits bytes start reading → reading.sealed ≡ false → HasSeal bytes reading.tail reading.place → length gate ≡ 512
-    → let written = overwrite (512 * reading.tail) gate bytes in
+    → IsJournal format limits bytes start reading → reading.sealed ≡ false → HasSeal bytes reading.tail reading.place → length gate ≡ SECTOR
+    → let written = overwrite (SECTOR * reading.tail) gate bytes in
     (IsOpenGate gate → IsJournal format limits written start (reading_with_seal reading))
     × (¬ IsOpenGate gate → IsJournal format limits written start reading)
 

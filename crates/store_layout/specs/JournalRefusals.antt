@@ -2,6 +2,7 @@
 -- first open gate after which neither a group nor a seal is at the place reached.
 use Rattle.std.specs.Prelude.{◌≡◌, ◌≢◌, ◌⊎◌, ℕ, ◌+◌, ◌*◌, ◌≤◌, List, length, drop}
 use Rattle.byte_lists.specs.Sectors.{whole_sectors, sector_at, IsOpenGate}
+use Rattle.byte_lists.specs.declared.format.TheConstants.{SECTOR}
 use Rattle.store_layout.specs.Limits.{Limits}
 use Rattle.store_layout.specs.CommandFormat.{CommandFormat}
 use Rattle.store_layout.specs.Group.{payload_sectors, JournalHasRoom}
@@ -14,7 +15,7 @@ HasPayload bytes gate = gate + 2 ≤ whole_sectors bytes
 
 -- The bytes after this gate.
 abbrev pub payload_behind : List ℕ → ℕ → List ℕ
-payload_behind bytes gate = drop (512 * (gate + 1)) bytes
+payload_behind bytes gate = drop (SECTOR * (gate + 1)) bytes
 
 -- The header after this gate is that of a group.
 abbrev pub HasGroupHeader : Limits → List ℕ → ℕ → Type 0

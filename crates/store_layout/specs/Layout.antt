@@ -3,6 +3,7 @@
 use Rattle.std.specs.Prelude.{ℕ, ◌+◌, ◌*◌, ◌≤◌, List}
 use Rattle.byte_lists.specs.Content.{part}
 use Rattle.byte_lists.specs.Sectors.{sector_at}
+use Rattle.byte_lists.specs.declared.format.TheConstants.{SECTOR}
 use Rattle.store_layout.specs.declared.half.Half.{Half}
 use Rattle.store_layout.specs.declared.half.Half.TheVariants.{First, Second}
 
@@ -60,7 +61,7 @@ image_sectors geometry = 1 + half_sectors geometry + half_sectors geometry
 
 -- The bytes of the checkpoint area of a half.
 abbrev pub area_of : Geometry → Half → List ℕ → List ℕ
-area_of geometry half image = part (512 * area_at geometry half) (512 * geometry.checkpoint) image
+area_of geometry half image = part (SECTOR * area_at geometry half) (SECTOR * geometry.checkpoint) image
 
 -- The bytes of the gate of a half.
 abbrev pub gate_of : Geometry → Half → List ℕ → List ℕ
@@ -68,7 +69,7 @@ gate_of geometry half image = sector_at (gate_at geometry half) image
 
 -- The bytes of the journal of a half.
 abbrev pub journal_of : Geometry → Half → List ℕ → List ℕ
-journal_of geometry half image = part (512 * journal_at geometry half) (512 * geometry.journal) image
+journal_of geometry half image = part (SECTOR * journal_at geometry half) (SECTOR * geometry.journal) image
 
 -- The parts of a half.
 pub data Piece : Type 0 where
@@ -101,4 +102,4 @@ region_end geometry region = region_at geometry region + region_sectors geometry
 
 -- The bytes of a region.
 abbrev pub region_of : Geometry → Region → List ℕ → List ℕ
-region_of geometry region image = part (512 * region_at geometry region) (512 * region_sectors geometry region) image
+region_of geometry region image = part (SECTOR * region_at geometry region) (SECTOR * region_sectors geometry region) image

@@ -2,6 +2,7 @@
 use Rattle.std.specs.Prelude.{◌≡◌, ◌≢◌, ◌⊎◌, ℕ, ◌+◌, ◌*◌, ◌≤◌, List, length}
 use Rattle.byte_lists.specs.Content.{overwrite}
 use Rattle.byte_lists.specs.Sectors.{whole_sectors}
+use Rattle.byte_lists.specs.declared.format.TheConstants.{SECTOR}
 use Rattle.store_layout.specs.Layout.{Geometry, image_sectors, Region, region_at, region_sectors, region_end, region_of}
 
 -- Two regions do not overlap.
@@ -18,7 +19,7 @@ RegionsAreInside = (geometry : Geometry) (region : Region) → region_end geomet
 abbrev pub WritesLeaveRegionsApart : Type 0
 WritesLeaveRegionsApart =
     (geometry : Geometry) (region : Region) (image : List ℕ) (at : ℕ) (bytes : List ℕ) → at + length bytes ≤ length image
-    → (at + length bytes ≤ 512 * region_at geometry region) ⊎ (512 * region_end geometry region ≤ at)
+    → (at + length bytes ≤ SECTOR * region_at geometry region) ⊎ (SECTOR * region_end geometry region ≤ at)
     → region_of geometry region (overwrite at bytes image) ≡ region_of geometry region image
 
 -- A write within one region leaves the others unchanged.
@@ -26,12 +27,12 @@ abbrev pub WritesLeaveOtherRegions : Type 0
 WritesLeaveOtherRegions =
     (geometry : Geometry) (written region : Region) (image : List ℕ) (at : ℕ) (bytes : List ℕ) → region ≢ written
     → image_sectors geometry ≤ whole_sectors image
-    → 512 * region_at geometry written ≤ at → at + length bytes ≤ 512 * region_end geometry written
+    → SECTOR * region_at geometry written ≤ at → at + length bytes ≤ SECTOR * region_end geometry written
     → region_of geometry region (overwrite at bytes image) ≡ region_of geometry region image
 
 -- A write within a region changes only the bytes that it writes.
 abbrev pub WritesChangeTheirRegion : Type 0
 WritesChangeTheirRegion =
     (geometry : Geometry) (region : Region) (image : List ℕ) (at : ℕ) (bytes : List ℕ) → image_sectors geometry ≤ whole_sectors image
-    → at + length bytes ≤ 512 * region_sectors geometry region
-    → region_of geometry region (overwrite (512 * region_at geometry region + at) bytes image) ≡ overwrite at bytes (region_of geometry region image)
+    → at + length bytes ≤ SECTOR * region_sectors geometry region
+    → region_of geometry region (overwrite (SECTOR * region_at geometry region + at) bytes image) ≡ overwrite at bytes (region_of geometry region image)

@@ -4,6 +4,7 @@
 use Rattle.std.specs.Prelude.{◌≡◌, ℕ, ◌+◌, ◌*◌, ◌≤◌, false, List, ◌++◌, length, Option, Some, None}
 use Rattle.byte_lists.specs.Content.{overwrite}
 use Rattle.byte_lists.specs.Sectors.{sector_at, IsOpenGate}
+use Rattle.byte_lists.specs.declared.format.TheConstants.{SECTOR}
 use Rattle.store_layout.specs.declared.half.Half.{Half}
 use Rattle.store_layout.specs.Group.{group_encoding, seal_encoding, group_sectors, JournalHasRoom, CanBeGroup}
 use Rattle.store_layout.specs.Journal.{Reading, HasSeal, IsJournal, reading_with_group, reading_with_seal}
@@ -50,11 +51,11 @@ with_last (Some behind) opening last = record opening { tail = Some last }
 abbrev pub StoreGoesByItsLastJournal : Type 0 → Type 0 → Type 0
 StoreGoesByItsLastJournal Db C =
     (format : StoreFormat Db C) (latest : ℕ) (image : List ℕ) (opening : Opening Db C) (at : ℕ) (bytes : List ℕ) (last : Reading C)
-    → IsOpening format latest image opening → at + length bytes ≤ 512 * opening.geometry.journal
+    → IsOpening format latest image opening → at + length bytes ≤ SECTOR * opening.geometry.journal
     → IsJournal format.commands (limits_in opening.checkpoint) (overwrite at bytes (journal_of opening.geometry (last_half opening) image))
     (last_start opening) last
     → last.sealed ≡ false
-    → IsOpening format latest (overwrite (512 * journal_at opening.geometry (last_half opening) + at) bytes image) (with_last opening.tail opening last)
+    → IsOpening format latest (overwrite (SECTOR * journal_at opening.geometry (last_half opening) + at) bytes image) (with_last opening.tail opening last)
 
 -- A group that can be written and has room, and a gate that is not open, are written after the last
 -- gate. The opening is unchanged, and the last journal is ready for the group.
@@ -64,8 +65,8 @@ StoreIsMadeReady Db C =
     → IsOpening format latest image opening
     → CanBeGroup format.commands (limits_in opening.checkpoint) (last_reading opening).place group
     → JournalHasRoom (last_reading opening).tail (group_sectors format.commands group) opening.geometry.journal
-    → length gate ≡ 512 → ¬ IsOpenGate gate
-    → let written = overwrite (512 * (last_gate opening + 1)) (group_encoding format.commands (last_reading opening).place group ++ gate) image in
+    → length gate ≡ SECTOR → ¬ IsOpenGate gate
+    → let written = overwrite (SECTOR * (last_gate opening + 1)) (group_encoding format.commands (last_reading opening).place group ++ gate) image in
     IsOpening format latest written opening
     × IsReadyFor format.commands (limits_in opening.checkpoint) (journal_of opening.geometry (last_half opening) written) (last_reading opening) group
 
@@ -77,9 +78,9 @@ StoreGrowsByItsGate Db C =
     (format : StoreFormat Db C) (latest : ℕ) (image : List ℕ) (opening : Opening Db C) (group : List C) (gate : List ℕ)
     → IsOpening format latest image opening
     → IsReadyFor format.commands (limits_in opening.checkpoint) (journal_of opening.geometry (last_half opening) image) (last_reading opening) group
-    → length gate ≡ 512
+    → length gate ≡ SECTOR
     → let grown = with_last opening.tail opening (reading_with_group format.commands (last_reading opening) group) in
-    let written = overwrite (512 * last_gate opening) gate image in
+    let written = overwrite (SECTOR * last_gate opening) gate image in
     (IsOpenGate gate → IsOpening format latest written grown)
     × (¬ IsOpenGate gate → IsOpening format latest written opening)
     × (opening_value format grown ≡ value_after format (opening_value format opening) group)
@@ -96,7 +97,7 @@ abbrev pub StoreIsMadeReadyForSeal : Type 0 → Type 0 → Type 0
 StoreIsMadeReadyForSeal Db C =
     (format : StoreFormat Db C) (latest : ℕ) (image : List ℕ) (opening : Opening Db C)
     → IsOpening format latest image opening → IsOtherHalfClosed opening image
-    → let written = overwrite (512 * (journal_at opening.geometry opening.chosen + opening.journal.tail + 1)) (seal_encoding opening.journal.place) image in
+    → let written = overwrite (SECTOR * (journal_at opening.geometry opening.chosen + opening.journal.tail + 1)) (seal_encoding opening.journal.place) image in
     IsOpening format latest written opening × IsOtherHalfClosed opening written
     × HasSeal (journal_of opening.geometry opening.chosen written) opening.journal.tail opening.journal.place
 
@@ -108,9 +109,9 @@ StoreIsSealedByItsGate Db C =
     (format : StoreFormat Db C) (latest : ℕ) (image : List ℕ) (opening : Opening Db C) (gate : List ℕ)
     → IsOpening format latest image opening → IsOtherHalfClosed opening image
     → HasSeal (journal_of opening.geometry opening.chosen image) opening.journal.tail opening.journal.place
-    → length gate ≡ 512
+    → length gate ≡ SECTOR
     → let sealed = record opening { journal = reading_with_seal opening.journal; tail = Some (empty_journal opening.journal.place) } in
-    let written = overwrite (512 * (journal_at opening.geometry opening.chosen + opening.journal.tail)) gate image in
+    let written = overwrite (SECTOR * (journal_at opening.geometry opening.chosen + opening.journal.tail)) gate image in
     (IsOpenGate gate → IsOpening format latest written sealed)
     × (¬ IsOpenGate gate → IsOpening format latest written opening)
     × (opening_value format sealed ≡ opening_value format opening)

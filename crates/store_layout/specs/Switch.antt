@@ -4,6 +4,7 @@ use Rattle.std.specs.Prelude.{◌≡◌, ℕ, ◌+◌, ◌*◌, ◌<◌, ◌≤�
 use Rattle.std.specs.List.{AllByRecursion}
 use Rattle.byte_lists.specs.Content.{overwrite}
 use Rattle.byte_lists.specs.Sectors.{sector_at, IsOpenGate}
+use Rattle.byte_lists.specs.declared.format.TheConstants.{SECTOR}
 use Rattle.store_layout.specs.Journal.{Reading}
 use Rattle.store_layout.specs.Layout.{other, area_at, gate_at, area_of, gate_of, journal_of}
 use Rattle.store_layout.specs.StoreFormat.{StoreFormat}
@@ -27,16 +28,16 @@ abbrev pub ClosedAreaMayChange : Type 0 → Type 0 → Type 0
 ClosedAreaMayChange Db C =
     (format : StoreFormat Db C) (latest : ℕ) (image : List ℕ) (opening : Opening Db C) (at : ℕ) (bytes : List ℕ)
     → IsOpening format latest image opening → ¬ IsOpenGate (gate_of opening.geometry (other opening.chosen) image)
-    → at + length bytes ≤ 512 * opening.geometry.checkpoint
-    → IsOpening format latest (overwrite (512 * area_at opening.geometry (other opening.chosen) + at) bytes image) opening
+    → at + length bytes ≤ SECTOR * opening.geometry.checkpoint
+    → IsOpening format latest (overwrite (SECTOR * area_at opening.geometry (other opening.chosen) + at) bytes image) opening
 
 -- The gate of the other half, whose journal is the tail, is written with any bytes. Where these
 -- open it, that half is chosen, and the value is the same. Otherwise the opening is unchanged.
 abbrev pub SwitchesByTheGate : Type 0 → Type 0 → Type 0
 SwitchesByTheGate Db C =
     (format : StoreFormat Db C) (latest : ℕ) (image : List ℕ) (opening : Opening Db C) (next : Checkpoint Db) (behind : Reading C) (gate : List ℕ)
-    → IsOpening format latest image opening → opening.tail ≡ Some behind → IsLaid format latest image opening next → length gate ≡ 512
-    → let written = overwrite (512 * gate_at opening.geometry (other opening.chosen)) gate image in
+    → IsOpening format latest image opening → opening.tail ≡ Some behind → IsLaid format latest image opening next → length gate ≡ SECTOR
+    → let written = overwrite (SECTOR * gate_at opening.geometry (other opening.chosen)) gate image in
     (IsOpenGate gate → IsOpening format latest written (taken_over opening next behind))
     × (¬ IsOpenGate gate → IsOpening format latest written opening)
     × (opening_value format (taken_over opening next behind) ≡ opening_value format opening)
@@ -48,8 +49,8 @@ abbrev pub SwitchesByTheGateAtRest : Type 0 → Type 0 → Type 0
 SwitchesByTheGateAtRest Db C =
     (format : StoreFormat Db C) (latest : ℕ) (image : List ℕ) (opening : Opening Db C) (next : Checkpoint Db) (gate : List ℕ)
     → IsOpening format latest image opening → opening.tail ≡ None → IsLaid format latest image opening next
-    → ¬ IsOpenGate (sector_at 0 (journal_of opening.geometry (other opening.chosen) image)) → length gate ≡ 512
-    → let written = overwrite (512 * gate_at opening.geometry (other opening.chosen)) gate image in
+    → ¬ IsOpenGate (sector_at 0 (journal_of opening.geometry (other opening.chosen) image)) → length gate ≡ SECTOR
+    → let written = overwrite (SECTOR * gate_at opening.geometry (other opening.chosen)) gate image in
     let fresh = taken_over opening next (empty_journal next.head.place) in
     (IsOpenGate gate → IsOpening format latest written fresh)
     × (¬ IsOpenGate gate → IsOpening format latest written opening)
@@ -64,5 +65,5 @@ OlderHalfMayChange Db C =
     → IsOpening format latest image opening → opening.tail ≡ None
     → HasOlderHead latest (area_of opening.geometry (other opening.chosen) image) opening.checkpoint.head.epoch
     → at + length bytes ≤ length image
-    → AllByRecursion (IsApart at (length bytes)) (chosen_spans format opening (span (512 * area_at opening.geometry (other opening.chosen)) 24 ∷ []))
+    → AllByRecursion (IsApart at (length bytes)) (chosen_spans format opening (span (SECTOR * area_at opening.geometry (other opening.chosen)) 24 ∷ []))
     → IsOpening format latest (overwrite at bytes image) opening

@@ -2,6 +2,7 @@
 use Rattle.std.specs.Prelude.{◌≡◌, ◌⊎◌, ℕ, ◌+◌, ◌*◌, ◌≤◌, Bool, true, false, List, [], ◌∷◌, Option, Some, None}
 use Rattle.byte_lists.specs.Content.{part}
 use Rattle.byte_lists.specs.Sectors.{is_open_gate}
+use Rattle.byte_lists.specs.declared.format.TheConstants.{SECTOR}
 use Rattle.store_layout.specs.declared.half.Half.{Half}
 use Rattle.store_layout.specs.Journal.{Reading, sectors_read}
 use Rattle.store_layout.specs.Layout.{Geometry, other, area_at, gate_at, journal_at, gate_of}
@@ -23,21 +24,21 @@ span at size = record { at = at; size = size }
 -- The head of the half that is not chosen, where that half is open.
 abbrev pub head_spans : Geometry → Half → Bool → List CountedSpan → List CountedSpan
 head_spans geometry half false more = more
-head_spans geometry half true more = span (512 * area_at geometry half) 24 ∷ more
+head_spans geometry half true more = span (SECTOR * area_at geometry half) 24 ∷ more
 
 -- The journal of the half that is not chosen, where it continues after a seal.
 abbrev pub tail_spans : {C : Type 0} → Geometry → Half → Option (Reading C) → List CountedSpan
 tail_spans geometry half None = []
-tail_spans geometry half (Some behind) = span (512 * journal_at geometry half) (512 * sectors_read behind) ∷ []
+tail_spans geometry half (Some behind) = span (SECTOR * journal_at geometry half) (SECTOR * sectors_read behind) ∷ []
 
 -- The title in sector 0, and of the chosen half byte 0 of its gate, its checkpoint, and its journal
 -- as far as it is read.
 abbrev pub chosen_spans : {Db C : Type 0} → StoreFormat Db C → Opening Db C → List CountedSpan → List CountedSpan
 chosen_spans format opening more =
     span 0 20
-    ∷ span (512 * gate_at opening.geometry opening.chosen) 1
-    ∷ span (512 * area_at opening.geometry opening.chosen) (checkpoint_size format.rows opening.checkpoint)
-    ∷ span (512 * journal_at opening.geometry opening.chosen) (512 * sectors_read opening.journal)
+    ∷ span (SECTOR * gate_at opening.geometry opening.chosen) 1
+    ∷ span (SECTOR * area_at opening.geometry opening.chosen) (checkpoint_size format.rows opening.checkpoint)
+    ∷ span (SECTOR * journal_at opening.geometry opening.chosen) (SECTOR * sectors_read opening.journal)
     ∷ more
 
 -- All spans that count for an opening: those of the chosen half, byte 0 of the other half's gate,
@@ -45,7 +46,7 @@ chosen_spans format opening more =
 abbrev pub spans_of : {Db C : Type 0} → StoreFormat Db C → Opening Db C → Bool → List CountedSpan
 spans_of format opening other_is_open =
     chosen_spans format opening
-    (span (512 * gate_at opening.geometry (other opening.chosen)) 1
+    (span (SECTOR * gate_at opening.geometry (other opening.chosen)) 1
     ∷ head_spans opening.geometry (other opening.chosen) other_is_open (tail_spans opening.geometry (other opening.chosen) opening.tail))
 
 -- The spans of an image with this opening.

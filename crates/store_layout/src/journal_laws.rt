@@ -2,6 +2,7 @@
 //! that does nothing, so that the law is proved with the crate.
 
 ghost use Rattle.std.specs.Prelude.{◌≡◌, ℕ, ◌≤◌, length};
+ghost use Rattle.byte_lists.specs.declared.format.TheConstants.{SECTOR};
 ghost use Rattle.store_layout.specs.Limits.{AreAsLarge, limits_of};
 ghost use Rattle.store_layout.specs.Group.{seal_encoding};
 ghost use Rattle.store_layout.specs.JournalLaws.{IsReadSo, IsRefusedSo, HasOneReading, GoesByItsFront, StaysWithinBounds, FillsSectors, IsKeptByWritesBehind, IsMadeReady, IsMadeReadyForSeal, GrowsByItsGate, IsSealedByItsGate, IsReadUnderLargerLimits};
@@ -30,7 +31,7 @@ pub fn journals_stay_within_bounds<C>()
 /// one.
 pub fn payloads_fill_sectors<C>()
     ensures group { FillsSectors C }
-    ensures seal { (place : ℕ) → length (seal_encoding place) ≡ 512 }
+    ensures seal { (place : ℕ) → length (seal_encoding place) ≡ SECTOR }
 {}
 
 /// A group or a seal that is written after the tail's gate leaves a journal unchanged, and makes it
