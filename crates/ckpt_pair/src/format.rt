@@ -1,6 +1,7 @@
 //! The numbers of a checkpoint's format.
 
 ghost use Rattle.std.specs.Prelude.{◌≡◌, ◌-◌, ◌*◌};
+ghost use Rattle.byte_lists.specs.declared.format.TheConstants.{SECTOR};
 
 use byte_lists::SECTOR;
 
@@ -25,7 +26,7 @@ pub const COUNT_AT: usize = 28;
 /// The bytes of rows for which a checkpoint area of this number of sectors has room: all of its
 /// bytes but those before the rows.
 pub fn area_room(sectors: u32) -> u64
-    ensures { result ≡ 512 * sectors - 32 }
+    ensures { result ≡ SECTOR * sectors - 32 }
 {
     (SECTOR as u64 * u64::from(sectors)).saturating_sub(BEFORE_ROWS as u64)
 }

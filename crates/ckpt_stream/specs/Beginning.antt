@@ -1,5 +1,6 @@
 -- How the checkpoint of a sealed half is begun.
 use Rattle.std.specs.Prelude.{◌≡◌, ℕ, ◌+◌, ◌*◌, ◌≤◌, List, length, Some, Result, Ok, Err}
+use Rattle.byte_lists.specs.declared.format.TheConstants.{SECTOR}
 use Rattle.sector_dev.specs.Disk.{Disk, IsHonest, reads_of}
 use Rattle.path_rows.specs.declared.command.Command.{Command}
 use Rattle.path_rows.specs.Database.{RowView, rows_len}
@@ -48,9 +49,9 @@ pub record IsMergeOf (geometry : Geometry) (half : Half) (epoch : ℕ) (disk : D
   pub epoch_is : merge.epoch ≡ epoch
   -- The checkpoint can be written, and it fits an area.
   pub can : CanBeCheckpoint rows_format (checkpoint_from epoch sealed)
-  pub fits : checkpoint_size rows_format (checkpoint_from epoch sealed) ≤ 512 * geometry.checkpoint
+  pub fits : checkpoint_size rows_format (checkpoint_from epoch sealed) ≤ SECTOR * geometry.checkpoint
   -- The rows of the old area end within it.
-  pub inside : 32 + merge.size ≤ 512 * geometry.checkpoint
+  pub inside : 32 + merge.size ≤ SECTOR * geometry.checkpoint
   -- All bytes of the checkpoint are still to be taken, and the first ones are made.
   pub len : untaken_len merge.pour ≡ length (bytes_made merge)
   pub ready : IsReady merge.pour
@@ -65,4 +66,4 @@ MergesSealed geometry half epoch (Err Fault) disk = Unit {0}
 MergesSealed geometry half epoch (Err NoMemory) disk = Unit {0}
 MergesSealed geometry half epoch (Err Damaged) disk =
     IsHonest disk → (sealed : SealedHalf) → sealed_half geometry half (reads_of disk) ≡ Some sealed
-    → ¬ (checkpoint_size rows_format (checkpoint_from epoch sealed) ≤ 512 * geometry.checkpoint)
+    → ¬ (checkpoint_size rows_format (checkpoint_from epoch sealed) ≤ SECTOR * geometry.checkpoint)

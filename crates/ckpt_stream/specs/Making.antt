@@ -3,14 +3,15 @@ use Rattle.std.specs.Prelude.{◌≡◌, ℕ, suc, ◌+◌, ◌<◌, ◌≤◌, 
 use Rattle.row_edits.specs.declared.edit.Edit.TheVariants.{Keep}
 use Rattle.row_edits.specs.Edits.{bytes_in}
 use Rattle.row_edits.specs.Pouring.{PourView, left_to_keep}
+use Rattle.row_edits.specs.declared.pour.TheConstants.{PIECE}
 
 -- Why making stops: a piece is made, or nothing is left to be made, or a byte is wanted that is not
 -- between these two offsets in the area.
 abbrev pub WhyPoured : ℕ → ℕ → PourView → Type 0
 WhyPoured from to pour =
-    (131072 ≤ length pour.out) ⊎ ((pour.edits ≡ Keep 0 ∷ []) ⊎ ((0 < left_to_keep pour) × ((pour.position + 32 < from) ⊎ (to ≤ pour.position + 32))))
+    (PIECE ≤ length pour.out) ⊎ ((pour.edits ≡ Keep 0 ∷ []) ⊎ ((0 < left_to_keep pour) × ((pour.position + 32 < from) ⊎ (to ≤ pour.position + 32))))
 
 -- The number of bytes of the old rows that may still be read for this piece, and one more while any
 -- are wanted.
 abbrev pub reads_left : PourView → ℕ
-reads_left pour = if nat_le 131072 (length pour.out) then 0 else if left_to_keep pour == 0 then 0 else suc (bytes_in pour.edits)
+reads_left pour = if nat_le PIECE (length pour.out) then 0 else if left_to_keep pour == 0 then 0 else suc (bytes_in pour.edits)

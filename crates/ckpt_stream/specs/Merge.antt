@@ -2,6 +2,7 @@
 use Rattle.std.specs.Prelude.{◌≡◌, ℕ, ◌+◌, ◌*◌, ◌≤◌, ◌⊎◌, List, [], ◌∷◌, length, take, drop, Option, Some, None}
 use Rattle.byte_lists.specs.Content.{part}
 use Rattle.byte_lists.specs.Sectors.{padded}
+use Rattle.byte_lists.specs.declared.format.TheConstants.{SECTOR}
 use Rattle.sector_dev.specs.Disk.{Disk, IsHonest, reads_of}
 use Rattle.path_rows.specs.Database.{RowView}
 use Rattle.store_layout.specs.Checkpoint.{checkpoint_bytes, checkpoint_encoding}
@@ -9,6 +10,7 @@ use Rattle.ckpt_pair.specs.Checkpoint.{written_checkpoint}
 use Rattle.ckpt_pair.specs.Rows.{rows_format}
 use Rattle.row_edits.specs.declared.edit.Edit.TheVariants.{Keep}
 use Rattle.row_edits.specs.Pouring.{PourView, untaken, untaken_len, edits_end}
+use Rattle.row_edits.specs.declared.pour.TheConstants.{PIECE}
 use Rattle.ckpt_stream.specs.declared.merge.Merge.TheInside.{Inside}
 
 -- A merge as contracts see it.
@@ -44,28 +46,28 @@ encoding_if_any (Some merge) = encoding_made merge
 -- What holds for the fields of a merge.
 pub record IsMerge (s : Inside) : Type 0 where
   -- The window has 256 sectors.
-  pub window : length s.window.items ≡ 131072
+  pub window : length s.window.items ≡ PIECE
   -- The sectors of the checkpoint are counted.
-  pub sectors : 512 * s.sectors ≡ length (encoding_made (merge_view s))
+  pub sectors : SECTOR * s.sectors ≡ length (encoding_made (merge_view s))
   -- The edits read exactly the rows of the old area.
   pub end : edits_end s.pour ≡ s.size
 
 -- The bytes that are written next: at most 256 sectors of what is made, with zeros up to a whole
 -- sector.
 abbrev pub next_piece : PourView → List ℕ
-next_piece pour = padded (take 131072 pour.out)
+next_piece pour = padded (take PIECE pour.out)
 
 -- The pour after the next piece is written.
 abbrev pub after_piece : PourView → PourView
-after_piece pour = record pour { out = drop 131072 pour.out }
+after_piece pour = record pour { out = drop PIECE pour.out }
 
 -- A piece can be written: a whole piece is made, or nothing is left to be made.
 abbrev pub IsReady : PourView → Type 0
-IsReady pour = (131072 ≤ length pour.out) ⊎ (pour.edits ≡ Keep 0 ∷ [])
+IsReady pour = (PIECE ≤ length pour.out) ⊎ (pour.edits ≡ Keep 0 ∷ [])
 
 -- More is made from the rows of an area, which have `size` bytes.
 pub record MakesOn (disk : Disk) (area size : ℕ) (old new : PourView) : Type 0 where
   -- On an honest device, the bytes that are not taken are the same as before.
-  pub same : IsHonest disk → untaken new (part (512 * area + 32) size (reads_of disk)) ≡ untaken old (part (512 * area + 32) size (reads_of disk))
+  pub same : IsHonest disk → untaken new (part (SECTOR * area + 32) size (reads_of disk)) ≡ untaken old (part (SECTOR * area + 32) size (reads_of disk))
   -- They are as many as before.
   pub len : untaken_len new ≡ untaken_len old

@@ -1,6 +1,7 @@
 -- What is read of the area of a sealed half.
 use Rattle.std.specs.Prelude.{◌≡◌, ℕ, ◌+◌, ◌*◌, List, Option, Some, None, Result, Ok, Err}
 use Rattle.byte_lists.specs.Content.{part}
+use Rattle.byte_lists.specs.declared.format.TheConstants.{SECTOR}
 use Rattle.path_rows.specs.Database.{RowView}
 use Rattle.path_db.specs.RowRecord.{rows_decoding}
 use Rattle.store_layout.specs.declared.half.Half.{Half}
@@ -26,7 +27,7 @@ pub record IsNoCheckpoint (geometry : Geometry) (half : Half) (reads : List ℕ)
 abbrev pub FrontSo : Result Front OpenError → Geometry → Half → List ℕ → Type 0
 FrontSo (Ok front) geometry half reads =
     checkpoint_in rows_format latest (area_of geometry half reads)
-    ≡ with_head (head_view front.head) (as_counted front.count (rows_decoding (part (512 * area_at geometry half + 32) front.size reads)))
+    ≡ with_head (head_view front.head) (as_counted front.count (rows_decoding (part (SECTOR * area_at geometry half + 32) front.size reads)))
 FrontSo (Err NotAStore) geometry half reads = ⊥
 FrontSo (Err Device) geometry half reads = Unit {0}
 FrontSo (Err (Pair e)) geometry half reads = IsNoCheckpoint geometry half reads

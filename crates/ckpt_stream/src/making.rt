@@ -3,8 +3,10 @@
 ghost use Rattle.std.specs.Prelude.{◌≡◌, ◌+◌, ◌-◌, ◌*◌, ◌<◌, ◌≤◌, length, take, drop, min, List, ℕ, OnOk};
 ghost use Rattle.byte_lists.specs.Content.{part};
 ghost use Rattle.byte_lists.specs.Sectors.{padded};
+ghost use Rattle.byte_lists.specs.declared.format.TheConstants.{SECTOR};
 ghost use Rattle.store_open.specs.Looking.{LooksAt};
 ghost use Rattle.row_edits.specs.Pouring.{untaken, untaken_len, edits_end};
+ghost use Rattle.row_edits.specs.declared.pour.TheConstants.{PIECE};
 ghost use Rattle.ckpt_stream.specs.Merge.{IsReady, MakesOn};
 ghost use Rattle.ckpt_stream.specs.Making.{WhyPoured};
 
@@ -25,11 +27,11 @@ pub(crate) fn make_piece<D: Device>(
     pour: &mut Pour,
     window: &mut [u8],
 ) -> Result<(), DevError>
-    requires window { length window.old ≡ 131072 }
-    requires room { 512 * area + 32 + size ≤ 512 * (D.disk device.old).sectors }
+    requires window { length window.old ≡ PIECE }
+    requires room { SECTOR * area + 32 + size ≤ SECTOR * (D.disk device.old).sectors }
     requires end { edits_end pour.old ≡ size }
     ensures looks { LooksAt result (D.disk device.old) (D.disk device.new) }
-    ensures window { length window.new ≡ 131072 }
+    ensures window { length window.new ≡ PIECE }
     ensures end { edits_end pour.new ≡ size }
     ensures made { MakesOn (D.disk device.old) area size pour.old pour.new }
     ensures ready { OnOk result (IsReady pour.new) }
@@ -50,12 +52,12 @@ pub(crate) fn make_piece<D: Device>(
 /// the piece, at most 256, and none past the rows.
 fn count_wanted(at: u64, size: u32, first: u64, made: usize) -> u64
     requires wanted { at < size }
-    requires first { 512 * first ≤ at + 32 }
-    requires last { at + 32 < 512 * first + 512 }
-    requires made { made < 131072 }
+    requires first { SECTOR * first ≤ at + 32 }
+    requires last { at + 32 < SECTOR * first + SECTOR }
+    requires made { made < PIECE }
     ensures some { 1 ≤ result }
     ensures most { result ≤ 256 }
-    ensures inside { 512 * (first + result) < 32 + size + 512 }
+    ensures inside { SECTOR * (first + result) < 32 + size + SECTOR }
 {
     let sector = SECTOR as u64;
     let before = at + BEFORE_ROWS as u64 - sector * first;
@@ -67,14 +69,14 @@ fn count_wanted(at: u64, size: u32, first: u64, made: usize) -> u64
 /// Makes what it can from sectors of an area, which are in a window.
 fn pour_sectors(pour: &mut Pour, size: u32, first: u64, count: u64, window: &[u8])
     requires some { 1 ≤ count }
-    requires window { 512 * count ≤ length window.now }
-    requires inside { 512 * first ≤ 32 + size }
-    ensures same { (area : ℕ) (reads : List ℕ) → take (512 * count) window.now ≡ part (512 * (area + first)) (512 * count) reads
-        → untaken pour.new (part (512 * area + 32) size reads) ≡ untaken pour.old (part (512 * area + 32) size reads) }
+    requires window { SECTOR * count ≤ length window.now }
+    requires inside { SECTOR * first ≤ 32 + size }
+    ensures same { (area : ℕ) (reads : List ℕ) → take (SECTOR * count) window.now ≡ part (SECTOR * (area + first)) (SECTOR * count) reads
+        → untaken pour.new (part (SECTOR * area + 32) size reads) ≡ untaken pour.old (part (SECTOR * area + 32) size reads) }
     ensures len { untaken_len pour.new ≡ untaken_len pour.old }
     ensures end { edits_end pour.new ≡ edits_end pour.old }
     ensures forward { pour.old.position ≤ pour.new.position }
-    ensures stops { WhyPoured (512 * first) (min (512 * (first + count)) (32 + size)) pour.new }
+    ensures stops { WhyPoured (SECTOR * first) (min (SECTOR * (first + count)) (32 + size)) pour.new }
 {
     let head = BEFORE_ROWS as u64;
     let offset = SECTOR as u64 * first;
@@ -86,10 +88,10 @@ fn pour_sectors(pour: &mut Pour, size: u32, first: u64, count: u64, window: &[u8
 /// Puts the next piece of what is made into a window: at most 131,072 bytes, with zeros up to a
 /// whole sector. Returns the number of these bytes.
 pub(crate) fn put_piece(window: &mut [u8], made: &[u8]) -> usize
-    requires { length window.old ≡ 131072 }
-    ensures piece { take result window.new ≡ padded (take 131072 made.now) }
-    ensures size { result ≡ length (padded (take 131072 made.now)) }
-    ensures window { length window.new ≡ 131072 }
+    requires { length window.old ≡ PIECE }
+    ensures piece { take result window.new ≡ padded (take PIECE made.now) }
+    ensures size { result ≡ length (padded (take PIECE made.now)) }
+    ensures window { length window.new ≡ PIECE }
 {
     let size = made.len().min(PIECE);
     let whole = (size + (SECTOR - 1)) / SECTOR * SECTOR;

@@ -1,6 +1,8 @@
 //! A checkpoint that is made while it is written.
 
 ghost use Rattle.std.specs.Prelude.{◌≡◌, ◌+◌, ◌*◌, ◌≤◌, length, OnOk};
+ghost use Rattle.row_edits.specs.declared.pour.TheConstants.{PIECE};
+ghost use Rattle.byte_lists.specs.declared.format.TheConstants.{SECTOR};
 ghost use Rattle.sector_dev.specs.Calls.{WriteCall};
 ghost use Rattle.ckpt_stream.specs.Merge.{encoding_made, next_piece, after_piece, IsReady, MakesOn};
 
@@ -44,7 +46,7 @@ impl Model for Merge {
 impl Merge {
     /// The number of sectors of the whole checkpoint.
     pub fn sectors(&self) -> u64
-        ensures { 512 * result ≡ length (encoding_made self.now) }
+        ensures { SECTOR * result ≡ length (encoding_made self.now) }
     {
         self.sectors
     }
@@ -52,7 +54,7 @@ impl Merge {
     /// The lengths in bytes of the window, and of the buffer of what is made. Neither changes as
     /// long as the merge exists.
     pub fn buffer_lens(&self) -> (usize, usize)
-        ensures window { result.0 ≡ 131072 }
+        ensures window { result.0 ≡ PIECE }
         ensures made { result.1 ≡ 147461 }
     {
         (self.window.len(), self.pour.buffer_len())
@@ -68,8 +70,8 @@ impl Merge {
         area: u64,
         at: u64,
     ) -> Result<(), DevError>
-        requires old { 512 * area + 32 + self.old.size ≤ 512 * (D.disk device.old).sectors }
-        requires new { 512 * at + length (next_piece self.old.pour) ≤ 512 * (D.disk device.old).sectors }
+        requires old { SECTOR * area + 32 + self.old.size ≤ SECTOR * (D.disk device.old).sectors }
+        requires new { SECTOR * at + length (next_piece self.old.pour) ≤ SECTOR * (D.disk device.old).sectors }
         ensures call { WriteCall at (next_piece self.old.pour) result (D.disk device.old) (D.disk device.new) }
         ensures kept { self.new ≡ record self.old { pour = self.new.pour } }
         ensures ready { OnOk result (IsReady self.new.pour) }

@@ -2,6 +2,7 @@
 
 ghost use Rattle.std.specs.Prelude.{◌≡◌, ◌+◌, ◌*◌, ◌≤◌, length, IfOk};
 ghost use Rattle.byte_lists.specs.Content.{part};
+ghost use Rattle.byte_lists.specs.declared.format.TheConstants.{SECTOR};
 ghost use Rattle.sector_dev.specs.Disk.{IsHonest, reads_of};
 ghost use Rattle.path_rows.specs.Database.{IsDatabase, rows_len};
 ghost use Rattle.path_db.specs.RowRecord.{rows_decoding};
@@ -9,6 +10,7 @@ ghost use Rattle.store_layout.specs.Layout.{IsGeometry, image_sectors};
 ghost use Rattle.store_layout.specs.Geometry.{geometry_view};
 ghost use Rattle.ckpt_pair.specs.Rows.{as_counted};
 ghost use Rattle.row_edits.specs.Planner.{IsPlanOf};
+ghost use Rattle.row_edits.specs.declared.pour.TheConstants.{PIECE};
 ghost use Rattle.store_open.specs.Refusals.{LooksFor};
 ghost use Rattle.ckpt_stream.specs.OldArea.{FrontSo, RowsSo};
 
@@ -32,7 +34,7 @@ pub(crate) fn read_old_front<D: Device>(
     requires allowed { IsGeometry (geometry_view geometry) }
     requires room { image_sectors (geometry_view geometry) ≤ (D.disk device.old).sectors }
     ensures looks { LooksFor result (D.disk device.old) (D.disk device.new) }
-    ensures fits { IfOk result (λ front. 32 + front.size ≤ 512 * geometry.checkpoint) }
+    ensures fits { IfOk result (λ front. 32 + front.size ≤ SECTOR * geometry.checkpoint) }
     ensures front { IsHonest (D.disk device.old) → FrontSo result (geometry_view geometry) half (reads_of (D.disk device.old)) }
 {
     checkpoints_are_read_by_their_fronts();
@@ -51,15 +53,15 @@ pub(crate) fn plan_rows<D: Device>(
     commands: &[Command],
     window: &mut [u8],
 ) -> Result<(Plan, RowsNote), OpenError>
-    requires window { length window.old ≡ 131072 }
-    requires room { 512 * area + 32 + front.size ≤ 512 * (D.disk device.old).sectors }
+    requires window { length window.old ≡ PIECE }
+    requires room { SECTOR * area + 32 + front.size ≤ SECTOR * (D.disk device.old).sectors }
     ensures looks { LooksFor result (D.disk device.old) (D.disk device.new) }
-    ensures window { length window.new ≡ 131072 }
+    ensures window { length window.new ≡ PIECE }
     ensures plan { IfOk result (λ made. IsPlanOf made.1.rows commands.now made.0) }
     ensures database { IfOk result (λ made. IsDatabase made.1.rows) }
     ensures size { IfOk result (λ made. rows_len made.1.rows ≡ front.size) }
     ensures rows { IsHonest (D.disk device.old)
-        → RowsSo result (as_counted front.count (rows_decoding (part (512 * area + 32) front.size (reads_of (D.disk device.old))))) }
+        → RowsSo result (as_counted front.count (rows_decoding (part (SECTOR * area + 32) front.size (reads_of (D.disk device.old))))) }
 {
     written_rows_are_counted();
     let mut planner = Planner::new(alloc, commands)?;

@@ -1,6 +1,7 @@
 -- How a journal is read: first the first sector of a payload, and then all sectors of a group's.
 use Rattle.std.specs.Prelude.{◌≡◌, ◌⊎◌, ℕ, ◌+◌, ◌-◌, ◌*◌, ◌≤◌, true, List, ◌++◌, length, Option, Some, None, IsSome, Result, Ok, Err, nat_le, ◌==◌, if◌then◌else◌}
 use Rattle.byte_lists.specs.Content.{part}
+use Rattle.byte_lists.specs.declared.format.TheConstants.{SECTOR}
 use Rattle.path_rows.specs.declared.command.Command.{Command}
 use Rattle.path_db.specs.CommandRecord.{CommandWantsMemory}
 use Rattle.store_layout.specs.Limits.{Limits}
@@ -53,7 +54,7 @@ header_reading limits sector gate place sectors =
 
 -- The bytes after the records of a group's payload.
 abbrev pub padding_of : ℕ → List ℕ → List ℕ
-padding_of size payload = part (16 + size) (512 * payload_sectors size - (16 + size)) payload
+padding_of size payload = part (16 + size) (SECTOR * payload_sectors size - (16 + size)) payload
 
 -- The commands of a group's payload, by the count and the size in its header.
 abbrev pub payload_reading : Limits → ℕ → ℕ → List ℕ → Result (List Command) JournalRefusal

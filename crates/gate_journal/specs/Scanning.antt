@@ -3,6 +3,7 @@
 use Rattle.std.specs.Prelude.{◌≡◌, ℕ, ◌+◌, ◌-◌, ◌*◌, ◌<◌, ◌≤◌, List, length, Result, Ok, Err}
 use Rattle.byte_lists.specs.Content.{AreBytes, part}
 use Rattle.byte_lists.specs.Sectors.{whole_sectors, sector_at, IsOpenGate}
+use Rattle.byte_lists.specs.declared.format.TheConstants.{SECTOR}
 use Rattle.path_rows.specs.declared.command.Command.{Command}
 use Rattle.store_layout.specs.Limits.{Limits, limits_of}
 use Rattle.store_layout.specs.Group.{payload_sectors}
@@ -49,7 +50,7 @@ count_wanted scanner = count_of scanner.stage
 
 -- The journal has these bytes in the scanner's next piece.
 abbrev pub HasPiece : ScannerView → List ℕ → List ℕ → Type 0
-HasPiece scanner bytes piece = part (512 * first_wanted scanner) (512 * count_wanted scanner) bytes ≡ piece
+HasPiece scanner bytes piece = part (SECTOR * first_wanted scanner) (SECTOR * count_wanted scanner) bytes ≡ piece
 
 -- The most pieces at this gate after the next one.
 abbrev pub rank_of : Stage → ℕ
@@ -105,7 +106,7 @@ pub record MayWantMemory (limits : Limits) (bytes : List ℕ) (start : ℕ) : Ty
   pub size : ℕ
   pub header : header_reading limits (sector_at (gate + 1) bytes) gate (start + length (all_of groups)) (whole_sectors bytes) ≡ Ok (Group count size)
   -- Reading the group's payload takes memory.
-  pub payload : PayloadWantsMemory limits size (part (512 * (gate + 1)) (512 * payload_sectors size) bytes)
+  pub payload : PayloadWantsMemory limits size (part (SECTOR * (gate + 1)) (SECTOR * payload_sectors size) bytes)
 
 -- What an error says of a whole journal.
 abbrev pub MeansError : JournalError → Limits → List ℕ → ℕ → Type 0

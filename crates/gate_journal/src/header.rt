@@ -1,6 +1,7 @@
 //! The first sector of a payload.
 
 ghost use Rattle.std.specs.Prelude.{◌≡◌, ◌≢◌, length, IfErr};
+ghost use Rattle.byte_lists.specs.declared.format.TheConstants.{SECTOR};
 ghost use Rattle.store_layout.specs.Limits.{limits_of};
 ghost use Rattle.store_layout.specs.GroupReading.{is_group_header as group_header, is_seal_header as seal_header, is_header as header_of, are_zeros as all_zeros};
 ghost use Rattle.gate_journal.specs.declared.error.JournalError.TheVariants.{NoMemory};
@@ -30,7 +31,7 @@ pub(crate) fn read_header(
     place: u64,
     sectors: u64,
 ) -> Result<Header, JournalError>
-    requires { length sector.now ≡ 512 }
+    requires { length sector.now ≡ SECTOR }
     ensures reading { GivesJournal (λ header. header) result (header_reading (limits_of version) sector.now gate place sectors) }
     ensures memory { IfErr result (λ e. e ≢ NoMemory) }
 {
@@ -58,7 +59,7 @@ pub(crate) fn read_header(
 
 /// Whether a payload begins with the header of a group.
 fn is_group_header(sector: &[u8], version: u32) -> bool
-    requires { length sector.now ≡ 512 }
+    requires { length sector.now ≡ SECTOR }
     ensures { result ≡ group_header (limits_of version) sector.now }
 {
     is_header(
@@ -72,7 +73,7 @@ fn is_group_header(sector: &[u8], version: u32) -> bool
 
 /// Whether a payload begins with the header of a seal.
 fn is_seal_header(sector: &[u8]) -> bool
-    requires { length sector.now ≡ 512 }
+    requires { length sector.now ≡ SECTOR }
     ensures { result ≡ seal_header sector.now }
 {
     is_header(sector, SEAL, 0, 0, 0)
@@ -81,7 +82,7 @@ fn is_seal_header(sector: &[u8]) -> bool
 /// Whether a payload begins with a header of this kind, with `few` to `many` commands, and with
 /// records of at most `longest` bytes.
 fn is_header(sector: &[u8], kind: u8, few: u8, many: u8, longest: u32) -> bool
-    requires { length sector.now ≡ 512 }
+    requires { length sector.now ≡ SECTOR }
     ensures { result ≡ header_of kind few many longest sector.now }
 {
     let count = sector[COUNT_AT];

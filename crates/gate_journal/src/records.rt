@@ -1,6 +1,7 @@
 //! The records of a group.
 
 ghost use Rattle.std.specs.Prelude.{◌≡◌, ◌+◌, ◌*◌, length, drop, IfOk, IfErr, OnOk};
+ghost use Rattle.byte_lists.specs.declared.format.TheConstants.{SECTOR};
 ghost use Rattle.store_layout.specs.Limits.{limits_of};
 ghost use Rattle.store_layout.specs.Group.{payload_sectors};
 ghost use Rattle.store_layout.specs.GroupReading.{first_command, commands_in, record_size};
@@ -25,7 +26,7 @@ pub(crate) fn read_payload(
     version: u32,
     commands: &mut Vec<Command>,
 ) -> Result<(), JournalError>
-    requires { length payload.now ≡ 512 * payload_sectors size }
+    requires { length payload.now ≡ SECTOR * payload_sectors size }
     ensures reading { Appends commands.old.items commands.new.items result (payload_reading (limits_of version) count size payload.now) }
     ensures memory { IfErr result (λ e. e ≡ NoMemory → PayloadWantsMemory (limits_of version) size payload.now) }
 {

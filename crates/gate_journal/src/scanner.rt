@@ -2,6 +2,7 @@
 
 ghost use Rattle.std.specs.Prelude.{◌≡◌, ℕ, ◌+◌, ◌*◌, ◌≤◌, List, length};
 ghost use Rattle.byte_lists.specs.Sectors.{whole_sectors};
+ghost use Rattle.byte_lists.specs.declared.format.TheConstants.{SECTOR};
 ghost use Rattle.gate_journal.specs.Scanning.{first_wanted, count_wanted, IsReadUpTo, TakesPiece, CountsForReading};
 
 use crate::error::JournalError;
@@ -135,7 +136,7 @@ impl Scanner {
 
     /// Reads the piece for which `wanted` asks.
     pub fn take(self, alloc: Global, piece: &[u8]) -> Result<Progress, JournalError>
-        requires { length piece.now ≡ 512 * count_wanted self }
+        requires { length piece.now ≡ SECTOR * count_wanted self }
         ensures { TakesPiece self piece.now result }
     {
         match self.stage {
@@ -169,7 +170,7 @@ impl Scanner {
     /// Reads the first sector of the payload.
     fn take_header(self, piece: &[u8]) -> Result<Progress, JournalError>
         requires stage { self.stage ≡ AtHeader }
-        requires sector { length piece.now ≡ 512 }
+        requires sector { length piece.now ≡ SECTOR }
         ensures { TakesPiece self piece.now result }
     {
         match read_header(piece, self.version, self.gate, self.place, self.sectors)? {
@@ -194,7 +195,7 @@ impl Scanner {
         piece: &[u8],
     ) -> Result<Progress, JournalError>
         requires stage { self.stage ≡ AtPayload count size }
-        requires payload { length piece.now ≡ 512 * count_wanted self }
+        requires payload { length piece.now ≡ SECTOR * count_wanted self }
         ensures { TakesPiece self piece.now result }
     {
         let mut commands = self.commands;

@@ -2,6 +2,7 @@
 
 ghost use Rattle.std.specs.Prelude.{◌≡◌, ◌*◌, ◌≤◌, length, IfErr};
 ghost use Rattle.byte_lists.specs.Sectors.{whole_sectors};
+ghost use Rattle.byte_lists.specs.declared.format.TheConstants.{SECTOR};
 ghost use Rattle.store_layout.specs.Limits.{limits_of};
 ghost use Rattle.store_layout.specs.JournalReading.{journal_scan};
 ghost use Rattle.gate_journal.specs.declared.error.JournalError.TheVariants.{NoMemory};
@@ -19,7 +20,7 @@ use std::alloc::Global;
 /// of the checks.
 pub fn scan(alloc: Global, journal: &[u8], place: u64, version: u32) -> Result<Scan, JournalError>
     requires some { 1 ≤ whole_sectors journal.now }
-    requires whole { length journal.now ≡ 512 * whole_sectors journal.now }
+    requires whole { length journal.now ≡ SECTOR * whole_sectors journal.now }
     ensures reading { GivesJournal reading_of result (journal_scan command_format (limits_of version) journal.now place) }
     ensures memory { IfErr result (λ e. e ≡ NoMemory → MayWantMemory (limits_of version) journal.now place) }
 {

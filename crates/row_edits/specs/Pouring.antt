@@ -5,6 +5,7 @@ use Rattle.row_edits.specs.declared.edit.Edit.{Edit}
 use Rattle.row_edits.specs.declared.edit.Edit.TheVariants.{Keep, Pass, Put}
 use Rattle.row_edits.specs.declared.pour.Pour.TheInside.{Inside}
 use Rattle.row_edits.specs.Edits.{record_if_any, views_if_any, edited, bytes_in, bytes_out}
+use Rattle.row_edits.specs.declared.pour.TheConstants.{BUFFER, PIECE}
 
 -- A pour as contracts see it.
 pub record PourView : Type 0 where
@@ -29,8 +30,8 @@ pour_view s = record {
 -- What holds for the fields of a pour.
 pub record IsPour (s : Inside) : Type 0 where
   -- The buffer has room for a piece and the record of a row.
-  pub room : length s.buffer.items ≡ 147461
-  pub used : s.used ≤ 147461
+  pub room : length s.buffer.items ≡ BUFFER
+  pub used : s.used ≤ BUFFER
   pub at : s.at ≤ length s.edits.items
   pub next : s.next ≤ length s.rows.items
   -- The edits end within 2^33 bytes.
@@ -86,8 +87,8 @@ IsOutside from len position = (position < from) ⊎ (from + len ≤ position)
 -- Why pouring stops: a piece is made, or nothing is left to be made, or a byte is wanted that is
 -- not in the window.
 abbrev pub WhyStopped : ℕ → ℕ → PourView → Type 0
-WhyStopped from len view = (131072 ≤ length view.out) ⊎ ((view.edits ≡ Keep 0 ∷ []) ⊎ ((0 < left_to_keep view) × IsOutside from len view.position))
+WhyStopped from len view = (PIECE ≤ length view.out) ⊎ ((view.edits ≡ Keep 0 ∷ []) ⊎ ((0 < left_to_keep view) × IsOutside from len view.position))
 
 -- A number that gets smaller by each step after which another may follow.
 abbrev pub steps_left : PourView → ℕ
-steps_left view = length view.edits + (147461 - length view.out)
+steps_left view = length view.edits + (BUFFER - length view.out)

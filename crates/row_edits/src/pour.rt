@@ -2,6 +2,7 @@
 
 ghost use Rattle.std.specs.Prelude.{◌≡◌, ◌<◌, ◌≤◌, ◌∷◌, [], true, false, length, drop};
 ghost use Rattle.row_edits.specs.declared.edit.Edit.TheVariants.{Keep};
+ghost use Rattle.row_edits.specs.declared.pour.TheConstants.{BUFFER, PIECE};
 
 use crate::edit::Edit;
 use crate::pour_buffer::{cut_front, put_if_any, put_part};
@@ -85,8 +86,8 @@ impl Pour {
     /// The offset of the next byte that is wanted, where less than a piece is made and not taken,
     /// and bytes are to be kept.
     pub fn wanted(&self) -> Option<u64>
-        ensures some { ForSome result (λ at. (at ≡ self.now.position) × (0 < left_to_keep self.now) × (length self.now.out < 131072)) }
-        ensures none { result ≡ None → (131072 ≤ length self.now.out) ⊎ (left_to_keep self.now ≡ 0) }
+        ensures some { ForSome result (λ at. (at ≡ self.now.position) × (0 < left_to_keep self.now) × (length self.now.out < PIECE)) }
+        ensures none { result ≡ None → (PIECE ≤ length self.now.out) ⊎ (left_to_keep self.now ≡ 0) }
     {
         if self.used < PIECE && self.kept > 0 {
             return Some(self.position);
@@ -96,7 +97,7 @@ impl Pour {
 
     /// The length of the buffer in bytes.
     pub fn buffer_len(&self) -> usize
-        ensures { result ≡ 147461 }
+        ensures { result ≡ BUFFER }
     {
         self.buffer.len()
     }
@@ -138,7 +139,7 @@ impl Pour {
     /// Keeps bytes of the window: as many as the edit that was begun, the window and the room
     /// allow. Returns whether another step may follow.
     fn keep(&mut self, from: u64, window: &[u8]) -> bool
-        requires room { length self.old.out < 131072 }
+        requires room { length self.old.out < PIECE }
         requires some { 0 < left_to_keep self.old }
         ensures pours { Pours from window.now self.old self.new }
         ensures goes_on { result ≡ true → steps_left self.new < steps_left self.old }
@@ -163,7 +164,7 @@ impl Pour {
 
     /// Begins the next edit, where no bytes are left to be kept of the last one.
     fn next_edit(&mut self)
-        requires room { length self.old.out < 131072 }
+        requires room { length self.old.out < PIECE }
         requires none { left_to_keep self.old ≡ 0 }
         requires more { 1 < length self.old.edits }
         ensures same { (bytes : List ℕ) → untaken self.new bytes ≡ untaken self.old bytes }
@@ -179,7 +180,7 @@ impl Pour {
 
     /// Begins an edit.
     fn enter(&mut self, edit: Edit)
-        requires room { length self.old.out < 131072 }
+        requires room { length self.old.out < PIECE }
         requires none { left_to_keep self.old ≡ 0 }
         requires end { edits_end (with_edit edit self.old) < 2 ^ 33 }
         ensures same { (bytes : List ℕ) → untaken self.new bytes ≡ untaken (with_edit edit self.old) bytes }
@@ -198,7 +199,7 @@ impl Pour {
 
     /// Puts the next row, where there is one.
     fn put_next(&mut self)
-        requires { length self.old.out < 131072 }
+        requires { length self.old.out < PIECE }
         ensures { self.new ≡ with_next_row self.old.rows self.old }
     {
         if self.next < self.rows.len() {

@@ -2,6 +2,7 @@
 use Rattle.std.specs.Prelude.{◌≡◌, ◌⊎◌, ℕ, ◌+◌, ◌*◌, ◌≤◌, Bool, true, false, List, length, Result, Ok, Err}
 use Rattle.byte_lists.specs.Content.{part}
 use Rattle.byte_lists.specs.Sectors.{sector_at, IsOpenGate}
+use Rattle.byte_lists.specs.declared.format.TheConstants.{SECTOR}
 use Rattle.sector_dev.specs.Disk.{History, after_sync}
 use Rattle.store_layout.specs.declared.half.Half.{Half}
 use Rattle.store_layout.specs.Layout.{Geometry, gate_at, gate_of, journal_of}
@@ -15,7 +16,7 @@ pub record IsClosing (geometry : Geometry) (half : Half) (old new : List ℕ) : 
   -- The length of the image is unchanged.
   pub size : length new ≡ length old
   -- All but the half's gate and the journal's first gate, in the next sector, is unchanged.
-  pub outside : (at n : ℕ) → (at + n ≤ 512 * gate_at geometry half) ⊎ (512 * (gate_at geometry half + 2) ≤ at) → part at n new ≡ part at n old
+  pub outside : (at n : ℕ) → (at + n ≤ SECTOR * gate_at geometry half) ⊎ (SECTOR * (gate_at geometry half + 2) ≤ at) → part at n new ≡ part at n old
   -- A gate of the half that was closed is unchanged.
   pub gate : (¬ IsOpenGate (gate_of geometry half old)) → gate_of geometry half new ≡ gate_of geometry half old
 

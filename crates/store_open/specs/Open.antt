@@ -1,6 +1,7 @@
 -- The result of opening a device, by what is read of it, and the device after the call.
 use Rattle.std.specs.Prelude.{◌≡◌, ◌≢◌, ◌⊎◌, ℕ, ◌*◌, List, Result, Ok, Err, IsOk, Option, Some}
 use Rattle.std.specs.Option.{option_map}
+use Rattle.byte_lists.specs.declared.format.TheConstants.{SECTOR}
 use Rattle.path_rows.specs.Database.{RowView}
 use Rattle.path_rows.specs.declared.command.Command.{Command}
 use Rattle.sector_dev.specs.Disk.{History, Disk, IsHonest, reads_of, after_sync}
@@ -89,7 +90,7 @@ with_tail_seen geometry half checkpoint journal tail = record {
 pub record HasFront (geometry : Geometry) (image : List ℕ) : Type 0 where
   pub half : Half
   pub chosen : choice_by_heads geometry image ≡ Ok half
-  pub front : IsOk (front_in latest (512 * geometry.checkpoint) (area_of geometry half image))
+  pub front : IsOk (front_in latest (SECTOR * geometry.checkpoint) (area_of geometry half image))
 
 -- All that is checked without memory is valid, so that opening the image takes memory.
 pub record WantsMemoryToOpen (image : List ℕ) : Type 0 where
@@ -100,7 +101,7 @@ pub record WantsMemoryToOpen (image : List ℕ) : Type 0 where
   -- A half is chosen by the heads.
   pub chosen : choice_by_heads geometry image ≡ Ok half
   -- The front of its checkpoint is valid.
-  pub front : IsOk (front_in latest (512 * geometry.checkpoint) (area_of geometry half image))
+  pub front : IsOk (front_in latest (SECTOR * geometry.checkpoint) (area_of geometry half image))
 
 -- Two images open with the same opening, and the bytes after their store are the same.
 pub record OpenWithTheSame (before behind : List ℕ) : Type 0 where

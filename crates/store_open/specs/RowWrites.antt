@@ -1,6 +1,7 @@
 -- How a checkpoint is written piece by piece.
 use Rattle.std.specs.Prelude.{◌≡◌, ℕ, ◌+◌, ◌*◌, List, [], ◌++◌, length, Option, Some, None}
 use Rattle.byte_lists.specs.Content.{overwrite}
+use Rattle.byte_lists.specs.declared.format.TheConstants.{SECTOR}
 use Rattle.path_rows.specs.Database.{RowView}
 use Rattle.path_db.specs.RowRecord.{row_record}
 use Rattle.sector_dev.specs.Disk.{Disk, IsHonest, reads_of}
@@ -18,6 +19,6 @@ pub record IsWrittenUpTo (old new : Disk) (at sector : ℕ) (rest bytes : List �
   -- They are followed by the rest.
   pub parts : front ++ rest ≡ bytes
   -- They end where `sector` begins.
-  pub reached : 512 * at + length front ≡ 512 * sector
+  pub reached : SECTOR * at + length front ≡ SECTOR * sector
   -- On an honest device, reads return them, and nothing else has changed.
-  pub written : IsHonest old → reads_of new ≡ overwrite (512 * at) front (reads_of old)
+  pub written : IsHonest old → reads_of new ≡ overwrite (SECTOR * at) front (reads_of old)

@@ -4,6 +4,7 @@ use Rattle.byte_lists.specs.Content.{overwrite}
 use Rattle.store_layout.specs.declared.half.Half.{Half}
 use Rattle.store_layout.specs.Layout.{Geometry, other, area_at, gate_at}
 use Rattle.byte_lists.specs.Sectors.{open_gate}
+use Rattle.byte_lists.specs.declared.format.TheConstants.{SECTOR}
 
 -- A content is the old one, except for any n bytes at an offset.
 pub record IsTornAt (at n : ℕ) (old content : List ℕ) : Type 0 where
@@ -13,21 +14,21 @@ pub record IsTornAt (at n : ℕ) (old content : List ℕ) : Type 0 where
 
 -- The image after the first write: the other half's area has a checkpoint.
 abbrev pub laid : Geometry → Half → List ℕ → List ℕ → List ℕ
-laid geometry half bytes image = overwrite (512 * area_at geometry (other half)) bytes image
+laid geometry half bytes image = overwrite (SECTOR * area_at geometry (other half)) bytes image
 
 -- The image after the second write: the other half's gate is open.
 abbrev pub switched : Geometry → Half → List ℕ → List ℕ → List ℕ
-switched geometry half bytes image = overwrite (512 * gate_at geometry (other half)) open_gate (laid geometry half bytes image)
+switched geometry half bytes image = overwrite (SECTOR * gate_at geometry (other half)) open_gate (laid geometry half bytes image)
 
 -- The image after the third write: the old half's gate is closed, and so is the first gate of its
 -- journal, in the next sector.
 abbrev pub taken : Geometry → Half → List ℕ → List ℕ → List ℕ
-taken geometry half bytes image = overwrite (512 * gate_at geometry half) (replicate 1024 0) (switched geometry half bytes image)
+taken geometry half bytes image = overwrite (SECTOR * gate_at geometry half) (replicate 1024 0) (switched geometry half bytes image)
 
 -- A stop in between may leave this content: one of the three writes is torn, and those before it
 -- are whole.
 abbrev pub IsTakingOver : Geometry → Half → List ℕ → List ℕ → List ℕ → Type 0
 IsTakingOver geometry half bytes image content =
-    IsTornAt (512 * area_at geometry (other half)) (length bytes) image content
-    ⊎ (IsTornAt (512 * gate_at geometry (other half)) 512 (laid geometry half bytes image) content
-    ⊎ IsTornAt (512 * gate_at geometry half) 1024 (switched geometry half bytes image) content)
+    IsTornAt (SECTOR * area_at geometry (other half)) (length bytes) image content
+    ⊎ (IsTornAt (SECTOR * gate_at geometry (other half)) SECTOR (laid geometry half bytes image) content
+    ⊎ IsTornAt (SECTOR * gate_at geometry half) 1024 (switched geometry half bytes image) content)

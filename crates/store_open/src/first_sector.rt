@@ -5,6 +5,7 @@ ghost use Rattle.std.specs.Option.{option_map, IfSome};
 ghost use Rattle.byte_lists.specs.Content.{part};
 ghost use Rattle.byte_lists.specs.Numbers.{four_at, eight_at};
 ghost use Rattle.byte_lists.specs.Sectors.{whole_sectors};
+ghost use Rattle.byte_lists.specs.declared.format.TheConstants.{SECTOR};
 ghost use Rattle.sector_dev.specs.Disk.{IsHonest, reads_of};
 ghost use Rattle.sector_dev.specs.Calls.{Keeps, count_after};
 ghost use Rattle.store_layout.specs.FirstSector.{store_magic, layout_number, geometry_in};
@@ -37,9 +38,9 @@ pub fn read_geometry<D: Device>(device: &mut D) -> Result<Option<Geometry>, DevE
 
 /// The sizes in sector 0, where it is that of a store for which this number of sectors is enough.
 fn geometry_of(sector: &[u8], sectors: u64) -> Option<Geometry>
-    requires { length sector.now ≡ 512 }
+    requires { length sector.now ≡ SECTOR }
     ensures room { IfSome result (λ geometry. IsGeometry (geometry_view geometry) × (image_sectors (geometry_view geometry) ≤ sectors)) }
-    ensures read { (image : List ℕ) → part 0 512 image ≡ sector.now → whole_sectors image ≡ sectors → option_map geometry_view result ≡ geometry_in image }
+    ensures read { (image : List ℕ) → part 0 SECTOR image ≡ sector.now → whole_sectors image ≡ sectors → option_map geometry_view result ≡ geometry_in image }
 {
     if !is_named(sector) {
         return None;
@@ -56,7 +57,7 @@ fn geometry_of(sector: &[u8], sectors: u64) -> Option<Geometry>
 
 /// Whether the name and the number of the layout are at the front.
 fn is_named(sector: &[u8]) -> bool
-    requires { length sector.now ≡ 512 }
+    requires { length sector.now ≡ SECTOR }
     ensures { IsTrue result ↔ ((eight_at 0 sector.now ≡ store_magic) × (four_at 8 sector.now ≡ layout_number)) }
 {
     read_u64(sector, 0) == STORE_MAGIC && read_u32(sector, LAYOUT_AT) == LAYOUT

@@ -4,6 +4,7 @@ ghost use Rattle.std.specs.Prelude.{◌≡◌, ◌≤◌, ◌<◌, ◌+◌, ◌-
 ghost use Rattle.std.specs.Option.{option_map, ForSome};
 ghost use Rattle.byte_lists.specs.Content.{overwrite};
 ghost use Rattle.byte_lists.specs.Sectors.{padded};
+ghost use Rattle.byte_lists.specs.declared.format.TheConstants.{SECTOR};
 ghost use Rattle.path_rows.specs.Row.{row_view};
 ghost use Rattle.path_db.specs.RowRecord.{row_record, rows_encoding};
 ghost use Rattle.sector_dev.specs.Disk.{IsHonest, reads_of};
@@ -41,17 +42,17 @@ pub(crate) fn lay<D: Device>(
     db: &PathDb,
     buffer: &mut [u8],
 ) -> Result<(), DevError>
-    requires inside { 512 * at + length (padded (head.now ++ rows_encoding db.now)) ≤ 512 * (D.disk device.old).sectors }
+    requires inside { SECTOR * at + length (padded (head.now ++ rows_encoding db.now)) ≤ SECTOR * (D.disk device.old).sectors }
     requires buffer { length buffer.old ≡ BUFFER }
     requires clean { IsHonest (D.disk device.old) → (D.disk device.old).history.now.dirty ≡ [] }
 
     // At every moment all but these sectors is unchanged.
     ensures any_moment { Stretch (D.disk device.old) (D.disk device.new)
-        (IsTornAt (512 * at) (length (padded (head.now ++ rows_encoding db.now))) (reads_of (D.disk device.old))) }
+        (IsTornAt (SECTOR * at) (length (padded (head.now ++ rows_encoding db.now))) (reads_of (D.disk device.old))) }
 
     ensures settled { OnOk result (IsHonest (D.disk device.old) → (D.disk device.new).history.now.dirty ≡ []) }
     ensures written { OnOk result (IsHonest (D.disk device.old)
-        → reads_of (D.disk device.new) ≡ overwrite (512 * at) (padded (head.now ++ rows_encoding db.now)) (reads_of (D.disk device.old))) }
+        → reads_of (D.disk device.new) ≡ overwrite (SECTOR * at) (padded (head.now ++ rows_encoding db.now)) (reads_of (D.disk device.old))) }
 
     // The call fails only where the device does.
     ensures faults { (D.disk device.new).faults ≡ count_after result (D.disk device.old).faults }
@@ -71,12 +72,12 @@ fn write_rows<D: Device>(
     buffer: &mut [u8],
     before: usize,
 ) -> Result<(u64, usize), DevError>
-    requires inside { 512 * at + length (padded (take before buffer.old ++ rows_encoding rows)) ≤ 512 * (D.disk device.old).sectors }
+    requires inside { SECTOR * at + length (padded (take before buffer.old ++ rows_encoding rows)) ≤ SECTOR * (D.disk device.old).sectors }
     requires buffer { length buffer.old ≡ BUFFER }
     requires used { before < WRITE_BYTES }
     requires clean { IsHonest (D.disk device.old) → (D.disk device.old).history.now.dirty ≡ [] }
     ensures any_moment { Stretch (D.disk device.old) (D.disk device.new)
-        (IsTornAt (512 * at) (length (padded (take before buffer.old ++ rows_encoding rows.entry))) (reads_of (D.disk device.old))) }
+        (IsTornAt (SECTOR * at) (length (padded (take before buffer.old ++ rows_encoding rows.entry))) (reads_of (D.disk device.old))) }
     ensures poured { IfOk result (λ rest. IsWrittenUpTo (D.disk device.old) (D.disk device.new) at rest.0
         (take rest.1 buffer.new) (take before buffer.old ++ rows_encoding rows.entry)) }
     ensures buffer { length buffer.new ≡ length buffer.old }
@@ -106,7 +107,7 @@ fn write_piece<D: Device>(
 ) -> Result<(), DevError>
     requires used { WRITE_BYTES ≤ used }
     requires buffer { used ≤ length buffer.old }
-    requires inside { 512 * sector + WRITE_BYTES ≤ 512 * (D.disk device.old).sectors }
+    requires inside { SECTOR * sector + WRITE_BYTES ≤ SECTOR * (D.disk device.old).sectors }
     ensures write { WriteCall sector (take WRITE_BYTES buffer.old) result (D.disk device.old) (D.disk device.new) }
     ensures rest { OnOk result (take WRITE_BYTES buffer.old ++ take (used - WRITE_BYTES) buffer.new ≡ take used buffer.old) }
     ensures buffer { length buffer.new ≡ length buffer.old }
@@ -125,7 +126,7 @@ fn write_rest<D: Device>(
 ) -> Result<(), DevError>
     requires buffer { length buffer.old ≡ BUFFER }
     requires used { used ≤ WRITE_BYTES }
-    requires inside { 512 * sector + length (padded (take used buffer.old)) ≤ 512 * (D.disk device.old).sectors }
+    requires inside { SECTOR * sector + length (padded (take used buffer.old)) ≤ SECTOR * (D.disk device.old).sectors }
     ensures write { WriteCall sector (padded (take used buffer.old)) result (D.disk device.old) (D.disk device.new) }
 {
     let end = SECTOR * sector_count(used);

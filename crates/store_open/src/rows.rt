@@ -2,6 +2,7 @@
 
 ghost use Rattle.std.specs.Prelude.{◌≡◌, ◌+◌, ◌*◌, ◌≤◌, IfOk, IsOk};
 ghost use Rattle.byte_lists.specs.Content.{part};
+ghost use Rattle.byte_lists.specs.declared.format.TheConstants.{SECTOR};
 ghost use Rattle.sector_dev.specs.Disk.{IsHonest, reads_of};
 ghost use Rattle.path_rows.specs.Database.{IsDatabase};
 ghost use Rattle.store_layout.specs.CheckpointReading.{checkpoint_in};
@@ -36,9 +37,9 @@ pub(crate) fn feed_area<D: Device>(
     area: u64,
     size: u32,
 ) -> Result<RowsReader, OpenError>
-    requires { 512 * area + 32 + size ≤ 512 * (D.disk device.old).sectors }
+    requires { SECTOR * area + 32 + size ≤ SECTOR * (D.disk device.old).sectors }
     ensures looks { LooksFor result (D.disk device.old) (D.disk device.new) }
-    ensures rows { IsHonest (D.disk device.old) → FeedsSo (part (512 * area + 32) size (reads_of (D.disk device.old))) result }
+    ensures rows { IsHonest (D.disk device.old) → FeedsSo (part (SECTOR * area + 32) size (reads_of (D.disk device.old))) result }
 {
     let sector = SECTOR as u64;
     let end = BEFORE_ROWS as u64 + u64::from(size);
@@ -72,7 +73,7 @@ pub(crate) fn read_checkpoint<D: Device>(
     ensures checkpoint { IsHonest (D.disk device.old) → PairSo checkpoint_view result
         (checkpoint_in rows_format latest (area_of (geometry_view geometry) half (reads_of (D.disk device.old)))) }
     ensures memory { IsHonest (D.disk device.old) → OnOkOrNoMemory result
-        (IsOk (front_in latest (512 * (geometry_view geometry).checkpoint) (area_of (geometry_view geometry) half (reads_of (D.disk device.old))))) }
+        (IsOk (front_in latest (SECTOR * (geometry_view geometry).checkpoint) (area_of (geometry_view geometry) half (reads_of (D.disk device.old))))) }
     ensures whole { IfOk result (λ checkpoint. IsDatabase checkpoint.db) }
 {
     checkpoints_are_read_by_their_fronts();

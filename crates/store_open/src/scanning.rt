@@ -2,6 +2,7 @@
 
 ghost use Rattle.std.specs.Prelude.{◌≡◌, ◌⊎◌, ◌+◌, ◌*◌, ◌≤◌, length, IfOk, IfErr};
 ghost use Rattle.byte_lists.specs.Content.{part};
+ghost use Rattle.byte_lists.specs.declared.format.TheConstants.{SECTOR};
 ghost use Rattle.sector_dev.specs.Disk.{IsHonest, reads_of};
 ghost use Rattle.store_layout.specs.Limits.{limits_of};
 ghost use Rattle.store_layout.specs.JournalReading.{journal_scan};
@@ -54,8 +55,8 @@ pub(crate) fn read_piece<D: Device>(
 ) -> Result<Vec<u8>, OpenError>
     requires { at + count ≤ (D.disk device.old).sectors }
     ensures looks { LooksFor result (D.disk device.old) (D.disk device.new) }
-    ensures size { IfOk result (λ bytes. length bytes.items ≡ 512 * count) }
-    ensures read { IfOk result (λ bytes. IsHonest (D.disk device.old) → bytes.items ≡ part (512 * at) (512 * count) (reads_of (D.disk device.old))) }
+    ensures size { IfOk result (λ bytes. length bytes.items ≡ SECTOR * count) }
+    ensures read { IfOk result (λ bytes. IsHonest (D.disk device.old) → bytes.items ≡ part (SECTOR * at) (SECTOR * count) (reads_of (D.disk device.old))) }
     ensures refused { IfErr result (λ e. (e ≡ IsDevice) ⊎ (e ≡ NoMemory)) }
 {
     let mut bytes = vec![in alloc; 0; SECTOR * count as usize]?;

@@ -3,6 +3,7 @@
 ghost use Rattle.std.specs.Prelude.{◌≡◌, ◌%◌, ◌*◌, ◌+◌, ◌≤◌, ◌++◌, [], length, OnOk};
 ghost use Rattle.byte_lists.specs.Content.{overwrite};
 ghost use Rattle.byte_lists.specs.Sectors.{padded};
+ghost use Rattle.byte_lists.specs.declared.format.TheConstants.{SECTOR};
 ghost use Rattle.path_db.specs.RowRecord.{rows_encoding};
 ghost use Rattle.sector_dev.specs.Disk.{IsHonest, reads_of};
 ghost use Rattle.sector_dev.specs.Calls.{Keeps, count_after};
@@ -31,7 +32,7 @@ pub(crate) fn take_over<D: Device>(
 ) -> Result<(), DevError>
     requires allowed { IsGeometry (geometry_view geometry) }
     requires room { image_sectors (geometry_view geometry) ≤ (D.disk device.old).sectors }
-    requires fits { length (padded (head.now ++ rows_encoding db.now)) ≤ 512 * geometry.checkpoint }
+    requires fits { length (padded (head.now ++ rows_encoding db.now)) ≤ SECTOR * geometry.checkpoint }
     requires buffer { length buffer.old ≡ BUFFER }
     requires clean { IsHonest (D.disk device.old) → (D.disk device.old).history.now.dirty ≡ [] }
 
@@ -54,17 +55,17 @@ pub(crate) fn take_over<D: Device>(
 
 /// Writes whole sectors, and syncs. Nothing may be dirty before the call.
 fn write_through<D: Device>(device: &mut D, at: u64, bytes: &[u8]) -> Result<(), DevError>
-    requires whole { length bytes.now % 512 ≡ 0 }
-    requires inside { 512 * at + length bytes.now ≤ 512 * (D.disk device.old).sectors }
+    requires whole { length bytes.now % SECTOR ≡ 0 }
+    requires inside { SECTOR * at + length bytes.now ≤ SECTOR * (D.disk device.old).sectors }
     requires clean { IsHonest (D.disk device.old) → (D.disk device.old).history.now.dirty ≡ [] }
 
     // At every moment all but these sectors is unchanged.
     ensures any_moment { Stretch (D.disk device.old) (D.disk device.new)
-        (IsTornAt (512 * at) (length bytes.now) (reads_of (D.disk device.old))) }
+        (IsTornAt (SECTOR * at) (length bytes.now) (reads_of (D.disk device.old))) }
 
     ensures settled { OnOk result (IsHonest (D.disk device.old) → (D.disk device.new).history.now.dirty ≡ []) }
     ensures written { OnOk result (IsHonest (D.disk device.old)
-        → reads_of (D.disk device.new) ≡ overwrite (512 * at) bytes.now (reads_of (D.disk device.old))) }
+        → reads_of (D.disk device.new) ≡ overwrite (SECTOR * at) bytes.now (reads_of (D.disk device.old))) }
 
     // The call fails only where the device does.
     ensures faults { (D.disk device.new).faults ≡ count_after result (D.disk device.old).faults }
