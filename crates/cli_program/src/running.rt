@@ -8,7 +8,7 @@ use crate::system::System;
 use clap::Error;
 use clap::error::ErrorKind;
 use cli_once::Fault;
-use cli_words::{FORMAT, ONCE, RUN, SHOW, STATUS, UPGRADE, read};
+use cli_words::{CommandLine, Subcommand, read};
 use std::env;
 use std::io::{Read, Write};
 
@@ -29,30 +29,37 @@ pub fn carry_out<R: System, I: Read, O: Write + Drop>(rt: &R, input: &mut I, out
 pub fn run<R: System, I: Read, O: Write + Drop>(
     rt: &R,
     input: &mut I,
-    mut output: O,
+    output: O,
 ) -> Result<Done, Ended> {
     let Ok(words) = env::args(rt) else {
         return Err(Ended::Session(Fault::Memory));
     };
     let words: Vec<String> = words.collect(rt.alloc()).map_err(|_| Fault::Memory)?;
-    let matches = match read(rt.alloc(), words.as_slice()) {
-        Ok(matches) => matches,
+    let line = match read(rt.alloc(), words.as_slice()) {
+        Ok(line) => line,
         Err(error) => return Ok(refuse(rt, &error)?),
     };
-    if let Some(options) = matches.subcommand_matches(FORMAT) {
-        format_file(rt, options, &mut output)?;
-    } else if let Some(options) = matches.subcommand_matches(UPGRADE) {
-        upgrade_file(rt, options, &mut output)?;
-    } else if let Some(options) = matches.subcommand_matches(STATUS) {
-        status_of_file(rt, options, &mut output)?;
-    } else if let Some(options) = matches.subcommand_matches(SHOW) {
-        show_file(rt, options, output)?;
-    } else if let Some(options) = matches.subcommand_matches(ONCE) {
-        answer(rt.alloc(), options, input, output)?;
-    } else if let Some(options) = matches.subcommand_matches(RUN) {
-        serve_file(rt, options, &mut output)?;
-    }
+    dispatch(rt, &line, input, output)?;
     Ok(Done::Carried)
+}
+
+/// Does what a command line asks for, by its command.
+fn dispatch<R: System, I: Read, O: Write + Drop>(
+    rt: &R,
+    line: &CommandLine<'_>,
+    input: &mut I,
+    mut output: O,
+) -> Result<(), Ended> {
+    let options = &line.options;
+    match line.subcommand {
+        Subcommand::Once => answer(rt.alloc(), options, input, output)?,
+        Subcommand::Format => format_file(rt, options, &mut output)?,
+        Subcommand::Show => show_file(rt, options, output)?,
+        Subcommand::Status => status_of_file(rt, options, &mut output)?,
+        Subcommand::Upgrade => upgrade_file(rt, options, &mut output)?,
+        Subcommand::Run => serve_file(rt, options, &mut output)?,
+    }
+    Ok(())
 }
 
 /// Prints what was wrong with the command line, or the help that it asked for.

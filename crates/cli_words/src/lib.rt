@@ -1,17 +1,20 @@
 //! The words of the program's command line, as `clap` reads them.
 //!
 //! To the layer above, `command` is the program's command with those within it that have the names
-//! of `ONCE`, `FORMAT`, `SHOW`, `STATUS`, `UPGRADE` and `RUN`, and `read` reads words by it; what
-//! their options say is read by `clap`, but that numbers are decimal digits alone.
+//! of `ONCE`, `FORMAT`, `SHOW`, `STATUS`, `UPGRADE` and `RUN`, and `read` reads words by it, as a
+//! `CommandLine`; what their options say is read by `clap`, but that numbers are decimal digits
+//! alone.
 #![tactic(auto)]
 
+mod command_line;
 mod reading;
 
-ghost use Rattle.std.specs.Prelude.{◌≡◌, [], ◌∷◌, ◌++◌, codes, IfOk};
+ghost use Rattle.std.specs.Prelude.{◌≡◌, [], ◌∷◌, ◌++◌, codes, IfOk, IsOkAnd};
 ghost use Rattle.clap.specs.Words.{subcommand_names};
 ghost use Rattle.clap.specs.declared.builder.command.Command.TheViews.{out-Command};
 
 use clap::{Arg, ArgAction, Command, value_parser};
+pub use command_line::{CommandLine, Subcommand};
 pub use reading::read;
 use std::alloc::{AllocError, Global};
 use store_layout::{LEAST_CHECKPOINT, LEAST_JOURNAL, MOST_SECTORS};
@@ -85,12 +88,12 @@ pub fn command<'a>(alloc: Global) -> Result<Command<'a>, AllocError>
         ≡ codes "once" ∷ codes "format" ∷ codes "show" ∷ codes "status" ∷ codes "upgrade" ∷ codes "run" ∷ []) }
 {
     let command = bare_command(alloc)?;
-    let command = with_subcommand(command, once_command(alloc)?)?;
-    let command = with_subcommand(command, format_command(alloc)?)?;
-    let command = with_subcommand(command, show_command(alloc)?)?;
-    let command = with_subcommand(command, status_command(alloc)?)?;
-    let command = with_subcommand(command, upgrade_command(alloc)?)?;
-    with_subcommand(command, run_command(alloc)?)
+    let command = with_subcommand(command, once_command(alloc))?;
+    let command = with_subcommand(command, format_command(alloc))?;
+    let command = with_subcommand(command, show_command(alloc))?;
+    let command = with_subcommand(command, status_command(alloc))?;
+    let command = with_subcommand(command, upgrade_command(alloc))?;
+    with_subcommand(command, run_command(alloc))
 }
 
 /// The program's command, with none within it.
@@ -104,13 +107,16 @@ fn bare_command<'a>(alloc: Global) -> Result<Command<'a>, AllocError>
     Ok(command)
 }
 
-/// Puts a command behind those within another.
+/// Puts a command after those within another. Where memory for that command was refused, the
+/// error is passed on, so that a caller has one way out for both.
 fn with_subcommand<'a>(
     command: Command<'a>,
-    subcommand: Command<'a>,
+    subcommand: Result<Command<'a>, AllocError>,
 ) -> Result<Command<'a>, AllocError>
-    ensures { IfOk result (λ new. subcommand_names new ≡ subcommand_names command.entry ++ (out-Command subcommand.entry).name.now ∷ []) }
+    ensures { IfOk result (λ new. IsOkAnd subcommand.entry
+        (λ sub. subcommand_names new ≡ subcommand_names command.entry ++ (out-Command sub).name.now ∷ [])) }
 {
+    let subcommand = subcommand?;
     command.subcommand(subcommand)
 }
 

@@ -1,27 +1,43 @@
 //! Reading the words of a command line.
 
-ghost use Rattle.std.specs.Prelude.{◌↔◌, IsTrue, IfOk, IfSome, OnOk};
+ghost use Rattle.std.specs.Prelude.{◌↔◌, IsTrue, IfOk, OnOk};
 ghost use Rattle.std.specs.List.{AllPass};
 ghost use Rattle.clap.specs.Lexer.{is_digit};
-ghost use Rattle.clap.specs.Words.{found_of, rows_of, subcommand_rows_of};
+ghost use Rattle.clap.specs.Words.{found_of, rows_of};
 ghost use Rattle.cli_words.specs.Numbers.{IsPlainNumber, HasPlainNumbers};
 
+use crate::command_line::{CommandLine, command_line};
 use crate::{CHECKPOINT, IDLE, JOURNAL, NOW, SESSIONS, command};
 use clap::error::ErrorKind;
 use clap::{ArgMatches, Command, Error};
 use std::alloc::Global;
 
-/// What the words of a command line ask for. A number is decimal digits alone, with no sign: `clap`
-/// by itself takes one.
-pub fn read<'a>(alloc: Global, words: &'a [String]) -> Result<ArgMatches<'a>, Error>
-    ensures { IfOk result (λ matches. IfSome (subcommand_rows_of matches) (λ met. HasPlainNumbers met.1)) }
+/// What is printed of words with no command of the program.
+const NO_COMMAND: &str = "a command of the program is required";
+
+/// What the words of a command line ask for. Words with no command of the program are an error. A
+/// number is decimal digits alone, with no sign: `clap` by itself takes one.
+pub fn read<'a>(alloc: Global, words: &'a [String]) -> Result<CommandLine<'a>, Error>
+    ensures { IfOk result (λ line. HasPlainNumbers (rows_of (found_of line.options))) }
 {
     let mut command = command(alloc)?;
+    read_by(alloc, &mut command, words)
+}
+
+/// Reads words by the program's command.
+fn read_by<'a>(
+    alloc: Global,
+    command: &mut Command<'a>,
+    words: &'a [String],
+) -> Result<CommandLine<'a>, Error>
+    ensures { IfOk result (λ line. HasPlainNumbers (rows_of (found_of line.options))) }
+{
     let matches = command.try_get_matches_from_mut(words)?;
-    if let Some((_name, options)) = matches.subcommand() {
-        check_numbers(alloc, &mut command, options)?;
-    }
-    Ok(matches)
+    let Some(line) = command_line(matches) else {
+        return Err(command.error(ErrorKind::MissingSubcommand, NO_COMMAND)?);
+    };
+    check_numbers(alloc, command, &line.options)?;
+    Ok(line)
 }
 
 /// Refuses the values of options that are numbers, where one isn't decimal digits alone.

@@ -1,7 +1,7 @@
 //! Numbers on the command line, and what is printed of one that is refused.
 
 use clap::Error;
-use cli_words::{CHECKPOINT, DEVICE, FORMAT, JOURNAL, NOW, ONCE, STATUS, read};
+use cli_words::{CHECKPOINT, DEVICE, FORMAT, JOURNAL, NOW, ONCE, STATUS, Subcommand, read};
 use std::alloc::Global;
 use std::process::Abort;
 
@@ -19,11 +19,9 @@ pub(crate) fn kept(rt: &impl Abort, alloc: Global, words: &[&str]) -> Vec<String
 fn moment(rt: &impl Abort, alloc: Global, value: &str) -> Result<Option<u64>, Error> {
     let option = format!(in alloc; "--now={value}").expect(rt, "no memory");
     let words = kept(rt, alloc, &["pathd", ONCE, option.as_str()]);
-    let matches = read(alloc, words.as_slice())?;
-    Ok(match matches.subcommand_matches(ONCE) {
-        Some(options) => options.get_one(NOW),
-        None => None,
-    })
+    let line = read(alloc, words.as_slice())?;
+    assert_eq!(rt; line.subcommand, Subcommand::Once);
+    Ok(line.options.get_one(NOW))
 }
 
 #[test]
@@ -81,11 +79,12 @@ fn sizes(
         journal,
     ];
     let words = kept(rt, alloc, &words);
-    let matches = read(alloc, words.as_slice())?;
-    Ok(match matches.subcommand_matches(FORMAT) {
-        Some(options) => (options.get_one(CHECKPOINT), options.get_one(JOURNAL)),
-        None => (None, None),
-    })
+    let line = read(alloc, words.as_slice())?;
+    assert_eq!(rt; line.subcommand, Subcommand::Format);
+    Ok((
+        line.options.get_one(CHECKPOINT),
+        line.options.get_one(JOURNAL),
+    ))
 }
 
 #[test]
@@ -105,9 +104,9 @@ fn sizes_are_digits(rt: HostRuntime) {
 fn a_status_is_of_one_device(rt: HostRuntime) {
     let alloc = rt.alloc();
     let words = kept(&rt, alloc, &["pathd", STATUS, "dev"]);
-    let matches = read(alloc, words.as_slice()).expect(&rt, "a status");
-    let options = matches.subcommand_matches(STATUS).expect(&rt, "a status");
-    assert!(rt; options.get_str(DEVICE) == Some("dev"));
+    let line = read(alloc, words.as_slice()).expect(&rt, "a status");
+    assert_eq!(rt; line.subcommand, Subcommand::Status);
+    assert!(rt; line.options.get_str(DEVICE) == Some("dev"));
     for words in [
         ["pathd", STATUS].as_slice(),
         ["pathd", STATUS, "dev", "other"].as_slice(),

@@ -3,8 +3,8 @@
 use crate::command_lines::kept;
 use clap::error::ErrorKind;
 use cli_words::{
-    CHECKPOINT, CORES, DEVICE, FORMAT, HEX, IDLE, JOURNAL, KEY, LAYOUT, LISTEN, NOW, ONCE, QUIET,
-    RUN, SESSIONS, SHOW, STATUS, STATUS_LISTEN, UPGRADE, read,
+    CHECKPOINT, CORES, CommandLine, DEVICE, FORMAT, HEX, IDLE, JOURNAL, KEY, LAYOUT, LISTEN, NOW,
+    ONCE, QUIET, RUN, SESSIONS, SHOW, STATUS, STATUS_LISTEN, Subcommand, UPGRADE, read,
 };
 use std::alloc::Global;
 use std::process::Abort;
@@ -88,8 +88,11 @@ const VALUES: [Value; 28] = [
 /// Sees the value of an option.
 fn assert_value(rt: &impl Abort, alloc: Global, (line, command, name, value): Value) {
     let words = words_of(rt, alloc, line);
-    let matches = read(alloc, words.as_slice()).expect(rt, line);
-    let options = matches.subcommand_matches(command).expect(rt, line);
+    let CommandLine {
+        subcommand,
+        options,
+    } = read(alloc, words.as_slice()).expect(rt, line);
+    assert!(rt; Subcommand::named(command) == Some(subcommand), "{line}");
     assert!(rt; options.get_str(name) == value, "{line} {name}");
 }
 
@@ -115,8 +118,11 @@ const FLAGS: [Flag; 6] = [
 /// Sees whether a flag is given.
 fn assert_flag(rt: &impl Abort, alloc: Global, (line, command, name, value): Flag) {
     let words = words_of(rt, alloc, line);
-    let matches = read(alloc, words.as_slice()).expect(rt, line);
-    let options = matches.subcommand_matches(command).expect(rt, line);
+    let CommandLine {
+        subcommand,
+        options,
+    } = read(alloc, words.as_slice()).expect(rt, line);
+    assert!(rt; Subcommand::named(command) == Some(subcommand), "{line}");
     assert!(rt; options.get_flag(name) == value, "{line} {name}");
 }
 

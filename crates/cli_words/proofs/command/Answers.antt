@@ -3,9 +3,9 @@ use Rattle.cli_words.proofs.command.Goals as goal
 
 pub returns : goal.returns
 returns c =
-    let once = one_more_name _ _ _ _ _ c.in_ok-command-2.ensures c.in_ok-command.ensures c.in_ok-once_command.ensures in
-    let format = one_more_name _ _ _ _ _ c.in_ok-command-3.ensures once c.in_ok-format_command.ensures in
-    let show = one_more_name _ _ _ _ _ c.in_ok-command-4.ensures format c.in_ok-show_command.ensures in
-    let status = one_more_name _ _ _ _ _ c.in_ok-command-5.ensures show c.in_ok-status_command.ensures in
-    let upgrade = one_more_name _ _ _ _ _ c.in_ok-command-6.ensures status c.in_ok-upgrade_command.ensures in
-    one_more_name_of c.with_subcommand-6.result _ _ _ _ c.with_subcommand-6.ensures upgrade c.in_ok-run_command.ensures
+    let once = one_more_name _ _ _ _ _ c.in_ok-command-2.ensures c.in_ok-command.ensures c.once_command.ensures in
+    let format = one_more_name _ _ _ _ _ c.in_ok-command-3.ensures once c.format_command.ensures in
+    let show = one_more_name _ _ _ _ _ c.in_ok-command-4.ensures format c.show_command.ensures in
+    let status = one_more_name _ _ _ _ _ c.in_ok-command-5.ensures show c.status_command.ensures in
+    let upgrade = one_more_name _ _ _ _ _ c.in_ok-command-6.ensures status c.upgrade_command.ensures in
+    one_more_name_of c.with_subcommand-6.result _ _ _ _ c.with_subcommand-6.ensures upgrade c.run_command.ensures
