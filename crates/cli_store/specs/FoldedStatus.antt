@@ -1,5 +1,6 @@
 -- The status of a store whose commands are folded.
 use Rattle.std.specs.Prelude.{◌*◌, ◌-◌, length}
+use Rattle.byte_lists.specs.declared.format.TheConstants.{SECTOR}
 use Rattle.ckpt_pair.specs.Heads.{head_view}
 use Rattle.store_layout.specs.Geometry.{geometry_view}
 use Rattle.store_open.specs.declared.folded.Folded.{Folded}
@@ -14,7 +15,7 @@ folded_status folded = record {
   place = folded.place;
   rows = length folded.db;
   bytes = counted_len folded.db;
-  most_bytes = 512 * (geometry_view folded.geometry).checkpoint - 32;
+  most_bytes = SECTOR * (geometry_view folded.geometry).checkpoint - 32;
   used = folded.gate;
   journal = (geometry_view folded.geometry).journal;
   sealed = folded.sealed;

@@ -2,6 +2,7 @@
 use Rattle.std.specs.Prelude.{ℕ, ◌*◌, ◌-◌, Bool, true, false, List, [], ◌∷◌, ◌++◌, length, codes, Option, Result, Ok, Err}
 use Rattle.std.specs.Fmt.{decimal}
 use Rattle.std.specs.Io.KnownBytes.{Appends}
+use Rattle.byte_lists.specs.declared.format.TheConstants.{SECTOR}
 use Rattle.sector_dev.specs.Disk.{Disk, IsHonest, reads_of}
 use Rattle.path_rows.specs.Database.{RowView}
 use Rattle.path_rows.specs.declared.command.Command.{Command}
@@ -47,7 +48,7 @@ status_of opening =
       place = value.place;
       rows = length value.db;
       bytes = counted_len value.db;
-      most_bytes = 512 * opening.geometry.checkpoint - 32;
+      most_bytes = SECTOR * opening.geometry.checkpoint - 32;
       used = (last_reading opening).tail;
       journal = opening.geometry.journal;
       sealed = opening.journal.sealed;

@@ -1,6 +1,7 @@
 -- The invariant of every state.
 use Rattle.std.specs.Prelude.{◌≡◌, ◌≢◌, ℕ, ◌+◌, ◌*◌, ◌^◌, ◌<◌, ◌≤◌, ◌⊎◌, true, false, List, length, take, Option}
 use Rattle.std.specs.List.{AllByRecursion}
+use Rattle.byte_lists.specs.declared.format.TheConstants.{SECTOR}
 use Rattle.path_rows.specs.Database.{RowView}
 use Rattle.path_rows.specs.declared.command.Command.{Command}
 use Rattle.path_db.specs.CommandRecord.{IsWithinLimits}
@@ -54,7 +55,7 @@ pub record MayBePending (version : ℕ) (command : Command) : Type 0 where
 
 -- The rows have room in a checkpoint area.
 abbrev pub FitArea : StateView → List RowView → Type 0
-FitArea view rows = 32 + length (rows_format.encoding rows) ≤ 512 * view.geometry.checkpoint
+FitArea view rows = 32 + length (rows_format.encoding rows) ≤ SECTOR * view.geometry.checkpoint
 
 -- Whatever front of the accepted commands is committed next, its rows have room.
 abbrev pub EveryFrontFits : StateView → Type 0
@@ -75,7 +76,7 @@ checkpointing_of view = record { bytes = view.checkpoint; written = view.written
 -- than there are.
 pub record HasPlan (geometry : Geometry) (plan : Checkpointing) : Type 0 where
   pub sectors : ℕ
-  pub whole : length plan.bytes ≡ 512 * sectors
+  pub whole : length plan.bytes ≡ SECTOR * sectors
   pub inside : sectors ≤ geometry.checkpoint
   pub written : plan.written ≤ sectors
 
@@ -163,7 +164,7 @@ pub record DeviceInvariant (view : StateView) : Type 0 where
   -- The epochs, and the bytes of the new checkpoint, are those of the phase.
   pub counts : CountsAt view.check view.epoch view.checkpoint behind.old behind.new
   -- While the state goes on, the fold up to a seal fits the area.
-  pub fits : view.stopped ≡ false → checkpoint_size rows_format behind.new ≤ 512 * view.geometry.checkpoint
+  pub fits : view.stopped ≡ false → checkpoint_size rows_format behind.new ≤ SECTOR * view.geometry.checkpoint
 
 -- What holds over an honest device, with the checkpoint that is made while it is written.
 pub record DeviceInvariantWith (view : StateView) (merge : Option MergeView) : Type 0 where

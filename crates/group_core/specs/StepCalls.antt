@@ -6,6 +6,7 @@ use Rattle.sector_dev.specs.Calls.{WriteCall, SyncCall}
 use Rattle.store_layout.specs.Layout.{other, area_at, gate_at, journal_at}
 use Rattle.gate_journal.specs.Commands.{command_format}
 use Rattle.byte_lists.specs.Sectors.{open_gate, closed_gate}
+use Rattle.byte_lists.specs.declared.format.TheConstants.{SECTOR}
 use Rattle.group_phases.specs.Tail.{load_bytes}
 use Rattle.group_phases.specs.CommitState.{load_of}
 use Rattle.group_core.specs.declared.error.StepError.{StepError}
@@ -44,7 +45,7 @@ gate_write view = Write (journal_at view.geometry view.half + view.gate) open_ga
 
 -- The write of the next sectors of the new checkpoint, in the area of its half.
 abbrev pub chunk_write : StateView → DeviceCall
-chunk_write view = Write (area_at view.geometry view.half + view.written) (part (512 * view.written) (512 * next_sectors view) view.checkpoint)
+chunk_write view = Write (area_at view.geometry view.half + view.written) (part (SECTOR * view.written) (SECTOR * next_sectors view) view.checkpoint)
 
 -- The write of that half's gate, open.
 abbrev pub half_write : StateView → DeviceCall

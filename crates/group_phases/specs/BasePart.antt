@@ -2,6 +2,7 @@
 -- the journal without the tail.
 use Rattle.std.specs.Prelude.{◌≡◌, ℕ, ◌*◌, ◌<◌, ◌≤◌, Bool, false, List, length, take}
 use Rattle.byte_lists.specs.Content.{part}
+use Rattle.byte_lists.specs.declared.format.TheConstants.{SECTOR}
 use Rattle.sector_dev.specs.Disk.{Moment}
 use Rattle.store_layout.specs.declared.half.Half.{Half}
 use Rattle.store_layout.specs.Limits.{limits_of}
@@ -92,13 +93,13 @@ pub record IsOtherHalfReady {Db C : Type 0} (config : StoreConfig Db C) (base : 
 pub record CanBeNewCheckpoint {Db C : Type 0} (config : StoreConfig Db C) (checkpoint : Checkpoint Db) : Type 0 where
   pub can : CanBeCheckpoint config.format.rows checkpoint
   pub known : checkpoint.head.version ≤ config.latest
-  pub fits : length (checkpoint_encoding config.format.rows checkpoint) ≤ 512 * config.geometry.checkpoint
+  pub fits : length (checkpoint_encoding config.format.rows checkpoint) ≤ SECTOR * config.geometry.checkpoint
 
 -- The first `written` sectors of the new checkpoint are on the device.
 pub record HasWritten {Db C : Type 0} (config : StoreConfig Db C) (base : CheckpointPair Db C) (written : ℕ) (moment : Moment) : Type 0 where
-  pub inside : 512 * written ≤ length (checkpoint_encoding config.format.rows base.new)
-  pub front : part (512 * area_at config.geometry base.half) (512 * written) moment.reads
-      ≡ take (512 * written) (checkpoint_encoding config.format.rows base.new)
+  pub inside : SECTOR * written ≤ length (checkpoint_encoding config.format.rows base.new)
+  pub front : part (SECTOR * area_at config.geometry base.half) (SECTOR * written) moment.reads
+      ≡ take (SECTOR * written) (checkpoint_encoding config.format.rows base.new)
 
 -- What the checkpointer relies on in each phase.
 abbrev pub BasePart : {Db C : Type 0} → Check → StoreConfig Db C → CheckpointPair Db C → ℕ → Moment → Type 0

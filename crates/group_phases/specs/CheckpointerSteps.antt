@@ -14,6 +14,7 @@ use Rattle.group_phases.specs.declared.phases.Check.{Check}
 use Rattle.group_phases.specs.declared.phases.Check.TheVariants.{Ready, Sealed, Planned, Laid, Switched, SwitchFailed, Live, Closing, CloseFailed}
 use Rattle.group_phases.specs.StoreConfig.{StoreConfig, HasTitle}
 use Rattle.byte_lists.specs.Sectors.{closed_gate, open_gate}
+use Rattle.byte_lists.specs.declared.format.TheConstants.{SECTOR}
 use Rattle.group_phases.specs.Tail.{GroupOrSeal, Seal, Tail, tail_place}
 use Rattle.group_phases.specs.FlusherPart.{FlusherPart}
 use Rattle.group_phases.specs.BasePart.{CheckpointPair, FoldsTo, CanBeNewCheckpoint, BasePart}
@@ -68,7 +69,7 @@ BeginsPlan Db C =
 pub record WritesBeside {Db C : Type 0} (config : StoreConfig Db C) (base : CheckpointPair Db C) (written more : ℕ) : Type 0 where
   -- The sectors of the new checkpoint are beside it.
   pub chunk : IsBesideJournal config.geometry base.half (area_at config.geometry base.half + written)
-      (length (part (512 * written) (512 * more) (checkpoint_encoding config.format.rows base.new)))
+      (length (part (SECTOR * written) (SECTOR * more) (checkpoint_encoding config.format.rows base.new)))
   -- The new half's gate is beside it.
   pub gate : IsBesideJournal config.geometry base.half (gate_at config.geometry base.half) (length open_gate)
   -- The old half's gate and the first gate of its journal are beside it.
@@ -78,15 +79,15 @@ pub record WritesBeside {Db C : Type 0} (config : StoreConfig Db C) (base : Chec
 abbrev pub WritesBesideJournal : Type 0 → Type 0 → Type 0
 WritesBesideJournal Db C =
     (config : StoreConfig Db C) (base : CheckpointPair Db C) (written more : ℕ) → IsGeometry config.geometry → CanBeNewCheckpoint config base.new
-    → 512 * (written + more) ≤ length (checkpoint_encoding config.format.rows base.new) → WritesBeside config base written more
+    → SECTOR * (written + more) ≤ length (checkpoint_encoding config.format.rows base.new) → WritesBeside config base written more
 
 -- The next sectors of the new checkpoint are written.
 abbrev pub ChunkIsWritten : Type 0 → Type 0 → Type 0 → Type 0 → Type 0
 ChunkIsWritten T E Db C =
     (config : StoreConfig Db C) (base : CheckpointPair Db C) (written more : ℕ) (result : Result T E) (old new : Disk)
-    → 512 * (written + more) ≤ length (checkpoint_encoding config.format.rows base.new)
+    → SECTOR * (written + more) ≤ length (checkpoint_encoding config.format.rows base.new)
     → WriteCall (area_at config.geometry base.half + written)
-    (part (512 * written) (512 * more) (checkpoint_encoding config.format.rows base.new)) result old new → IsHonest old
+    (part (SECTOR * written) (SECTOR * more) (checkpoint_encoding config.format.rows base.new)) result old new → IsHonest old
     → HasTitle config.geometry old.history.now → BasePart Planned config base written old.history.now
     → BasePart Planned config base (by_result (written + more) written result) new.history.now
 
@@ -102,7 +103,7 @@ IsBaseSync T E Db C from done =
 abbrev pub ChunksAreSynced : Type 0 → Type 0 → Type 0 → Type 0 → Type 0
 ChunksAreSynced T E Db C =
     (config : StoreConfig Db C) (base : CheckpointPair Db C) (written : ℕ) (result : Result T E) (old new : Disk)
-    → 512 * written ≡ length (checkpoint_encoding config.format.rows base.new)
+    → SECTOR * written ≡ length (checkpoint_encoding config.format.rows base.new)
     → SyncCall result old new → IsHonest old
     → HasTitle config.geometry old.history.now → BasePart Planned config base written old.history.now
     → BasePart (by_result Laid Planned result) config base written new.history.now

@@ -3,6 +3,7 @@
 use Rattle.std.specs.Prelude.{◌≡◌, ◌⊎◌, ℕ, ◌+◌, ◌*◌, ◌≤◌, List}
 use Rattle.byte_lists.specs.Content.{part}
 use Rattle.byte_lists.specs.Sectors.{sector_at, IsOpenGate}
+use Rattle.byte_lists.specs.declared.format.TheConstants.{SECTOR}
 use Rattle.sector_dev.specs.Disk.{Moment}
 use Rattle.store_layout.specs.Limits.{Limits}
 use Rattle.store_layout.specs.CommandFormat.{CommandFormat}
@@ -40,7 +41,7 @@ NextIsClosed format Seal bytes gate = Unit {0}
 
 -- What is in flight is written after the tail's gate.
 pub record HasLoad {C : Type 0} (format : CommandFormat C) (geometry : Geometry) (tail : Tail C) (load : GroupOrSeal C) (moment : Moment) : Type 0 where
-  pub spelled : part (512 * (tail.gate + 1)) (512 * load_sectors format load) (tail_bytes geometry tail moment) ≡ payload_of format (tail_place tail) load
+  pub spelled : part (SECTOR * (tail.gate + 1)) (SECTOR * load_sectors format load) (tail_bytes geometry tail moment) ≡ payload_of format (tail_place tail) load
   pub next : NextIsClosed format load (tail_bytes geometry tail moment) tail.gate
 
 -- What is in flight is clean, with the gate that is written after a group.

@@ -2,6 +2,7 @@
 -- states what reads give, or what is clean.
 use Rattle.std.specs.Prelude.{◌*◌, ◌≤◌}
 use Rattle.byte_lists.specs.Sectors.{sector_at, IsOpenGate}
+use Rattle.byte_lists.specs.declared.format.TheConstants.{SECTOR}
 use Rattle.sector_dev.specs.Disk.{Moment}
 use Rattle.sector_dev.specs.Image.{IsCleanPart}
 use Rattle.store_layout.specs.declared.half.Half.{Half}
@@ -15,7 +16,7 @@ ReadsOpen geometry half moment = IsOpenGate (gate_of geometry half moment.reads)
 
 -- The gate of a half is clean.
 abbrev pub IsGateClean : Geometry → Half → Moment → Type 0
-IsGateClean geometry half moment = IsCleanPart moment.dirty (512 * gate_at geometry half) 512
+IsGateClean geometry half moment = IsCleanPart moment.dirty (SECTOR * gate_at geometry half) SECTOR
 
 -- The gate of a half reads open and is clean.
 pub record IsOpenHalf (geometry : Geometry) (half : Half) (moment : Moment) : Type 0 where
@@ -31,13 +32,13 @@ pub record IsClosedHalf (geometry : Geometry) (half : Half) (moment : Moment) : 
 pub record HasCheckpoint {Db C : Type 0} (config : StoreConfig Db C) (half : Half) (checkpoint : Checkpoint Db) (moment : Moment) : Type 0 where
   pub begins : IsCheckpoint config.format.rows (area_of config.geometry half moment.reads) checkpoint
   pub known : checkpoint.head.version ≤ config.latest
-  pub clean : IsCleanPart moment.dirty (512 * area_at config.geometry half) (checkpoint_size config.format.rows checkpoint)
+  pub clean : IsCleanPart moment.dirty (SECTOR * area_at config.geometry half) (checkpoint_size config.format.rows checkpoint)
 
 -- The area of a half begins with this head, of a known version, which is clean.
 pub record HasHead {Db C : Type 0} (config : StoreConfig Db C) (half : Half) (head : Head) (moment : Moment) : Type 0 where
   pub begins : IsHead (area_of config.geometry half moment.reads) head
   pub known : head.version ≤ config.latest
-  pub clean : IsCleanPart moment.dirty (512 * area_at config.geometry half) 24
+  pub clean : IsCleanPart moment.dirty (SECTOR * area_at config.geometry half) 24
 
 -- The first gate of a half's journal reads closed.
 abbrev pub FirstReadsClosed : Geometry → Half → Moment → Type 0

@@ -10,6 +10,7 @@ use Rattle.group_phases.specs.declared.phases.Check.{Check}
 use Rattle.group_phases.specs.declared.phases.Check.TheVariants.{Planned, Laid, Switched, SwitchFailed, Live, Closing, CloseFailed}
 use Rattle.group_phases.specs.StoreConfig.{StoreConfig}
 use Rattle.byte_lists.specs.Sectors.{closed_gate, open_gate}
+use Rattle.byte_lists.specs.declared.format.TheConstants.{SECTOR}
 use Rattle.group_phases.specs.FlusherSteps.{by_result}
 use Rattle.group_phases.specs.CommitState.{CommitState, DeviceContents, IsHeldBy}
 
@@ -24,9 +25,9 @@ HeldWhileChunkIsWritten T E Db C =
     (config : StoreConfig Db C) (state : CommitState Db C) (behind : DeviceContents Db C) (more : ℕ) (result : Result T E) (old new : Disk)
     → state.check ≡ Planned
     → IsHeldBy config state behind old.history.now
-    → 512 * (state.written + more) ≤ length (checkpoint_encoding config.format.rows behind.new)
+    → SECTOR * (state.written + more) ≤ length (checkpoint_encoding config.format.rows behind.new)
     → WriteCall (area_at config.geometry state.half + state.written)
-    (part (512 * state.written) (512 * more) (checkpoint_encoding config.format.rows behind.new)) result old new → IsHonest old
+    (part (SECTOR * state.written) (SECTOR * more) (checkpoint_encoding config.format.rows behind.new)) result old new → IsHonest old
     → IsHeldBy config (checked state Planned (by_result (state.written + more) state.written result)) behind new.history.now
 
 -- Once the whole new checkpoint is written, it is synced.
@@ -35,7 +36,7 @@ HeldWhileChunksAreSynced T E Db C =
     (config : StoreConfig Db C) (state : CommitState Db C) (behind : DeviceContents Db C) (result : Result T E) (old new : Disk)
     → state.check ≡ Planned
     → IsHeldBy config state behind old.history.now
-    → 512 * state.written ≡ length (checkpoint_encoding config.format.rows behind.new)
+    → SECTOR * state.written ≡ length (checkpoint_encoding config.format.rows behind.new)
     → SyncCall result old new → IsHonest old
     → IsHeldBy config (checked state (by_result Laid Planned result) state.written) behind new.history.now
 

@@ -1,6 +1,7 @@
 -- What one actor leaves untouched, so that the other actor's part stays.
 use Rattle.std.specs.Prelude.{ℕ, ◌+◌, ◌*◌, ◌≤◌, ◌⊎◌, List, length, Result}
 use Rattle.byte_lists.specs.Sectors.{whole_sectors}
+use Rattle.byte_lists.specs.declared.format.TheConstants.{SECTOR}
 use Rattle.sector_dev.specs.Disk.{Moment, Disk, IsHonest, reads_of}
 use Rattle.sector_dev.specs.Calls.{WriteCall, SyncCall}
 use Rattle.store_layout.specs.declared.half.Half.{Half}
@@ -18,14 +19,14 @@ use Rattle.group_phases.specs.BasePart.{CheckpointPair, BasePart}
 -- The title is untouched, and so is the journal that has the tail.
 pub record IsTailUntouched (geometry : Geometry) (half : Half) (old new : Moment) : Type 0 where
   pub title : Untouched 0 20 old new
-  pub journal : Untouched (512 * journal_at geometry half) (512 * geometry.journal) old new
+  pub journal : Untouched (SECTOR * journal_at geometry half) (SECTOR * geometry.journal) old new
 
 -- All but the tail's journal is untouched: the title, the area and the gate of the half that has
 -- the tail, and the whole other half.
 pub record IsBaseUntouched (geometry : Geometry) (half : Half) (old new : Moment) : Type 0 where
   pub title : Untouched 0 20 old new
-  pub front : Untouched (512 * area_at geometry half) (512 * (geometry.checkpoint + 1)) old new
-  pub beside : Untouched (512 * area_at geometry (other half)) (512 * half_sectors geometry) old new
+  pub front : Untouched (SECTOR * area_at geometry half) (SECTOR * (geometry.checkpoint + 1)) old new
+  pub beside : Untouched (SECTOR * area_at geometry (other half)) (SECTOR * half_sectors geometry) old new
 
 -- The flusher's part stays where the title and the tail's journal are untouched.
 abbrev pub KeepsFlusherPart : Type 0 → Type 0
@@ -44,17 +45,17 @@ KeepsBasePart Db C =
 -- `n` bytes from a sector on lie in the journal of a half.
 pub record IsInJournal (geometry : Geometry) (half : Half) (sector n : ℕ) : Type 0 where
   pub from : journal_at geometry half ≤ sector
-  pub to : 512 * sector + n ≤ 512 * (journal_at geometry half + geometry.journal)
+  pub to : SECTOR * sector + n ≤ SECTOR * (journal_at geometry half + geometry.journal)
 
 -- `n` bytes from a sector on lie in a half, before its journal.
 pub record IsBeforeJournal (geometry : Geometry) (half : Half) (sector n : ℕ) : Type 0 where
   pub from : area_at geometry half ≤ sector
-  pub to : 512 * sector + n ≤ 512 * journal_at geometry half
+  pub to : SECTOR * sector + n ≤ SECTOR * journal_at geometry half
 
 -- `n` bytes from a sector on lie in a half.
 pub record IsInHalf (geometry : Geometry) (half : Half) (sector n : ℕ) : Type 0 where
   pub from : area_at geometry half ≤ sector
-  pub to : 512 * sector + n ≤ 512 * (area_at geometry half + half_sectors geometry)
+  pub to : SECTOR * sector + n ≤ SECTOR * (area_at geometry half + half_sectors geometry)
 
 -- `n` bytes from a sector on lie in the store beside the journal of a half.
 abbrev pub IsBesideJournal : Geometry → Half → ℕ → ℕ → Type 0

@@ -1,6 +1,7 @@
 -- Laws of ranges, and what calls do to ranges. Each statement is the contract of a function.
 use Rattle.std.specs.Prelude.{◌≡◌, ℕ, ◌+◌, ◌*◌, ◌≤◌, List, ◌++◌, length, Result, Ok}
 use Rattle.byte_lists.specs.Content.{part}
+use Rattle.byte_lists.specs.declared.format.TheConstants.{SECTOR}
 use Rattle.sector_dev.specs.Disk.{Moment, Disk, IsHonest, reads_of}
 use Rattle.sector_dev.specs.Image.{IsCleanPart, IsImage}
 use Rattle.sector_dev.specs.Calls.{WriteCall, SyncCall}
@@ -54,15 +55,15 @@ CleanStaysInImages =
 abbrev pub WritesLeaveWhatIsBeside : Type 0 → Type 0 → Type 0
 WritesLeaveWhatIsBeside T E =
     (sector : ℕ) (bytes : List ℕ) (result : Result T E) (old new : Disk) (at n : ℕ)
-    → WriteCall sector bytes result old new → IsHonest old → 512 * sector + length bytes ≤ length (reads_of old)
-    → AreRangesApart (512 * sector) (length bytes) at n → Untouched at n old.history.now new.history.now
+    → WriteCall sector bytes result old new → IsHonest old → SECTOR * sector + length bytes ≤ length (reads_of old)
+    → AreRangesApart (SECTOR * sector) (length bytes) at n → Untouched at n old.history.now new.history.now
 
 -- A write that succeeds is read.
 abbrev pub WritesAreRead : Type 0 → Type 0 → Type 0
 WritesAreRead T E =
     (value : T) (sector : ℕ) (bytes : List ℕ) (old new : Disk)
     → WriteCall sector bytes (let result : Result T E = Ok value in result) old new → IsHonest old
-    → 512 * sector + length bytes ≤ length (reads_of old) → ReadSo new.history.now (512 * sector) bytes
+    → SECTOR * sector + length bytes ≤ length (reads_of old) → ReadSo new.history.now (SECTOR * sector) bytes
 
 -- A sync leaves all bytes untouched, whatever its result.
 abbrev pub SyncsLeaveAll : Type 0 → Type 0 → Type 0

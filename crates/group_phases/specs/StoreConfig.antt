@@ -1,5 +1,6 @@
 -- What does not change while a store is open, and what of it sector 0 names.
 use Rattle.std.specs.Prelude.{ℕ, ◌+◌, ◌*◌}
+use Rattle.byte_lists.specs.declared.format.TheConstants.{SECTOR}
 use Rattle.sector_dev.specs.Disk.{Moment}
 use Rattle.sector_dev.specs.Image.{IsCleanPart}
 use Rattle.store_layout.specs.declared.half.Half.{Half}
@@ -23,4 +24,4 @@ pub record HasTitle (geometry : Geometry) (moment : Moment) : Type 0 where
 
 -- `n` sectors of a half's journal are clean, from the sector `from` of the journal on.
 abbrev pub AreCleanSectors : Geometry → Half → ℕ → ℕ → Moment → Type 0
-AreCleanSectors geometry half from n moment = IsCleanPart moment.dirty (512 * (journal_at geometry half + from)) (512 * n)
+AreCleanSectors geometry half from n moment = IsCleanPart moment.dirty (SECTOR * (journal_at geometry half + from)) (SECTOR * n)

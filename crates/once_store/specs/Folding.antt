@@ -1,5 +1,6 @@
 -- Folding a sealed half.
 use Rattle.std.specs.Prelude.{◌≡◌, ◌⊎◌, ℕ, ◌+◌, ◌-◌, ◌*◌, ◌^◌, ◌<◌, ◌≤◌, false, length}
+use Rattle.byte_lists.specs.declared.format.TheConstants.{SECTOR}
 use Rattle.ckpt_pair.specs.Versions.{latest}
 use Rattle.group_phases.specs.declared.phases.Check.TheVariants.{Ready, Sealed}
 use Rattle.group_core.specs.StateView.{StateView}
@@ -9,7 +10,7 @@ use Rattle.once_store.specs.Resting.{IsSteady}
 -- The new checkpoint's bytes are whole sectors, and no more are written than there are.
 pub record HasWholeSectors (view : StateView) : Type 0 where
   pub sectors : ℕ
-  pub whole : length view.checkpoint ≡ 512 * sectors
+  pub whole : length view.checkpoint ≡ SECTOR * sectors
   pub written : view.written ≤ sectors
 
 -- The new half counts, and the other one is ready.
