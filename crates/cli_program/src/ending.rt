@@ -7,24 +7,25 @@ use path_server::RunError;
 use std::error::Error;
 use std::fmt;
 
-/// What came of the words of a command line that were answered.
+/// How the words of a command line were answered.
 #[derive(Clone, Copy, Debug, PartialEq, Eq)]
 pub enum Done {
-    /// What they ask for is done.
+    /// The words were carried out.
     Carried,
-    /// They can't be read, and nothing was done.
+    /// The words cannot be read, and nothing was done.
     Refused,
 }
 
-/// What ends the program before that is done. It prints this line on standard error.
+/// Why the program ends before the words are carried out. The program prints this as a line on
+/// standard error.
 #[derive(Clone, Copy, Debug, PartialEq, Eq)]
 pub enum Ended {
-    /// An option can't be read, or a session of `once` ended with a fault, or memory ran out, or a
-    /// print failed.
+    /// An option cannot be read, or a session of `once` ended with a fault, or memory was refused,
+    /// or a print failed.
     Session(cli_once::Fault),
-    /// A store isn't made, opened or changed.
+    /// A store is not made, opened or changed.
     Store(cli_store::Fault),
-    /// The address can't be read or bound, or the listener broke.
+    /// The address cannot be read or bound, or the listener broke.
     Net,
 }
 
@@ -77,8 +78,8 @@ impl From<RunError> for Ended {
     }
 }
 
-/// The status of the program: 0 where what the words ask for is done, 1 where it ended before that,
-/// and 2 where they can't be read.
+/// The exit status of the program: 0 where the words are carried out, 1 where the program ended
+/// before that, and 2 where the words cannot be read.
 pub fn status_of(outcome: &Result<Done, Ended>) -> u8
     ensures { result ≡ program_status outcome.now }
 {

@@ -1,8 +1,8 @@
 //! What the words of a command line ask for, done over given handles.
 //!
-//! To the layer above, `carry_out` reads the words, does what they ask for, says on standard error
-//! why it couldn't, and answers the program's status. It is `run`, `Ended` with its line, and
-//! `status_of`, which tests call by themselves.
+//! To the layer above, `carry_out` reads the words, does what they ask for, prints on standard
+//! error why it could not, and returns the program's status. It is `run`, `Ended` with its line,
+//! and `status_of`, which tests call by themselves.
 #![tactic(auto)]
 
 mod ending;

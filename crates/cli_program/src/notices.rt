@@ -1,12 +1,12 @@
-//! What the server says on standard error.
+//! The server's lines on standard error.
 
 use path_server::{Report, Reports};
 use sector_dev::Device;
 use std::net::TcpListener;
 use store_open::Store;
 
-/// Prints what happens to a server on standard error, a line each, unless it should be quiet. What
-/// can't be printed is left out.
+/// Prints what happens to a server on standard error, a line each, unless it should be quiet. A
+/// line that cannot be printed is left out.
 #[derive(Drop)]
 pub(crate) struct Notices<'a, R> {
     rt: &'a R,

@@ -23,9 +23,9 @@ pub fn carry_out<R: System, I: Read, O: Write + Drop>(rt: &R, input: &mut I, out
     status_of(&outcome)
 }
 
-/// Reads the words of the command line, and does what they ask for. Where they can't be read, or
-/// ask for help, that is printed. No clause says what is answered: that the words reach their
-/// command is open.
+/// Reads the words of the command line, and does what they ask for. Where the words cannot be read,
+/// or ask for help, that is printed. No clause says what is returned, nor that the words reach
+/// their command.
 pub fn run<R: System, I: Read, O: Write + Drop>(
     rt: &R,
     input: &mut I,

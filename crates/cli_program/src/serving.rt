@@ -19,11 +19,11 @@ use std::rt::Files;
 use std::time::Duration;
 use store_open::{Store, open};
 
-/// How long a peer may be silent where no option says so, in seconds.
+/// The number of seconds that a peer may be silent where no option names it.
 const IDLE_SECONDS: u32 = 300;
 
-/// Serves the sessions of a store. Prints `ready` once it listens, and how many sessions there were
-/// at the end.
+/// Serves the sessions of a store. Prints `ready` once it listens, and the number of sessions at
+/// the end.
 pub(crate) fn serve_file<R: System, O: Write>(
     rt: &R,
     words: &ArgMatches<'_>,
@@ -45,7 +45,7 @@ pub(crate) fn serve_file<R: System, O: Write>(
     Ok(())
 }
 
-/// Listens, and says so.
+/// Listens, and prints that it does.
 fn listen<R: System, O: Write, D: Device>(
     rt: &R,
     words: &ArgMatches<'_>,
@@ -85,7 +85,7 @@ fn options_of(alloc: Global, words: &ArgMatches<'_>) -> Result<Options, Fault> {
     })
 }
 
-/// The time of this number of seconds, of which 0 is no end.
+/// The time of this number of seconds, of which 0 is no limit.
 fn idle_of(seconds: u32) -> Option<Duration> {
     if seconds == 0 {
         return None;
@@ -126,7 +126,7 @@ fn print_ready<O: Write>(output: &mut O) -> io::Result<()> {
     output.flush()
 }
 
-/// Prints how many sessions were served.
+/// Prints the number of sessions that were served.
 fn print_served<O: Write>(output: &mut O, count: u64) -> io::Result<()> {
     writeln!(output, "served {count}")?;
     output.flush()

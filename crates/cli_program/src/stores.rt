@@ -11,8 +11,8 @@ use std::io::{BufWriter, Write};
 use std::rt::Files;
 use store_open::Geometry;
 
-/// Makes a file, of which nothing stays where it is there, and a store on it. On a block device the
-/// store is made as it is.
+/// Makes a file, whose former contents are dropped where it exists, and a store on it. On a block
+/// device only the store is made.
 pub(crate) fn format_file<R: AllocGlobal + Files<File = File>, O: Write>(
     rt: &R,
     options: &ArgMatches<'_>,
@@ -68,7 +68,7 @@ pub(crate) fn status_of_file<R: AllocGlobal + Files<File = File>, O: Write>(
     status(rt.alloc(), &mut device, output)
 }
 
-/// Has a file's store in the version that is written.
+/// Brings a file's store to the version that is written.
 pub(crate) fn upgrade_file<R: AllocGlobal + Files<File = File>, O: Write>(
     rt: &R,
     options: &ArgMatches<'_>,

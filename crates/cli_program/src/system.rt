@@ -1,4 +1,4 @@
-//! What the program takes of the system.
+//! The parts of the system that the program uses.
 
 use std::fs::File;
 use std::net::{Net, TcpListener, TcpStream};
@@ -7,7 +7,7 @@ use std::sync::Wait;
 use std::thread::Threads;
 use std::time::Clock;
 
-/// What the program takes of the system.
+/// The parts of the system that the program uses.
 pub trait System: Env
     + Print
     + Eprint

@@ -43,7 +43,7 @@ pub const SHOW: &str = "show";
 /// The name of the command that prints the status of a store.
 pub const STATUS: &str = "status";
 
-/// The name of the command that has a store in the version that is written.
+/// The name of the command that brings a store to the version that is written.
 pub const UPGRADE: &str = "upgrade";
 
 /// The name of the command that serves sessions over TCP.
@@ -61,7 +61,7 @@ pub const SESSIONS: &str = "sessions";
 /// The name of its option with the seconds that a peer may be silent.
 pub const IDLE: &str = "idle";
 
-/// The name of its flag for no lines on standard error.
+/// The name of its flag that turns off the lines on standard error.
 pub const QUIET: &str = "quiet";
 
 /// The name of the argument with the path of a device's file.
@@ -73,7 +73,7 @@ pub const CHECKPOINT: &str = "checkpoint";
 /// The name of the option with the size of a journal, in sectors.
 pub const JOURNAL: &str = "journal";
 
-/// The name of the flag for what is where on a device.
+/// The name of the flag for the layout of a device.
 pub const LAYOUT: &str = "layout";
 
 /// What the help says of the core ASes.
@@ -169,7 +169,7 @@ fn status_command<'a>(alloc: Global) -> Result<Command<'a>, AllocError>
         .arg(device_argument(alloc))
 }
 
-/// The command that has a store in the version that is written.
+/// The command that brings a store to the version that is written.
 fn upgrade_command<'a>(alloc: Global) -> Result<Command<'a>, AllocError>
     ensures { IfOk result (λ command. (out-Command command).name.now ≡ codes "upgrade") }
 {

@@ -40,7 +40,7 @@ fn read_by<'a>(
     Ok(line)
 }
 
-/// Refuses the values of options that are numbers, where one isn't decimal digits alone.
+/// Refuses the values of options that are numbers, where one is not decimal digits alone.
 fn check_numbers(
     alloc: Global,
     command: &mut Command<'_>,
@@ -55,7 +55,7 @@ fn check_numbers(
     check_number(alloc, command, options, IDLE)
 }
 
-/// Refuses the value of an option that isn't decimal digits alone.
+/// Refuses the value of an option that is not decimal digits alone.
 fn check_number(
     alloc: Global,
     command: &mut Command<'_>,

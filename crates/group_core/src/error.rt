@@ -10,19 +10,19 @@ pub enum StepError<P> {
     Fault,
     /// The state had stopped: the value is spent.
     Stopped,
-    /// It isn't this value's turn, or the value is another state's: here it is.
+    /// It is not this value's turn, or the value is another state's. The value is returned.
     Stranger(Commit<P>),
-    /// Memory ran out: here is the value.
+    /// Memory was refused. The value is returned.
     NoMemory(Commit<P>),
     /// What was read back is no half or journal of a store: the value is spent, and the state has
     /// stopped.
     Damaged,
 }
 
-/// Why publishing was refused; `Stranger` is judged first.
+/// Why publishing was refused. `Stranger` is judged first.
 pub enum PublishError {
-    /// Memory ran out: here is the value, and the same group is owed.
+    /// Memory was refused. The value is returned, and the same group is owed.
     NoMemory(Durable),
-    /// It isn't this value's turn, or the value is another state's: here it is.
+    /// It is not this value's turn, or the value is another state's. The value is returned.
     Stranger(Durable),
 }

@@ -111,7 +111,7 @@ pub fn read_command(alloc: Global, bytes: &[u8], version: u32) -> Result<Command
 }
 
 /// Reads a count, and this number of segments.
-#[tactic(auto, unfolding(crate::specs::CommandRecord::registration_decoding))]
+#[tactic(auto, unfolding(crate::specs::CommandRecord::registration_record_decoding))]
 fn read_registration(alloc: Global, body: &[u8]) -> Result<Command, DbError>
     ensures decoding { GivesRecord (λ command. command) result (registration_record_decoding body.now) }
     ensures whole { IfOk result HasWholeSegments }

@@ -1,9 +1,9 @@
-//! By which threads wait for the outcomes of their commands.
+//! The bells by which threads wait for the outcomes of their commands.
 
 use std::array;
 use std::sync::Condvar;
 
-/// How many bells there are: twice as many as a group has commands at the most.
+/// The number of bells: twice the most commands of a group.
 const BELLS: usize = 64;
 
 /// The bells, by the places of commands: the next place has the next bell.
@@ -13,7 +13,7 @@ pub(crate) struct Bells {
 }
 
 impl Bells {
-    /// None was rung yet.
+    /// Makes bells, none of which was rung yet.
     pub(crate) fn new() -> Bells {
         Bells {
             bells: array::from_fn(|_index| Condvar::new()),

@@ -20,10 +20,10 @@ use std::time::Clock;
 use store_loops::{checkpointer_loop, flusher_loop};
 use store_open::Store;
 
-/// What threads do with a hub: guests come one by one, and each is attended to in a thread of its
-/// own. It can't name a hub itself, so all that a guest is handed is of this one.
+/// The work of threads with a hub: guests arrive one by one, and each is attended to in a thread of
+/// its own. A crew cannot name a hub itself, so all that a guest gets is of this hub.
 pub trait Crew<D: Device, R: Wait + Clock> {
-    /// What one thread attends to.
+    /// The guest that one thread attends to.
     type Guest: Send + Drop;
 
     /// The next guest, or `None` once no more are to come. The call may wait for one.
@@ -83,8 +83,8 @@ fn named_crew<
     (hub.close(), attended)
 }
 
-/// Runs both actors while guests are attended to, and stops them then. The flusher starts last, so
-/// that the crew isn't called at all where the thread of an actor isn't given.
+/// Runs both actors while guests are attended to, and then stops them. The flusher starts last, so
+/// that the crew is not called where the thread of an actor is not given.
 fn act<
     N: HubName + Send + Sync,
     D: Device + Send,
@@ -127,7 +127,7 @@ fn flush<N: HubName, D: Device, C: Crew<D, R>, R: Wait + Clock>(
     }
 }
 
-/// Starts a thread for each guest, and answers how many were started once all have ended.
+/// Starts a thread for each guest, and returns the number that were started once all have ended.
 fn attend_all<
     N: HubName + Send + Sync,
     D: Device + Send,

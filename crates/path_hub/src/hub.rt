@@ -1,4 +1,4 @@
-//! The hub: one lock over the state, and the readers that nobody has.
+//! The hub: one lock over the state, and the readers that are free.
 
 ghost use Rattle.std.specs.Prelude.{◌≡◌, IfOk, IfErr};
 ghost use Rattle.path_hub.specs.declared.error.HubError.TheVariants.{NoReader};
@@ -19,10 +19,10 @@ use std::sync::{Mutex, MutexGuard, Wait};
 use std::time::Clock;
 use store_loops::{Awaited, Steps};
 
-/// How many readers a hub has.
+/// The number of readers of a hub.
 pub const READERS: usize = 64;
 
-/// A store's state behind one lock, and the readers of what it shows, under one name.
+/// A store's state under one lock, and the readers of what it shows, under one name.
 ///
 /// The lock's value is a `State`, so what that type says of a state holds whenever the lock is
 /// free: a stop at that moment leaves an image that opens to the committed rows with a front of the
@@ -45,8 +45,8 @@ impl<D: Device, N: HubName, R: Wait + Clock> Hub<D, N, R> {
         &self.rt
     }
 
-    /// Takes a reader out. There are 64; a reader that is dropped and not given back is lost to the
-    /// hub.
+    /// Takes a free reader. A hub has 64 readers. A reader that is dropped and not given back is
+    /// lost to the hub.
     pub fn reader(&self) -> Result<HubReader<N>, HubError>
         ensures { IfErr result (λ e. e ≡ NoReader) }
     {
@@ -61,10 +61,10 @@ impl<D: Device, N: HubName, R: Wait + Clock> Hub<D, N, R> {
         let _ = self.readers.lock(&self.rt).push(reader);
     }
 
-    /// Submits a command, and waits until it is committed: the receipt shows the command, and its
-    /// note a place above the command's own. A command that isn't accepted is refused at once.
-    /// Where the state stops before the command is committed, its place is answered: whether the
-    /// store keeps the command is not known.
+    /// Submits a command, and waits until it is committed. The receipt shows the command, and its
+    /// note a place above the command's own. A command that is not accepted is refused at once.
+    /// Where the state stops before the command is committed, the error has the command's place,
+    /// and it is not known whether the store keeps the command.
     #[tactic(auto, using(crate::proofs::Committed::is_committed))]
     pub fn register(&self, command: Command) -> Result<Receipt<HubNote<N>>, HubError>
         ensures committed { IfOk result (ReceiptShows command) }
@@ -115,7 +115,8 @@ impl<D: Device, N: HubName, R: Wait + Clock> Hub<D, N, R> {
         self.has_stranger.load(Ordering::SeqCst)
     }
 
-    /// Stops the state for good: the actors' loops end, and so do the calls that wait for a commit.
+    /// Stops the state, which is final: the actors' loops end, and so do the calls that wait for a
+    /// commit.
     pub fn stop(&self) {
         self.halt();
     }

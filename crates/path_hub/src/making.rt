@@ -28,8 +28,8 @@ use std::sync::{Mutex, Wait};
 use std::time::Clock;
 use store_open::Store;
 
-/// What is done with a hub, in one thread. It can't name a hub itself, so all that it is handed is
-/// of this one.
+/// A job with a hub, in one thread. A job cannot name a hub itself, so all that it gets is of this
+/// hub.
 pub trait HubJob<D: Device, R: Wait + Clock> {
     /// The result of the job.
     type Out;
@@ -43,8 +43,8 @@ pub trait HubJob<D: Device, R: Wait + Clock> {
 }
 
 /// Makes a hub over a store, and does the job with it. At the end the state is taken apart, and the
-/// device dropped. The caller gives each state of a process a home number of its own. Where the hub
-/// can't be made, the store comes back as it was, and the job too.
+/// device is dropped. The caller gives each state of a process a home number of its own. Where the
+/// hub cannot be made, the store is returned unchanged, with the job.
 pub fn with_hub<D: Device + Drop, J: HubJob<D, R>, R: Wait + Clock + Copy>(
     rt: R,
     alloc: Global,
@@ -116,8 +116,9 @@ impl<D: Device, N: HubName, R: Wait + Clock> Hub<D, N, R> {
         })
     }
 
-    /// Ends the hub, which no one else has, and hands out its device: an honest one opens to what
-    /// the hub opened with after some commands. It waits for readers that are within a lookup.
+    /// Ends the hub, which no one else has, and returns its device. An honest device opens to what
+    /// the hub opened with after some commands. The call waits for readers that are within a
+    /// lookup.
     pub(crate) fn close(self) -> D
     where
         R: Drop,
@@ -139,7 +140,7 @@ impl<D: Device, N: HubName, R: Wait + Clock> Hub<D, N, R> {
     }
 }
 
-/// What publishes a store's rows at a place. No group is published yet.
+/// The writer that publishes a store's rows at a place. No group is published yet.
 fn new_writer<N: HubName>(
     alloc: Global,
     db: &PathDb,

@@ -1,4 +1,4 @@
-//! The door of a server: where its peers come in.
+//! The door of a server, by which its peers arrive.
 
 use crate::accepting::{Failure, PAUSE, after_failure};
 use std::net::{OpenListener, TcpStream};
@@ -7,11 +7,12 @@ use std::sync::{Mutex, Wait};
 use std::thread::sleep;
 use std::time::{Clock, Duration};
 
-/// A listener, until it is closed, and how many sessions of how many were started.
+/// A listener, until it is closed, and the number of sessions that were started of those that are
+/// wanted.
 #[derive(Drop)]
 pub(crate) struct Door<L> {
     listener: Mutex<Option<L>>,
-    /// How many sessions are to be started; 0 is no end.
+    /// The number of sessions to start, or 0 for no limit.
     wanted: u64,
     started: AtomicU64,
 }
@@ -31,7 +32,7 @@ impl<L: OpenListener<Stream = TcpStream> + Drop> Door<L> {
         self.wanted > 0 && self.started() >= self.wanted
     }
 
-    /// How many sessions were started.
+    /// The number of sessions that were started.
     pub(crate) fn started(&self) -> u64 {
         self.started.load(Ordering::SeqCst)
     }
@@ -41,7 +42,7 @@ impl<L: OpenListener<Stream = TcpStream> + Drop> Door<L> {
         self.started.fetch_add(1, Ordering::SeqCst);
     }
 
-    /// Takes back the count of a session that couldn't be started.
+    /// Takes back the count of a session that could not be started.
     pub(crate) fn discount(&self) {
         self.started.fetch_sub(1, Ordering::SeqCst);
     }
@@ -52,8 +53,9 @@ impl<L: OpenListener<Stream = TcpStream> + Drop> Door<L> {
         *listener = None;
     }
 
-    /// Waits for the next peer. `None`: the door is closed, or its listener is broken. Where
-    /// descriptors or memory are short, the peer is waited for until it can be accepted.
+    /// Waits for the next peer. The result is `None` where the door is closed, or its listener is
+    /// broken. Where descriptors or memory are short, the call waits until the peer can be
+    /// accepted.
     pub(crate) fn next_peer<R: Wait + Clock>(&self, rt: &R) -> Option<TcpStream> {
         let listener = self.listener.lock(rt);
         let listener = (*listener).as_ref()?;

@@ -11,17 +11,16 @@ use std::time::{Clock, Duration};
 /// The most reads from a session's input.
 pub const MOST_READS: u64 = 1_000_000_000;
 
-/// How long a connection stays open after a fault of its session, so that the peer gets the replies
-/// before it: in milliseconds.
+/// The time in milliseconds that a connection stays open after a fault of its session, so that the
+/// peer gets the replies before the fault.
 const PARTING: u64 = 1_000;
 
 /// The longest wait of one read in that time, in milliseconds.
 const PARTING_READ: u64 = 100;
 
-/// Answers the messages that a connection brings, and returns how many replies there were, a count
-/// that stays at 2^64 - 1. Replies go out when all that has come is answered, or the buffer of
-/// 8,192 bytes is full. A read or a write that waits for the peer longer than `idle` is a failed
-/// one.
+/// Answers the messages of a connection, and returns the number of replies, a count that stays at
+/// 2^64 - 1. Replies are sent when all messages that have arrived are answered, or the buffer of
+/// 8,192 bytes is full. A read or a write that waits for the peer longer than `idle` fails.
 pub(crate) fn serve_stream<S: Service>(
     alloc: Global,
     stream: &TcpStream,
@@ -38,16 +37,17 @@ pub(crate) fn serve_stream<S: Service>(
     serve(alloc, &mut input, &mut output, service, MOST_READS)
 }
 
-/// Small replies are sent at once, since `BufWriter` gathers them, and silent peers are given up.
+/// Sets up a connection. Small replies are sent at once, since `BufWriter` gathers them, and reads
+/// and writes have a timeout.
 fn set_up(stream: &TcpStream, idle: Option<Duration>) -> io::Result<()> {
     stream.set_nodelay(true)?;
     stream.set_read_timeout(idle)?;
     stream.set_write_timeout(idle)
 }
 
-/// Ends a connection before its input has ended. A close over input that wasn't read would reset
-/// the connection, and the peer would lose the replies that it hasn't got yet: so what comes within
-/// a second is read and dropped.
+/// Ends a connection before its input has ended. A close over unread input would reset the
+/// connection, and the peer would lose the replies that it has not received yet. The input that
+/// arrives within a second is therefore read and dropped.
 pub(crate) fn part(clock: &impl Clock, stream: &TcpStream) {
     let _shut = stream.shutdown(Shutdown::Write);
     let wait = Some(Duration::from_millis(PARTING_READ));

@@ -17,7 +17,7 @@ use std::sync::Wait;
 use std::thread::sleep;
 use std::time::{Clock, Duration};
 
-/// How long a connection is kept, in milliseconds.
+/// The longest time of a connection, in milliseconds.
 const LONGEST: u64 = 1_000;
 
 impl<L: OpenListener<Stream = TcpStream> + Drop, V: Verifier, O: Reports> Server<'_, L, V, O> {
@@ -74,7 +74,7 @@ impl<L: OpenListener<Stream = TcpStream> + Drop, V: Verifier, O: Reports> Server
         answer(self.alloc, asked, &numbers, &counts, refusals.as_slice())
     }
 
-    /// What the server has done, where its actors have completed this.
+    /// The counts of what the server has done, with what its actors have completed.
     fn counts(&self, clock: &impl Clock, completed: Completed) -> Counts
         ensures groups { result.groups ≡ completed.groups }
         ensures seals { result.seals ≡ completed.seals }
@@ -95,7 +95,7 @@ impl<L: OpenListener<Stream = TcpStream> + Drop, V: Verifier, O: Reports> Server
         }
     }
 
-    /// How many seconds the server has run; 0 where the clock can't be read.
+    /// The number of seconds that the server has run, or 0 where the clock cannot be read.
     fn seconds(&self, clock: &impl Clock) -> u64 {
         let Some(begun) = self.begun else {
             return 0;

@@ -20,7 +20,7 @@ use std::alloc::AllocError;
 const ONE_BYTE: usize = 128;
 
 /// Appends the tag and the length of a field of bytes.
-#[tactic(auto, unfolding(crate::specs::Encoding::head_encoding))]
+#[tactic(auto, unfolding(crate::specs::Encoding::field_head_encoding))]
 pub(crate) fn put_head(out: &mut Vec<u8>, number: u32, len: usize) -> Result<(), AllocError>
     requires { number < 15 }
     ensures { OnOk result (out.new.items ≡ out.old.items ++ field_head_encoding number len) }

@@ -33,7 +33,7 @@ pub fn page(
 }
 
 /// The lines of a store's numbers.
-#[tactic(auto, unfolding(crate::specs::Page::store_text))]
+#[tactic(auto, unfolding(crate::specs::Page::store_metrics))]
 fn store_text(alloc: Global, numbers: &Numbers) -> Result<String, AllocError>
     ensures { IfOk result (λ text. string_bytes text ≡ store_metrics numbers.now) }
 {

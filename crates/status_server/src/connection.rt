@@ -10,15 +10,16 @@ use std::io::{Read, Write};
 use std::net::{Shutdown, TcpStream};
 use std::time::Clock;
 
-/// How many bytes the head of a request may have, rounded up to a whole read.
+/// The most bytes of the head of a request, rounded up to a whole read.
 pub const MOST_HEAD: usize = 4_096;
 
-/// How many bytes one read takes at most.
+/// The most bytes of one read.
 const PIECE: usize = 1_024;
 
-/// Reads what a peer asks for: `More` where its first `MOST_HEAD` bytes, or all that it sends, have
-/// no whole head. `None`: the time is over, the connection or the clock failed, or memory was
-/// refused. No contract of the system's calls says which bytes a peer sent.
+/// Reads what a peer asks for. The result is `More` where the peer's first `MOST_HEAD` bytes, or
+/// all that it sends, have no whole head, and `None` where the time is over, the connection or the
+/// clock failed, or memory was refused. No contract of the system's calls says which bytes a peer
+/// sent.
 #[tactic(auto, using(crate::proofs::RequestLemmas::is_read, crate::proofs::RequestLemmas::taken_is_read))]
 pub fn read_request(
     clock: &impl Clock,
@@ -41,8 +42,9 @@ pub fn read_request(
     Some(read_head(head.as_slice()))
 }
 
-/// Takes the next piece of what a peer sends, of which an empty one is the end: what the peer asks
-/// for by all of it. `None`: its head isn't whole yet, and there may be more of it.
+/// Takes the next piece of what a peer sends, of which an empty one is the end, and returns what
+/// the peer asks for by all pieces. The result is `None` where the head is not whole yet, and more
+/// of it may follow.
 fn take_piece(head: &mut Vec<u8>, piece: &[u8]) -> Result<Option<Asked>, AllocError>
     ensures taken { OnOk result (head.new.items ≡ head.old.items ++ piece.now) }
     ensures asked { IfOk result (IsPieceTaken MOST_HEAD head.old.items piece.now) }
@@ -54,8 +56,8 @@ fn take_piece(head: &mut Vec<u8>, piece: &[u8]) -> Result<Option<Asked>, AllocEr
     }
 }
 
-/// Reads once: how many bytes there were, of which 0 is the end. `None`: the time is over, or the
-/// connection or the clock failed.
+/// Reads once, and returns the number of bytes, of which 0 is the end. The result is `None` where
+/// the time is over, or the connection or the clock failed.
 fn read_by(
     clock: &impl Clock,
     mut stream: &TcpStream,
@@ -77,8 +79,8 @@ pub fn send(clock: &impl Clock, stream: &TcpStream, deadline: &Deadline, text: &
     }
 }
 
-/// Writes once: how many bytes were taken. `None`: the time is over, or the connection or the clock
-/// failed.
+/// Writes once, and returns the number of bytes that were taken. The result is `None` where the
+/// time is over, or the connection or the clock failed.
 fn write_by(
     clock: &impl Clock,
     mut stream: &TcpStream,
@@ -89,9 +91,9 @@ fn write_by(
     stream.write(bytes).ok()
 }
 
-/// Ends a connection. A close over input that wasn't read would reset it, and the peer might lose
-/// its answer: so what comes until the peer has closed the connection, or the time is over, is read
-/// and dropped.
+/// Ends a connection. A close over unread input would reset it, and the peer might lose its answer.
+/// The input that arrives until the peer has closed the connection, or until the time is over, is
+/// therefore read and dropped.
 pub fn part(clock: &impl Clock, stream: &TcpStream, deadline: &Deadline) {
     let _shut = stream.shutdown(Shutdown::Write);
     let mut piece = [0u8; PIECE];

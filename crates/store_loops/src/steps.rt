@@ -23,7 +23,7 @@ pub enum Awaited {
 
 /// A state that several threads work on. Each call but `changes` and `rest` is one call of the
 /// state's method of that name, made while no other thread makes one. Nothing is known of the state
-/// from one call to the next; a value that comes back comes back as it was.
+/// from one call to the next. A value that is returned is the one that was passed.
 pub trait Steps {
     ghost use Rattle.std.specs.Prelude.{List};
     ghost use Rattle.path_rows.specs.Database.{RowView};
@@ -105,8 +105,8 @@ pub trait Steps {
     fn sync_close(&self, value: Closing) -> Result<(), StepError<AtClosing>>
         ensures { LeadsOut value result };
 
-    /// How many changes there were of what is awaited; a stop of the state is a change of each
-    /// kind. The count wraps.
+    /// The number of changes of what is awaited. A stop of the state is a change of each kind. The
+    /// count wraps at 2^64.
     fn changes(&self, awaited: Awaited) -> u64;
 
     /// Waits until there are more changes than `seen`, at most 10 milliseconds. A change after the
