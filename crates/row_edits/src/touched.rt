@@ -32,7 +32,7 @@ fn with_purge(greatest: Option<u64>, command: &Command) -> Option<u64>
 {
     match command {
         Command::Purge(moment) => Some(later(greatest, *moment)),
-        _ => greatest,
+        Command::Register(_) | Command::Remove(_, _) => greatest,
     }
 }
 
