@@ -238,8 +238,8 @@ def tried(rt, crate, edit: Edit, kept: str) -> dict:
     misfits = [] if why else [it for it in refusals(ran["output"]) if it.kind in ("answer", "gone")]
     if misfits and not judge(edit, ran).is_well:
         first = ran["output"]
-        ran = run(rt, crate, without_answers(crate, texts, misfits), kept)
-        ran["output"] = f"{first}\n---- without the answers that don't fit\n{ran['output']}" if ran["status"] == 0 else ran["output"]
+        ran = run(rt, crate, without_answers(crate, texts, misfits), kept, texts)
+        ran["first"] = first
     if not why and (right := right_form(edit)):
         ran["is_right_proved"] = run(rt, crate, rt.edited(right, crate.folder)[0], kept)["status"] == 0
     after = resource.getrusage(resource.RUSAGE_CHILDREN)
@@ -253,20 +253,31 @@ def right_form(edit: Edit) -> str:
     return text if count else ""
 
 
-def run(rt, crate, texts: dict, kept: str) -> dict:
+def run(rt, crate, texts: dict, kept: str, changed: dict | None = None) -> dict:
+    """What the prover says of the crate with these texts; `changed` are those of the edit alone, where `texts` has more."""
     done = rt.checked(crate, texts, ["--jobs", "1"], kept)
-    unread = next((it for it in done.stdout.splitlines() if rt.unread(it, texts)), "")
+    unread = next((it for it in done.stdout.splitlines() if rt.unread(it, changed or texts)), "")
     return {"status": done.returncode, "output": done.stdout, "unread": unread}
 
 
 def without_answers(crate, texts: dict, misfits: list[Refusal]) -> dict:
-    """The edited texts, without the answers of these goals."""
+    """The edited texts, without the answers of these goals and those that cite one of them."""
     made = dict(texts)
     for it in misfits:
         path = f"proofs/{it.function.replace('::', '/')}/Answers.antt"
-        text = made.get(path) or (Path(crate.folder) / path).read_text()
-        made[path] = re.sub(rf"^(?:abbrev )?pub {re.escape(it.goal)} : .*\n(?:.+\n?)*", "", text, flags=re.M)
+        made[path] = without(made.get(path) or (Path(crate.folder) / path).read_text(), it.goal)
     return made
+
+
+def without(text: str, goal: str) -> str:
+    """The text of answers without this one, and without those that cite it. Blank lines are between answers."""
+    kept = [it for it in text.split("\n\n") if not re.match(rf"(?:abbrev )?pub {re.escape(goal)} :", it)]
+    left = "\n\n".join(kept)
+    for it in kept:
+        named = re.match(r"(?:abbrev )?pub (\S+) :", it)
+        if named and len(kept) < len(text.split("\n\n")) and re.search(rf"(?<![\w.-]){re.escape(goal)}(?![\w-])", it):
+            left = without(left, named[1])
+    return left
 
 
 def commit() -> str:
