@@ -17,7 +17,7 @@ from pathlib import Path
 
 from pathd_tools import TOP, need, runs, toolbox
 
-PAGES = ["words", "proofs", "reading --check", "claims", "links", "uses", "apart"]
+PAGES = ["proofs", "reading --check", "complete", "links", "uses", "apart"]
 # What each check of the program needs, and its words, in which PROGRAM is the program's path.
 PROGRAMS = [
     ("python3", "vectors -p PROGRAM tools/cases"),
