@@ -1,20 +1,24 @@
-//! Whole command lines of `pathd`, each with what it prints, on standard output and on standard
-//! error, and its status: words that are refused, help, `once`, the commands over the file of a
-//! store, of damaged ones too, and a server with its peers in the same process. The files are made
-//! in the folder that the program runs in.
+//! Whole command lines of `pathd`, each with what it prints, on standard output and on standard error, and its status: words that are
+//! refused, help, `once`, the commands over the file of a store, of damaged ones too, and a server with its peers in the same process, up
+//! to as many sessions as may be open at one time.
+//! The files are made in the folder that the program runs in.
 #![tactic(auto)]
 
 mod given;
 mod images;
+mod once;
 mod output;
 mod parts;
 mod passed;
 mod peers;
+mod served;
+mod stores;
+mod words;
 
 use crate::given::{ADDRESS, Bound, Given};
 use crate::images::Change;
 use crate::output::Output;
-use crate::parts::{Before, PARTS, Part};
+use crate::parts::{Before, PARTS};
 use crate::peers::meet;
 use byte_lists::SECTOR;
 use cli_program::carry_out;
@@ -34,12 +38,13 @@ type Handles = (Option<File>, Option<TcpListener>, Option<TcpStream>);
 
 fn main(rt: HostRuntime) -> io::Result<()> {
     let bound = Bound::new(&rt, rt.alloc())?;
-    for part in PARTS {
+    for part in PARTS.iter().copied().flatten() {
         println!(rt; "# {}", part.what)?;
         let _lock = prepared(&rt, &part.before)?;
-        for (line, input) in part.lines {
+        for (line, texts) in part.lines {
             println!(rt; "$ {line}")?;
             let words = words_of(&rt, line, &bound)?;
+            let input = joined(&rt, texts)?;
             let output = Output::new(&rt, rt.stdout(), &part.before)?;
             let given = Given {
                 host: &rt,
@@ -55,7 +60,7 @@ fn main(rt: HostRuntime) -> io::Result<()> {
                     drop(none);
                     carry_out(&given, &mut input.as_bytes(), output)
                 },
-                || meet(&rt, rt.alloc(), &bound, part.sessions),
+                || meet(&rt, rt.alloc(), &bound, &part.peers),
             );
             println!(rt; "status {status}")?;
             print!(rt; "{}", met?)?;
@@ -76,6 +81,15 @@ fn words_of(rt: &impl AllocGlobal, line: &str, bound: &Bound) -> io::Result<Vec<
         words.push(text.to_string(rt.alloc())?)?;
     }
     Ok(words)
+}
+
+/// These texts, one after the other.
+fn joined(rt: &impl AllocGlobal, texts: &[&str]) -> io::Result<String> {
+    let mut all = String::new(rt.alloc());
+    for text in texts {
+        all.push_str(text)?;
+    }
+    Ok(all)
 }
 
 /// Has everything so as it is before a part: the lock, where there is one.

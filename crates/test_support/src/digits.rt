@@ -1,15 +1,12 @@
 //! Frames of the worked segment as hexadecimal digits, which tables of texts can hold, and frames
 //! that differ from them.
 
-/// The frame of this kind with the one segment as a down segment: with this timestamp, with these
-/// first bytes of the AS that its first entry leads to and of its second AS, and with this
-/// interface of entry there.
-macro_rules! segment_frame {
-    ($kind:literal, $timestamp:literal, $next:literal, $second:literal, $ingress:literal) => {
+/// These texts, and the two entries of a segment: with these first bytes of the AS that the first entry leads to and of the second AS,
+/// and with this interface of entry there.
+macro_rules! entries {
+    ([$($head:literal),*], $next:literal, $second:literal, $ingress:literal) => {
         concat!(
-            "00000061", $kind, // a length of 97, and the kind
-            "0a5e0802125a0a58", // the one segment, a down segment
-            "0a0808", $timestamp, "1007", // its information
+            $($head,)*
             "12290a270a25", // the first entry, its signed message, header and body
             "1223089082808080e07f", // its AS
             "10", $next, "82808080e07f", // the next AS
@@ -22,6 +19,57 @@ macro_rules! segment_frame {
         )
     };
 }
+
+/// The frame of this kind, of 97 bytes, with one segment of this timestamp, as a down segment, and with entries that differ so.
+macro_rules! segment_frame {
+    ($kind:literal, $timestamp:literal, $next:literal, $second:literal, $ingress:literal) => {
+        entries!(
+            ["00000061", $kind, "0a5e0802125a0a58", "0a0808", $timestamp, "1007"],
+            $next, $second, $ingress
+        )
+    };
+}
+
+/// The entries of `SEGMENT`.
+pub const ENTRIES: &str = entries!([], "91", "91", "02");
+
+/// `SEGMENT` as a field of `Segments`: a tag, its 88 bytes, the information and the entries.
+pub const SEGMENT_FIELD: &str = entries!(["0a58", "0a080880e2cfaa061007"], "91", "91", "02");
+
+/// `SEGMENT` with the signatures of the test profile, of which the second has this last byte.
+macro_rules! signed {
+    ($last:literal) => {
+        concat!(
+            "0a080880e2cfaa061007", // the segment's information
+            "124b0a490a25", // the first entry, its signed message, header and body
+            "1223089082808080e07f109182808080e07f", // its AS, and the next one
+            "1a0e0a0c1001183f220601020304050628c00b", // the hop entry, and the MTU
+            "122031a45617b6693c8ca6c9df0dd203759b08fa0e35bd65e554d20c1cf47480dcc7", // the signature
+            "12430a410a1d", // the second entry
+            "121b089182808080e07f", // its AS
+            "1a0e0a0c0802183f22060a0b0c0d0e0f28c00b", // the hop entry, and the MTU
+            "1220c32aff63a5c814036bf7635a601b59ee8e54bba3fd613a84088c277a053512", $last // the signature
+        )
+    };
+}
+
+/// `SEGMENT` with the signatures of the test profile.
+pub const SIGNED: &str = signed!("2d");
+
+/// The same, with another last byte: the second signature is not good.
+pub const BADLY_SIGNED: &str = signed!("2c");
+
+/// The core segment.
+pub const CORE_SEGMENT: &str = concat!(
+    "0a080880e2cfaa061007", // the segment's information
+    "122a0a280a26", // the first entry, its signed message, header and body
+    "12240880f883808080800110", // its AS
+    "9082808080e07f", // the next AS
+    "1a0e0a0c1001183f220601020304050628c00b", // the hop entry, and the MTU
+    "12210a1f0a1d", // the second entry
+    "121b089082808080e07f", // its AS
+    "1a0e0a0c0802183f22060a0b0c0d0e0f28c00b" // the hop entry, and the MTU
+);
 
 /// The registration of `SEGMENT`.
 pub const REGISTER: &str = segment_frame!("01", "80e2cfaa06", "91", "91", "02");

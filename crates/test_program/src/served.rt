@@ -1,0 +1,59 @@
+//! A server and its peers.
+
+use crate::parts::{Before, NO_PEERS, Part, Peers};
+use test_support::digits::{LOOKUP, REGISTER_2096};
+
+/// A frame of no kind.
+const NO_KIND: &str = "0000000105";
+
+/// Three purges.
+const PURGES: &str =
+    "000000090300000000000000000000000903000000000000000000000009030000000000000000";
+
+/// An empty registration, and a removal of another length than 34.
+const FAULTY: &str = "0000000101000000020400";
+
+/// The parts of served stores.
+pub(crate) const PARTS: &[Part] = &[
+    Part {
+        what: "sessions",
+        before: Before::Nothing,
+        peers: Peers {
+            sessions: &[REGISTER_2096, LOOKUP, NO_KIND],
+            together: 0,
+        },
+        lines: &[(
+            "pathd run store --listen ADDR --cores 1-ff00:0:110 --sessions 3 --idle 60",
+            &[],
+        )],
+    },
+    Part {
+        what: "the store that was served",
+        before: Before::Nothing,
+        peers: NO_PEERS,
+        lines: &[
+            ("pathd show store", &[]),
+            ("pathd status store", &[]),
+            ("pathd show store --layout", &[]),
+            ("pathd format other --checkpoint 002 --journal 516", &[]),
+        ],
+    },
+    Part {
+        what: "as many sessions as may be open at one time",
+        before: Before::Nothing,
+        peers: Peers {
+            sessions: &[REGISTER_2096, LOOKUP, PURGES, FAULTY],
+            together: 64,
+        },
+        lines: &[(
+            "pathd run other --listen ADDR --cores 1-ff00:0:110 --sessions 69 --idle 60 --quiet",
+            &[],
+        )],
+    },
+    Part {
+        what: "the store that they shared",
+        before: Before::Nothing,
+        peers: NO_PEERS,
+        lines: &[("pathd status other", &[])],
+    },
+];

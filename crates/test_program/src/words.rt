@@ -1,0 +1,86 @@
+//! Command lines that are refused, help, and the values of options that are read before anything else.
+
+use crate::parts::{Before, NO_PEERS, Part};
+
+/// A line with a key of 64 bytes and of these ones.
+macro_rules! long_key {
+    ($more:literal) => {
+        concat!(
+            "pathd once --key ",
+            "0000000000000000000000000000000000000000000000000000000000000000",
+            "0000000000000000000000000000000000000000000000000000000000000000",
+            $more
+        )
+    };
+}
+
+/// The parts of words alone.
+pub(crate) const PARTS: &[Part] = &[
+    Part {
+        what: "words that are not read",
+        before: Before::Nothing,
+        peers: NO_PEERS,
+        lines: &[
+            ("pathd", &[]),
+            ("pathd serve", &[]),
+            ("pathd status", &[]),
+            ("pathd status d e", &[]),
+            ("pathd status d --layout", &[]),
+            ("pathd upgrade d e", &[]),
+            ("pathd run d", &[]),
+            ("pathd format d --checkpoint 1 --journal 516", &[]),
+            ("pathd format d --checkpoint 2 --journal 515", &[]),
+            ("pathd format d --checkpoint 2 --journal 1048577", &[]),
+            ("pathd format d --checkpoint +2 --journal 516", &[]),
+            ("pathd format d --checkpoint 2 --journal +516", &[]),
+            ("pathd once --now=", &[]),
+            ("pathd once --now=+5", &[]),
+            ("pathd once --now=+0", &[]),
+            ("pathd once --now=-1", &[]),
+            ("pathd once --now=-0", &[]),
+            ("pathd once --now=0x5", &[]),
+            ("pathd once --now=1_000", &[]),
+            ("pathd once --now=1e3", &[]),
+            ("pathd once --now=18446744073709551616", &[]),
+        ],
+    },
+    Part {
+        what: "help",
+        before: Before::Nothing,
+        peers: NO_PEERS,
+        lines: &[
+            ("pathd --help", &[]),
+            ("pathd -h", &[]),
+            ("pathd help", &[]),
+            ("pathd once --help", &[]),
+            ("pathd format --help", &[]),
+            ("pathd help format", &[]),
+            ("pathd show -h", &[]),
+            ("pathd status --help", &[]),
+            ("pathd upgrade --help", &[]),
+            ("pathd run --help", &[]),
+        ],
+    },
+    Part {
+        what: "lists of core ASes, and keys",
+        before: Before::Nothing,
+        peers: NO_PEERS,
+        lines: &[
+            ("pathd once --cores=", &[]),
+            ("pathd once --cores 1-ff00:0:110,2-64512", &[]),
+            ("pathd once --cores 1-ff00:0:110,", &[]),
+            ("pathd once --cores ,1-1", &[]),
+            ("pathd once --cores 65536-1", &[]),
+            ("pathd once --cores 1-4294967296", &[]),
+            ("pathd once --cores 1-1,65536-1,x", &[]),
+            ("pathd once --cores 1-1,x,65536-1", &[]),
+            ("pathd once --key=", &[]),
+            ("pathd once --key 00", &[]),
+            ("pathd once --key FFff", &[]),
+            (long_key!(""), &[]),
+            (long_key!("00"), &[]),
+            ("pathd once --key 0", &[]),
+            ("pathd once --key 0g", &[]),
+        ],
+    },
+];
