@@ -1,9 +1,7 @@
-//! Tests of sessions over a store in memory, as `once` answers them: what no contract says of them.
-//! Values come from outside; readers and writers fail, and give and take in pieces.
+//! Tests of sessions over a store in memory, as `once` answers them: sessions that come in pieces, readers and writers that fail, refused
+//! memory, a store that is full and one whose journal is sealed. Single messages, with their replies, are lines of `test_program`.
 #![tactic(auto)]
 
-#[cfg(test)]
-mod commands;
 #[cfg(test)]
 mod digits;
 #[cfg(test)]
@@ -15,12 +13,8 @@ mod many_commands;
 #[cfg(test)]
 mod refused_memory;
 #[cfg(test)]
-mod replies;
-#[cfg(test)]
 mod sessions;
 #[cfg(test)]
 mod streams;
-#[cfg(test)]
-mod words;
 #[cfg(test)]
 mod worked;

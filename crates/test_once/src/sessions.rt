@@ -8,11 +8,8 @@ use std::alloc::Global;
 use std::process::Abort;
 
 #[test]
-fn register_then_lookup(rt: HostRuntime) {
+fn sessions_in_pieces(rt: HostRuntime) {
     let alloc = rt.alloc();
-    let output = answer(&rt, alloc, &[REGISTER, LOOKUP], Ok(2));
-    assert_written(&rt, alloc, "whole", output.as_slice(), &[INSERTED, FOUND]);
-
     let input = joined(&rt, alloc, &[REGISTER, LOOKUP]);
     for size in 1..=input.len() {
         assert_in_pieces(
@@ -53,68 +50,46 @@ fn greatest_frame(rt: HostRuntime) {
     }
 }
 
-/// Frames, and the faults at which a session of them ends.
-const FAULTS: [(&str, FrameError); 13] = [
-    ("00", FrameError::Read),
-    ("00000011", FrameError::Read),
-    ("0000001102089082", FrameError::Read),
-    ("00000000", FrameError::Length),
-    ("00020002", FrameError::Length),
-    ("0002000201", FrameError::Length),
-    ("ffffffff", FrameError::Length),
-    ("0000000105", FrameError::Kind),
-    ("0000000500", FrameError::Kind),
-    ("0000000803", FrameError::Length),
-    ("0000000903", FrameError::Read),
-    ("0000000a03", FrameError::Length),
-    ("0000002104", FrameError::Length),
-];
-
-#[test]
-fn frame_faults(rt: HostRuntime) {
-    let alloc = rt.alloc();
-    for (frame, fault) in FAULTS {
-        let output = answer(&rt, alloc, &[REGISTER, frame], Err(fault));
-        assert_written(&rt, alloc, frame, output.as_slice(), &[INSERTED]);
-    }
+/// A frame with a fault after a lookup of 21 bytes, in pieces. The fault is seen once the four bytes of the length are there, or the kind
+/// after them.
+#[derive(Clone, Copy)]
+struct LastRead {
+    frame: &'static str,
+    fault: FrameError,
+    /// The bytes of a piece.
+    size: usize,
+    /// The pieces that are read.
+    reads: u64,
 }
 
-/// Frames with a fault, the fault, the size of the pieces in which they come, and how many are
-/// read. The frame is after a lookup of 21 bytes, and its fault is seen once the four bytes of the
-/// length are there, or the kind after them.
-const LAST_READS: [(&str, FrameError, usize, u64); 8] = [
-    ("00000000", FrameError::Length, 1, 25),
-    ("00000000", FrameError::Length, 4, 7),
-    ("00000000", FrameError::Length, 5, 5),
-    ("00000000", FrameError::Length, 100, 1),
-    ("0000000105", FrameError::Kind, 1, 26),
-    ("0000000105", FrameError::Kind, 4, 7),
-    ("0000000105", FrameError::Kind, 5, 6),
-    ("0000000105", FrameError::Kind, 100, 1),
+#[rattlefmt::skip]
+const LAST_READS: [LastRead; 8] = [
+    LastRead { frame: "00000000", fault: FrameError::Length, size: 1, reads: 25 },
+    LastRead { frame: "00000000", fault: FrameError::Length, size: 4, reads: 7 },
+    LastRead { frame: "00000000", fault: FrameError::Length, size: 5, reads: 5 },
+    LastRead { frame: "00000000", fault: FrameError::Length, size: 100, reads: 1 },
+    LastRead { frame: "0000000105", fault: FrameError::Kind, size: 1, reads: 26 },
+    LastRead { frame: "0000000105", fault: FrameError::Kind, size: 4, reads: 7 },
+    LastRead { frame: "0000000105", fault: FrameError::Kind, size: 5, reads: 6 },
+    LastRead { frame: "0000000105", fault: FrameError::Kind, size: 100, reads: 1 },
 ];
 
-fn assert_last_read(
-    rt: &impl Abort,
-    alloc: Global,
-    frame: &str,
-    fault: FrameError,
-    size: usize,
-    reads: u64,
-) {
+/// Asserts how much is read up to a fault, and that nothing is read after it.
+fn assert_last_read(rt: &impl Abort, alloc: Global, wanted: LastRead) {
+    let LastRead { frame, size, .. } = wanted;
     let input = joined(rt, alloc, &[LOOKUP, frame, REGISTER]);
     let mut reader = in_pieces(input.as_slice(), size);
     let mut output = Vec::new(alloc);
     let outcome = session(alloc, &mut reader, &mut output, &cores(rt, alloc), 1_000);
-    assert_ended(rt, outcome, Err(fault), frame, size as u64);
-    assert_calls(rt, reader.reads, reads, frame, size as u64);
+    assert_ended(rt, outcome, Err(wanted.fault), frame, size as u64);
+    assert_calls(rt, reader.reads, wanted.reads, frame, size as u64);
     assert_written(rt, alloc, frame, output.as_slice(), &[NONE_FOUND]);
 }
 
 #[test]
-fn nothing_read_behind_a_fault(rt: HostRuntime) {
-    let alloc = rt.alloc();
-    for (frame, fault, size, reads) in LAST_READS {
-        assert_last_read(&rt, alloc, frame, fault, size, reads);
+fn nothing_read_after_a_fault(rt: HostRuntime) {
+    for wanted in LAST_READS {
+        assert_last_read(&rt, rt.alloc(), wanted);
     }
 }
 

@@ -2,7 +2,7 @@
 
 use crate::streams::in_pieces;
 use cli_once::{cores_of, once};
-use seg_check::{TrustAll, Verifier};
+use seg_check::TrustAll;
 use seg_lookup::Roster;
 use session_core::{FrameError, Source};
 use std::alloc::Global;
@@ -21,9 +21,6 @@ pub const NO_ENDS: &str = "0000000102";
 
 /// The refusal of that lookup.
 pub const NULL_DESTINATION: &str = "00000002ff41";
-
-/// The refusal of a lookup in which neither side is a core AS.
-pub const NO_CORE: &str = "00000002ff43";
 
 /// A place and no rows.
 pub const NONE_INSERTED: &str = "0000001981000000000000000000000000000000000000000000000000";
@@ -54,14 +51,9 @@ pub fn text_of(rt: &impl Abort, alloc: Global, texts: &[&str]) -> String {
     all
 }
 
-/// The ASes of a list, as core ASes.
-pub fn roster(rt: &impl Abort, alloc: Global, list: &str) -> Roster {
-    Roster::new(cores_of(alloc, list).expect(rt, "no list of ASes"))
-}
-
 /// The one core AS of the worked session.
 pub fn cores(rt: &impl Abort, alloc: Global) -> Roster {
-    roster(rt, alloc, "1-ff00:0:110")
+    Roster::new(cores_of(alloc, "1-ff00:0:110").expect(rt, "no list of ASes"))
 }
 
 /// What a session ends with at moment 0, where all signatures are good.
@@ -73,34 +65,6 @@ pub fn session<R: Source, W: Write>(
     turns: u64,
 ) -> Result<u64, FrameError> {
     once(alloc, reader, writer, cores, &TrustAll, 0, turns)
-}
-
-/// What a session of these frames writes, which ends so.
-pub fn replies<V: Verifier>(
-    rt: &impl Abort,
-    alloc: Global,
-    cores: &Roster,
-    checker: &V,
-    now: u64,
-    frames: &[&str],
-    ends: Result<u64, FrameError>,
-) -> Vec<u8> {
-    let input = joined(rt, alloc, frames);
-    let mut output = Vec::new(alloc);
-    let mut reader = input.as_slice();
-    let outcome = once(alloc, &mut reader, &mut output, cores, checker, now, 1_000);
-    assert_eq!(rt; outcome, ends, "{frames:?}");
-    output
-}
-
-/// What a session like the worked one writes of these frames, which ends so.
-pub fn answer(
-    rt: &impl Abort,
-    alloc: Global,
-    frames: &[&str],
-    ends: Result<u64, FrameError>,
-) -> Vec<u8> {
-    replies(rt, alloc, &cores(rt, alloc), &TrustAll, 0, frames, ends)
 }
 
 /// Asserts what a session ended with, in the case of this name and number.
