@@ -50,8 +50,8 @@ fn greatest_frame(rt: HostRuntime) {
     }
 }
 
-/// A frame with a fault after a lookup of 21 bytes, in pieces. The fault is seen once the four bytes of the length are there, or the kind
-/// after them.
+/// A frame with a fault after a lookup of 21 bytes, in pieces. The fault is seen once the four
+/// bytes of the length are there, or the kind after them.
 #[derive(Clone, Copy)]
 struct LastRead {
     frame: &'static str,

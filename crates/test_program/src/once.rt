@@ -26,8 +26,8 @@ const EARLIER_PURGE: &str = "000000090300000000caa88abf";
 /// What comes before the signed segment in the frame that registers it as a down segment.
 const BEFORE_SIGNED: &str = "000000a8010aa4010802129f010a9c01";
 
-/// What comes before the timestamp in the frame that registers a segment like the worked one with a timestamp below 128, and between the timestamp
-/// and the entries.
+/// What comes before the timestamp in the frame that registers a segment like the worked one with a
+/// timestamp below 128, and between the timestamp and the entries.
 const DATED: &str = "0000005d010a5a080212560a540a0408";
 
 const AFTER_DATE: &str = "1007";

@@ -1,4 +1,5 @@
-//! What a part of the program's run is: some command lines, with what is so before them and who is met meanwhile.
+//! What a part of the program's run is: some command lines, with what is so before them and who is
+//! met meanwhile.
 
 use crate::images::Change;
 use crate::{once, served, stores, words};
@@ -20,10 +21,11 @@ pub(crate) enum Before {
 
 /// The peers that are met while a command line is carried out.
 pub(crate) struct Peers {
-    /// Sessions that are held one after the other, by the frames that they ask, as hexadecimal text.
+    /// Sessions that are held one after the other, by the frames that they ask, as hexadecimal
+    /// text.
     pub(crate) sessions: &'static [&'static str],
-    /// The number of sessions that are open at one time after those. If it isn't 0, one more connection is made meanwhile, and one more
-    /// session is held once these have ended.
+    /// The number of sessions that are open at one time after those. If it isn't 0, one more
+    /// connection is made meanwhile, and one more session is held once these have ended.
     pub(crate) together: usize,
 }
 

@@ -19,7 +19,8 @@ const EMPTY_LOOKUP: [u8; 5] = [0, 0, 0, 1, 2];
 /// The last byte of the reply to an empty lookup.
 const NO_DESTINATION: u8 = 0x41;
 
-/// Meets a server: what each session was replied, a line each. Where one fails, nobody waits for the others.
+/// Meets a server: what each session was replied, a line each. Where one fails, nobody waits for
+/// the others.
 pub(crate) fn meet<R: Net<Listener = TcpListener, Stream = TcpStream>>(
     rt: &R,
     alloc: Global,
@@ -33,7 +34,8 @@ pub(crate) fn meet<R: Net<Listener = TcpListener, Stream = TcpStream>>(
     met
 }
 
-/// What the sessions that were held one after the other were replied, and the one that came while the others were open.
+/// What the sessions that were held one after the other were replied, and the one that came while
+/// the others were open.
 fn replies_of<R: Net<Listener = TcpListener, Stream = TcpStream>>(
     rt: &R,
     alloc: Global,

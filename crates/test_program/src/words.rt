@@ -1,4 +1,5 @@
-//! Command lines that are refused, help, and the values of options that are read before anything else.
+//! Command lines that are refused, help, and the values of options that are read before anything
+//! else.
 
 use crate::parts::{Before, NO_PEERS, Part};
 

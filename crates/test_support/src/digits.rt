@@ -1,8 +1,8 @@
 //! Frames of the worked segment as hexadecimal digits, which tables of texts can hold, and frames
 //! that differ from them.
 
-/// These texts, and the two entries of a segment: with these first bytes of the AS that the first entry leads to and of the second AS,
-/// and with this interface of entry there.
+/// These texts, and the two entries of a segment: with these first bytes of the AS that the first
+/// entry leads to and of the second AS, and with this interface of entry there.
 macro_rules! entries {
     ([$($head:literal),*], $next:literal, $second:literal, $ingress:literal) => {
         concat!(
@@ -20,7 +20,8 @@ macro_rules! entries {
     };
 }
 
-/// The frame of this kind, of 97 bytes, with one segment of this timestamp, as a down segment, and with entries that differ so.
+/// The frame of this kind, of 97 bytes, with one segment of this timestamp, as a down segment, and
+/// with entries that differ so.
 macro_rules! segment_frame {
     ($kind:literal, $timestamp:literal, $next:literal, $second:literal, $ingress:literal) => {
         entries!(

@@ -4,8 +4,9 @@ ghost use Rattle.std.specs.Prelude.{◌≡◌, true};
 
 use std::fmt::{Debug, Display};
 
-/// The runtime of a test. Each crate of tests that calls a library of scripts has a type `Host` of its own with this trait, over a runtime
-/// that may end the process: a library may not name the bound `Abort`, so one `Host` for all of them has no crate to be in.
+/// The runtime of a test. Each crate of tests that calls a library of scripts has a type `Host` of
+/// its own with this trait, over a runtime that may end the process: a library may not name the
+/// bound `Abort`, so one `Host` for all of them has no crate to be in.
 pub trait TestHost {
     /// Ends the test, and says why. It doesn't return.
     fn fail<D: Display + Drop>(&self, why: D) -> !;
