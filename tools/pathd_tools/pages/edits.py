@@ -33,6 +33,7 @@ from dataclasses import dataclass, field
 from pathlib import Path
 
 from pathd_tools.pages.source import CRATES, TOP, crates
+from pathd_tools.toolbox import parser
 
 PAGE = TOP / "docs" / "EDITS.md"
 KINDS = {"must-fail": "gate", "more-edits": "beside"}
@@ -350,27 +351,31 @@ def write() -> int:
 
 HEAD = """# Wrong bodies, and the clauses that refuse them
 
-<!-- written by tools/edits.sh --write -->
+<!-- written by tools/pathd-tools edits --write -->
 
 Each edit is a wrong body of one function. Those of the gate are in `crates/CRATE/must-fail/`, and `rt ci` tries them; those beside it are in
-`crates/CRATE/more-edits/`. `tools/edits.sh CRATE` tries both. The column 'refused by' has the function and the clause whose goal the prover refuses; a function alone has one
+`crates/CRATE/more-edits/`. `tools/pathd-tools edits CRATE` tries both. The column 'refused by' has the function and the clause whose goal the prover refuses; a function alone has one
 clause without a name. An edit without a date has not been tried since it was last changed.
 """
 
 
 def main(words: list[str]) -> int:
-    if words == ["--write"]:
+    options = parser(__doc__)
+    options.add_argument("crates", nargs="*", metavar="CRATE", help="the crates whose edits are tried; all, if none is named")
+    options.add_argument("--gate", action="append_const", dest="kinds", const="gate", help="the edits of must-fail/ alone")
+    options.add_argument("--beside", action="append_const", dest="kinds", const="beside", help="those of more-edits/ alone")
+    options.add_argument("--only", action="append", default=[], metavar="EDIT", help="this edit alone")
+    options.add_argument("--judge", action="store_true", help="print the last results again, and try nothing")
+    options.add_argument("--write", action="store_true", help="write docs/EDITS.md by the last results, and try nothing")
+    asked = options.parse_args(words)
+    if asked.write:
         return write()
-    names = [it for it in words if not it.startswith("--")]
-    only = [it.removeprefix("--only=") for it in words if it.startswith("--only=")]
-    kinds = [it.removeprefix("--") for it in words if it in ("--gate", "--beside")]
-    chosen = [it for it in edits_of(names) if (not only or it.path.stem in only) and (not kinds or it.kind in kinds)]
-    if "--judge" in words:
+    chosen = [
+        it for it in edits_of(asked.crates)
+        if (not asked.only or it.path.stem in asked.only) and (not asked.kinds or it.kind in asked.kinds)
+    ]
+    if asked.judge:
         chosen = [it for it in chosen if kept_at(it).is_file()]
         return not all([show(it, judge(it, ran), ran) for it in chosen for ran in [json.loads(kept_at(it).read_text())]])
     rt = load_rt()
     return not all([try_edits(rt, [it for it in chosen if it.crate == name]) for name in dict.fromkeys(it.crate for it in chosen)])
-
-
-if __name__ == "__main__":
-    sys.exit(main(sys.argv[1:]))
