@@ -9,6 +9,8 @@ use std::fmt::{Display, Formatter};
 pub enum Report {
     /// The device failed, and the store takes no more commands. Lookups go on.
     Stopped,
+    /// The store met a defect of the program, and takes no more commands. Lookups go on.
+    Defect,
     /// This number of peers were turned away since the last such report, because [`MOST_SESSIONS`]
     /// sessions were open.
     TurnedAway(u64),
@@ -20,6 +22,10 @@ impl Display for Report {
             Report::Stopped => write!(
                 f,
                 "the store has stopped at a fault of its device; lookups go on"
+            ),
+            Report::Defect => write!(
+                f,
+                "the store has stopped at a defect of the program; lookups go on"
             ),
             Report::TurnedAway(count) => {
                 write!(f, "sessions refused, as {MOST_SESSIONS} are open: {count}")

@@ -178,4 +178,8 @@ impl<
             self.reports.report(Report::Stopped);
         }
     }
+
+    fn met_stranger(&self) {
+        self.reports.report(Report::Defect);
+    }
 }

@@ -71,7 +71,7 @@ impl Counts {
 impl Reports for Counts {
     fn report(&self, report: Report) {
         match report {
-            Report::Stopped => self.stopped.fetch_add(1, Ordering::SeqCst),
+            Report::Stopped | Report::Defect => self.stopped.fetch_add(1, Ordering::SeqCst),
             Report::TurnedAway(count) => self.turned_away.fetch_add(count, Ordering::SeqCst),
         };
     }
