@@ -9,7 +9,6 @@
 
 mod accepting;
 mod door;
-mod draining;
 mod error;
 mod guest;
 mod listeners;

@@ -7,7 +7,7 @@ use crate::listeners::Listeners;
 use crate::options::Options;
 use crate::reports::{Report, Reports};
 use crate::seats::Seats;
-use crate::sessions::{part, serve_stream};
+use crate::sessions::{end_early, serve_stream};
 use crate::status_listener::StatusListener;
 use crate::turned_away::TurnedAway;
 use crate::turning_away::turn_away;
@@ -120,7 +120,7 @@ impl<'a, L: OpenListener<Stream = TcpStream> + Drop, V: Verifier, O: Reports> Se
         let served = serve_stream(self.alloc, &stream, &mut counted, self.options.idle);
         hub.give_back(counted.into_service().into_reader());
         if served.is_err() {
-            part(hub.handle(), &stream);
+            end_early(hub.handle(), &stream);
         }
     }
 }

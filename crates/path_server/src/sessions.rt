@@ -1,11 +1,11 @@
 //! One session over a connection.
 
-use crate::draining::drain_for;
 use path_session::{FrameError, Service, serve};
+use status_server::{Deadline, part};
 use std::alloc::Global;
 use std::io;
 use std::io::BufWriter;
-use std::net::{Shutdown, TcpStream};
+use std::net::TcpStream;
 use std::time::{Clock, Duration};
 
 /// The most reads from a session's input.
@@ -14,9 +14,6 @@ pub const MOST_READS: u64 = 1_000_000_000;
 /// The time in milliseconds that a connection stays open after a fault of its session, so that the
 /// peer gets the replies before the fault.
 const PARTING: u64 = 1_000;
-
-/// The longest wait of one read in that time, in milliseconds.
-const PARTING_READ: u64 = 100;
 
 /// Answers the messages of a connection, and returns the number of replies, a count that stays at
 /// 2^64 - 1. Replies are sent when all messages that have arrived are answered, or the buffer of
@@ -48,10 +45,8 @@ fn set_up(stream: &TcpStream, idle: Option<Duration>) -> io::Result<()> {
 /// Ends a connection before its input has ended. A close over unread input would reset the
 /// connection, and the peer would lose the replies that it has not received yet. The input that
 /// arrives within a second is therefore read and dropped.
-pub(crate) fn part(clock: &impl Clock, stream: &TcpStream) {
-    let _shut = stream.shutdown(Shutdown::Write);
-    let wait = Some(Duration::from_millis(PARTING_READ));
-    if stream.set_read_timeout(wait).is_ok() {
-        drain_for(clock, stream, Duration::from_millis(PARTING));
+pub(crate) fn end_early(clock: &impl Clock, stream: &TcpStream) {
+    if let Ok(deadline) = Deadline::after(clock, Duration::from_millis(PARTING)) {
+        part(clock, stream, &deadline);
     }
 }

@@ -5,15 +5,17 @@ ghost use Rattle.std.specs.Io.KnownBytes.{Appends};
 ghost use Rattle.reply_codes.specs.Codes.{reader_code};
 ghost use Rattle.session_core.specs.Reply.{Refused, reply_frame};
 
-use crate::draining::drain;
 use reply_codes::Refusal;
 use session_core::refusal_frame;
 use std::io;
-use std::io::Write;
+use std::io::{Read, Write};
 use std::net::{Shutdown, TcpStream};
 
 /// The number of reads of what a peer has sent before its connection is closed.
 const READS: u64 = 4;
+
+/// The most bytes that one of these reads drops.
+const PIECE: usize = 4_096;
 
 /// Refuses a peer where no seat is free, and closes its side of the connection. The peer is sent
 /// one reply, with the code of `Refusal::NoReader`. The call does not wait: the buffer of a new
@@ -25,7 +27,19 @@ pub(crate) fn turn_away(stream: &TcpStream) {
         return;
     }
     let _shut = stream.shutdown(Shutdown::Write);
-    drain(stream, READS);
+    drain(stream);
+}
+
+/// Drops the bytes that have arrived, in at most `READS` reads, until a read fails or finds the
+/// end.
+fn drain(mut stream: &TcpStream) {
+    let mut piece = [0u8; PIECE];
+    for _ in 0..READS {
+        match stream.read(&mut piece) {
+            Ok(0) | Err(_) => return,
+            Ok(_) => {}
+        }
+    }
 }
 
 /// Writes the frame of the refusal.
