@@ -1,4 +1,4 @@
-//! The server's action after an accept that failed.
+//! Waiting for peers, and the server's action after an accept that failed.
 
 ghost use Rattle.std.specs.Prelude.{◌≡◌};
 ghost use Rattle.std.specs.IoError.{raw_os_error};
@@ -6,6 +6,10 @@ ghost use Rattle.path_server.specs.Accepting.{failure_of, failure_after};
 
 use libc::{EAGAIN, EBADF, EINVAL, EMFILE, ENOMEM, ENOTSOCK};
 use std::io;
+use std::net::{OpenListener, TcpStream};
+use std::sync::Wait;
+use std::thread::sleep;
+use std::time::{Clock, Duration};
 
 // Linux's numbers of errors that `libc` does not name here.
 const EFAULT: i32 = 14;
@@ -17,7 +21,7 @@ const EOPNOTSUPP: i32 = 95;
 const ENOBUFS: i32 = 105;
 
 /// The time in milliseconds that the server waits for descriptors or memory.
-pub(crate) const PAUSE: u64 = 50;
+const PAUSE: u64 = 50;
 
 /// The server's action after an accept that failed.
 #[derive(Clone, Copy, Debug, PartialEq, Eq)]
@@ -28,6 +32,32 @@ pub enum Failure {
     Pause,
     /// The listener is no listening socket, or is shut down.
     Broken,
+}
+
+/// Waits for the next peer of a listener. The result is `None` where the listener is broken, or
+/// where `goes_on`, which is called after each accept, returns `false`. Where descriptors or memory
+/// are short, the call waits until the peer can be accepted.
+pub(crate) fn next_peer<
+    R: Wait + Clock,
+    L: OpenListener<Stream = TcpStream>,
+    F: Fn() -> bool + Drop,
+>(rt: &R, listener: &L, goes_on: F) -> Option<TcpStream>
+    requires { F.IsAlwaysCallable goes_on }
+{
+    for accepted in listener.incoming() {
+        if !goes_on() {
+            return None;
+        }
+        match accepted {
+            Ok(stream) => return Some(stream),
+            Err(error) => match after_failure(&error) {
+                Failure::Again => {}
+                Failure::Pause => sleep(rt, Duration::from_millis(PAUSE)),
+                Failure::Broken => return None,
+            },
+        }
+    }
+    None
 }
 
 /// The action after an accept that failed, by the system's number of its error. An error without a

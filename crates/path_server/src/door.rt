@@ -1,11 +1,10 @@
 //! The door of a server, by which its peers arrive.
 
-use crate::accepting::{Failure, PAUSE, after_failure};
+use crate::accepting::next_peer;
 use std::net::{OpenListener, TcpStream};
 use std::sync::atomic::{AtomicU64, Ordering};
 use std::sync::{Mutex, Wait};
-use std::thread::sleep;
-use std::time::{Clock, Duration};
+use std::time::Clock;
 
 /// A listener, until it is closed, and the number of sessions that were started of those that are
 /// wanted.
@@ -59,16 +58,6 @@ impl<L: OpenListener<Stream = TcpStream> + Drop> Door<L> {
     pub(crate) fn next_peer<R: Wait + Clock>(&self, rt: &R) -> Option<TcpStream> {
         let listener = self.listener.lock(rt);
         let listener = (*listener).as_ref()?;
-        for accepted in listener.incoming() {
-            match accepted {
-                Ok(stream) => return Some(stream),
-                Err(error) => match after_failure(&error) {
-                    Failure::Again => {}
-                    Failure::Pause => sleep(rt, Duration::from_millis(PAUSE)),
-                    Failure::Broken => return None,
-                },
-            }
-        }
-        None
+        next_peer(rt, listener, || true)
     }
 }

@@ -2,7 +2,7 @@
 
 ghost use Rattle.std.specs.Prelude.{◌≡◌};
 
-use crate::accepting::{Failure, PAUSE, after_failure};
+use crate::accepting::next_peer;
 use crate::reports::Reports;
 use crate::seats::MOST_SESSIONS;
 use crate::server::Server;
@@ -14,7 +14,6 @@ use status_server::{Deadline, ReplyKind, answer, part, read_request, send};
 use std::alloc::AllocError;
 use std::net::{OpenListener, TcpStream};
 use std::sync::Wait;
-use std::thread::sleep;
 use std::time::{Clock, Duration};
 
 /// The longest time of a connection, in milliseconds.
@@ -28,18 +27,12 @@ impl<L: OpenListener<Stream = TcpStream> + Drop, V: Verifier, O: Reports> Server
         hub: &Hub<D, N, R>,
         listener: &L,
     ) {
-        for accepted in listener.incoming() {
-            if !self.is_open() {
+        let rt = hub.handle();
+        for _ in rt.forever() {
+            let Some(stream) = next_peer(rt, listener, || self.is_open()) else {
                 return;
-            }
-            match accepted {
-                Ok(stream) => self.answer_peer(hub, &stream),
-                Err(error) => match after_failure(&error) {
-                    Failure::Again => {}
-                    Failure::Pause => sleep(hub.handle(), Duration::from_millis(PAUSE)),
-                    Failure::Broken => return,
-                },
-            }
+            };
+            self.answer_peer(hub, &stream);
         }
     }
 
