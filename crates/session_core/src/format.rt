@@ -34,6 +34,11 @@ pub(crate) const REMOVED: u8 = 0x84;
 /// The kind of a refusal.
 pub(crate) const REFUSED: u8 = 0xff;
 
+/// The length of a refusal's frame: its kind, and the code.
+pub(crate) const REFUSAL_LENGTH: usize = KIND_SIZE + 1;
+/// The number of bytes of a refusal's frame: its length, and what the length counts.
+pub(crate) const REFUSAL_FRAME: usize = LENGTH_SIZE + REFUSAL_LENGTH;
+
 /// The greatest length of a reply's frame: its kind, and the bytes that belong to it.
 pub const MOST_REPLY: usize = 1_114_112;
 /// The length of an acknowledgement's frame: its kind, the place (8) and four counts (4 each).

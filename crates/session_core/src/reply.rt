@@ -8,7 +8,8 @@ ghost use Rattle.session_core.specs.Reply.{ack_encoding, reply_frame, HasReplySi
 ghost use Rattle.session_core.specs.ReplyViews.{reply_view};
 
 use crate::format::{
-    ACK_FRAME, ACK_LENGTH, FOUND, MOST_REPLY, PURGED, REFUSED, REGISTERED, REMOVED,
+    ACK_FRAME, ACK_LENGTH, FOUND, MOST_REPLY, PURGED, REFUSAL_FRAME, REFUSAL_LENGTH, REFUSED,
+    REGISTERED, REMOVED,
 };
 use crate::service::{Ack, Code};
 use byteorder::{BigEndian, ByteOrder};
@@ -64,7 +65,11 @@ pub(crate) fn ack_frame(kind: u8, ack: Ack) -> [u8; ACK_FRAME]
 pub fn refusal_frame(code: Code) -> [u8; 6]
     ensures { result ≡ reply_frame (Refused code.0) }
 {
-    [0, 0, 0, 2, REFUSED, code.0]
+    let mut frame = [0; REFUSAL_FRAME];
+    BigEndian::write_u32(&mut frame, REFUSAL_LENGTH as u32);
+    frame[4] = REFUSED;
+    frame[5] = code.0;
+    frame
 }
 
 /// The length and the kind before a response of this number of bytes.
