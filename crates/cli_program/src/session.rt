@@ -3,9 +3,9 @@
 use clap::ArgMatches;
 use cli_once::{Fault, cores_of, key_of, once, once_in_hex};
 use cli_words::{CORES, HEX, KEY, NOW};
-use path_server::MOST_READS;
 use seg_check::{TrustAll, Verifier};
 use seg_lookup::Roster;
+use session_core::MOST_READS;
 use std::alloc::Global;
 use std::io::{BufWriter, Read, Write};
 

@@ -30,4 +30,3 @@ pub use options::Options;
 pub use reports::{Report, Reports, Silent};
 pub use running::{System, run_on, serve_store};
 pub use seats::MOST_SESSIONS;
-pub use sessions::MOST_READS;

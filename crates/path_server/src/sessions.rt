@@ -1,15 +1,12 @@
 //! One session over a connection.
 
-use path_session::{FrameError, Service, serve};
+use session_core::{FrameError, MOST_READS, Service, serve};
 use status_server::{Deadline, part};
 use std::alloc::Global;
 use std::io;
 use std::io::BufWriter;
 use std::net::TcpStream;
 use std::time::{Clock, Duration};
-
-/// The most reads from a session's input.
-pub const MOST_READS: u64 = 1_000_000_000;
 
 /// The time in milliseconds that a connection stays open after a fault of its session, so that the
 /// peer gets the replies before the fault.

@@ -32,4 +32,4 @@ pub use reading::read_all;
 pub use reply::{Form, Reply, refusal_frame};
 pub use service::{Ack, Code, MOST_SEGMENTS, Service};
 pub use serving::serve;
-pub use source::{MOST_PIECE, Source};
+pub use source::{MOST_PIECE, MOST_READS, Source};

@@ -10,6 +10,10 @@ use std::io::Read;
 /// The most bytes of one read.
 pub const MOST_PIECE: usize = 65_536;
 
+/// The most reads of a session's input that the program makes: the `turns` that it gives to `serve`
+/// and `read_all`.
+pub const MOST_READS: u64 = 1_000_000_000;
+
 /// A reader whose contract counts its reads: `piece` makes one read, and no other call is known to
 /// make one.
 ///
