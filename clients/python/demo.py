@@ -1,4 +1,5 @@
-"""A worked session with `pathd`: it registers a small topology, looks up, removes, purges, and prints each reply.
+"""A worked session with `pathd`: it registers a small topology, looks up, removes, purges, and
+prints each reply.
 
 Three core ASes, of which 2-64512 is in another ISD, and below the two in ISD 1 three others:
 
@@ -13,8 +14,8 @@ import sys
 import textwrap
 
 from pathd_client import (
-    EXP_TIME, Lookup, Purge, Register, Remove, Reply, Request, Row, SegmentType, Session, SessionError,
-    make_segment, parse_isd_as, parse_path, run_session, segment_id,
+    EXP_TIME, Lookup, Purge, Register, Remove, Reply, Request, Row, SegmentType, Session,
+    SessionError, make_segment, parse_isd_as, parse_path, run_session, segment_id,
 )
 
 UP, DOWN, CORE = SegmentType.UP, SegmentType.DOWN, SegmentType.CORE
@@ -53,7 +54,8 @@ def expiry(made: int) -> int:
 
 
 def requests(made: int, key: bytes | None) -> list[Request]:
-    """The session's requests. The last registers a segment that is signed with another key than all before it."""
+    """The session's requests. The last registers a segment that is signed with another key than all
+    before it."""
     between_cores = Remove(CORE, segment_id(parse_path("1-ff00:0:120 9>10 1-ff00:0:110")))
     newer = rows(TOPOLOGY[:1], made + 3_600, key)
     return [
@@ -98,15 +100,24 @@ def main() -> None:
     """Runs the session, and prints each request with its reply below it."""
     parser = argparse.ArgumentParser(description="Holds a session with `pathd`, and prints it.")
     parser.add_argument(
-        "--key", type=bytes.fromhex, metavar="HEX", help="sign by this key of the test profile, which the server has to have"
+        "--key", type=bytes.fromhex, metavar="HEX",
+        help="sign by this key of the test profile, which the server has to have",
     )
     parser.add_argument(
-        "--made", type=int, default=MADE, metavar="T", help="the seconds since 1970 at which the segments were made"
+        "--made", type=int, default=MADE, metavar="T",
+        help="the seconds since 1970 at which the segments were made",
     )
-    parser.add_argument("--wait", action="store_true", help="wait for each reply of the server before the next request")
+    parser.add_argument(
+        "--wait", action="store_true",
+        help="wait for each reply of the server before the next request",
+    )
     where = parser.add_mutually_exclusive_group(required=True)
-    where.add_argument("--connect", metavar="ADDR", help="the address of a server, as 127.0.0.1:30252")
-    where.add_argument("program", nargs="?", help="the built program, as crates/pathd/out/pathd")
+    where.add_argument(
+        "--connect", metavar="ADDR", help="the address of a server, as 127.0.0.1:30252"
+    )
+    where.add_argument(
+        "program", nargs="?", help="the built program, as crates/pathd/out/pathd"
+    )
     options = parser.parse_args()
     asked = requests(options.made, options.key)
     try:

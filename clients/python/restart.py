@@ -9,7 +9,10 @@ from __future__ import annotations
 
 import sys
 
-from pathd_client import Ack, Found, Lookup, Register, Reply, Request, SegmentType, Session, make_segment, parse_isd_as, parse_path
+from pathd_client import (
+    Ack, Found, Lookup, Register, Reply, Request, SegmentType, Session, make_segment, parse_isd_as,
+    parse_path,
+)
 
 PATH = "1-ff00:0:110 1>2 1-ff00:0:111"
 

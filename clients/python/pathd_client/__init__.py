@@ -1,20 +1,30 @@
-"""A client of `pathd`: the messages, the frames around them, a session with a server over TCP, and one with a child process.
+"""A client of `pathd`: the messages, the frames around them, a session with a server over TCP, and
+one with a child process.
 
-The messages are made and read by `segments_pb2`, which protoc generates from docs/segments.proto. Each byte is in
-docs/FORMATS.md. An ISD-AS is a number here, the ISD in its upper 16 bits and the AS in its lower 48. `python -m pathd_client
---help` has the commands.
+Each byte is in docs/FORMATS.md. An ISD-AS is a number here, with the ISD in its upper 16 bits and
+the AS in its lower 48. protoc generates `segments_pb2`, the messages, from docs/segments.proto.
+`python -m pathd_client --help` lists the commands.
 """
+from .codes import PASSING_CODES, Code
+from .errors import (
+    ConnectionEnded, FrameError, OutcomeUnknown, ReplyTimeout, SessionError, TurnedAway,
+)
+from .frames import MOST_REPLY, MOST_REQUEST, FrameBuffer, frame, read_frames
 from .isd_as import isd_as_text, parse_isd_as
-from .replies import Ack, Found, Refused, Reply, SessionError, read_content, read_frames, read_reply
-from .requests import MOST_ROWS, Lookup, Purge, Register, Remove, Request, frame
+from .replies import Ack, Found, Refused, Reply, read_reply
+from .requests import MOST_ROWS, Lookup, Purge, Register, Remove, Request
+from .retries import DEFAULT_RETRY, NO_RETRY, Retry
 from .segments import (
-    EXP_TIME, Hop, Row, SegmentType, expiry, hops_of, make_segment, parse_path, path_text, segment_id, timestamp_of,
+    EXP_TIME, Hop, Row, SegmentType, expiry, hops_of, make_segment, parse_path, path_text,
+    segment_id, timestamp_of,
 )
 from .sessions import Session, run_session
 
 __all__ = [
-    "EXP_TIME", "MOST_ROWS", "Ack", "Found", "Hop", "Lookup", "Purge", "Refused", "Register", "Remove", "Reply", "Request",
-    "Row", "SegmentType", "Session", "SessionError", "expiry", "frame", "hops_of", "isd_as_text", "make_segment",
-    "parse_isd_as", "parse_path", "path_text", "read_content", "read_frames", "read_reply", "run_session", "segment_id",
-    "timestamp_of",
+    "DEFAULT_RETRY", "EXP_TIME", "MOST_REPLY", "MOST_REQUEST", "MOST_ROWS", "NO_RETRY",
+    "PASSING_CODES", "Ack", "Code", "ConnectionEnded", "Found", "FrameBuffer", "FrameError", "Hop",
+    "Lookup", "OutcomeUnknown", "Purge", "Refused", "Register", "Remove", "Reply", "ReplyTimeout",
+    "Request", "Retry", "Row", "SegmentType", "Session", "SessionError", "TurnedAway", "expiry",
+    "frame", "hops_of", "isd_as_text", "make_segment", "parse_isd_as", "parse_path", "path_text",
+    "read_frames", "read_reply", "run_session", "segment_id", "timestamp_of",
 ]

@@ -9,13 +9,15 @@ from itertools import islice
 from pathlib import Path
 
 from . import (
-    MOST_ROWS, Ack, Found, Lookup, Purge, Register, Remove, Reply, Request, Row, SegmentType, Session, SessionError, expiry,
-    hops_of, make_segment, parse_isd_as, parse_path, path_text, segment_id, timestamp_of,
+    DEFAULT_RETRY, MOST_ROWS, Found, Lookup, Purge, Refused, Register, Remove, Reply, Request,
+    Retry, Row, SegmentType, Session, SessionError, expiry, hops_of, make_segment, parse_isd_as,
+    parse_path, path_text, segment_id, timestamp_of,
 )
 
 FILE_HELP = """\
-A line of FILE is a segment: its type (up, down or core), when it was made (in seconds since 1970, or `now`), and its path: ISD-AS,
-egress>ingress, ISD-AS, and so on. A line that begins with `#` is a comment. An example:
+A line of FILE is a segment: its type (up, down or core), when it was made (in
+seconds since 1970, or `now`), and its path: ISD-AS, egress>ingress, ISD-AS, and
+so on. A line that begins with `#` is a comment. An example:
 
   # type made path
   down now 1-ff00:0:110 1>2 1-ff00:0:111
@@ -52,12 +54,17 @@ def registrations(rows: Iterator[Row]) -> Iterator[Register]:
         yield Register(part)
 
 
+def text_of(file: str) -> str:
+    """The text of a file, or of standard input where it is `-`."""
+    return sys.stdin.read() if file == "-" else Path(file).read_text(encoding="utf-8")
+
+
 def requests_of(options: argparse.Namespace) -> list[Request]:
     """What the options ask for."""
     match options.command:
         case "register":
-            text = Path(options.file).read_text(encoding="utf-8") if options.file != "-" else sys.stdin.read()
-            return list(registrations(rows_of(text, int(time.time()), options.key)))
+            rows = rows_of(text_of(options.file), int(time.time()), options.key)
+            return list(registrations(rows))
         case "lookup":
             return [Lookup(parse_isd_as(options.source), parse_isd_as(options.destination))]
         case "purge":
@@ -67,13 +74,15 @@ def requests_of(options: argparse.Namespace) -> list[Request]:
 
 
 def lines_of(reply: Reply) -> Iterator[str]:
-    """What is printed of a reply: of a segment its type, its id, when it was made and when it expires, and its path."""
+    """What is printed of a reply: of a segment its type, its id, when it was made and when it
+    expires, and its path."""
     if not isinstance(reply, Found):
         yield str(reply)
         return
     for kind, segment in reply.rows:
         hops = hops_of(segment)
-        yield f"{kind.name.lower()} {segment_id(hops).hex()} {timestamp_of(segment)} {expiry(segment)} {path_text(hops)}"
+        times = f"{timestamp_of(segment)} {expiry(segment)}"
+        yield f"{kind.name.lower()} {segment_id(hops).hex()} {times} {path_text(hops)}"
 
 
 def key_of(text: str) -> bytes:
@@ -81,55 +90,104 @@ def key_of(text: str) -> bytes:
     return bytes.fromhex(text)
 
 
+def address_of(text: str) -> tuple[str, int]:
+    """The host and the port of a text such as `127.0.0.1:30252` or `[::1]:30252`."""
+    host, colon, port = text.rpartition(":")
+    if not colon:
+        raise ValueError(f"no address: {text}")
+    return host.strip("[]"), int(port)
+
+
 def parser_of() -> argparse.ArgumentParser:
     """The words of the command line."""
     parser = argparse.ArgumentParser(
-        prog="python -m pathd_client", description="Asks a pathd server to register, look up, purge or remove segments."
+        prog="python -m pathd_client",
+        description="Asks a pathd server to register, look up, purge or remove segments.",
     )
-    parser.add_argument("--connect", metavar="ADDR", default="127.0.0.1:30252", help="the server's address [%(default)s]")
-    parser.add_argument("--timeout", metavar="SECONDS", type=float, default=30.0, help="how long a reply may take [%(default)s]")
-    commands = parser.add_subparsers(dest="command", required=True)
-    register = commands.add_parser(
-        "register", help="register the segments of a file", epilog=FILE_HELP, formatter_class=argparse.RawDescriptionHelpFormatter
+    parser.add_argument(
+        "--connect", type=address_of, metavar="ADDR", default="127.0.0.1:30252",
+        help="the server's address [%(default)s]",
     )
-    register.add_argument("--key", type=key_of, metavar="HEX", help="sign by this key of the test profile")
-    register.add_argument("file", metavar="FILE", help="a file of lines, or - for standard input")
-    lookup = commands.add_parser("lookup", help="print the segments from one ISD-AS to another")
-    lookup.add_argument("source", metavar="SOURCE", help="an ISD-AS, as 1-ff00:0:110; a part that is 0 is any")
-    lookup.add_argument("destination", metavar="DESTINATION")
-    purge = commands.add_parser("purge", help="drop the segments that have expired")
-    purge.add_argument("--at", type=int, metavar="T", help="by this moment, in half seconds since 1970 [now, by the clock]")
-    remove = commands.add_parser("remove", help="drop one segment")
-    remove.add_argument("type", metavar="TYPE", help="up, down or core")
-    remove.add_argument("id", metavar="ID", help="the segment's id, as 64 hexadecimal digits")
+    parser.add_argument(
+        "--connect-timeout", metavar="SECONDS", type=float, default=5.0,
+        help="how long a connection may take to be made [%(default)s]",
+    )
+    parser.add_argument(
+        "--timeout", metavar="SECONDS", type=float, default=30.0,
+        help="how long a reply may take [%(default)s]",
+    )
+    parser.add_argument(
+        "--attempts", metavar="N", type=int, default=DEFAULT_RETRY.attempts,
+        help="how often a request is tried at most, where it may be tried again [%(default)s]",
+    )
+    add_commands(parser)
     return parser
 
 
-def ask_all(address: str, timeout: float, requests: Sequence[Request]) -> bool:
-    """Prints the replies to requests, which go one after the other. Answers whether none was refused."""
-    host, _, port = address.rpartition(":")
+def add_commands(parser: argparse.ArgumentParser) -> None:
+    """Adds the commands and their words."""
+    commands = parser.add_subparsers(dest="command", required=True)
+    register = commands.add_parser(
+        "register", help="register the segments of a file", epilog=FILE_HELP,
+        formatter_class=argparse.RawDescriptionHelpFormatter,
+    )
+    register.add_argument(
+        "--key", type=key_of, metavar="HEX", help="sign by this key of the test profile"
+    )
+    register.add_argument("file", metavar="FILE", help="a file of lines, or - for standard input")
+    lookup = commands.add_parser("lookup", help="print the segments from one ISD-AS to another")
+    lookup.add_argument(
+        "source", metavar="SOURCE", help="an ISD-AS, as 1-ff00:0:110; a part that is 0 is any"
+    )
+    lookup.add_argument("destination", metavar="DESTINATION")
+    purge = commands.add_parser("purge", help="drop the segments that have expired")
+    purge.add_argument(
+        "--at", type=int, metavar="T",
+        help="by this moment, in half seconds since 1970 [now, by the clock]",
+    )
+    remove = commands.add_parser("remove", help="drop one segment")
+    remove.add_argument("type", metavar="TYPE", help="up, down or core")
+    remove.add_argument("id", metavar="ID", help="the segment's id, as 64 hexadecimal digits")
+
+
+def session_of(options: argparse.Namespace) -> Session:
+    """The session that the options ask for."""
+    host, port = options.connect
+    return Session(
+        host, port,
+        connect_timeout=options.connect_timeout,
+        reply_timeout=options.timeout,
+        retry=Retry(attempts=options.attempts),
+    )
+
+
+def ask_all(session: Session, requests: Sequence[Request]) -> bool:
+    """Prints the replies to requests, which go one after the other. Answers whether none was
+    refused."""
     is_done = True
-    with Session(host.strip("[]"), int(port), timeout) as session:
-        for request in requests:
-            reply = session.ask(request)
-            for line in lines_of(reply):
-                print(line)
-            is_done = is_done and isinstance(reply, Ack | Found)
+    for request in requests:
+        reply = session.ask(request)
+        for line in lines_of(reply):
+            print(line)
+        is_done = is_done and not isinstance(reply, Refused)
     return is_done
 
 
 def main() -> None:
-    """Does what the words say. The status is 0, 1 where a request was refused or the server failed, and 2 for words that are wrong."""
+    """Does what the words say. The status is 0, 1 where a request was refused or the server failed,
+    and 2 for words that are wrong."""
     parser = parser_of()
     options = parser.parse_args()
     try:
         requests = requests_of(options)
+        session = session_of(options)
     except ValueError as fault:
         parser.error(str(fault))
     except OSError as fault:
         sys.exit(f"error: {fault}")
     try:
-        is_done = ask_all(options.connect, options.timeout, requests)
+        with session:
+            is_done = ask_all(session, requests)
     except (OSError, ValueError, SessionError) as fault:
         sys.exit(f"error: {fault}")
     sys.exit(0 if is_done else 1)

@@ -1,9 +1,10 @@
-"""The texts of ISD-AS numbers: the ISD is in the upper 16 bits of a number, and the AS in the lower 48."""
+"""The texts of ISD-AS numbers: the ISD is in the upper 16 bits, and the AS in the lower 48."""
 from __future__ import annotations
 
 import re
 
-ISD_AS = re.compile(r"([0-9]+)-(?:([0-9]+)|([0-9a-fA-F]{1,4}):([0-9a-fA-F]{1,4}):([0-9a-fA-F]{1,4}))")
+GROUP = r"([0-9a-fA-F]{1,4})"
+ISD_AS = re.compile(rf"([0-9]+)-(?:([0-9]+)|{GROUP}:{GROUP}:{GROUP})")
 
 
 def parse_isd_as(text: str) -> int:
@@ -19,7 +20,8 @@ def parse_isd_as(text: str) -> int:
 
 
 def isd_as_text(number: int) -> str:
-    """The one canonical text: an AS below 2^32 in decimal, a larger one in three groups of hexadecimal digits."""
+    """The one canonical text: an AS below 2^32 in decimal, a larger one in three groups of
+    hexadecimal digits."""
     isd, asn = number >> 48, number & (1 << 48) - 1
     if asn < 1 << 32:
         return f"{isd}-{asn}"

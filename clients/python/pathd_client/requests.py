@@ -1,4 +1,4 @@
-"""Requests, and their frames."""
+"""Requests."""
 from __future__ import annotations
 
 import struct
@@ -6,23 +6,36 @@ from collections.abc import Sequence
 from dataclasses import dataclass
 from typing import ClassVar
 
-import segments_pb2 as pb
-
+from . import segments_pb2 as pb
 from .isd_as import isd_as_text
 from .segments import Row, SegmentType
 
 # The most segments of one registration.
 MOST_ROWS = 16
 
+ID_BYTES = 32
+MOST_NUMBER = 2**64 - 1
+
+
+def check_number(number: int, name: str) -> None:
+    """ValueError where a number has more than 64 bits."""
+    if not 0 <= number <= MOST_NUMBER:
+        raise ValueError(f"{name} is no number of 64 bits: {number}")
+
 
 @dataclass(frozen=True)
 class Register:
-    """Registers segments: of one type and the same hops, the newest stays."""
+    """Registers segments. Of one type and the same hops, the newest stays.
+
+    A registration may be repeated: a segment that the server has is kept as it is.
+    """
 
     rows: Sequence[Row]
     kind: ClassVar[int] = 1
+    is_repeatable: ClassVar[bool] = True
 
     def body(self) -> bytes:
+        """The bytes of a SegmentsRegistrationRequest."""
         request = pb.SegmentsRegistrationRequest()
         for kind, segment in self.rows:
             request.segments[kind].segments.append(segment)
@@ -34,14 +47,22 @@ class Register:
 
 @dataclass(frozen=True)
 class Lookup:
-    """Asks for the segments that lead from a source to a destination. A part of a side that is 0 stands for any."""
+    """Asks for the segments that lead from a source to a destination. A part of a side that is 0
+    covers every number."""
 
     source: int
     destination: int
     kind: ClassVar[int] = 2
+    is_repeatable: ClassVar[bool] = True
+
+    def __post_init__(self) -> None:
+        check_number(self.source, "the source")
+        check_number(self.destination, "the destination")
 
     def body(self) -> bytes:
-        return pb.SegmentsRequest(src_isd_as=self.source, dst_isd_as=self.destination).SerializeToString()
+        """The bytes of a SegmentsRequest."""
+        request = pb.SegmentsRequest(src_isd_as=self.source, dst_isd_as=self.destination)
+        return request.SerializeToString()
 
     def __str__(self) -> str:
         return f"look up {isd_as_text(self.source)} to {isd_as_text(self.destination)}"
@@ -53,8 +74,13 @@ class Purge:
 
     moment: int
     kind: ClassVar[int] = 3
+    is_repeatable: ClassVar[bool] = True
+
+    def __post_init__(self) -> None:
+        check_number(self.moment, "the moment")
 
     def body(self) -> bytes:
+        """The moment, in eight bytes."""
         return struct.pack(">Q", self.moment)
 
     def __str__(self) -> str:
@@ -63,24 +89,29 @@ class Purge:
 
 @dataclass(frozen=True)
 class Remove:
-    """Drops the segment of a type with an id, which has 32 bytes."""
+    """Drops the segment of a type with an id, which has 32 bytes.
+
+    A removal is not repeatable: a second one would drop a segment that another client has
+    registered since the first.
+    """
 
     type: SegmentType
     id: bytes
     kind: ClassVar[int] = 4
+    is_repeatable: ClassVar[bool] = False
+
+    def __post_init__(self) -> None:
+        if len(self.id) != ID_BYTES:
+            raise ValueError(f"an id has {ID_BYTES} bytes, and not {len(self.id)}")
 
     def body(self) -> bytes:
-        return struct.pack(">B32s", self.type, self.id)
+        """The type in a byte, and the id."""
+        return bytes([self.type]) + self.id
 
     def __str__(self) -> str:
         return f"remove {self.type.name.lower()} {self.id.hex()}"
 
 
-# Each has the kind of its frame, the bytes of its body, and a line that says what it asks for.
+# Each has the kind of its frame, whether it may be carried out twice, the bytes of its body, and a
+# line that says what it asks for.
 Request = Register | Lookup | Purge | Remove
-
-
-def frame(request: Request) -> bytes:
-    """The frame of a request: the length of what follows, the kind, the body."""
-    body = request.body()
-    return struct.pack(">IB", 1 + len(body), request.kind) + body

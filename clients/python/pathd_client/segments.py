@@ -1,4 +1,4 @@
-"""Segments: their hops, their ids, and how one is made and signed. Each byte is in docs/FORMATS.md."""
+"""Segments: their hops, their ids, and how one is made and signed, as docs/FORMATS.md says."""
 from __future__ import annotations
 
 import hashlib
@@ -8,12 +8,11 @@ from dataclasses import dataclass
 from enum import IntEnum
 from itertools import pairwise
 
-import segments_pb2 as pb
-
+from . import segments_pb2 as pb
 from .isd_as import isd_as_text, parse_isd_as
 
-# Of the hop fields that are made here. A segment expires 64 times 337.5 seconds after its timestamp, and `pathd` judges
-# of a MAC that it has six bytes.
+# Of the hop fields that are made here. A segment expires 64 times 337.5 seconds after its
+# timestamp. Of a MAC `pathd` checks alone that it has six bytes.
 EXP_TIME = 63
 MTU = 1472
 MAC = bytes(6)
@@ -29,7 +28,8 @@ class SegmentType(IntEnum):
 
 @dataclass(frozen=True)
 class Hop:
-    """An AS of a segment, and the interfaces by which a path comes in and goes out: 0 at the segment's ends."""
+    """An AS of a segment, and the interfaces by which a path enters and leaves it, which are 0 at
+    the segment's ends."""
 
     isd_as: int
     ingress: int
@@ -37,12 +37,14 @@ class Hop:
 
 
 def parse_path(text: str) -> list[Hop]:
-    """The hops of a text such as `1-ff00:0:110 1>2 1-ff00:0:111`, with egress and ingress between two ASes."""
+    """The hops of a text such as `1-ff00:0:110 1>2 1-ff00:0:111`, with egress and ingress between
+    two ASes. ValueError where it is none."""
     words = text.split(" ")
     links = [word.split(">") for word in words[1::2]]
     egresses = [int(egress) for egress, _ in links] + [0]
     ingresses = [0] + [int(ingress) for _, ingress in links]
-    return [Hop(parse_isd_as(word), *ends) for word, *ends in zip(words[::2], ingresses, egresses, strict=True)]
+    ends = zip(words[::2], ingresses, egresses, strict=True)
+    return [Hop(parse_isd_as(word), ingress, egress) for word, ingress, egress in ends]
 
 
 def path_text(hops: Sequence[Hop]) -> str:
@@ -54,18 +56,23 @@ def path_text(hops: Sequence[Hop]) -> str:
 
 
 def segment_id(hops: Sequence[Hop]) -> bytes:
-    """The id of the segment with these hops: SHA-256 over ISD-AS, ingress and egress of each, big-endian."""
-    return hashlib.sha256(b"".join(struct.pack(">QHH", hop.isd_as, hop.ingress, hop.egress) for hop in hops)).digest()
+    """The id of the segment with these hops: SHA-256 over ISD-AS, ingress and egress of each, in
+    8, 2 and 2 bytes, big-endian."""
+    packed = [struct.pack(">QHH", hop.isd_as, hop.ingress, hop.egress) for hop in hops]
+    return hashlib.sha256(b"".join(packed)).digest()
 
 
 def keyed_signature(key: bytes, signed: bytes, covered: Sequence[bytes]) -> bytes:
-    """The signature of the test profile, which is no standard's: SHA-256 over pieces, each behind its length."""
+    """The signature of the test profile, which is no standard's: SHA-256 over pieces, each after
+    its length in 8 bytes."""
     pieces = [key, signed, *covered]
-    return hashlib.sha256(b"".join(struct.pack(">Q", len(piece)) + piece for piece in pieces)).digest()
+    packed = [struct.pack(">Q", len(piece)) + piece for piece in pieces]
+    return hashlib.sha256(b"".join(packed)).digest()
 
 
 def make_segment(hops: Sequence[Hop], timestamp: int, key: bytes | None = None) -> pb.PathSegment:
-    """The segment with these hops, made at `timestamp`, in seconds since 1970, and signed where there is a key."""
+    """The segment with these hops, made at `timestamp`, in seconds since 1970, and signed where
+    there is a key. ValueError where a number does not fit its field."""
     info = pb.SegmentInformation(timestamp=timestamp, segment_id=1).SerializeToString()
     segment = pb.PathSegment(segment_info=info)
     covered = [info]

@@ -1,0 +1,53 @@
+"""The codes of refusals."""
+from __future__ import annotations
+
+from enum import IntEnum
+
+
+class Code(IntEnum):
+    """The code of a refusal, with its meaning in words. docs/FORMATS.md says when each comes."""
+
+    meaning: str
+
+    # A meaning is given below. A call such as `Code(0x51)` finds the member, and makes none.
+    def __new__(cls, number: int, meaning: str = "") -> Code:
+        code = int.__new__(cls, number)
+        code._value_ = number
+        code.meaning = meaning
+        return code
+
+    MEMORY = 0x01, "memory ran out"
+    TRUNCATED = 0x11, "the message ends within a field"
+    LONG_VARINT = 0x12, "a number has more than 64 bits"
+    BAD_FIELD = 0x13, "a field's number is 0 or too large"
+    GROUP_WIRE = 0x14, "a field is a group"
+    BAD_WIRE = 0x15, "a field's wire type is unknown"
+    KIND_OF_FIELD = 0x22, "a known field has another wire type than its own"
+    REPEATED_MESSAGE = 0x23, "a message or a type occurs twice"
+    MISSING_FIELD = 0x24, "a message that is needed is missing"
+    RANGE = 0x25, "a number is out of its range"
+    CHAIN = 0x26, "the entries of a segment are no chain"
+    LOOP = 0x27, "an AS occurs twice in a segment"
+    ENTRIES = 0x28, "a segment has no entries, or more than 64"
+    BAD_TYPE = 0x29, "there is no such type of segment"
+    TOO_LARGE = 0x2A, "a segment or the registration is too large"
+    BAD_SIGNATURE = 0x31, "a signature is not good"
+    EXPIRED = 0x32, "a segment has expired"
+    NULL_DESTINATION = 0x41, "both sides are 0-0"
+    ISD_ONLY_WILDCARD = 0x42, "a side has an AS, and no ISD"
+    NO_CORE = 0x43, "neither side is a core AS"
+    BUSY = 0x51, "too many commands wait to be committed"
+    FULL = 0x52, "the store has no room for the rows"
+    COMMAND_TOO_LARGE = 0x53, "the command is too large"
+    STOPPED = 0x54, "the store has stopped"
+    EXHAUSTED = 0x55, "no place is left"
+    OLD_STORE = 0x57, "the store is of a version that has no removals"
+    NO_SEAT = 0x61, "the server has 64 sessions, which is the most"
+    OUTCOME_UNKNOWN = (
+        0x62,
+        "the store stopped before the command was committed: it may be kept or lost",
+    )
+
+
+# After these refusals a server has changed nothing, and the same request may succeed later.
+PASSING_CODES = frozenset({Code.MEMORY, Code.BUSY, Code.NO_SEAT})

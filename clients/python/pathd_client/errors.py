@@ -1,0 +1,39 @@
+"""Why a request has no reply."""
+from __future__ import annotations
+
+from collections.abc import Sequence
+from typing import TYPE_CHECKING
+
+if TYPE_CHECKING:
+    from .replies import Reply
+
+
+class SessionError(Exception):
+    """A request has no reply.
+
+    `replies` has an item for each request of the call, in order: its reply, or None where there is
+    none.
+    """
+
+    replies: Sequence[Reply | None] = ()
+
+
+class FrameError(SessionError):
+    """What came is no reply to the request."""
+
+
+class ConnectionEnded(SessionError):
+    """The connection ended before the reply came, or none could be made."""
+
+
+class TurnedAway(ConnectionEnded):
+    """The server has 64 sessions, and ended the connection. It has read no request."""
+
+
+class OutcomeUnknown(SessionError):
+    """The connection ended after a request was sent that may not be carried out twice. Whether it
+    was carried out is not known."""
+
+
+class ReplyTimeout(SessionError, TimeoutError):
+    """The reply did not come in time. Whether the request was carried out is not known."""
