@@ -1,0 +1,97 @@
+"""The commands of `python -m pathd_client`."""
+from __future__ import annotations
+
+import subprocess
+import sys
+import tempfile
+import unittest
+from pathlib import Path
+
+from pathd_client import Register, SegmentType, frame, make_segment, parse_path
+
+from .fake_server import FakeServer, ack, answers, closes, refusal
+from .samples import MADE, PATH, PURGE, REMOVE
+
+FOLDER = Path(__file__).resolve().parents[1]
+DOWN = (SegmentType.DOWN, make_segment(parse_path(PATH), MADE))
+
+
+def run(*words: str, text: str = "") -> tuple[int, str, str]:
+    """The status of a command, its output and what it says on standard error."""
+    command = [sys.executable, "-m", "pathd_client", *words]
+    done = subprocess.run(
+        command, cwd=FOLDER, input=text, capture_output=True, text=True, check=False, timeout=60
+    )
+    return done.returncode, done.stdout, done.stderr
+
+
+def at(server: FakeServer) -> list[str]:
+    """The words that lead to a server."""
+    host, port = server.address
+    return ["--connect", f"{host}:{port}", "--attempts", "2"]
+
+
+class Commands(unittest.TestCase):
+    """What is sent, printed and answered as the status."""
+
+    def test_register(self) -> None:
+        text = f"# a comment\n\ndown {MADE} {PATH}\n" * 17
+        with FakeServer(answers(ack(0, inserted=16), ack(1, inserted=1))) as server:
+            status, printed, _ = run(*at(server), "register", "-", text=text)
+        lines = "place 0: 16 inserted, 0 updated, 0 kept, 0 purged\n"
+        lines += "place 1: 1 inserted, 0 updated, 0 kept, 0 purged\n"
+        self.assertEqual((status, printed), (0, lines))
+        sent = [frame(Register([DOWN] * count))[4:] for count in (16, 1)]
+        self.assertEqual(server.requests, [sent])
+
+    def test_register_a_file(self) -> None:
+        with tempfile.NamedTemporaryFile("w", suffix=".txt") as file:
+            file.write(f"down {MADE} {PATH}\n")
+            file.flush()
+            with FakeServer(answers(refusal(0x32))) as server:
+                status, printed, _ = run(*at(server), "register", file.name)
+        self.assertEqual((status, printed), (1, "refused: a segment has expired\n"))
+
+    def test_lookup(self) -> None:
+        with FakeServer(answers(b"\x82" + Register([DOWN]).body())) as server:
+            status, printed, _ = run(*at(server), "lookup", "1-ff00:0:110", "1-ff00:0:111")
+        identity = "8adcea68dc57cbbe68da7142af88b68a9d27a590e1d5157c53c2bb2c762345ff"
+        self.assertEqual((status, printed), (0, f"down {identity} {MADE} 8000043200 {PATH}\n"))
+
+    def test_purge_and_remove(self) -> None:
+        with FakeServer(answers(ack(0, 0x83)), answers(ack(1, 0x84))) as server:
+            self.assertEqual(run(*at(server), "purge", "--at", "5")[0], 0)
+            self.assertEqual(run(*at(server), "remove", "down", REMOVE.id.hex())[0], 0)
+        self.assertEqual(server.requests, [[frame(PURGE)[4:]], [frame(REMOVE)[4:]]])
+
+    def test_servers_that_fail(self) -> None:
+        with FakeServer(closes, closes) as server:
+            status, printed, said = run(*at(server), "purge")
+        self.assertEqual((status, printed), (1, ""))
+        self.assertIn("error: the server ended the connection", said)
+        with FakeServer(closes) as server:
+            status, _, said = run(*at(server), "remove", "down", REMOVE.id.hex())
+        self.assertEqual(status, 1)
+        self.assertIn("may have been carried out", said)
+
+    def test_words_that_are_wrong(self) -> None:
+        wrong: list[list[str]] = [
+            ["remove", "sideways", "00" * 32], ["remove", "up", "00"], ["remove", "up", "zz"],
+            ["lookup", "1", "1-1"], ["purge", "--at", "-1"], ["purge", "--at", "x"], ["register"],
+            ["--connect", "nowhere", "purge"], ["--attempts", "0", "purge"], ["store"], [],
+        ]
+        for words in wrong:
+            status, printed, said = run(*words)
+            self.assertEqual((status, printed), (2, ""), words)
+            self.assertNotIn("Traceback", said)
+        for line in ("down", "down now 1-1 1", f"down x {PATH}", f"to now {PATH}"):
+            self.assertEqual(run("register", "-", text=line)[0], 2, line)
+
+    def test_a_file_that_is_not_there(self) -> None:
+        status, _, said = run("register", "/nowhere/segments.txt")
+        self.assertEqual(status, 1)
+        self.assertIn("error: ", said)
+
+
+if __name__ == "__main__":
+    unittest.main()
