@@ -26,7 +26,7 @@ PROGRAMS = [
     ("strace perl", "syscalls PROGRAM"),
     ("strace", "faults PROGRAM"),
     ("strace python3", "server-calls PROGRAM"),
-    ("protoc python3-protobuf", "client PROGRAM"),
+    ("python3-protobuf", "client PROGRAM"),
     ("root losetup", "block-device PROGRAM"),
     ("root btrfs", "snapshots --program PROGRAM"),
     ("root losetup nspawn nft ip protoc python3-protobuf python3-venv", "units --short PROGRAM"),

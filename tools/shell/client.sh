@@ -4,22 +4,22 @@
 # each reply, each without a key and with one. With a key the last segment is refused, since it is
 # signed with another one. The commands of `python -m pathd_client` are those of commands.txt there,
 # which has what each prints. Then a server is killed (-9) after a registration was acknowledged,
-# started again on the same file, and asked for the segment. It needs Debian's protobuf-compiler and
-# python3-protobuf, uses the loopback alone, and is no part of the gate.
+# started again on the same file, and asked for the segment. Last the client's own tests are run,
+# with sessions of the program among them. It needs Debian's python3-protobuf, uses the loopback
+# alone, and is no part of the gate.
 #
 #     tools/pathd-tools client [PROGRAM]
 #
 # PROGRAM is crates/pathd/out/pathd if left out, which `rt run` builds.
 set -u
 top=$(cd "$(dirname "${BASH_SOURCE[0]}")/../.." && pwd)
-"$top/tools/pathd-tools" need protoc python3-protobuf || exit
+"$top/tools/pathd-tools" need python3-protobuf || exit
 program=$(realpath "${1:-$top/crates/pathd/out/pathd}") || exit 2
 [ -x "$program" ] || { echo "no program: $program" >&2; exit 2; }
 work=$(mktemp -d) || exit 2
 server=
 trap '[ -z "$server" ] || kill -9 "$server" 2>/dev/null; rm -rf "$work"' EXIT
 cp -r "$top"/clients/python/{demo.py,restart.py,pathd_client} "$work"
-protoc --python_out="$work" --proto_path="$top/docs" segments.proto || exit 2
 cores=1-ff00:0:110,1-ff00:0:120,2-64512
 key=000102030405060708
 # The segments of a server have to be valid by the machine's clock: these are of the year 2096.
@@ -44,6 +44,8 @@ compare() { # a text with what is printed by these options
 }
 
 start() { # a server of a file, with these options; sets `address`
+  : >"$work/ready"
+  : >"$work/notices"
   "$program" run "$work/store" --listen 127.0.0.1:0 --cores "$cores" "$@" >"$work/ready" 2>"$work/notices" &
   server=$!
   for _ in $(seq 200); do
@@ -98,4 +100,7 @@ kill "$server"
 wait "$server" 2>/dev/null
 server=
 echo "$sessions sessions, $differences differ"
+
+export PATHD=$program PYTHONDONTWRITEBYTECODE=1
+(cd "$top/clients/python" && /usr/bin/python3 -m unittest --quiet) || differences=$((differences + 1))
 [ "$differences" = 0 ]
