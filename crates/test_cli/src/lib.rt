@@ -1,14 +1,10 @@
-//! Tests of the command line: how its words are read, what each command over a store prints, byte
-//! for byte, the page of a server's numbers, and the error line and the status with which the
-//! program ends.
+//! Tests of the command line: how its words are read, commands over a store whose device, output or
+//! memory fails, the page of a server's numbers, and the error line and the status with which the
+//! program ends. Whole command lines are in `test_program`.
 #![tactic(auto)]
 
 #[cfg(test)]
-mod command_lines;
-#[cfg(test)]
 mod commands;
-#[cfg(test)]
-mod faults;
 #[cfg(test)]
 mod lines;
 #[cfg(test)]

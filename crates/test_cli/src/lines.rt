@@ -1,106 +1,15 @@
-//! The last line of each way in which the program ends, as docs/OPERATING.md has it, and its
-//! status.
+//! The last lines of ways in which the program ends, as docs/OPERATING.md has them, and their
+//! status: those that no whole command line of `test_program` comes to, since memory or a device
+//! has to fail for them.
 
-use ckpt_pair::PairError;
 use cli_once::Fault;
-use cli_program::{Done, Ended, status_of};
-use gate_journal::JournalError;
-use isd_as::IaError;
+use cli_program::{Ended, status_of};
+use cli_store::Fault as StoreFault;
 use path_server::RunError;
 use session_core::FrameError;
 use std::alloc::Global;
 use std::process::Abort;
 use store_open::{FormatError, OpenError, StoreError};
-
-/// The line of a fault of an option, of a session of `once`, of memory or of a print.
-const SESSIONS: [(Fault, &str); 10] = [
-    (Fault::Text(IaError::BadText), "error: text 1"),
-    (Fault::Text(IaError::TooLarge), "error: text 2"),
-    (Fault::Hex, "error: hex"),
-    (Fault::Frame(FrameError::Length), "error: frame 1"),
-    (Fault::Frame(FrameError::Kind), "error: frame 2"),
-    (Fault::Frame(FrameError::Read), "error: frame 3"),
-    (Fault::Frame(FrameError::Write), "error: frame 4"),
-    (Fault::Frame(FrameError::Turns), "error: frame 5"),
-    (Fault::Memory, "error: memory"),
-    (Fault::Output, "error: output"),
-];
-
-/// The line of a fault of a store.
-const STORES: [(cli_store::Fault, &str); 21] = [
-    (cli_store::Fault::File, "error: device 1"),
-    (
-        cli_store::Fault::Checkpoint(StoreError::Fault),
-        "error: device 1",
-    ),
-    (
-        cli_store::Fault::Checkpoint(StoreError::Sealed),
-        "error: device 2",
-    ),
-    (
-        cli_store::Fault::Checkpoint(StoreError::Exhausted),
-        "error: device 4",
-    ),
-    (
-        cli_store::Fault::Checkpoint(StoreError::Unfit),
-        "error: device 5",
-    ),
-    (
-        cli_store::Fault::Format(FormatError::BadGeometry),
-        "error: format 1",
-    ),
-    (
-        cli_store::Fault::Format(FormatError::TooSmall),
-        "error: format 2",
-    ),
-    (
-        cli_store::Fault::Format(FormatError::Fault),
-        "error: format 3",
-    ),
-    (
-        cli_store::Fault::Open(OpenError::NotAStore),
-        "error: open 1",
-    ),
-    (cli_store::Fault::Open(OpenError::Device), "error: open 2"),
-    (
-        cli_store::Fault::Open(OpenError::Pair(PairError::NoHalf)),
-        "error: open 3 1",
-    ),
-    (
-        cli_store::Fault::Open(OpenError::Pair(PairError::SameEpoch)),
-        "error: open 3 2",
-    ),
-    (
-        cli_store::Fault::Open(OpenError::Pair(PairError::BadCheckpoint)),
-        "error: open 3 3",
-    ),
-    (
-        cli_store::Fault::Open(OpenError::Pair(PairError::SealedNewer)),
-        "error: open 3 4",
-    ),
-    (
-        cli_store::Fault::Open(OpenError::Pair(PairError::NewerFormat(3))),
-        "error: open 3 5",
-    ),
-    (
-        cli_store::Fault::Open(OpenError::Journal(JournalError::BadHeader)),
-        "error: open 4 1",
-    ),
-    (
-        cli_store::Fault::Open(OpenError::Journal(JournalError::BadRecord)),
-        "error: open 4 2",
-    ),
-    (
-        cli_store::Fault::Open(OpenError::Journal(JournalError::Gap(7))),
-        "error: open 4 3",
-    ),
-    (
-        cli_store::Fault::Open(OpenError::Journal(JournalError::PastEnd)),
-        "error: open 4 4",
-    ),
-    (cli_store::Fault::Memory, "error: memory"),
-    (cli_store::Fault::Output, "error: output"),
-];
 
 /// Sees the line and the status of a way to end.
 fn assert_line(rt: &impl Abort, alloc: Global, ended: Ended, wanted: &str) {
@@ -109,26 +18,43 @@ fn assert_line(rt: &impl Abort, alloc: Global, ended: Ended, wanted: &str) {
     assert_eq!(rt; status_of(&Err(ended)), 1, "{wanted}");
 }
 
+/// The lines of faults of a store.
+const STORES: [(StoreFault, &str); 7] = [
+    (
+        StoreFault::Format(FormatError::BadGeometry),
+        "error: format 1",
+    ),
+    (StoreFault::Format(FormatError::TooSmall), "error: format 2"),
+    (StoreFault::Format(FormatError::Fault), "error: format 3"),
+    (StoreFault::Open(OpenError::Device), "error: open 2"),
+    (StoreFault::Checkpoint(StoreError::Fault), "error: device 1"),
+    (
+        StoreFault::Checkpoint(StoreError::Broken),
+        "error: device 6",
+    ),
+    (StoreFault::Memory, "error: memory"),
+];
+
 #[test]
 fn lines_of_ends(rt: HostRuntime) {
-    for (fault, line) in SESSIONS {
-        assert_line(&rt, rt.alloc(), Ended::from(fault), line);
-    }
     for (fault, line) in STORES {
         assert_line(&rt, rt.alloc(), Ended::from(fault), line);
     }
-    assert_line(&rt, rt.alloc(), Ended::Net, "error: net");
+    let turns = Ended::from(Fault::from(FrameError::Turns));
+    assert_line(&rt, rt.alloc(), turns, "error: frame 5");
+    let net = Ended::from(RunError::Net);
+    assert_line(&rt, rt.alloc(), net, "error: net");
 }
 
 #[test]
-fn ends_of_servers(rt: HostRuntime) {
-    let memory = Ended::from(RunError::NoMemory);
-    assert_line(&rt, rt.alloc(), memory, "error: memory");
-    assert_line(&rt, rt.alloc(), Ended::from(RunError::Net), "error: net");
-}
-
-#[test]
-fn statuses_of_answered_lines(rt: HostRuntime) {
-    assert_eq!(rt; status_of(&Ok(Done::Carried)), 0);
-    assert_eq!(rt; status_of(&Ok(Done::Refused)), 2);
+fn lines_of_refused_memory(rt: HostRuntime) {
+    for ended in [
+        Ended::from(Fault::Memory),
+        Ended::from(Fault::from(FrameError::NoMemory)),
+        Ended::from(StoreFault::from(OpenError::NoMemory)),
+        Ended::from(StoreFault::from(StoreError::NoMemory)),
+        Ended::from(RunError::NoMemory),
+    ] {
+        assert_line(&rt, rt.alloc(), ended, "error: memory");
+    }
 }

@@ -1,6 +1,6 @@
-//! What command lines ask for, how they are refused, and the help of each command.
+//! What command lines ask for, and how they are refused. What is printed of refused ones, and the
+//! help, are lines of `test_program`.
 
-use crate::command_lines::kept;
 use clap::error::ErrorKind;
 use cli_words::{
     CHECKPOINT, CORES, CommandLine, DEVICE, FORMAT, HEX, IDLE, JOURNAL, KEY, LAYOUT, LISTEN, NOW,
@@ -9,91 +9,82 @@ use cli_words::{
 use std::alloc::Global;
 use std::process::Abort;
 
+/// Appends a word, which is kept as a text.
+fn push_word(rt: &impl Abort, alloc: Global, words: &mut Vec<String>, word: &str) {
+    let word = word.to_string(alloc).expect(rt, "no memory");
+    words.push(word).expect(rt, "no memory");
+}
+
 /// The words of a line, which are parted by single spaces, after the program's name.
 fn words_of(rt: &impl Abort, alloc: Global, line: &str) -> Vec<String> {
     let mut words = Vec::new(alloc);
-    words.push("pathd").expect(rt, "no memory");
+    push_word(rt, alloc, &mut words, "pathd");
     for word in line.split(' ') {
-        if !word.is_empty() {
-            words.push(word).expect(rt, "no memory");
-        }
+        push_word(rt, alloc, &mut words, word);
     }
-    kept(rt, alloc, words.as_slice())
+    words
 }
 
-/// A line, the command that it asks for, and an option of it with its value.
-type Value = (
-    &'static str,
-    &'static str,
-    &'static str,
-    Option<&'static str>,
-);
+/// An option of a command line, and its value.
+#[derive(Clone, Copy)]
+struct Value {
+    line: &'static str,
+    /// The command that the line asks for.
+    command: &'static str,
+    option: &'static str,
+    value: Option<&'static str>,
+}
 
 const ALL_OF_ONCE: &str = "once --cores 1-1,2-2 --now 5 --key 00ff --hex";
 
 const ALL_OF_RUN: &str =
     "run --quiet --idle 4294967295 --sessions 18446744073709551615 --key 00 --cores 1-1 --status [::1]:1 --listen [::1]:0 d";
 
+#[rattlefmt::skip]
 const VALUES: [Value; 28] = [
-    (ALL_OF_ONCE, ONCE, CORES, Some("1-1,2-2")),
-    (ALL_OF_ONCE, ONCE, NOW, Some("5")),
-    (ALL_OF_ONCE, ONCE, KEY, Some("00ff")),
-    ("once", ONCE, CORES, None),
-    ("once", ONCE, NOW, None),
-    ("once", ONCE, KEY, None),
-    ("once --key=", ONCE, KEY, Some("")),
-    (
-        "format d --checkpoint 2 --journal 516",
-        FORMAT,
-        DEVICE,
-        Some("d"),
-    ),
-    (
-        "format --journal=516 --checkpoint=2 d",
-        FORMAT,
-        DEVICE,
-        Some("d"),
-    ),
-    (
-        "format d --checkpoint 1048576 --journal 516",
-        FORMAT,
-        CHECKPOINT,
-        Some("1048576"),
-    ),
-    (
-        "format d --checkpoint 2 --journal 1048576",
-        FORMAT,
-        JOURNAL,
-        Some("1048576"),
-    ),
-    ("show d", SHOW, DEVICE, Some("d")),
-    ("show --layout d", SHOW, DEVICE, Some("d")),
-    ("show -- --layout", SHOW, DEVICE, Some("--layout")),
-    ("status d", STATUS, DEVICE, Some("d")),
-    ("status -- --layout", STATUS, DEVICE, Some("--layout")),
-    ("upgrade d", UPGRADE, DEVICE, Some("d")),
-    (ALL_OF_RUN, RUN, DEVICE, Some("d")),
-    (ALL_OF_RUN, RUN, LISTEN, Some("[::1]:0")),
-    (ALL_OF_RUN, RUN, STATUS_LISTEN, Some("[::1]:1")),
-    (ALL_OF_RUN, RUN, SESSIONS, Some("18446744073709551615")),
-    (ALL_OF_RUN, RUN, IDLE, Some("4294967295")),
-    (ALL_OF_RUN, RUN, CORES, Some("1-1")),
-    (ALL_OF_RUN, RUN, KEY, Some("00")),
-    ("run d --listen a", RUN, LISTEN, Some("a")),
-    ("run d --listen a", RUN, STATUS_LISTEN, None),
-    ("run d --listen a", RUN, SESSIONS, None),
-    ("run d --listen a", RUN, IDLE, None),
+    Value { line: ALL_OF_ONCE, command: ONCE, option: CORES, value: Some("1-1,2-2") },
+    Value { line: ALL_OF_ONCE, command: ONCE, option: NOW, value: Some("5") },
+    Value { line: ALL_OF_ONCE, command: ONCE, option: KEY, value: Some("00ff") },
+    Value { line: "once", command: ONCE, option: CORES, value: None },
+    Value { line: "once", command: ONCE, option: NOW, value: None },
+    Value { line: "once", command: ONCE, option: KEY, value: None },
+    Value { line: "once --key=", command: ONCE, option: KEY, value: Some("") },
+    Value { line: "format d --checkpoint 2 --journal 516", command: FORMAT, option: DEVICE, value: Some("d") },
+    Value { line: "format --journal=516 --checkpoint=2 d", command: FORMAT, option: DEVICE, value: Some("d") },
+    Value { line: "format d --checkpoint 1048576 --journal 516", command: FORMAT, option: CHECKPOINT, value: Some("1048576") },
+    Value { line: "format d --checkpoint 2 --journal 1048576", command: FORMAT, option: JOURNAL, value: Some("1048576") },
+    Value { line: "show d", command: SHOW, option: DEVICE, value: Some("d") },
+    Value { line: "show --layout d", command: SHOW, option: DEVICE, value: Some("d") },
+    Value { line: "show -- --layout", command: SHOW, option: DEVICE, value: Some("--layout") },
+    Value { line: "status d", command: STATUS, option: DEVICE, value: Some("d") },
+    Value { line: "status -- --layout", command: STATUS, option: DEVICE, value: Some("--layout") },
+    Value { line: "upgrade d", command: UPGRADE, option: DEVICE, value: Some("d") },
+    Value { line: ALL_OF_RUN, command: RUN, option: DEVICE, value: Some("d") },
+    Value { line: ALL_OF_RUN, command: RUN, option: LISTEN, value: Some("[::1]:0") },
+    Value { line: ALL_OF_RUN, command: RUN, option: STATUS_LISTEN, value: Some("[::1]:1") },
+    Value { line: ALL_OF_RUN, command: RUN, option: SESSIONS, value: Some("18446744073709551615") },
+    Value { line: ALL_OF_RUN, command: RUN, option: IDLE, value: Some("4294967295") },
+    Value { line: ALL_OF_RUN, command: RUN, option: CORES, value: Some("1-1") },
+    Value { line: ALL_OF_RUN, command: RUN, option: KEY, value: Some("00") },
+    Value { line: "run d --listen a", command: RUN, option: LISTEN, value: Some("a") },
+    Value { line: "run d --listen a", command: RUN, option: STATUS_LISTEN, value: None },
+    Value { line: "run d --listen a", command: RUN, option: SESSIONS, value: None },
+    Value { line: "run d --listen a", command: RUN, option: IDLE, value: None },
 ];
 
 /// Sees the value of an option.
-fn assert_value(rt: &impl Abort, alloc: Global, (line, command, name, value): Value) {
+fn assert_value(rt: &impl Abort, alloc: Global, wanted: Value) {
+    let Value { line, option, .. } = wanted;
     let words = words_of(rt, alloc, line);
     let CommandLine {
         subcommand,
         options,
     } = read(alloc, words.as_slice()).expect(rt, line);
-    assert!(rt; Subcommand::named(command) == Some(subcommand), "{line}");
-    assert!(rt; options.get_str(name) == value, "{line} {name}");
+    assert!(rt;
+        Subcommand::named(wanted.command) == Some(subcommand),
+        "{line}"
+    );
+    assert!(rt; options.get_str(option) == wanted.value, "{line} {option}");
 }
 
 #[test]
@@ -103,27 +94,39 @@ fn values_of_options(rt: HostRuntime) {
     }
 }
 
-/// A line, the command that it asks for, and whether a flag of it is given.
-type Flag = (&'static str, &'static str, &'static str, bool);
+/// A flag of a command line, and whether it is given.
+#[derive(Clone, Copy)]
+struct Flag {
+    line: &'static str,
+    /// The command that the line asks for.
+    command: &'static str,
+    flag: &'static str,
+    is_given: bool,
+}
 
+#[rattlefmt::skip]
 const FLAGS: [Flag; 6] = [
-    ("once", ONCE, HEX, false),
-    (ALL_OF_ONCE, ONCE, HEX, true),
-    ("show d", SHOW, LAYOUT, false),
-    ("show d --layout", SHOW, LAYOUT, true),
-    ("run d --listen a", RUN, QUIET, false),
-    (ALL_OF_RUN, RUN, QUIET, true),
+    Flag { line: "once", command: ONCE, flag: HEX, is_given: false },
+    Flag { line: ALL_OF_ONCE, command: ONCE, flag: HEX, is_given: true },
+    Flag { line: "show d", command: SHOW, flag: LAYOUT, is_given: false },
+    Flag { line: "show d --layout", command: SHOW, flag: LAYOUT, is_given: true },
+    Flag { line: "run d --listen a", command: RUN, flag: QUIET, is_given: false },
+    Flag { line: ALL_OF_RUN, command: RUN, flag: QUIET, is_given: true },
 ];
 
 /// Sees whether a flag is given.
-fn assert_flag(rt: &impl Abort, alloc: Global, (line, command, name, value): Flag) {
+fn assert_flag(rt: &impl Abort, alloc: Global, wanted: Flag) {
+    let Flag { line, flag, .. } = wanted;
     let words = words_of(rt, alloc, line);
     let CommandLine {
         subcommand,
         options,
     } = read(alloc, words.as_slice()).expect(rt, line);
-    assert!(rt; Subcommand::named(command) == Some(subcommand), "{line}");
-    assert!(rt; options.get_flag(name) == value, "{line} {name}");
+    assert!(rt;
+        Subcommand::named(wanted.command) == Some(subcommand),
+        "{line}"
+    );
+    assert!(rt; options.get_flag(flag) == wanted.is_given, "{line} {flag}");
 }
 
 #[test]
@@ -134,9 +137,8 @@ fn flags(rt: HostRuntime) {
 }
 
 /// Lines that are refused, and how.
-const REFUSED: [(&str, ErrorKind); 37] = [
-    ("", ErrorKind::MissingSubcommand),
-    ("serve", ErrorKind::InvalidSubcommand),
+#[rattlefmt::skip]
+const REFUSED: [(&str, ErrorKind); 28] = [
     ("--version", ErrorKind::UnknownArgument),
     ("once d", ErrorKind::UnknownArgument),
     ("once --now", ErrorKind::InvalidValue),
@@ -146,228 +148,37 @@ const REFUSED: [(&str, ErrorKind); 37] = [
     ("once --listen a", ErrorKind::UnknownArgument),
     ("format", ErrorKind::MissingRequiredArgument),
     ("format d", ErrorKind::MissingRequiredArgument),
-    (
-        "format d --checkpoint 2",
-        ErrorKind::MissingRequiredArgument,
-    ),
+    ("format d --checkpoint 2", ErrorKind::MissingRequiredArgument),
     ("format d --journal 516", ErrorKind::MissingRequiredArgument),
-    (
-        "format --checkpoint 2 --journal 516",
-        ErrorKind::MissingRequiredArgument,
-    ),
-    (
-        "format d --checkpoint 1 --journal 516",
-        ErrorKind::ValueValidation,
-    ),
-    (
-        "format d --checkpoint 1048577 --journal 516",
-        ErrorKind::ValueValidation,
-    ),
-    (
-        "format d --checkpoint 2 --journal 515",
-        ErrorKind::ValueValidation,
-    ),
-    (
-        "format d --checkpoint 2 --journal 1048577",
-        ErrorKind::ValueValidation,
-    ),
-    (
-        "format d e --checkpoint 2 --journal 516",
-        ErrorKind::UnknownArgument,
-    ),
+    ("format --checkpoint 2 --journal 516", ErrorKind::MissingRequiredArgument),
+    ("format d --checkpoint 1048577 --journal 516", ErrorKind::ValueValidation),
+    ("format d e --checkpoint 2 --journal 516", ErrorKind::UnknownArgument),
     ("show", ErrorKind::MissingRequiredArgument),
     ("show d e", ErrorKind::UnknownArgument),
     ("show d --quiet", ErrorKind::UnknownArgument),
-    ("status", ErrorKind::MissingRequiredArgument),
-    ("status d e", ErrorKind::UnknownArgument),
-    ("status d --layout", ErrorKind::UnknownArgument),
     ("status d --device=d", ErrorKind::UnknownArgument),
     ("upgrade", ErrorKind::MissingRequiredArgument),
     ("upgrade d --layout", ErrorKind::UnknownArgument),
-    ("run d", ErrorKind::MissingRequiredArgument),
     ("run --listen a", ErrorKind::MissingRequiredArgument),
     ("run d --listen", ErrorKind::InvalidValue),
     ("run d --listen a --listen b", ErrorKind::ArgumentConflict),
     ("run d --status a", ErrorKind::MissingRequiredArgument),
     ("run d --listen a --status", ErrorKind::InvalidValue),
-    (
-        "run d --listen a --sessions 18446744073709551616",
-        ErrorKind::ValueValidation,
-    ),
-    (
-        "run d --listen a --idle 4294967296",
-        ErrorKind::ValueValidation,
-    ),
+    ("run d --listen a --sessions 18446744073709551616", ErrorKind::ValueValidation),
+    ("run d --listen a --idle 4294967296", ErrorKind::ValueValidation),
     ("run d --listen a --idle +1", ErrorKind::ValueValidation),
 ];
 
-/// How a line ends that isn't read: the kind, the status, and the text.
-fn ended(rt: &impl Abort, alloc: Global, line: &str) -> (ErrorKind, i32, String) {
-    let words = words_of(rt, alloc, line);
-    let error = read(alloc, words.as_slice()).err().expect(rt, line);
-    let text = error.to_string(alloc).expect(rt, "no memory");
-    (error.kind(), error.exit_code(), text)
-}
-
 /// Sees how a line is refused.
 fn assert_refused(rt: &impl Abort, alloc: Global, line: &str, wanted: ErrorKind) {
-    let (kind, status, text) = ended(rt, alloc, line);
-    assert!(rt; kind == wanted && status == 2, "{line}");
-    assert!(rt; text.as_str().starts_with("error: "), "{line}");
+    let words = words_of(rt, alloc, line);
+    let error = read(alloc, words.as_slice()).err().expect(rt, line);
+    assert!(rt; error.kind() == wanted && error.exit_code() == 2, "{line}");
 }
 
 #[test]
 fn lines_that_are_not_read(rt: HostRuntime) {
     for (line, kind) in REFUSED {
         assert_refused(&rt, rt.alloc(), line, kind);
-    }
-}
-
-/// What is printed of lines that are refused.
-const TEXTS: [(&str, &str); 4] = [
-    (
-        "serve",
-        "error: unrecognized subcommand 'serve'
-
-Usage: pathd <COMMAND>
-
-For more information, try '--help'.
-",
-    ),
-    (
-        "run d",
-        "error: the following required arguments were not provided:
-  --listen <ADDR>
-
-Usage: pathd run --listen <ADDR> <DEV>
-
-For more information, try '--help'.
-",
-    ),
-    (
-        "status",
-        "error: the following required arguments were not provided:
-  <DEV>
-
-Usage: pathd status <DEV>
-
-For more information, try '--help'.
-",
-    ),
-    (
-        "upgrade d e",
-        "error: unexpected argument 'e' found
-
-Usage: pathd upgrade <DEV>
-
-For more information, try '--help'.
-",
-    ),
-];
-
-/// Sees what is printed of a line that is refused.
-fn assert_text(rt: &impl Abort, alloc: Global, line: &str, wanted: &str) {
-    let (_kind, _status, text) = ended(rt, alloc, line);
-    assert_eq!(rt; text.as_str(), wanted, "{line}");
-}
-
-#[test]
-fn texts_of_lines_that_are_not_read(rt: HostRuntime) {
-    for (line, text) in TEXTS {
-        assert_text(&rt, rt.alloc(), line, text);
-    }
-}
-
-/// What the help of the program has.
-const COMMANDS: &[&str] = &[
-    "Usage: pathd <COMMAND>\n",
-    "\n  once ",
-    "\n  format ",
-    "\n  show ",
-    "\n  status ",
-    "\n  upgrade ",
-    "\n  run ",
-];
-
-/// Lines that ask for help, and what it has: how the command is used, and each of its words.
-const HELPS: [(&str, &[&str]); 10] = [
-    ("--help", COMMANDS),
-    ("-h", COMMANDS),
-    ("help", COMMANDS),
-    (
-        "once --help",
-        &[
-            "Usage: pathd once [OPTIONS]\n",
-            "\n      --cores <LIST>  ",
-            "\n      --now <T>  ",
-            "\n      --key <HEX>  ",
-            "\n      --hex  ",
-        ],
-    ),
-    (
-        "format --help",
-        &[
-            "Usage: pathd format --checkpoint <C> --journal <J> <DEV>\n",
-            "\n  <DEV>  ",
-            "\n      --checkpoint <C>  ",
-            "2 to 1048576\n",
-            "\n      --journal <J>  ",
-            "516 to 1048576\n",
-        ],
-    ),
-    (
-        "help format",
-        &["Usage: pathd format --checkpoint <C> --journal <J> <DEV>\n"],
-    ),
-    (
-        "show -h",
-        &[
-            "Usage: pathd show [OPTIONS] <DEV>\n",
-            "\n  <DEV>  ",
-            "\n      --layout  ",
-        ],
-    ),
-    (
-        "status --help",
-        &["Usage: pathd status <DEV>\n", "\n  <DEV>  "],
-    ),
-    (
-        "upgrade --help",
-        &["Usage: pathd upgrade <DEV>\n", "\n  <DEV>  "],
-    ),
-    (
-        "run --help",
-        &[
-            "Usage: pathd run [OPTIONS] --listen <ADDR> <DEV>\n",
-            "\n  <DEV>  ",
-            "\n      --listen <ADDR>  ",
-            "\n      --status <ADDR>  ",
-            "\n      --cores <LIST>  ",
-            "\n      --key <HEX>  ",
-            "\n      --sessions <N>  ",
-            "\n      --idle <SECONDS>  ",
-            "\n      --quiet  ",
-        ],
-    ),
-];
-
-/// Sees that a help has these parts.
-fn assert_parts(rt: &impl Abort, line: &str, text: &str, parts: &[&str]) {
-    for part in parts {
-        assert!(rt; text.contains(*part), "{line} {part}");
-    }
-}
-
-/// Sees what a line is helped with, whose status is 0.
-fn assert_help(rt: &impl Abort, alloc: Global, line: &str, parts: &[&str]) {
-    let (kind, status, text) = ended(rt, alloc, line);
-    assert!(rt; kind == ErrorKind::DisplayHelp && status == 0, "{line}");
-    assert_parts(rt, line, text.as_str(), parts);
-}
-
-#[test]
-fn help_of_each_command(rt: HostRuntime) {
-    for (line, parts) in HELPS {
-        assert_help(&rt, rt.alloc(), line, parts);
     }
 }

@@ -1,24 +1,31 @@
-//! Stores that aren't made or upgraded: sizes that are refused, devices that fail, and a journal
-//! that is sealed.
+//! Stores that aren't made or upgraded: sizes that are refused, and devices that fail.
 
 use crate::commands::{LEAST, SECTORS, formatted_old};
 use crate::writers::{Room, with_room};
-use cli_store::{Fault, format, show, upgrade};
-use sector_dev::{Device, FaultDevice, MemDevice, SECTOR};
+use cli_store::{Fault, format, upgrade};
+use sector_dev::{Device, FaultDevice, MemDevice};
 use std::alloc::Global;
 use std::process::Abort;
 use std::test::Fail;
 use store_open::{FormatError, Geometry, OpenError, StoreError};
 
-// Sizes in sectors of a checkpoint area, a journal and a device, on which no store of them is made,
-// and why.
-const NO_STORES: [(u32, u32, u64, FormatError); 6] = [
-    (1, 516, SECTORS, FormatError::BadGeometry),
-    (2, 515, SECTORS, FormatError::BadGeometry),
-    (1_048_577, 516, SECTORS, FormatError::BadGeometry),
-    (2, 1_048_577, SECTORS, FormatError::BadGeometry),
-    (2, 516, SECTORS - 1, FormatError::TooSmall),
-    (3, 516, SECTORS, FormatError::TooSmall),
+// Sizes in sectors of a device and of a store's regions, of which no store is made on it, and why.
+#[derive(Clone, Copy)]
+struct NoStore {
+    checkpoint: u32,
+    journal: u32,
+    sectors: u64,
+    why: FormatError,
+}
+
+#[rattlefmt::skip]
+const NO_STORES: [NoStore; 6] = [
+    NoStore { checkpoint: 1, journal: 516, sectors: SECTORS, why: FormatError::BadGeometry },
+    NoStore { checkpoint: 2, journal: 515, sectors: SECTORS, why: FormatError::BadGeometry },
+    NoStore { checkpoint: 1_048_577, journal: 516, sectors: SECTORS, why: FormatError::BadGeometry },
+    NoStore { checkpoint: 2, journal: 1_048_577, sectors: SECTORS, why: FormatError::BadGeometry },
+    NoStore { checkpoint: 2, journal: 516, sectors: SECTORS - 1, why: FormatError::TooSmall },
+    NoStore { checkpoint: 3, journal: 516, sectors: SECTORS, why: FormatError::TooSmall },
 ];
 
 // What making a store answers and prints.
@@ -45,14 +52,14 @@ fn assert_not_formatted(
 
 #[test]
 fn sizes_that_are_not_allowed(rt: HostRuntime) -> Result<(), Fail> {
-    for (checkpoint, journal, sectors, wanted) in NO_STORES {
-        let mut device = MemDevice::new(rt.alloc(), sectors)?;
+    for case in NO_STORES {
+        let mut device = MemDevice::new(rt.alloc(), case.sectors)?;
         let geometry = Geometry {
-            checkpoint,
-            journal,
+            checkpoint: case.checkpoint,
+            journal: case.journal,
         };
         let answer = format_answer(rt.alloc(), &mut device, geometry);
-        assert_not_formatted(&rt, answer, wanted)?;
+        assert_not_formatted(&rt, answer, case.why)?;
     }
     Ok(())
 }
@@ -137,25 +144,5 @@ fn failing_devices_are_upgraded_again(rt: HostRuntime) -> Result<(), Fail> {
         last = answer;
     }
     assert_eq!(rt; last, checkpoint);
-    Ok(())
-}
-
-// Its journal is folded by a checkpointer at work alone.
-#[test]
-fn sealed_old_stores_are_not_upgraded(rt: HostRuntime) -> Result<(), Fail> {
-    let alloc = rt.alloc();
-    let mut device = formatted_old(alloc)?;
-    let mut seal = [0; SECTOR];
-    seal[0] = 2;
-    if 5 < device.sectors() {
-        device.write(5, &seal)?;
-        device.write(4, &[0xa7; SECTOR])?;
-    }
-    let (answer, output, device) = upgrade_answer(alloc, device);
-    let sealed = Err(Fault::Checkpoint(StoreError::Sealed));
-    assert_upgrade(&rt, (answer, &output), (sealed, ""))?;
-    let mut output = with_room(alloc, 100);
-    assert!(rt; show(alloc, device, &mut output).is_ok());
-    assert_eq!(rt; output.text()?, "place 0\n");
     Ok(())
 }
