@@ -27,6 +27,7 @@ PROGRAMS = [
     ("strace", "faults PROGRAM"),
     ("strace python3", "server-calls PROGRAM"),
     ("python3-protobuf", "client PROGRAM"),
+    ("protoc go protoc-gen-go golang-google-protobuf-dev", "go-client PROGRAM"),
     ("root losetup", "block-device PROGRAM"),
     ("root btrfs", "snapshots --program PROGRAM"),
     ("root losetup nspawn nft ip protoc python3-protobuf python3-venv", "units --short PROGRAM"),

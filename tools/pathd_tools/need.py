@@ -53,6 +53,11 @@ def header(name: str, file: str) -> Thing:
     return Thing(name, lambda: runs(*words, given=f"#include <{file}>\n"), f"apt-get install {name}")
 
 
+def file(name: str, path: str) -> Thing:
+    """A package of Debian that has this file."""
+    return Thing(name, lambda: os.path.exists(path), f"apt-get install {name}")
+
+
 def is_new_python() -> bool:
     """Whether Debian's Python has the version that the tools are written for."""
     return runs(DEBIANS_PYTHON, "-c", "import sys; sys.exit(sys.version_info < (3, 11))")
@@ -66,6 +71,9 @@ THINGS = [
     modules("python3-protobuf", "google.protobuf", "python3-protobuf"),
     modules("python3-matplotlib", "matplotlib", "python3-matplotlib"),
     program("protoc", "protobuf-compiler"),
+    program("go", "golang-go"),
+    program("protoc-gen-go", "protoc-gen-go"),
+    file("golang-google-protobuf-dev", "/usr/share/gocode/src/google.golang.org/protobuf/proto/decode.go"),
     program("strace", "strace"),
     program("valgrind", "valgrind", "callgrind_annotate"),
     program("perl", "perl"),

@@ -1,0 +1,292 @@
+package pathd
+
+import (
+	"context"
+	"encoding/binary"
+	"errors"
+	"io"
+	"net"
+	"os"
+	"regexp"
+	"strconv"
+	"strings"
+	"sync"
+	"testing"
+	"time"
+
+	pb "pathd/segmentspb"
+)
+
+const limit = 20 * time.Second
+
+// server is a pathd that a test plays: it reads requests, and writes frames as the test says.
+type server struct {
+	t    *testing.T
+	conn net.Conn
+}
+
+// open answers a client, and the server's end of its session.
+func open(t *testing.T) (*Client, *server, context.Context) {
+	listener, err := net.Listen("tcp", "127.0.0.1:0")
+	if err != nil {
+		t.Fatal(err)
+	}
+	defer listener.Close()
+	ctx, cancel := context.WithTimeout(context.Background(), limit)
+	client, err := Dial(ctx, listener.Addr().String())
+	if err != nil {
+		t.Fatal(err)
+	}
+	conn, err := listener.Accept()
+	if err != nil {
+		t.Fatal(err)
+	}
+	conn.SetDeadline(time.Now().Add(limit))
+	t.Cleanup(func() { client.Close(); conn.Close(); cancel() })
+	return client, &server{t, conn}, ctx
+}
+
+// next answers the kind and the body of the next request.
+func (s *server) next() (byte, []byte) {
+	content, err := readContent(s.conn)
+	if err != nil {
+		s.t.Error(err)
+		return 0, nil
+	}
+	return content[0], content[1:]
+}
+
+// write writes the frame of a reply.
+func (s *server) write(content ...byte) {
+	frame := append(binary.BigEndian.AppendUint32(nil, uint32(len(content))), content...)
+	if _, err := s.conn.Write(frame); err != nil {
+		s.t.Error(err)
+	}
+}
+
+// acknowledge writes the reply of a kind with the numbers place, 1, 2, 3 and 4.
+func (s *server) acknowledge(kind byte, place uint64) {
+	body := binary.BigEndian.AppendUint64([]byte{replied | kind}, place)
+	for count := uint32(1); count <= 4; count++ {
+		body = binary.BigEndian.AppendUint32(body, count)
+	}
+	s.write(body...)
+}
+
+func TestEachRequestHasItsBytes(t *testing.T) {
+	client, server, ctx := open(t)
+	id := [32]byte{0x8a, 31: 0xff}
+	cases := []struct {
+		ask  func() (any, error)
+		kind byte
+		body string
+	}{
+		{func() (any, error) { return client.Purge(ctx, 3_400_043_199) }, purge, "\x00\x00\x00\x00\xca\xa8\x8a\xbf"},
+		{func() (any, error) { return client.Remove(ctx, pb.SegmentType_SEGMENT_TYPE_DOWN, id) }, remove, "\x02" + string(id[:])},
+		{func() (any, error) { return client.Register(ctx, &pb.SegmentsRegistrationRequest{}) }, register, ""},
+		{func() (any, error) { return client.Lookup(ctx, 1, 2) }, lookup, "\x08\x01\x10\x02"},
+	}
+	for number, c := range cases {
+		done := make(chan error, 1)
+		go func() {
+			got, err := c.ask()
+			if c.kind != lookup && got != any(Ack{uint64(number), 1, 2, 3, 4}) {
+				t.Errorf("%v", got)
+			}
+			done <- err
+		}()
+		kind, body := server.next()
+		if kind != c.kind || string(body) != c.body {
+			t.Errorf("kind %d, body %x", kind, body)
+		}
+		if kind == lookup {
+			server.write(replied | kind)
+		} else {
+			server.acknowledge(kind, uint64(number))
+		}
+		if err := <-done; err != nil {
+			t.Error(err)
+		}
+	}
+}
+
+func TestManyAreUnderWay(t *testing.T) {
+	client, server, ctx := open(t)
+	var all sync.WaitGroup
+	for number := uint64(0); number < 4*window; number++ {
+		all.Add(1)
+		go func(moment uint64) {
+			defer all.Done()
+			if ack, err := client.Purge(ctx, moment); err != nil || ack.Place != moment {
+				t.Errorf("%d: %v, %v", moment, ack, err)
+			}
+		}(number)
+	}
+	for batch := 0; batch < 4; batch++ {
+		var moments []uint64
+		for len(moments) < window { // none of these has a reply before all of them have come
+			_, body := server.next()
+			moments = append(moments, binary.BigEndian.Uint64(body))
+		}
+		for _, moment := range moments {
+			server.acknowledge(purge, moment)
+		}
+	}
+	all.Wait()
+}
+
+func TestContextsEndCallsAlone(t *testing.T) {
+	client, server, ctx := open(t)
+	short, cancel := context.WithTimeout(ctx, 50*time.Millisecond)
+	defer cancel()
+	if _, err := client.Purge(short, 1); !errors.Is(err, context.DeadlineExceeded) {
+		t.Error(err)
+	}
+	if _, err := client.Purge(short, 2); !errors.Is(err, context.DeadlineExceeded) {
+		t.Error(err)
+	}
+	cancelled, cancel := context.WithCancel(ctx)
+	go func() {
+		server.next() // the first purge: the second was never sent
+		server.next()
+		cancel()
+	}()
+	if _, err := client.Purge(cancelled, 3); !errors.Is(err, context.Canceled) {
+		t.Error(err)
+	}
+	go func() {
+		if _, body := server.next(); binary.BigEndian.Uint64(body) != 4 {
+			t.Errorf("%x", body)
+		}
+		for _, place := range []uint64{1, 3, 4} {
+			server.acknowledge(purge, place)
+		}
+	}()
+	if ack, err := client.Purge(ctx, 4); err != nil || ack.Place != 4 {
+		t.Errorf("%v, %v", ack, err)
+	}
+}
+
+func TestAFullWindowWaitsAsLongAsTheContext(t *testing.T) {
+	client, server, ctx := open(t)
+	short, cancel := context.WithTimeout(ctx, 200*time.Millisecond)
+	defer cancel()
+	var all sync.WaitGroup
+	for number := 0; number < window+8; number++ {
+		all.Add(1)
+		go func() {
+			defer all.Done()
+			if _, err := client.Purge(short, 0); !errors.Is(err, context.DeadlineExceeded) {
+				t.Error(err)
+			}
+		}()
+	}
+	all.Wait()
+	go func() {
+		for number := 0; number < window; number++ {
+			server.next()
+			server.acknowledge(purge, 0)
+		}
+		server.next()
+		server.acknowledge(purge, 9)
+	}()
+	if ack, err := client.Purge(ctx, 9); err != nil || ack.Place != 9 {
+		t.Errorf("%v, %v", ack, err)
+	}
+}
+
+func TestRefusals(t *testing.T) {
+	client, server, ctx := open(t)
+	for code := range texts {
+		if code == NoSession {
+			continue
+		}
+		go func(code Code) {
+			server.next()
+			server.write(refused, byte(code))
+		}(code)
+		_, err := client.Lookup(ctx, 1, 2)
+		var got Code
+		if !errors.Is(err, code) || !errors.As(err, &got) || got != code {
+			t.Errorf("%#x: %v", byte(code), err)
+		}
+	}
+}
+
+func TestTheCodesAreThoseOfTheFormats(t *testing.T) {
+	page, err := os.ReadFile(os.Getenv("FORMATS"))
+	if err != nil {
+		t.Skip("FORMATS is the path of docs/FORMATS.md")
+	}
+	table, _, _ := strings.Cut(strings.SplitAfter(string(page), "| code | refusal |\n")[1], "\n\n")
+	count := 0
+	for _, row := range regexp.MustCompile(`(?m)^\| 0x(..)(?: to 0x(..))? \|`).FindAllStringSubmatch(table, -1) {
+		first, _ := strconv.ParseUint(row[1], 16, 8)
+		last, err := strconv.ParseUint(row[2], 16, 8)
+		if err != nil {
+			last = first
+		}
+		for ; first <= last; first++ {
+			if _, isKnown := texts[Code(first)]; !isKnown {
+				t.Errorf("%#x", first)
+			}
+			count++
+		}
+	}
+	if count != len(texts) {
+		t.Errorf("%d of %d codes", count, len(texts))
+	}
+}
+
+func TestSessionsThatEnd(t *testing.T) {
+	cases := map[string]struct {
+		act    func(*server)
+		wanted error
+	}{
+		"before a reply":     {func(s *server) { s.next(); s.conn.Close() }, io.EOF},
+		"within a frame":     {func(s *server) { s.next(); s.conn.Write([]byte{0, 0, 0, 9, 0x83}); s.conn.Close() }, io.ErrUnexpectedEOF},
+		"no room":            {func(s *server) { s.write(refused, byte(NoSession)); s.conn.Close() }, NoSession},
+		"another kind":       {func(s *server) { s.next(); s.write(replied | register) }, ErrReply},
+		"without a request":  {func(s *server) { s.acknowledge(purge, 0) }, ErrReply},
+		"too long a frame":   {func(s *server) { s.next(); s.conn.Write([]byte{0, 0x11, 0, 1}) }, ErrReply},
+		"an empty frame":     {func(s *server) { s.next(); s.conn.Write(make([]byte, 4)) }, ErrReply},
+		"half a reply, done": {func(s *server) { s.next(); s.write(replied|purge, 0) }, ErrReply},
+	}
+	for name, c := range cases {
+		t.Run(name, func(t *testing.T) {
+			client, server, ctx := open(t)
+			if name == "no room" || name == "without a request" {
+				c.act(server)
+				<-client.ended
+			} else {
+				go c.act(server)
+			}
+			if _, err := client.Purge(ctx, 0); !errors.Is(err, c.wanted) {
+				t.Error(err)
+			}
+		})
+	}
+}
+
+func TestClosing(t *testing.T) {
+	client, server, ctx := open(t)
+	go func() {
+		server.next()
+		client.Close()
+	}()
+	for number := 0; number < 2; number++ {
+		if _, err := client.Purge(ctx, 0); !errors.Is(err, ErrClosed) {
+			t.Error(err)
+		}
+	}
+	client.Close()
+}
+
+func TestWhatNoFrameHasRoomFor(t *testing.T) {
+	client, _, ctx := open(t)
+	large := &pb.PathSegment{SegmentInfo: make([]byte, mostRequest)}
+	segments := map[int32]*pb.Segments{1: {Segments: []*pb.PathSegment{large}}}
+	if _, err := client.Register(ctx, &pb.SegmentsRegistrationRequest{Segments: segments}); err != ErrTooLarge {
+		t.Error(err)
+	}
+}

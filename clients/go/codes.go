@@ -1,0 +1,78 @@
+package pathd
+
+import "fmt"
+
+// Code is the error of a request that the server refused. Nothing changed, but after Unsettled, and
+// perhaps after NoMemory. errors.Is(err, pathd.Busy) says whether an error is a certain one.
+type Code byte
+
+// The codes of docs/FORMATS.md.
+const (
+	NoMemory        Code = 0x01
+	Truncated       Code = 0x11
+	LongVarint      Code = 0x12
+	BadField        Code = 0x13
+	GroupWire       Code = 0x14
+	BadWire         Code = 0x15
+	KindOfField     Code = 0x22
+	RepeatedMessage Code = 0x23
+	MissingField    Code = 0x24
+	Range           Code = 0x25
+	Chain           Code = 0x26
+	Loop            Code = 0x27
+	Entries         Code = 0x28
+	BadType         Code = 0x29
+	TooLarge        Code = 0x2a
+	BadSignature    Code = 0x31
+	Expired         Code = 0x32
+	NullDestination Code = 0x41
+	IsdOnlyWildcard Code = 0x42
+	NoCore          Code = 0x43
+	Busy            Code = 0x51
+	Full            Code = 0x52
+	NoGroup         Code = 0x53
+	Stopped         Code = 0x54
+	Exhausted       Code = 0x55
+	OldStore        Code = 0x57
+	NoSession       Code = 0x61
+	Unsettled       Code = 0x62
+)
+
+var texts = map[Code]string{
+	NoMemory:        "memory was refused",
+	Truncated:       "the message ends within a field",
+	LongVarint:      "a number has more than 64 bits",
+	BadField:        "the number of a field is 0 or too large",
+	GroupWire:       "a field is a group",
+	BadWire:         "the wire type of a field is unknown",
+	KindOfField:     "a known field has another wire type than its own",
+	RepeatedMessage: "a message or a type comes twice",
+	MissingField:    "a message that is needed is missing",
+	Range:           "a number is out of its range",
+	Chain:           "the entries of a segment are no chain",
+	Loop:            "an AS comes twice in a segment",
+	Entries:         "a segment has no entries, or more than 64",
+	BadType:         "there is no such type of segment",
+	TooLarge:        "a segment or the registration is too large",
+	BadSignature:    "the signature of an entry is not good",
+	Expired:         "a segment has expired",
+	NullDestination: "both sides of the lookup are 0-0",
+	IsdOnlyWildcard: "a side has the ISD 0, and an AS other than 0",
+	NoCore:          "neither side is a core AS",
+	Busy:            "256 commands wait to be committed",
+	Full:            "the rows would not fit the store",
+	NoGroup:         "the command does not fit a group",
+	Stopped:         "the device of the store has failed",
+	Exhausted:       "no place is left",
+	OldStore:        "the store is of a version that has no removals",
+	NoSession:       "64 sessions are open, and the server has closed this one",
+	Unsettled:       "the store stopped before the command was committed, which may be kept or lost",
+}
+
+// Error says what the code means.
+func (c Code) Error() string {
+	if text, isKnown := texts[c]; isKnown {
+		return "pathd: refused: " + text
+	}
+	return fmt.Sprintf("pathd: refused: code %#02x", byte(c))
+}

@@ -1,0 +1,152 @@
+package pathd
+
+import (
+	"bufio"
+	"context"
+	"crypto/sha256"
+	"encoding/hex"
+	"errors"
+	"os"
+	"os/exec"
+	"path/filepath"
+	"regexp"
+	"testing"
+
+	"google.golang.org/protobuf/proto"
+	pb "pathd/segmentspb"
+)
+
+const (
+	// Of the worked segment of docs/FORMATS.md: its bytes, what its id is of, and its two ASes.
+	worked = "0a080880e2cfaa06100712290a270a2512230890" + "82808080e07f109182808080e07f1a0e0a0c1001183f220601020304050628c00b" +
+		"12210a1f0a1d121b089182808080e07f1a0e0a0c0802183f22060a0b0c0d0e0f28c00b"
+	workedHops        = "0001ff0000000110000000010001ff000000011100020000"
+	core, leaf uint64 = 0x0001_ff00_0000_0110, 0x0001_ff00_0000_0111
+	made              = 4_000_000_000 // in 2096
+	mostSeats         = 64
+	cores             = "1-ff00:0:110"
+)
+
+// started answers a client of a new server of the program PATHD, and its address.
+func started(t *testing.T) (*Client, string, context.Context) {
+	program := os.Getenv("PATHD")
+	if program == "" {
+		t.Skip("PATHD is the path of the built program")
+	}
+	store := filepath.Join(t.TempDir(), "store")
+	if err := exec.Command(program, "format", store, "--checkpoint", "64", "--journal", "516").Run(); err != nil {
+		t.Fatal(err)
+	}
+	run := exec.Command(program, "run", store, "--listen", "127.0.0.1:0", "--cores", cores)
+	notices, err := run.StderrPipe()
+	if err != nil {
+		t.Fatal(err)
+	}
+	if err := run.Start(); err != nil {
+		t.Fatal(err)
+	}
+	t.Cleanup(func() { run.Process.Kill(); run.Wait() })
+	line, _ := bufio.NewReader(notices).ReadString('\n')
+	found := regexp.MustCompile(` at (127\.0\.0\.1:\d+):`).FindStringSubmatch(line)
+	if found == nil {
+		t.Fatalf("the server doesn't listen: %s", line)
+	}
+	ctx, cancel := context.WithTimeout(context.Background(), limit)
+	client, err := Dial(ctx, found[1])
+	if err != nil {
+		t.Fatal(err)
+	}
+	t.Cleanup(func() { client.Close(); cancel() })
+	return client, found[1], ctx
+}
+
+// segment answers the worked segment, made at a time in seconds since 1970.
+func segment(t *testing.T, timestamp int64) *pb.PathSegment {
+	content, err := hex.DecodeString(worked)
+	if err != nil {
+		t.Fatal(err)
+	}
+	segment := new(pb.PathSegment)
+	if err := proto.Unmarshal(content, segment); err != nil {
+		t.Fatal(err)
+	}
+	segment.SegmentInfo, err = proto.Marshal(&pb.SegmentInformation{Timestamp: timestamp, SegmentId: 7})
+	if err != nil {
+		t.Fatal(err)
+	}
+	return segment
+}
+
+func registration(segment *pb.PathSegment) *pb.SegmentsRegistrationRequest {
+	down := int32(pb.SegmentType_SEGMENT_TYPE_DOWN)
+	return &pb.SegmentsRegistrationRequest{Segments: map[int32]*pb.Segments{down: {Segments: []*pb.PathSegment{segment}}}}
+}
+
+func TestASessionWithPathd(t *testing.T) {
+	client, _, ctx := started(t)
+	wanted := segment(t, made)
+	acks := []struct {
+		ask    func() (Ack, error)
+		wanted Ack
+	}{
+		{func() (Ack, error) { return client.Register(ctx, registration(wanted)) }, Ack{Place: 0, Inserted: 1}},
+		{func() (Ack, error) { return client.Register(ctx, registration(wanted)) }, Ack{Place: 1, Kept: 1}},
+		{func() (Ack, error) { return client.Purge(ctx, 2*made) }, Ack{Place: 2}},
+	}
+	for _, c := range acks {
+		if got, err := c.ask(); err != nil || got != c.wanted {
+			t.Errorf("%v, %v", got, err)
+		}
+	}
+	found, err := client.Lookup(ctx, core, leaf)
+	if err != nil || !proto.Equal(found, &pb.SegmentsResponse{Segments: registration(wanted).Segments}) {
+		t.Errorf("%v, %v", found, err)
+	}
+	hops, _ := hex.DecodeString(workedHops)
+	ack, err := client.Remove(ctx, pb.SegmentType_SEGMENT_TYPE_DOWN, sha256.Sum256(hops))
+	if err != nil || ack != (Ack{Place: 3, Purged: 1}) {
+		t.Errorf("%v, %v", ack, err)
+	}
+	if found, err := client.Lookup(ctx, core, leaf); err != nil || len(found.Segments) != 0 {
+		t.Errorf("%v, %v", found, err)
+	}
+}
+
+func TestRefusalsOfPathd(t *testing.T) {
+	client, _, ctx := started(t)
+	if _, err := client.Lookup(ctx, 0, 0); !errors.Is(err, NullDestination) {
+		t.Error(err)
+	}
+	if _, err := client.Lookup(ctx, leaf, leaf); !errors.Is(err, NoCore) {
+		t.Error(err)
+	}
+	if _, err := client.Register(ctx, registration(segment(t, 1_700_000_000))); !errors.Is(err, Expired) {
+		t.Error(err)
+	}
+	if _, err := client.Register(ctx, registration(&pb.PathSegment{})); !errors.Is(err, Entries) {
+		t.Error(err)
+	}
+	if _, err := client.Remove(ctx, 0, [32]byte{}); !errors.Is(err, BadType) {
+		t.Error(err)
+	}
+}
+
+func TestOneSessionMoreThanPathdHas(t *testing.T) {
+	first, address, ctx := started(t)
+	clients := []*Client{first}
+	for len(clients) <= mostSeats {
+		client, err := Dial(ctx, address)
+		if err != nil {
+			t.Fatal(err)
+		}
+		defer client.Close()
+		clients = append(clients, client)
+	}
+	<-clients[mostSeats].ended
+	for number, client := range clients {
+		_, err := client.Purge(ctx, 0)
+		if wanted := number < mostSeats; wanted != (err == nil) || (!wanted && !errors.Is(err, NoSession)) {
+			t.Errorf("%d: %v", number, err)
+		}
+	}
+}
