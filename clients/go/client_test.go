@@ -17,7 +17,7 @@ import (
 	pb "pathd/segmentspb"
 )
 
-const limit = 20 * time.Second
+const limit = 60 * time.Second
 
 // server is a pathd that a test plays: it reads requests, and writes frames as the test says.
 type server struct {

@@ -18,6 +18,8 @@ from pathlib import Path
 from pathd_tools import TOP, need, runs, toolbox
 
 PAGES = ["proofs", "reading --check", "complete", "links", "uses", "apart"]
+GRPC = """protoc python3-protobuf python3-grpcio grpc_python_plugin grpc-proto go protoc-gen-go protoc-gen-go-grpc
+golang-google-protobuf-dev golang-github-golang-protobuf-1-5-dev golang-google-grpc-dev"""
 # What each check of the program needs, and its words, in which PROGRAM is the program's path.
 PROGRAMS = [
     ("python3", "vectors -p PROGRAM tools/cases"),
@@ -28,6 +30,7 @@ PROGRAMS = [
     ("strace python3", "server-calls PROGRAM"),
     ("python3-protobuf", "client PROGRAM"),
     ("protoc go protoc-gen-go golang-google-protobuf-dev", "go-client PROGRAM"),
+    (GRPC, "grpc PROGRAM"),
     ("root losetup", "block-device PROGRAM"),
     ("root btrfs", "snapshots --program PROGRAM"),
     ("root losetup nspawn nft ip protoc python3-protobuf python3-venv", "units --short PROGRAM"),

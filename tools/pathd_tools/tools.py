@@ -18,6 +18,7 @@ CHECKS = [
     Tool("vectors", "checks.vectors", "the cases of folders such as tools/cases"),
     Tool("client", "client.sh", "sessions of the Python client, with and without a key, and after a kill"),
     Tool("go-client", "go_client.sh", "the tests of the Go client"),
+    Tool("grpc", "grpc.sh", "the tests of the bridge for gRPC, with clients in Python and in Go"),
     Tool("protobuf", "checks.protobuf", "docs/segments.proto and the worked example, with Google's protobuf"),
     Tool("syscalls", "syscalls.sh", "the calls on a store's file, in the order that docs/FORMATS.md draws"),
     Tool("server-calls", "checks.server_calls", "the reads and writes of a session"),
