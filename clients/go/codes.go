@@ -2,8 +2,8 @@ package pathd
 
 import "fmt"
 
-// Code is the error of a request that the server refused. Nothing changed, but after Unsettled, and
-// perhaps after NoMemory. errors.Is(err, pathd.Busy) says whether an error is a certain one.
+// Code is the error of a request that the server refused. Nothing changed, but perhaps after
+// Unsettled. errors.Is(err, pathd.Busy) says whether an error is a certain one.
 type Code byte
 
 // The codes of docs/FORMATS.md.

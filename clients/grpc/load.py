@@ -37,7 +37,7 @@ TICKS = os.sysconf("SC_CLK_TCK")
 
 @dataclass(frozen=True)
 class Round:
-    """Lookups a second, and the microseconds of processor time that each took here and in the bridge."""
+    """Lookups a second, and the processor time of each here and in the bridge, in microseconds."""
 
     rate: float
     here: float

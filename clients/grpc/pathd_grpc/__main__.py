@@ -69,7 +69,7 @@ def serve(settings: Settings) -> None:
 
 
 def main() -> None:
-    """Runs the bridge. The status is 0 after a signal, 1 where it can't serve, and 2 for wrong words."""
+    """Runs the bridge. The status is 0 after a signal, 1 where it can't serve, 2 for wrong words."""
     settings = settings_of(sys.argv[1:])
     if not is_loopback(settings.listen.host):
         print("warning: others than this machine reach the bridge, which checks nobody", file=sys.stderr, flush=True)

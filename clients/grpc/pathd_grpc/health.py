@@ -26,7 +26,7 @@ LONGEST = 2.0
 
 
 def request_of(service: str) -> bytes:
-    """The HealthCheckRequest of a service's name, below 128 bytes; the empty name is that of the whole bridge."""
+    """The HealthCheckRequest of a name below 128 bytes; the whole bridge has the empty name."""
     name = service.encode()
     return b"\x0a" + bytes([len(name)]) + name if name else b""
 

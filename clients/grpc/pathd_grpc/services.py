@@ -30,7 +30,7 @@ class Bridge:
         return self._ask(LOOKUP, request, context)
 
     def registration(self, request: bytes, context: ServicerContext) -> bytes:
-        """SegmentRegistrationService/SegmentsRegistration: the response is empty, without place and counts."""
+        """SegmentRegistrationService/SegmentsRegistration: the response is empty."""
         self._ask(REGISTER, request, context)
         return b""
 

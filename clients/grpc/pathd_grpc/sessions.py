@@ -64,7 +64,7 @@ class Connection:
         self._socket.setsockopt(socket.IPPROTO_TCP, socket.TCP_NODELAY, 1)
 
     def exchange(self, frame: bytes, ends: float) -> bytes:
-        """The kind and the body of the reply to a frame; TimeoutError where it isn't there by a moment."""
+        """The kind and the body of the reply to a frame; TimeoutError where a moment passed."""
         self._socket.settimeout(_left(ends))
         self._socket.sendall(frame)
         (length,) = HEAD.unpack(self._read(HEAD.size, ends))
@@ -96,7 +96,7 @@ def _left(ends: float) -> float:
 
 
 def body_of(kind: int, content: bytes) -> bytes:
-    """The body of the reply to a request of this kind; Refused where it is a refusal, or BadReply."""
+    """The body of the reply to a request of this kind; Refused for a refusal, or BadReply."""
     if content[0] == REFUSED and len(content) == 2:
         raise Refused(content[1])
     if content[0] != kind | REPLIED:

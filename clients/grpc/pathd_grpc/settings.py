@@ -19,7 +19,7 @@ it may register segments. It ends by SIGTERM or SIGINT, once the calls under way
 
 @dataclass(frozen=True)
 class Settings:
-    """What the command line says: the deadline in seconds, and no reflection without descriptors."""
+    """What the command line says: the deadline is in seconds; descriptors are for reflection."""
 
     listen: Address
     pathd: Address

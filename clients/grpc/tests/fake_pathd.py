@@ -6,7 +6,8 @@ import struct
 import threading
 from collections.abc import Callable
 
-# The content of a reply to the kind and the body of a request; None for no reply, b"" to end the session.
+# The content of a reply to the kind and the body of a request; None for no reply, and b"" to end
+# the session.
 Answer = Callable[[int, bytes], bytes | None]
 
 ACKNOWLEDGED = b"\x81" + bytes(24)
