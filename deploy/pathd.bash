@@ -1,0 +1,31 @@
+# Completion of pathd for bash. `tools/pathd-tools help-texts` compares it with the program's help.
+
+_pathd() {
+  local current=${COMP_WORDS[COMP_CWORD]} previous=${COMP_WORDS[COMP_CWORD - 1]} words
+  COMPREPLY=()
+  if ((COMP_CWORD == 1)); then
+    words="once format show status upgrade run help -h --help"
+  else
+    case $previous in
+      --checkpoint | --journal | --listen | --status | --cores | --key | --sessions | --idle | --now) return ;;
+    esac
+    case ${COMP_WORDS[1]} in
+      once) words="--cores --now --key --hex -h --help" ;;
+      format) words="--checkpoint --journal -h --help" ;;
+      show) words="--layout -h --help" ;;
+      status | upgrade) words="-h --help" ;;
+      run) words="--listen --status --cores --key --sessions --idle --quiet -h --help" ;;
+      help) words="once format show status upgrade run help" ;;
+      *) return ;;
+    esac
+  fi
+  mapfile -t COMPREPLY < <(compgen -W "$words" -- "$current")
+  case ${COMP_WORDS[1]}:$current in
+    *:-*) ;;
+    format:* | show:* | status:* | upgrade:* | run:*)
+      ((COMP_CWORD == 1)) || mapfile -t COMPREPLY < <(compgen -f -- "$current")
+      ;;
+  esac
+}
+
+complete -o filenames -F _pathd pathd

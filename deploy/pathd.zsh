@@ -1,0 +1,68 @@
+#compdef pathd
+# Completion of pathd for zsh. `tools/pathd-tools help-texts` compares it with the program's help.
+
+_pathd() {
+  local -a commands
+  local -a help=('(- *)'{-h,--help}'[print help]')
+  commands=(
+    'once:answer one session from standard input to standard output'
+    'format:make a file with an empty store'
+    'show:print the rows of a store and its place'
+    'status:print the numbers of a store'
+    'upgrade:write a store in version 2'
+    'run:serve sessions over TCP'
+    'help:print help'
+  )
+  if ((CURRENT == 2)); then
+    _describe command commands
+    _arguments $help
+    return
+  fi
+  local command=$words[2]
+  shift words
+  ((CURRENT--))
+  case $command in
+    once)
+      _arguments $help \
+        '--cores[the core ASes, joined by commas]:LIST:' \
+        '--now[the moment, in half seconds since 1970]:T:' \
+        '--key[check signatures by this key]:HEX:' \
+        '--hex[read and print hexadecimal text]'
+      ;;
+    format)
+      _arguments $help \
+        '--checkpoint[sectors of a checkpoint area]:C:' \
+        '--journal[sectors of a journal]:J:' \
+        '1:DEV:_files'
+      ;;
+    show)
+      _arguments $help \
+        '--layout[draw the regions of the store]' \
+        '1:DEV:_files'
+      ;;
+    status)
+      _arguments $help \
+        '1:DEV:_files'
+      ;;
+    upgrade)
+      _arguments $help \
+        '1:DEV:_files'
+      ;;
+    run)
+      _arguments $help \
+        '--listen[the address to listen at]:ADDR:' \
+        '--status[the address of the numbers]:ADDR:' \
+        '--cores[the core ASes, joined by commas]:LIST:' \
+        '--key[check signatures by this key]:HEX:' \
+        '--sessions[end after this number of sessions]:N:' \
+        '--idle[end a session whose peer is silent for so long]:SECONDS:' \
+        '--quiet[print only why the program ends]' \
+        '1:DEV:_files'
+      ;;
+    help)
+      _describe command commands
+      ;;
+  esac
+}
+
+_pathd "$@"
