@@ -17,12 +17,14 @@ from pathlib import Path
 
 from pathd_tools import TOP, need, runs, toolbox
 
-PAGES = ["proofs", "reading --check", "complete", "links", "uses", "apart"]
+PAGES = ["proofs", "reading --check", "complete", "links", "uses", "apart", "help-texts", "metric-names"]
 GRPC = """protoc python3-protobuf python3-grpcio grpc_python_plugin grpc-proto go protoc-gen-go protoc-gen-go-grpc
 golang-google-protobuf-dev golang-github-golang-protobuf-1-5-dev golang-google-grpc-dev"""
 # What each check of the program needs, and its words, in which PROGRAM is the program's path.
 PROGRAMS = [
     ("python3", "vectors -p PROGRAM tools/cases"),
+    ("python3", "help-texts PROGRAM"),
+    ("root debootstrap make", "package PROGRAM"),
     ("gcc python3", "refused-memory PROGRAM"),
     ("strace python3", "locks PROGRAM"),
     ("strace perl", "syscalls PROGRAM"),
@@ -33,7 +35,7 @@ PROGRAMS = [
     (GRPC, "grpc PROGRAM"),
     ("root losetup", "block-device PROGRAM"),
     ("root btrfs", "snapshots --program PROGRAM"),
-    ("root losetup nspawn nft ip protoc python3-protobuf python3-venv", "units --short PROGRAM"),
+    ("root losetup nspawn nft ip make protoc python3-protobuf python3-venv", "units --short PROGRAM"),
     ("gcc python3", "refused-calls --program PROGRAM"),
     ("gcc python3", "power-cuts --program PROGRAM"),
     ("python3", "histories --program PROGRAM"),
@@ -70,4 +72,5 @@ def main(words: list[str]) -> int:
         print(f"left out: the checks of the program; there is no {program}", *(f"  {it}" for it in need.missing(["pathd"])), sep="\n")
         results.append(LEFT_OUT)
     results.append(check("protoc python3-protobuf", "protobuf"))
+    results.append(check("promtool", "alert-rules"))
     return FAILED if FAILED in results else max(results)

@@ -11,6 +11,8 @@ PAGES = [
     Tool("complete", "pages.complete", "each public function and each definition is on the page of its crate"),
     Tool("uses", "pages.uses", "each use on a crate's page is in the sources that the page links"),
     Tool("apart", "pages.apart", "no crate of the program uses a crate of tests"),
+    Tool("help-texts", "pages.help_texts", "the man page and the completions have the program's commands and options"),
+    Tool("metric-names", "pages.metric_names", "the alert rules, the dashboard and the pages have the names of the server's numbers"),
     Tool("edits", "pages.edits", "tries the wrong bodies of crates by the prover, in a copy of the repository"),
 ]
 
@@ -25,6 +27,8 @@ CHECKS = [
     Tool("locks", "locks.sh", "the commands beside another process's lock"),
     Tool("faults", "faults.sh", "the commands while calls on the store's file fail or are interrupted"),
     Tool("block-device", "block_device.sh", "the commands over a loop device, also one that loses writes; as root"),
+    Tool("alert-rules", "checks.alert_rules", "the alert rules and their tests, and the dashboard's expressions, by promtool"),
+    Tool("package", "package.sh", "makes the Debian package, and installs and removes it in a new system; as root"),
     Tool("units", "units.sh", "the steps of docs/OPERATING.md and the units of deploy/ in a container; as root"),
     Tool("units-inside", "checks.units_inside", "the steps alone, on a system that is thrown away; as root"),
 ]

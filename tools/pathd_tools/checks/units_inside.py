@@ -30,6 +30,8 @@ PAGE = (TOP / "docs/OPERATING.md").read_text(encoding="utf-8")
 STORE = Path("/var/lib/pathd/store")
 STATE = Path("/var/lib/pathd-units.state")
 DROP_IN = Path("/etc/systemd/system/pathd.service.d")
+SETTINGS = Path("/etc/default/pathd")
+REPORT = Path("/etc/pathd/on-failure")
 TIMER_DROP_IN = Path("/etc/systemd/system/pathd-purge.timer.d")
 PORT = 30252
 NUMBERS_PORT = 30253
@@ -126,6 +128,27 @@ def start() -> bool:
     run("systemctl", "reset-failed", "pathd")
     must("systemctl", "start", "pathd")
     return until(is_up)
+
+
+def drop_in(name: str, text: str) -> Path:
+    """Adds a file to the unit, and answers its path."""
+    DROP_IN.mkdir(exist_ok=True)
+    path = DROP_IN / f"{name}.conf"
+    path.write_text(text)
+    must("systemctl", "daemon-reload")
+    return path
+
+
+def take_away(path: Path) -> None:
+    """Takes a file of the unit away."""
+    path.unlink()
+    must("systemctl", "daemon-reload")
+
+
+def set_settings(**settings: object) -> None:
+    """Writes the settings of the unit, with the core ASes of the page."""
+    lines = ["CORES=1-ff00:0:110", *(f"{name}={value}" for name, value in settings.items())]
+    SETTINGS.write_text("".join(line + "\n" for line in lines))
 
 
 def journal(unit: str, since: float) -> str:
@@ -226,6 +249,20 @@ def install() -> None:
     text = journal("pathd", begun)
     STEPS.expect("the journal has `ready` and the line of the address", "ready" in text and "at 127.0.0.1:30252: version 2, place 0, 0 rows" in text, text)
     STEPS.expect("the file has its room on the disk", STORE.stat().st_blocks * 512 >= STORE.stat().st_size)
+    made = STORE.stat().st_ino
+    ROWS.register_many(3)
+    done = run_block("Installing")
+    STEPS.expect("the block runs again, and leaves the store and its server", done.returncode == 0 and STORE.stat().st_ino == made and until(is_up), done.stdout + done.stderr)
+    text = SETTINGS.read_text()
+    STEPS.expect("the settings have the core ASes", "\nCORES=1-ff00:0:110\n" in text, text)
+    must("systemctl", "stop", "pathd")
+    SETTINGS.write_text(text.replace("CORES=1-ff00:0:110", "CORES="))
+    begun = time.time()
+    STEPS.expect("without core ASes it doesn't start", run("systemctl", "start", "pathd").returncode != 0)
+    STEPS.expect("the journal says why", "CORES is not set in /etc/default/pathd" in journal("pathd", begun), journal("pathd", begun))
+    must("systemctl", "stop", "pathd")
+    SETTINGS.write_text(text)
+    start()
 
 
 def look_at_walls() -> None:
@@ -252,7 +289,7 @@ def look_at_walls() -> None:
             STEPS.expect(f"{file} is {wanted}", (group / file).read_text().strip() == wanted)
         else:
             STEPS.leave_out(f"{file} of the unit", f"this hierarchy of cgroups has no controller {controller}")
-    for unit in ("pathd.service", "pathd-purge.service", "pathd-purge.timer"):
+    for unit in ("pathd.service", "pathd-failed@.service", "pathd-purge.service", "pathd-purge.timer"):
         done = run("systemd-analyze", "verify", TOP / "deploy" / unit)
         lines = [line for line in done.stderr.splitlines() if "pathd" in line and "pathd-client is not executable" not in line]
         STEPS.expect(f"systemd-analyze verify prints nothing of {unit}", not lines, lines)
@@ -292,7 +329,7 @@ def stop_and_kill() -> None:
         must("systemctl", "kill", "-s", signal, "--kill-whom=main", "pathd")
         STEPS.expect(f"SIG{signal}: the unit is started again", restarted(count) and property_of("MainPID") != pid, property_of("NRestarts"))
     must("systemctl", "restart", "pathd")
-    STEPS.expect("systemctl restart: the server listens again", until(is_up))
+    STEPS.expect("systemctl restart: it returns once the server listens again", is_up())
     must("systemctl", "stop", "pathd")
     text = shown()
     STEPS.expect("what was acknowledged is shown after SIGKILL, SIGABRT and SIGSEGV", ROWS.has_all(text) and text.endswith(f"place {ROWS.place}\n"), text[-60:])
@@ -304,32 +341,47 @@ def stop_and_kill() -> None:
 
 
 def end_by_status() -> None:
-    """The statuses 1 and 2, after which the unit stays down; and too many starts."""
+    """The status 1, after which the unit is started again; the status 2, after which it stays down; and too many starts."""
     begun = time.time()
     with socket.create_server(("127.0.0.1", PORT)):
         run("systemctl", "reset-failed", "pathd")
-        run("systemctl", "start", "pathd")
-        until(is_down)
-        time.sleep(3)
-        STEPS.expect("status 1, as the address is in use: the unit stays down", (property_of("ActiveState"), property_of("ExecMainStatus"), property_of("NRestarts")) == ("failed", "1", "0"))
+        STEPS.expect("status 1, as the address is in use: the start fails", run("systemctl", "start", "pathd").returncode != 0 and property_of("ExecMainStatus") == "1")
+        STEPS.expect("it is started again meanwhile", until(lambda: int(property_of("NRestarts")) >= 2))
+    STEPS.expect("it is up by itself once the address is free", until(is_up))
     STEPS.expect("the journal has `error: net`", "error: net" in journal("pathd", begun), journal("pathd", begun))
-    DROP_IN.mkdir(exist_ok=True)
-    (DROP_IN / "words.conf").write_text("[Service]\nExecStart=\nExecStart=/usr/local/bin/pathd run\n")
-    must("systemctl", "daemon-reload")
+    must("systemctl", "stop", "pathd")
+    words = drop_in("words", "[Service]\nExecStart=\nExecStart=/usr/local/bin/pathd run\n")
     run("systemctl", "reset-failed", "pathd")
     run("systemctl", "start", "pathd")
     until(is_down)
-    time.sleep(3)
+    time.sleep(7)
     STEPS.expect("status 2, of words that can't be read: the unit stays down", (property_of("ActiveState"), property_of("ExecMainStatus"), property_of("NRestarts")) == ("failed", "2", "0"))
-    (DROP_IN / "words.conf").unlink()
-    must("systemctl", "daemon-reload")
+    take_away(words)
+    start_too_often()
+
+
+def start_too_often() -> None:
+    """The limit of starts, with 5 in place of 24, and what runs then."""
+    report = Path("/run/pathd-reported")
+    REPORT.parent.mkdir(exist_ok=True)
+    REPORT.write_text(f'#!/bin/sh\necho "$1" >{report}\n')
+    REPORT.chmod(0o755)
+    limit = drop_in("limit", "[Unit]\nStartLimitBurst=5\n[Service]\nRestartSec=1\n")
     start()
+    begun = time.time()
     for count in range(1, 5):
         must("systemctl", "kill", "-s", "KILL", "--kill-whom=main", "pathd")
         if not restarted(count):
             break
+    STEPS.expect("until then nothing is reported", not report.exists())
     must("systemctl", "kill", "-s", "KILL", "--kill-whom=main", "pathd")
-    STEPS.expect("the sixth start within 300 seconds isn't made", until(lambda: property_of("ActiveState") == "failed") and property_of("NRestarts") == "5", (property_of("Result"), property_of("NRestarts")))
+    STEPS.expect("a start beyond the limit isn't made", until(lambda: property_of("ActiveState") == "failed") and property_of("NRestarts") == "5", (property_of("Result"), property_of("NRestarts")))
+    STEPS.expect("OnFailure= runs /etc/pathd/on-failure with the unit's name", until(report.exists, 20) and until(lambda: report.read_text() == "pathd.service\n", 5))
+    must("journalctl", "--sync")
+    said = run("journalctl", "-o", "cat", "--no-pager", "-t", "pathd", "-p", "alert", "--since", f"@{begun:.3f}").stdout
+    STEPS.expect("the journal has its line of priority `alert`", "pathd.service has failed" in said, said)
+    REPORT.unlink()
+    take_away(limit)
     STEPS.expect("`systemctl reset-failed pathd` and a start serve again", start())
 
 
@@ -406,11 +458,7 @@ def numbers(host: str = "127.0.0.1", timeout: float = 10) -> dict[str, float]:
 
 def watch() -> None:
     """'Watching a server': its numbers under the unit."""
-    exec_start = re.search(r"^ExecStart=.*", (TOP / "deploy/pathd.service").read_text(), re.M).group()
-    drop_in = DROP_IN / "watch.conf"
-    DROP_IN.mkdir(exist_ok=True)
-    drop_in.write_text(f"[Service]\nExecStart=\n{exec_start} --status 127.0.0.1:{NUMBERS_PORT}\n")
-    must("systemctl", "daemon-reload")
+    watched = drop_in("status", (TOP / "deploy/pathd.service.d/status.conf").read_text())
     must("systemctl", "stop", "pathd")
     begun = time.time()
     STEPS.expect("with `--status` the unit starts", start(), run("systemctl", "status", "pathd").stdout)
@@ -422,8 +470,7 @@ def watch() -> None:
     more = {name: after[name] - before[name] for name in ("pathd_rows", "pathd_commands_total", 'pathd_replies_total{kind="registered"}')}
     STEPS.expect("the numbers have three registrations more", set(more.values()) == {3.0}, more)
     STEPS.expect("they say that the store takes commands", after["pathd_stopped"] == 0)
-    drop_in.unlink()
-    must("systemctl", "daemon-reload")
+    take_away(watched)
     must("systemctl", "stop", "pathd")
     STEPS.expect("without the option it starts and nothing listens there", start() and must("ss", "-Hltn", f"sport = :{NUMBERS_PORT}") == "")
 
@@ -470,18 +517,13 @@ def serve_volume(device: str) -> None:
     """A volume as DEV under the unit, by the lines of 'Installing'."""
     must("chown", "pathd", device)
     must("runuser", "-u", "pathd", "--", "/usr/local/bin/pathd", "format", device, "--checkpoint", "64", "--journal", "4096")
-    DROP_IN.mkdir(exist_ok=True)
-    drop_in = DROP_IN / "volume.conf"
-    exec_start = re.search(r"^ExecStart=.*", (TOP / "deploy/pathd.service").read_text(), re.M).group().replace(str(STORE), device)
-    drop_in.write_text(f"[Service]\nExecStart=\n{exec_start}\n")
-    must("systemctl", "daemon-reload")
+    set_settings(STORE=device)
     begun = time.time()
     run("systemctl", "reset-failed", "pathd")
     run("systemctl", "start", "pathd")
-    until(is_down)
-    STEPS.expect("the unit as it is doesn't see a volume: `error: device 1`", "error: device 1" in journal("pathd", begun), journal("pathd", begun))
-    drop_in.write_text(f"[Service]\nExecStart=\n{exec_start}\nPrivateDevices=no\nDevicePolicy=closed\nDeviceAllow={device} rw\n")
-    must("systemctl", "daemon-reload")
+    STEPS.expect("the unit as it is doesn't see a volume: `error: device 1`", until(lambda: "error: device 1" in journal("pathd", begun)), journal("pathd", begun))
+    must("systemctl", "stop", "pathd")
+    drop_in("volume", f"[Service]\nPrivateDevices=no\nDevicePolicy=closed\nDeviceAllow={device} rw\n")
     STEPS.expect("with the three lines of the page it serves the volume", start(), run("systemctl", "status", "pathd").stdout)
 
 
@@ -517,8 +559,8 @@ def fail_device(device: str, by_hand: bool) -> None:
     beyond = int(text.split()[-1]) - rows.place
     STEPS.expect("what was acknowledged before and after the fault is shown", rows.has_all(text) and beyond == 0, text[-60:])
     volume.close()
-    (DROP_IN / "volume.conf").unlink()
-    must("systemctl", "daemon-reload")
+    take_away(DROP_IN / "volume.conf")
+    set_settings()
 
 
 def reaches(source: str, host: str, *more: str) -> bool:
@@ -578,14 +620,10 @@ def limit_access() -> None:
         must("ip", "-n", name, "address", "add", f"{net}.2/24", "dev", "peer")
         must("ip", "-n", name, "link", "set", "peer", "up")
         must("ip", "-n", name, "link", "set", "lo", "up")
-    exec_start = re.search(r"^ExecStart=.*", (TOP / "deploy/pathd.service").read_text(), re.M).group().replace("127.0.0.1:", "0.0.0.0:")
-    exec_start += f" --status 0.0.0.0:{NUMBERS_PORT}"
-    drop_in = DROP_IN / "access.conf"
-    DROP_IN.mkdir(exist_ok=True)
+    set_settings(LISTEN=f"0.0.0.0:{PORT}", OPTIONS=f"--status 0.0.0.0:{NUMBERS_PORT}")
 
     def allow(addresses: str) -> tuple[bool, bool, bool]:
-        drop_in.write_text(f"[Service]\nExecStart=\n{exec_start}\n{addresses}")
-        must("systemctl", "daemon-reload")
+        drop_in("access", f"[Service]\n{addresses}")
         must("systemctl", "stop", "pathd")
         start()
         return all_reach()
@@ -612,8 +650,8 @@ def limit_access() -> None:
     seen = all_reach("--numbers")
     STEPS.expect("these rules are for the port of sessions alone", seen == (True, True, True), seen)
     must("nft", "delete", "table", "inet", "pathd")
-    drop_in.unlink()
-    must("systemctl", "daemon-reload")
+    take_away(DROP_IN / "access.conf")
+    set_settings()
     must("systemctl", "restart", "pathd")
     STEPS.expect("after the drop-in and the table were taken away the unit serves as before", until(is_up))
     for name in ("near", "far"):
@@ -629,12 +667,11 @@ def deny_settings() -> None:
     must("systemctl", "stop", "pathd")
     must("mount", "-o", "remount,bind,ro", "/proc/sys")
     begun = time.time()
-    run("systemctl", "start", "pathd")
-    until(is_down)
+    is_started = run("systemctl", "start", "pathd").returncode == 0
     text = journal("pathd", begun)
-    STEPS.expect("where /proc/sys can't be written the unit doesn't start", property_of("ActiveState") == "failed" and "drop_caches" in text, text)
+    STEPS.expect("where /proc/sys can't be written the unit doesn't start", not is_started and "drop_caches" in text, text)
     must("mount", "-o", "remount,bind,rw", "/proc/sys")
-    STEPS.expect("where it can be, it does", start())
+    STEPS.expect("where it can be, it does by itself", until(is_up))
 
 
 def after_restart() -> None:

@@ -1,0 +1,100 @@
+"""Compares what watches a server with the page of its numbers. The names and types of the numbers
+and the values of their labels are those of crates/status_page/specs/, which the contract of the
+page cites; the codes of refusals are those of docs/FORMATS.md. It prints nothing where
+
+- src/ of that crate has the same names,
+- deploy/pathd.rules.yml and deploy/grafana-dashboard.json use no other name, no other value of a
+  label, and `rate` and `increase` of counters alone,
+- each name is on the dashboard, or is listed here as left out,
+- the table of docs/OPERATING.md has each name with its type, and no other, and docs/WATCHING.md has
+  a heading for each alert, and no other.
+"""
+from __future__ import annotations
+
+import json
+import re
+from pathlib import Path
+
+from pathd_tools.pages.source import CRATES, TOP
+from pathd_tools.toolbox import parser
+
+PAGE = CRATES / "status_page"
+RULES = TOP / "deploy/pathd.rules.yml"
+DASHBOARD = TOP / "deploy/grafana-dashboard.json"
+OPERATING = TOP / "docs/OPERATING.md"
+WATCHING = TOP / "docs/WATCHING.md"
+# The names that are on no panel, and why.
+NOT_DRAWN = {"pathd_format_version": "it changes once in a store's life"}
+
+NAME = re.compile(r"\bpathd_[a-z_]+\b")
+LABEL = re.compile(r'\b(kind|phase|code)=~?"([^"]*)"')
+
+
+def files(folder: str, suffix: str) -> str:
+    """The text of all files of a folder of the page's crate."""
+    return "".join(path.read_text() for path in sorted((PAGE / folder).glob(f"*{suffix}")))
+
+
+def types(specs: str) -> dict[str, str]:
+    """The type of each number of the page."""
+    named = dict(re.findall(r'^(\w+) = codes "(pathd_\w+)"$', specs, re.M))
+    found = {name: kind for kind, name in re.findall(r'\b(counter|gauge) \(codes "(pathd_\w+)"\)', specs)}
+    return found | {named[it]: kind for it, kind in re.findall(r'type_line (\w+) \(codes "(\w+)"\)', specs) if it in named}
+
+
+def labels(specs: str) -> dict[str, set[str]]:
+    """The values of each label."""
+    found: dict[str, set[str]] = {"code": set(re.findall(r"\b0x([0-9a-f]{2})\b", codes()))}
+    for label, value in re.findall(r'codes "(kind|phase)=\\"(\w+)\\""', specs):
+        found.setdefault(label, set()).add(value)
+    return found
+
+
+def codes() -> str:
+    """The first column of the table of codes, with each code of its ranges."""
+    rows = re.findall(r"^\| (0x[0-9a-f]{2})(?: to 0x([0-9a-f]{2}))? \|", (TOP / "docs/FORMATS.md").read_text(), re.M)
+    return " ".join(f"0x{it:02x}" for first, last in rows for it in range(int(first, 16), int(last or first[2:], 16) + 1))
+
+
+def expressions() -> dict[Path, str]:
+    """The expressions of the rules and of the dashboard."""
+    lines = [re.sub(r"^ *(#|- alert:|summary:).*", "", line) for line in RULES.read_text().splitlines()]
+    panels = json.loads(DASHBOARD.read_text())
+    drawn = [target["expr"] for panel in panels["panels"] for target in panel["targets"]]
+    return {RULES: "\n".join(lines), DASHBOARD: "\n".join(drawn + [it["query"]["query"] for it in panels["templating"]["list"] if it["type"] == "query"])}
+
+
+def problems_of(path: Path, text: str, known: dict[str, str], values: dict[str, set[str]]) -> list[str]:
+    """What is wrong with the expressions of a file."""
+    where = path.relative_to(TOP)
+    found = [f"{where}: {name} is no number of the page" for name in sorted(set(NAME.findall(text)) - known.keys())]
+    found += [f"{where}: {label} has no value {value}" for label, value in LABEL.findall(text) if not set(value.split("|")) <= values[label]]
+    for function, name in re.findall(r"\b(rate|irate|increase)\((pathd_\w+)", text):
+        found += [f"{where}: {function} of the gauge {name}"] if known.get(name) == "gauge" else []
+    return found
+
+
+def problems() -> list[str]:
+    """What differs."""
+    specs = files("specs", ".antt")
+    known, values = types(specs), labels(specs)
+    found = [f"one of specs/ and src/ of crates/status_page alone has {it}" for it in sorted(known.keys() ^ set(NAME.findall(files("src", ".rt"))))]
+    used = expressions()
+    for path, text in used.items():
+        found += problems_of(path, text, known, values)
+    drawn = set(NAME.findall(used[DASHBOARD]))
+    found += [f"{DASHBOARD.relative_to(TOP)}: {it} is not drawn" for it in sorted(known.keys() - drawn - NOT_DRAWN.keys())]
+    found += [f"{it} is drawn, and listed as left out" for it in sorted(NOT_DRAWN.keys() & drawn)]
+    table = dict(re.findall(r"^\| `(pathd_\w+)(?:\{[^}]*\})?` \| (\w+) \|", OPERATING.read_text(), re.M))
+    found += [f"{OPERATING.relative_to(TOP)}: the row of {it} is missing or has another type" for it in sorted(known) if table.get(it) != known[it]]
+    found += [f"{OPERATING.relative_to(TOP)}: {it} is no number of the page" for it in sorted(table.keys() - known.keys())]
+    alerts = set(re.findall(r"^ *- alert: (\w+)", RULES.read_text(), re.M))
+    headed = set(re.findall(r"^### (Pathd\w+)", WATCHING.read_text(), re.M))
+    return found + [f"one of {RULES.relative_to(TOP)} and {WATCHING.relative_to(TOP)} alone has {it}" for it in sorted(alerts ^ headed)]
+
+
+def main(words: list[str]) -> int:
+    parser(__doc__).parse_args(words)
+    found = problems()
+    print("".join(it + "\n" for it in found), end="")
+    return 1 if found else 0

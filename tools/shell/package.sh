@@ -1,0 +1,87 @@
+#!/usr/bin/env bash
+# Makes the Debian package, and installs, runs, upgrades, removes and purges it in a new system of
+# Debian 12 that debootstrap makes.
+#
+#     tools/pathd-tools package [--system FOLDER] [PROGRAM]
+#
+# PROGRAM is crates/pathd/out/pathd if left out, which `rt run` builds. FOLDER is a system that
+# debootstrap has made before (`--variant=minbase bookworm FOLDER`); it is copied, and not changed.
+# Without it one is fetched from deb.debian.org. It has to be run as root, on Debian 12 with
+# debootstrap, make, git and binutils. No service is started there, as the new system has no
+# systemd; `tools/pathd-tools units` tries the units.
+# shellcheck disable=SC2016 # lines for the new system's shell
+set -euo pipefail
+top=$(cd "$(dirname "${BASH_SOURCE[0]}")/../.." && pwd)
+"$top/tools/pathd-tools" need root || exit
+system=
+[ "${1:-}" = --system ] && { system=$2; shift 2; }
+[ -n "$system" ] || "$top/tools/pathd-tools" need debootstrap || exit
+program=$(realpath -m "${1:-$top/crates/pathd/out/pathd}")
+[ -x "$program" ] || { echo "no program: $program" >&2; exit 2; }
+
+work=$(mktemp -d /tmp/pathd-package.XXXXXX)
+root=$work/root
+trap 'rm -rf "$work"' EXIT
+wrong=0
+
+expect() { # expect WHAT COMMAND ..: notes whether a command ends with the status 0
+  local what=$1
+  shift
+  if "$@" >"$work/output" 2>&1; then echo "ok: $what"; else
+    echo "WRONG: $what"
+    sed 's/^/  /' "$work/output"
+    wrong=$((wrong + 1))
+  fi
+}
+
+inside() { # runs words in the new system
+  env -i PATH=/usr/sbin:/usr/bin:/sbin:/bin HOME=/root LC_ALL=C.UTF-8 DEBIAN_FRONTEND=noninteractive \
+    chroot "$root" "$@"
+}
+
+sh_inside() { # runs a line of the shell in the new system
+  inside bash -euo pipefail -c "$1"
+}
+
+make -C "$top" --silent deb PROGRAM="$program"
+version=0~$(date --utc --date="@$(git -C "$top" log -1 --format=%ct)" +%Y%m%d%H%M%S)
+deb=$top/out/pathd_${version}_$(dpkg --print-architecture).deb
+sum=$(sha256sum <"$deb")
+make -C "$top" --silent deb PROGRAM="$program" >/dev/null
+expect "the package has the same bytes when it is made again" [ "$sum" = "$(sha256sum <"$deb")" ]
+
+if [ -n "$system" ]; then cp -a "$system" "$root"; else
+  debootstrap --variant=minbase bookworm "$root" http://deb.debian.org/debian >"$work/debootstrap" ||
+    { tail "$work/debootstrap" >&2; exit 2; }
+fi
+cp "$deb" "$root/tmp/pathd.deb"
+(cd "$root" && find . -xdev -path ./tmp -prune -o -print | sort) >"$work/before"
+
+expect "it is installed" inside dpkg --install /tmp/pathd.deb
+expect "dpkg finds its files as they were made" sh_inside '[ -z "$(dpkg --verify pathd)" ]'
+expect "the user is there, and the folder is its own" \
+  sh_inside '[ "$(stat -c %U:%G:%a /var/lib/pathd)" = pathd:pathd:700 ]'
+expect "the settings have no core ASes" grep -qx 'CORES=' "$root/etc/default/pathd"
+expect "no file names /usr/local" sh_inside \
+  '! dpkg -L pathd | grep -v /doc/ | xargs -d "\n" grep -ls /usr/local/'
+expect "the program prints its help" inside /usr/bin/pathd --help
+expect "a store is made and served, and the probe is answered" sh_inside '
+  cd /var/lib/pathd
+  setpriv --reuid pathd --regid pathd --clear-groups pathd format store --checkpoint 64 --journal 516
+  setpriv --reuid pathd --regid pathd --clear-groups \
+    pathd run store --listen 127.0.0.1:39252 --cores 1-ff00:0:110 --sessions 1 &
+  MAINPID=$! /usr/lib/pathd/pathd-probe --wait 127.0.0.1:39252
+  wait $!'
+echo CORES=1-ff00:0:110 >"$root/etc/default/pathd"
+store=$(sha256sum <"$root/var/lib/pathd/store")
+expect "it is installed again" inside dpkg --install /tmp/pathd.deb
+expect "the settings are kept" grep -qx CORES=1-ff00:0:110 "$root/etc/default/pathd"
+expect "it is removed" inside dpkg --remove pathd
+expect "the settings are kept then, too" [ -e "$root/etc/default/pathd" ]
+expect "it is purged" inside dpkg --purge pathd
+(cd "$root" && find . -xdev -path ./tmp -prune -o -print | sort) >"$work/after"
+left=$(comm -13 "$work/before" "$work/after" | grep -v '^\./etc/.*-$' || true)
+expect "what is left is the store" [ "$left" = "$(printf '%s\n' ./var/lib/pathd ./var/lib/pathd/store)" ]
+[ "$left" = "$(printf '%s\n' ./var/lib/pathd ./var/lib/pathd/store)" ] || echo "$left"
+expect "the store is as it was" [ "$store" = "$(sha256sum <"$root/var/lib/pathd/store")" ]
+[ "$wrong" = 0 ]
