@@ -415,8 +415,8 @@ def purge(is_short: bool) -> None:
         start()
         STEPS.expect("the timer goes on after the server was down at its moments", until(lambda: "0 purged" in journal("pathd-purge", begun), later), must("systemctl", "list-timers", "--no-pager", "--all"))
     begun = time.time()
-    register_expiring(1, 2)
-    time.sleep(2)
+    register_expiring(3, 2)
+    time.sleep(4)
     must("systemctl", "start", "pathd-purge.service")
     STEPS.expect("a purge by hand through the unit drops a row, too", "1 purged" in journal("pathd-purge", begun), journal("pathd-purge", begun))
     rated = must("systemd-analyze", "security", "--no-pager", "pathd-purge.service").strip().splitlines()[-1]
