@@ -1,15 +1,72 @@
-"""Prints what the pages of crates lack: each public function and each definition of specs/ that is not
-between backticks on the page of its crate. It prints nothing where nothing is lacking."""
+"""Prints what the pages of crates lack: each public function of a crate, and each definition of its
+specs/ that a public contract cites, of this crate or of another, which is not between backticks on
+the page of its crate. It prints nothing where nothing is lacking.
+
+A public contract is the signature and the clauses of a `pub fn` or of a method of a public trait, and
+the ghost members of a trait or an `impl`: the relations that it gives, and what contracts see of a
+type. Invariants are none.
+
+`tools/pathd-tools complete --cited CRATE ..` prints the definitions of these crates that are cited.
+"""
 from __future__ import annotations
+
+import re
+from functools import cache
+from pathlib import Path
 
 from pathd_tools.pages import source
 from pathd_tools.pages.pages import quoted
-from pathd_tools.pages.source import CRATES
+from pathd_tools.pages.reading import resolve
+from pathd_tools.pages.source import CRATES, Definition, Function
 from pathd_tools.toolbox import parser
 
 
+def is_of_public_trait(it: Function) -> bool:
+    """Whether a function is in the body of a public trait, whose methods have no `pub`."""
+    items = (line for line in reversed(source.lines_of(it.path)[:it.line]) if re.match(r"[a-z]", line))
+    return next(items, "").startswith("pub trait ")
+
+
+def ghost_members(path: Path) -> str:
+    """The ghost members of the traits and the `impl`s of a file, without its invariants."""
+    kept, item, is_kept = [], "", False
+    for line in source.code_lines(source.lines_of(path)):
+        if re.match(r"[a-z]", line):
+            item = line
+        if member := re.match(r"    ghost (?!use\b)(\w+)", line):
+            is_kept = member[1] != "invariant" and item.startswith(("impl", "pub trait"))
+        elif re.match(r"(?:    )?[^\s\])}]", line):
+            is_kept = False
+        if is_kept:
+            kept.append(line)
+    return "\n".join(kept)
+
+
+@cache
+def cited() -> frozenset[tuple[Path, str]]:
+    """The definitions of specs/ that public contracts of the libraries cite, as files and names."""
+    found = set()
+    for it in (it for crate in source.libraries() for it in source.functions(crate)):
+        if not it.is_test and (it.is_public or is_of_public_trait(it)):
+            found.update(resolved(it.path, "\n".join(source.code_lines(it.head.splitlines()))))
+    for path in (it for crate in source.libraries() for it in (CRATES / crate / "src").rglob("*.rt")):
+        found.update(resolved(path, ghost_members(path)))
+    return frozenset(found)
+
+
+def resolved(path: Path, contract: str) -> list[tuple[Path, str]]:
+    """The definitions of specs/ that a text of a file cites."""
+    return [(word.path, word.name) for word in resolve(path, contract) if word.path.suffix == ".antt"]
+
+
+def words_of(crate: str) -> list[Definition]:
+    """The definitions of a crate's specs/ that public contracts cite."""
+    files = sorted((CRATES / crate / "specs").rglob("*.antt"))
+    return [it for path in files for it in source.definitions(path).values() if (path, it.name) in cited()]
+
+
 def lacking(crate: str) -> list[str]:
-    """The public functions and the definitions of a crate that are not on its page."""
+    """The public functions, and the words of public contracts, that are not on the page of their crate."""
     page = CRATES / crate / "README.md"
     if not page.is_file():
         return [f"crates/{crate} has no README.md"]
@@ -18,15 +75,20 @@ def lacking(crate: str) -> list[str]:
     for it in source.functions(crate):
         if it.is_public and not it.is_test and it.name not in known:
             found.append(f"crates/{crate}/README.md lacks the function `{it.name}` of {it.path.relative_to(CRATES / crate)}:{it.line}")
-    for path in sorted((CRATES / crate / "specs").rglob("*.antt")):
-        for it in source.definitions(path).values():
-            if it.name.strip("◌") not in known and it.name not in known:
-                found.append(f"crates/{crate}/README.md lacks `{it.name}` of {path.relative_to(CRATES / crate)}:{it.line}")
+    for word in words_of(crate):
+        if word.name.strip("◌") not in known and word.name not in known:
+            found.append(f"crates/{crate}/README.md lacks `{word.name}` of {word.path.relative_to(CRATES / crate)}:{word.line}")
     return found
 
 
 def main(words: list[str]) -> int:
-    parser(__doc__).parse_args(words)
+    options = parser(__doc__)
+    options.add_argument("--cited", nargs="+", metavar="CRATE", help="print the definitions of these crates that are cited")
+    asked = options.parse_args(words)
+    if asked.cited:
+        for word in (it for crate in asked.cited for it in words_of(crate)):
+            print(f"crates/{word.path.relative_to(CRATES)}:{word.line}: {word.name}")
+        return 0
     found = [it for crate in source.libraries() for it in lacking(crate)]
     print("".join(it + "\n" for it in found), end="")
     return 1 if found else 0

@@ -3,7 +3,7 @@ clause that is named, and that each edit exists. It prints what is missing, and 
 
 In docs/PROOFS.md a contract is `name` or `name`: `clause`, `clause`, and several names are joined
 by commas; the file is a column of its own. On the page of a crate it is [`name`](src/FILE.rt):
-`clause`, `clause`, and several are joined by semicolons.
+`clause`, `clause`, and several are joined by semicolons; there may be a third column with edits.
 """
 from __future__ import annotations
 
@@ -15,7 +15,7 @@ from pathd_tools.pages.source import CRATES, TOP
 from pathd_tools.toolbox import parser
 
 HEADER = "| claim | contract | file | edit |"
-CRATE_HEADER = "| claim | contract | edit that it refuses |"
+CRATE_HEADERS = ["| claim | contract |", "| claim | contract | edit that it refuses |"]
 
 
 def rows(path: Path, header: str) -> list[tuple[int, list[str]]]:
@@ -82,14 +82,14 @@ def problems(cells: list[str]) -> list[str]:
 
 def crate_problems(crate: Path, cells: list[str]) -> list[str]:
     """What is wrong with a row of a crate's page."""
-    if len(cells) != 3:
+    if len(cells) not in (2, 3):
         return [f"{len(cells)} columns"]
     found = []
     for part in re.split(r"; ", cells[1]):
         it = re.match(r"\[`([^`]+)`\]\(([^)]+)\)(?::(.*))?", part)
         if it:
             found += lacks((crate / it[2]).resolve(), it[1].split("::")[-1], re.findall(r"`([^`]+)`", it[3] or ""), may_lack=True)
-    for link in re.findall(r"\]\(([^)]+\.edit)\)", cells[2]):
+    for link in re.findall(r"\]\(([^)]+\.edit)\)", "".join(cells[2:])):
         if not (crate / link).is_file():
             found.append(f"no edit {link}")
     return found
@@ -100,7 +100,7 @@ def main(words: list[str]) -> int:
     proofs = TOP / "docs" / "PROOFS.md"
     found = [(proofs, at, it) for at, cells in rows(proofs, HEADER) for it in problems(cells)]
     for page in sorted(CRATES.glob("*/README.md")):
-        found += [(page, at, it) for at, cells in rows(page, CRATE_HEADER) for it in crate_problems(page.parent, cells)]
+        found += [(page, at, it) for header in CRATE_HEADERS for at, cells in rows(page, header) for it in crate_problems(page.parent, cells)]
     for path, at, it in found:
         print(f"{path.relative_to(TOP)}:{at}: {it}")
     return 1 if found else 0
