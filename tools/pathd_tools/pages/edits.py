@@ -28,6 +28,7 @@ import shutil
 import subprocess
 import sys
 import tempfile
+import textwrap
 import time
 from dataclasses import dataclass, field
 from pathlib import Path
@@ -37,7 +38,7 @@ from pathd_tools.toolbox import parser
 
 PAGE = TOP / "docs" / "EDITS.md"
 KINDS = {"must-fail": "gate", "more-edits": "beside"}
-HEADER = "| edit | where | the wrong body | refused by | commit | date |"
+HEADER = "| edit | the wrong body | refused by | at |"
 
 # What the prover prints: a goal that no tactic proves, an error in a proof file, and the line of a function after both.
 GOAL = re.compile(r"(?:note: )?src/\S+:\d+:\d+: .*?\(`([\w:-]+)`(?:, [^)]*)?\)(.*)")
@@ -307,11 +308,11 @@ def rows_before() -> dict[tuple[str, str], list[str]]:
     """The rows of the page as it is, by crate and edit."""
     found, crate = {}, ""
     for line in PAGE.read_text().splitlines() if PAGE.is_file() else []:
-        if line.startswith("## "):
-            crate = line.removeprefix("## ").strip("`")
+        cells = [it.strip() for it in line.strip("| ").split(" | ")]
+        if head := re.match(r"\| \*\*`(\w+)`\*\* \|", line):
+            crate = head[1]
         elif line.startswith("| `"):
-            cells = [it.strip() for it in line.strip("| ").split(" | ")]
-            found[crate, cells[0].strip("`")] = cells
+            found[crate, cells[0].strip("`")] = [*cells, "", ""][:4]
     return found
 
 
@@ -323,28 +324,37 @@ def is_unchanged(edit: Edit, since: str) -> bool:
 
 def row(edit: Edit, before: dict) -> list[str]:
     """The row of an edit: by its last try, or as the page has it where the edit is unchanged since then."""
-    cells = [f"`{edit.path.stem}`", edit.kind, edit.phrase]
+    cells = [f"`{edit.path.stem}`", edit.phrase]
     if kept_at(edit).is_file():
         ran = json.loads(kept_at(edit).read_text())
         if ran["sum"] == edit.sum:
             verdict = judge(edit, ran)
-            by = f"`{verdict.by}`" if verdict.is_well else f"**no refusal**: {verdict.why}".replace("|", "/")
             tried_at = ran["commit"] if is_unchanged(edit, ran["commit"]) else commit()
-            return [*cells, by, tried_at, ran["date"]]
+            return [*cells, f"`{short(verdict.by)}`" if verdict.is_well else "**no refusal**", tried_at]
     old = before.get((edit.crate, edit.path.stem))
-    if old and len(old) == 6 and old[4] and is_unchanged(edit, old[4]):
-        return [*cells, *old[3:]]
-    return [*cells, "", "", ""]
+    if old and old[3] and is_unchanged(edit, old[3]):
+        return [*cells, *old[2:]]
+    return [*cells, "", ""]
+
+
+def short(by: str) -> str:
+    """The function and the clause, without the function's modules."""
+    return re.sub(r"^(?:[a-z_0-9]+::)+(?=\w)", "", by)
 
 
 def write() -> int:
     before = rows_before()
-    text, last = HEAD, ""
-    for edit in edits_of([]):
-        if edit.crate != last:
-            text += f"\n## `{edit.crate}`\n\n{HEADER}\n|---|---|---|---|---|---|\n"
-            last = edit.crate
-        text += f"| {' | '.join(row(edit, before))} |\n"
+    gate = [it for it in edits_of([]) if it.kind == "gate"]
+    text = HEAD + f"\n{HEADER}\n|---|---|---|---|\n"
+    for crate in dict.fromkeys(it.crate for it in gate):
+        text += f"| **`{crate}`** | | | |\n"
+        text += "".join(f"| {' | '.join(row(it, before))} |\n".replace("|  ", "| ") for it in gate if it.crate == crate)
+    text += BESIDE
+    beside = [it for it in edits_of([]) if it.kind == "beside"]
+    for crate in dict.fromkeys(it.crate for it in beside):
+        names = [it.path.stem for it in beside if it.crate == crate]
+        line = f"- `{crate}`, {len(names)}: {', '.join(f'`{it}`' for it in names)}"
+        text += textwrap.fill(line, 100, subsequent_indent="  ", break_long_words=False, break_on_hyphens=False) + "\n"
     PAGE.write_text(text)
     return 0
 
@@ -353,9 +363,19 @@ HEAD = """# Wrong bodies, and the clauses that refuse them
 
 <!-- written by tools/pathd-tools edits --write -->
 
-Each edit is a wrong body of one function. Those of the gate are in `crates/CRATE/must-fail/`, and `rt ci` tries them; those beside it are in
-`crates/CRATE/more-edits/`. `tools/pathd-tools edits CRATE` tries both. The column 'refused by' has the function and the clause whose goal the prover refuses; a function alone has one
-clause without a name. An edit without a date has not been tried since it was last changed.
+Each edit is a wrong body of one function. Those of the table are in `crates/CRATE/must-fail/`, and
+`rt ci` tries them. The column 'refused by' has the function and the clause whose goal the prover
+refuses; a function alone has one clause without a name. At '**no refusal**' no clause, invariant or
+check refused it. 'at' is the commit at which `tools/pathd-tools edits CRATE` last tried the edit,
+and is empty where the edit has changed since.
+"""
+
+BESIDE = """
+## Beside the gate
+
+These are in `crates/CRATE/more-edits/`, which the gate does not read. `tools/pathd-tools edits
+CRATE --beside` tries them.
+
 """
 
 
