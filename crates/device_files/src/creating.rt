@@ -1,7 +1,7 @@
 //! Making the file of a device.
 
 ghost use Rattle.std.specs.Prelude.{◌≡◌, IfOk};
-ghost use Rattle.sector_dev.specs.SystemFile.{system_state};
+ghost use Rattle.sector_dev.specs.CountedFile.{failures_of};
 
 use crate::cache::forget_cached;
 use crate::kind::{DeviceKind, device_kind};
@@ -19,7 +19,7 @@ pub fn create<R: AllocGlobal + Files<File = File>>(
     path: &str,
     len: u64,
 ) -> io::Result<SystemFile>
-    ensures { IfOk result (λ file. (system_state file).failures ≡ 0) }
+    ensures { IfOk result (λ file. failures_of file ≡ 0) }
 {
     let file = OpenOptions::new()
         .read(true)
@@ -34,7 +34,7 @@ pub fn create<R: AllocGlobal + Files<File = File>>(
         }
         DeviceKind::Block => forget_cached(&file),
     }
-    Ok(SystemFile::new(file))
+    SystemFile::new(rt.alloc(), file)
 }
 
 // Gives a file `len` zero bytes, on its disk too.
