@@ -29,6 +29,7 @@ PROGRAMS = [
     ("strace python3", "locks PROGRAM"),
     ("strace perl", "syscalls PROGRAM"),
     ("strace", "faults PROGRAM"),
+    ("python3", "closed-handles PROGRAM"),
     ("strace python3", "server-calls PROGRAM"),
     ("python3-protobuf", "client PROGRAM"),
     ("protoc go protoc-gen-go golang-google-protobuf-dev", "go-client PROGRAM"),

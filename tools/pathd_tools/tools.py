@@ -26,6 +26,7 @@ CHECKS = [
     Tool("syscalls", "syscalls.sh", "the calls on a store's file, in the order that docs/FORMATS.md draws"),
     Tool("server-calls", "checks.server_calls", "the reads and writes of a session"),
     Tool("locks", "locks.sh", "the commands beside another process's lock"),
+    Tool("closed-handles", "checks.closed_handles", "the commands with closed standard handles: nothing but the store is in its file"),
     Tool("faults", "faults.sh", "the commands while calls on the store's file fail or are interrupted"),
     Tool("block-device", "block_device.sh", "the commands over a loop device, also one that loses writes; as root"),
     Tool("alert-rules", "checks.alert_rules", "the alert rules and their tests, and the dashboard's expressions, by promtool"),

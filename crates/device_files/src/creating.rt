@@ -1,9 +1,11 @@
 //! Making the file of a device.
 
 ghost use Rattle.std.specs.Prelude.{◌≡◌, IfOk};
-ghost use Rattle.sector_dev.specs.SystemFile.{system_state};
+ghost use Rattle.sector_dev.specs.CountedFile.{calls_of, failures_of};
+ghost use Rattle.device_files.specs.Descriptor.{IsAboveStandard};
 
 use crate::cache::forget_cached;
+use crate::descriptor::above_standard;
 use crate::kind::{DeviceKind, device_kind};
 use sector_dev::SystemFile;
 use std::fs::{File, OpenOptions};
@@ -19,13 +21,15 @@ pub fn create<R: AllocGlobal + Files<File = File>>(
     path: &str,
     len: u64,
 ) -> io::Result<SystemFile>
-    ensures { IfOk result (λ file. (system_state file).failures ≡ 0) }
+    ensures failures { IfOk result (λ file. failures_of file ≡ 0) }
+    ensures above { IfOk result (λ file. IsAboveStandard (calls_of file)) }
 {
     let file = OpenOptions::new()
         .read(true)
         .write(true)
         .create(true)
         .open(rt, path)?;
+    let file = above_standard(file)?;
     file.try_lock()?;
     match device_kind(&file)? {
         DeviceKind::File => {
@@ -34,7 +38,7 @@ pub fn create<R: AllocGlobal + Files<File = File>>(
         }
         DeviceKind::Block => forget_cached(&file),
     }
-    Ok(SystemFile::new(file))
+    SystemFile::new(rt.alloc(), file)
 }
 
 // Gives a file `len` zero bytes, on its disk too.

@@ -8,6 +8,7 @@
 
 mod cache;
 mod creating;
+mod descriptor;
 mod kind;
 mod opening;
 

@@ -1,9 +1,11 @@
 //! Opening files that exist.
 
 ghost use Rattle.std.specs.Prelude.{◌≡◌, IfOk};
-ghost use Rattle.sector_dev.specs.SystemFile.{system_state};
+ghost use Rattle.sector_dev.specs.CountedFile.{calls_of, failures_of};
+ghost use Rattle.device_files.specs.Descriptor.{IsAboveStandard};
 
 use crate::cache::forget_cached;
+use crate::descriptor::above_standard;
 use crate::kind::device_kind;
 use sector_dev::SystemFile;
 use std::fs::{File, OpenOptions};
@@ -12,25 +14,32 @@ use std::rt::Files;
 
 /// Opens a file or a block device, which this process alone may read and write. Where another
 /// process has it open by a function of this library, the error is `WouldBlock`.
-pub fn open<R: Files<File = File>>(rt: &R, path: &str) -> io::Result<SystemFile>
-    ensures { IfOk result (λ file. (system_state file).failures ≡ 0) }
+pub fn open<R: AllocGlobal + Files<File = File>>(rt: &R, path: &str) -> io::Result<SystemFile>
+    ensures failures { IfOk result (λ file. failures_of file ≡ 0) }
+    ensures above { IfOk result (λ file. IsAboveStandard (calls_of file)) }
 {
     let file = OpenOptions::new().read(true).write(true).open(rt, path)?;
+    let file = above_standard(file)?;
     file.try_lock()?;
     device_kind(&file)?;
     forget_cached(&file);
-    Ok(SystemFile::new(file))
+    SystemFile::new(rt.alloc(), file)
 }
 
 /// Opens a file or a block device to read it, beside other processes that do the same. Where
 /// another process has it open to write it by a function of this library, the error is
 /// `WouldBlock`. Writes of the file fail.
-pub fn open_to_read<R: Files<File = File>>(rt: &R, path: &str) -> io::Result<SystemFile>
-    ensures { IfOk result (λ file. (system_state file).failures ≡ 0) }
+pub fn open_to_read<R: AllocGlobal + Files<File = File>>(
+    rt: &R,
+    path: &str,
+) -> io::Result<SystemFile>
+    ensures failures { IfOk result (λ file. failures_of file ≡ 0) }
+    ensures above { IfOk result (λ file. IsAboveStandard (calls_of file)) }
 {
     let file = OpenOptions::new().read(true).open(rt, path)?;
+    let file = above_standard(file)?;
     file.try_lock_shared()?;
     device_kind(&file)?;
     forget_cached(&file);
-    Ok(SystemFile::new(file))
+    SystemFile::new(rt.alloc(), file)
 }

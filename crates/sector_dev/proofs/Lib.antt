@@ -3,3 +3,4 @@ pub mod Images
 pub mod Parts
 pub mod Stretches
 mod Joined
+mod NothingLands

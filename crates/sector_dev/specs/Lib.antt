@@ -9,5 +9,7 @@ pub mod HeldDevice
 pub mod PositionedFile
 pub mod FileDevice
 pub mod MemFile
-pub mod SystemFile
+pub mod FileCalls
+pub mod CountedFile
+pub mod LastFault
 pub mod FileLaws

@@ -5,7 +5,7 @@ use Rattle.sector_dev.specs.declared.mem_file.MemFile.{MemFile}
 
 -- An honest file of these bytes, whose writes are never lost.
 abbrev pub memory_state : MemFile → FileState
-memory_state file = record { is_honest = true; bytes = file.bytes.items; dirty = []; failures = file.failures }
+memory_state file = record { is_honest = true; bytes = file.bytes.items; dirty = []; failures = 0 }
 
 -- The most bytes that one transfer moves.
 abbrev pub transfer_limit : MemFile → ℕ

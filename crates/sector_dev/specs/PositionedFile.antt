@@ -33,6 +33,10 @@ abbrev pub failures_after_transfer : {E : Type 0} → ℕ → Result ℕ E → �
 failures_after_transfer asked (Ok moved) failures = if nat_lt 0 asked && moved == 0 then one_more failures else failures
 failures_after_transfer asked (Err _) failures = one_more failures
 
+-- What was clean is clean.
+abbrev pub StaysClean : List ByteRange → List ByteRange → Type 0
+StaysClean old new = (i : ℕ) → IsClean old i → IsClean new i
+
 -- A sync of a file.
 pub record SyncsFile {T E : Type 0} (result : Result T E) (old new : FileState) : Type 0 where
   pub is_honest : new.is_honest ≡ old.is_honest
@@ -40,8 +44,8 @@ pub record SyncsFile {T E : Type 0} (result : Result T E) (old new : FileState) 
   pub bytes : IsHonestFile old → new.bytes ≡ old.bytes
   -- After a sync that succeeds, a stop leaves the bytes of an honest file unchanged.
   pub done : IsHonestFile old → OnOk result (new.dirty ≡ [])
-  -- A sync that fails changes nothing.
-  pub unchanged : IsHonestFile old → OnErr result (new.dirty ≡ old.dirty)
+  -- A sync that fails makes nothing dirty.
+  pub clean : IsHonestFile old → OnErr result (StaysClean old.dirty new.dirty)
 
 -- Nothing is dirty but what was dirty before, and the n bytes at an offset.
 abbrev pub DirtiesOnly : ℕ → ℕ → List ByteRange → List ByteRange → Type 0

@@ -6,25 +6,30 @@
 //! for several calls, one after the other.
 #![tactic(auto)]
 
+mod counted_file;
 mod device;
 mod fault_device;
+mod file_calls;
 mod file_device;
 mod fuse_device;
 mod held_device;
+mod last_fault;
 mod mem_device;
 mod mem_file;
 mod positioned_file;
-mod system_file;
+mod system_calls;
 mod trail;
 mod transfers;
 
 pub use byte_lists::SECTOR;
+pub use counted_file::{CountedFile, SystemFile};
 pub use device::{DevError, Device};
 pub use fault_device::FaultDevice;
+pub use file_calls::FileCalls;
 pub use file_device::FileDevice;
 pub use fuse_device::{FuseDevice, Tear};
 pub use held_device::{Gate, HeldDevice};
+pub use last_fault::{FaultKind, FileFault, LastFault};
 pub use mem_device::MemDevice;
 pub use mem_file::MemFile;
 pub use positioned_file::PositionedFile;
-pub use system_file::SystemFile;

@@ -2,17 +2,15 @@
 ghost use Rattle.std.specs.Prelude.{◌≡◌, true, []};
 ghost use Rattle.byte_lists.specs.Content.{AreBytes};
 
-use crate::PositionedFile;
-use crate::positioned_file::failures_after;
+use crate::FileCalls;
 use std::io;
 
 /// An honest file in memory, of which one transfer moves at most a given number of bytes. Its calls
-/// never return an error. A transfer that moves nothing of some bytes counts as a failure.
+/// never return an error.
 #[derive(Drop)]
 pub struct MemFile {
     bytes: Vec<u8>,
     at_most: usize,
-    failures: u64,
     ghost are_bytes: { AreBytes bytes.items },
 }
 
@@ -24,11 +22,7 @@ impl MemFile {
         ensures state { memory_state result ≡ record { is_honest = true; bytes = bytes.items; dirty = []; failures = 0 } }
         ensures most { transfer_limit result ≡ at_most }
     {
-        MemFile {
-            bytes,
-            at_most,
-            failures: 0,
-        }
+        MemFile { bytes, at_most }
     }
 
     // The number of bytes that one transfer moves at an offset, where `asked` bytes are asked for.
@@ -43,29 +37,37 @@ impl MemFile {
     }
 }
 
-impl PositionedFile for MemFile {
-    ghost use Rattle.std.specs.Prelude.{◌≡◌, Ok, IsOk, length};
-    ghost use Rattle.sector_dev.specs.PositionedFile.{LeavesFile, SyncsFile, TransfersOut, TransfersIn};
+impl FileCalls for MemFile {
+    ghost use Rattle.std.specs.Prelude.{◌≡◌, ◌≤◌, Ok, IsOk, IfOk, length, take};
+    ghost use Rattle.byte_lists.specs.Content.{part};
+    ghost use Rattle.sector_dev.specs.FileCalls.{LandsCall, SyncsCall};
     ghost use Rattle.sector_dev.specs.MemFile.{memory_state, transfer_length};
 
     ghost state = { memory_state };
 
+    ghost returned_len = { λ file n. n ≡ length file.bytes.items };
+
+    ghost returned_links = { λ file n. n ≡ 1 };
+
     ghost bytes = { λ file honest. file.are_bytes };
 
-    fn size(&mut self) -> io::Result<u64>
-        ensures same { LeavesFile (memory_state self.old) (memory_state self.new) }
-        ensures failures { (memory_state self.new).failures ≡ (memory_state self.old).failures }
-        ensures size { result ≡ Ok (length (memory_state self.old).bytes) }
+    fn len(&self) -> io::Result<u64>
+        ensures { result ≡ Ok (length (memory_state self.now).bytes) }
     {
         Ok(self.bytes.len() as u64)
     }
 
-    fn read_at(&mut self, offset: u64, into: &mut [u8]) -> io::Result<usize>
-        ensures out { TransfersOut offset into.new result (memory_state self.old) (memory_state self.new) }
-        ensures moved { result ≡ Ok (transfer_length self.old offset (length into.old)) }
+    fn links(&self) -> io::Result<u64>
+        ensures { result ≡ Ok 1 }
+    {
+        Ok(1)
+    }
+
+    fn read_once(&self, offset: u64, into: &mut [u8]) -> io::Result<usize>
+        ensures bytes { IfOk result (λ n. take n into.new ≡ part offset n (memory_state self.now).bytes) }
+        ensures moved { result ≡ Ok (transfer_length self.now offset (length into.old)) }
     {
         let n = self.room(offset, into.len());
-        self.failures = failures_after(into.len(), &Ok(n), self.failures);
         if n == 0 {
             return Ok(0);
         }
@@ -74,12 +76,11 @@ impl PositionedFile for MemFile {
         Ok(n)
     }
 
-    fn write_at(&mut self, offset: u64, bytes: &[u8]) -> io::Result<usize>
-        ensures into { TransfersIn offset bytes.now result (memory_state self.old) (memory_state self.new) }
+    fn write_once(&mut self, offset: u64, bytes: &[u8]) -> io::Result<usize>
+        ensures lands { LandsCall offset bytes.now result (memory_state self.old) (memory_state self.new) }
         ensures moved { result ≡ Ok (transfer_length self.old offset (length bytes.now)) }
     {
         let n = self.room(offset, bytes.len());
-        self.failures = failures_after(bytes.len(), &Ok(n), self.failures);
         if n == 0 {
             return Ok(0);
         }
@@ -88,8 +89,8 @@ impl PositionedFile for MemFile {
         Ok(n)
     }
 
-    fn sync_data(&mut self) -> io::Result<()>
-        ensures sync { SyncsFile result (memory_state self.old) (memory_state self.new) }
+    fn sync_once(&mut self) -> io::Result<()>
+        ensures sync { SyncsCall result (memory_state self.old) (memory_state self.new) }
         ensures done { IsOk result }
     {
         Ok(())

@@ -1,7 +1,7 @@
 //! Files that are read and written at offsets.
 ghost use Rattle.std.specs.Prelude.{◌≡◌, ◌+◌, ◌<◌, ◌^◌, length, IfOk, IsTrue};
 ghost use Rattle.byte_lists.specs.Content.{AreBytes};
-ghost use Rattle.sector_dev.specs.PositionedFile.{FileState, IsHonestFile, LeavesFile, SyncsFile, TransfersOut, TransfersIn, failures_after_transfer};
+ghost use Rattle.sector_dev.specs.PositionedFile.{FileState, IsHonestFile, LeavesFile, SyncsFile, TransfersOut, TransfersIn};
 
 use std::io;
 
@@ -30,14 +30,4 @@ pub trait PositionedFile {
         ensures sync { SyncsFile result (state self.old) (state self.new) };
 
     ghost bytes: { (file : Self) → IsHonestFile (state file) → AreBytes (state file).bytes };
-}
-
-// The count of failures after a transfer in which `asked` bytes were asked for.
-pub(crate) fn failures_after(asked: usize, moved: &io::Result<usize>, failures: u64) -> u64
-    ensures { result ≡ failures_after_transfer asked moved.now failures }
-{
-    match moved {
-        Ok(n) if *n > 0 || asked == 0 => failures,
-        _ => failures.saturating_add(1),
-    }
 }

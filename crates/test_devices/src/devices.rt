@@ -3,8 +3,8 @@
 ghost use Rattle.std.specs.Prelude.{◌≡◌};
 
 use crate::calls::assert_call;
-use sector_dev::{FileDevice, PositionedFile, SystemFile};
-use std::fs::OpenOptions;
+use sector_dev::{CountedFile, FileCalls, FileDevice};
+use std::fs::{File, OpenOptions};
 use std::io;
 use std::process::Abort;
 use std::test::Fail;
@@ -12,31 +12,39 @@ use std::test::Fail;
 // A file of the system that reports four sectors. The two files report that they have none.
 #[derive(Drop)]
 struct FourSectors {
-    file: SystemFile,
+    file: File,
 }
 
-impl PositionedFile for FourSectors {
+impl FileCalls for FourSectors {
+    ghost use Rattle.std.specs.Prelude.{false, [], ⊤};
     ghost use Rattle.std.proofs.Common.{arith};
-    ghost use Rattle.sector_dev.specs.SystemFile.{system_state};
 
-    ghost state = { λ four. system_state four.file };
+    ghost state = { λ _. record { is_honest = false; bytes = []; dirty = []; failures = 0 } };
+
+    ghost returned_len = { λ _ n. ⊤ };
+
+    ghost returned_links = { λ _ n. ⊤ };
 
     ghost bytes = { λ four honest i. Prim.omega arith };
 
-    fn size(&mut self) -> io::Result<u64> {
+    fn len(&self) -> io::Result<u64> {
         Ok(2048)
     }
 
-    fn read_at(&mut self, offset: u64, into: &mut [u8]) -> io::Result<usize> {
-        self.file.read_at(offset, into)
+    fn links(&self) -> io::Result<u64> {
+        self.file.links()
     }
 
-    fn write_at(&mut self, offset: u64, bytes: &[u8]) -> io::Result<usize> {
-        self.file.write_at(offset, bytes)
+    fn read_once(&self, offset: u64, into: &mut [u8]) -> io::Result<usize> {
+        self.file.read_once(offset, into)
     }
 
-    fn sync_data(&mut self) -> io::Result<()> {
-        self.file.sync_data()
+    fn write_once(&mut self, offset: u64, bytes: &[u8]) -> io::Result<usize> {
+        self.file.write_once(offset, bytes)
+    }
+
+    fn sync_once(&mut self) -> io::Result<()> {
+        self.file.sync_once()
     }
 }
 
@@ -61,19 +69,23 @@ const NULL: [(bool, u64); 6] = [
 ];
 
 // A device over this file.
-fn device_over(rt: &HostRuntime, path: &str) -> Result<FileDevice<FourSectors>, Fail> {
+fn device_over(rt: &HostRuntime, path: &str) -> Result<FileDevice<CountedFile<FourSectors>>, Fail> {
     let file = OpenOptions::new().read(true).write(true).open(rt, path)?;
-    let file = SystemFile::new(file);
-    Ok(FileDevice::new(FourSectors { file })?)
+    let file = CountedFile::new(rt.alloc(), FourSectors { file })?;
+    Ok(FileDevice::new(file)?)
 }
 
 // Makes all calls, and checks the result of each, and that the file counts the same faults as the
 // device.
-fn assert_answers(rt: &impl Abort, mut device: FileDevice<FourSectors>, wanted: &[(bool, u64); 6]) {
+fn assert_answers(
+    rt: &impl Abort,
+    mut device: FileDevice<CountedFile<FourSectors>>,
+    wanted: &[(bool, u64); 6],
+) {
     for (number, wanted) in wanted.iter().enumerate() {
         assert_call(rt, &mut device, number as u64, *wanted, &number);
     }
-    assert_eq!(rt; device.into_file().file.failures(), wanted[5].1);
+    assert_eq!(rt; device.into_file().failures(), wanted[5].1);
 }
 
 #[test]

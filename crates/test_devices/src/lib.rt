@@ -7,6 +7,8 @@
 #[cfg(test)]
 mod calls;
 #[cfg(test)]
+mod changed_files;
+#[cfg(test)]
 mod devices;
 #[cfg(test)]
 mod faults;

@@ -28,7 +28,7 @@ fn device_over(
     options: &OpenOptions,
 ) -> Result<FileDevice<SystemFile>, Fail> {
     let file = options.open(rt, path)?;
-    Ok(FileDevice::new(SystemFile::new(file))?)
+    Ok(FileDevice::new(SystemFile::new(rt.alloc(), file)?)?)
 }
 
 // A device over the file of this path, which is opened for reading and writing.

@@ -1,0 +1,32 @@
+-- A file over its calls, with a count of its failures, as contracts see it.
+use Rattle.std.specs.Prelude.{ℕ, ◌≤◌}
+use Rattle.sector_dev.specs.PositionedFile.{FileState}
+use Rattle.sector_dev.specs.declared.counted_file.CountedFile.{CountedFile}
+
+-- The file whose calls are counted.
+abbrev pub calls_of : {F : Type 0} → CountedFile F → F
+calls_of counted = counted.file
+
+-- The count of failures.
+abbrev pub failures_of : {F : Type 0} → CountedFile F → ℕ
+failures_of counted = counted.failures
+
+-- The length that the file had when it was opened, in bytes.
+abbrev pub opened_len : {F : Type 0} → CountedFile F → ℕ
+opened_len counted = counted.opened
+
+-- The file as contracts see it, where they see the file of its calls by `state`: with the count of
+-- failures.
+abbrev pub counted_state : {F : Type 0} → (F → FileState) → CountedFile F → FileState
+counted_state state counted = record (state counted.file) { failures = counted.failures }
+
+-- A file is at least as long as it was when it was opened, and has a name, by calls for both.
+pub record IsInPlace {F : Type 0} (returned_len returned_links : F → ℕ → Type 0) (opened : ℕ) (file : F) : Type 0 where
+  -- The length of the file in bytes.
+  pub len : ℕ
+  pub has_len : returned_len file len
+  pub not_cut : opened ≤ len
+  -- The number of names of the file.
+  pub links : ℕ
+  pub has_links : returned_links file links
+  pub not_unlinked : 1 ≤ links
