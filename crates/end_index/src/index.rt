@@ -1,8 +1,6 @@
 //! The index: a set of index keys, in their order.
 
 ghost use Rattle.std.specs.Prelude.{◌≡◌, ◌+◌, ◌^◌, ◌<◌, [], ◌&&◌, ◌||◌, not, IfOk, OnOk, OnErr, filter};
-ghost use Rattle.std.specs.Fn.{CalledAt};
-ghost use Rattle.std.specs.List.Retain.{IsFiltered};
 ghost use Rattle.std.specs.List.Sorted.{IsStrictlySortedBy};
 ghost use Rattle.end_index.specs.declared.index_key.IndexKey.{IndexKey};
 ghost use Rattle.end_index.specs.IndexKey.{index_key_cmp, has, is_same, stands_at};
@@ -55,14 +53,6 @@ impl EndIndex {
         ensures { (q : IndexKey) → has self.new q ≡ (not (is_same q index_key.now) && has self.old q) }
     {
         self.index_keys.remove(index_key);
-    }
-
-    /// Removes the index keys for which the function returns `false`. This takes no memory.
-    pub fn retain<F: FnMut(&IndexKey) -> bool>(&mut self, keep: F)
-        requires { F.IsAlwaysCallable keep }
-        ensures { IsFiltered (CalledAt F.FnMut) keep self.old self.new }
-    {
-        self.index_keys.retain(keep);
     }
 
     /// An equal index. An error means that memory was refused.

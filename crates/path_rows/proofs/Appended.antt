@@ -1,6 +1,5 @@
 -- A row whose key is above all others: for `with_last` and `of_rows`.
-use Rattle.std.proofs.Common.{◌≡◌, ℕ, ◌+◌, ◌<◌, length, get_or, take, drop, Bool, true, false, ◌&&◌, ◌||◌, List, [], ◌∷◌, ◌++◌, if◌then◌else◌, Option, Some, None, refl, sym, ap, ◌∙◌, subst}
-use Rattle.std.specs.List.{AllByRecursion}
+use Rattle.std.proofs.Common.{◌≡◌, ℕ, ◌+◌, ◌<◌, length, get_or, take, drop, Bool, true, false, ◌||◌, List, [], ◌∷◌, ◌++◌, if◌then◌else◌, Some, None, refl, sym, ap, ◌∙◌, subst}
 use Rattle.std.specs.Ordering.{is_eq}
 use Rattle.std.specs.declared.cmp.Ordering.TheVariants.{Less}
 use Rattle.std.proofs.lemmas.Bool.{false≢true}
@@ -10,13 +9,12 @@ use Rattle.end_index.specs.IndexKey.{is_same, has}
 use Rattle.path_rows.specs.declared.row.Row.{Row}
 use Rattle.path_rows.specs.Row.{row_view, row_views}
 use Rattle.path_rows.specs.Database.{RowView, key_of, key_order, IsRising, AreWhole, IsDatabase, is_under, row_under}
-use Rattle.path_rows.specs.Put.{put_before, database_after_put}
 use Rattle.path_rows.specs.RowMap.{HasRowPut, indexed_key}
 use Rattle.path_rows.specs.EndKeys.{is_of, is_index_key, ends_at, stands, IsEndIndex}
 use Rattle.path_rows.proofs.Order.{AllAbove, turned_less}
 use Rattle.path_rows.proofs.Keys.{its_key, under_first}
 use Rattle.path_rows.proofs.Canon.{database_is_canonical}
-use Rattle.path_rows.proofs.IndexKeys.{EndOf, both_from, first_from, second_from, same_if, same_from, one_index_key, index_key_same, views_more}
+use Rattle.path_rows.proofs.IndexKeys.{EndOf, same_if, same_from, one_index_key, index_key_same, views_more}
 
 -- ---- the first ones of rows
 

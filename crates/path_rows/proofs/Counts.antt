@@ -17,7 +17,7 @@ use Rattle.path_rows.proofs.Keys.{others_behind}
 use Rattle.path_rows.proofs.Found.{none_removed}
 use Rattle.path_rows.proofs.Drops.{left_and_dropped}
 
-abbrev one_if : Bool → ℕ
+abbrev pub one_if : Bool → ℕ
 one_if b = if b then 1 else 0
 
 -- ---- puts
@@ -68,7 +68,7 @@ removed_first : (b : Bool) (row : RowView) (rows left : List RowView) (found : O
 removed_first true row rows left found none so = omega (arith, ap length (none refl))
 removed_first false row rows left found none so = omega (arith, so)
 
-removed_counted : (k : List ℕ) (rows : List RowView) → IsRising rows → length (database_after_removal rows k) + one_if (is_some (row_under k rows)) ≡ length rows
+pub removed_counted : (k : List ℕ) (rows : List RowView) → IsRising rows → length (database_after_removal rows k) + one_if (is_some (row_under k rows)) ≡ length rows
 removed_counted k [] rising = refl
 removed_counted k (row ∷ rows) rising =
     removed_first (is_under k row) row rows (database_after_removal rows k) (row_under k rows) (λ e. none_removed k rows (others_behind k row rows e rising.0)) (removed_counted k rows rising.1)

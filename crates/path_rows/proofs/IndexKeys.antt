@@ -3,8 +3,7 @@ use Rattle.std.proofs.Common.{◌≡◌, ◌-◌, ◌+◌, zero, length, get_or,
 use Rattle.std.specs.Ordering.{nat_cmp, is_eq, ordering_then}
 use Rattle.std.specs.Cmp.Lexicographic.{slice_cmp}
 use Rattle.std.specs.Cmp.{tied_then}
-use Rattle.std.specs.Option.{option_map, is_some}
-use Rattle.std.specs.Borrow.{Bor}
+use Rattle.std.specs.Option.{option_map}
 use Rattle.std.proofs.lemmas.Bool.{false≢true}
 use Rattle.std.proofs.lemmas.Bool.Decides.{eqb_tells}
 use Rattle.std.proofs.lemmas.Map.Lookups.{exact_bytes, exact_unsigned}
@@ -22,7 +21,7 @@ use Rattle.seg_core.specs.Registration.{type_number}
 use Rattle.end_index.specs.declared.index_key.IndexKey.{IndexKey}
 use Rattle.end_index.specs.IndexKey.{is_same, has}
 use Rattle.path_rows.specs.declared.row.Row.{Row}
-use Rattle.path_rows.specs.Database.{RowView, key_of, is_under, row_under}
+use Rattle.path_rows.specs.Database.{RowView, key_of, is_under}
 use Rattle.path_rows.specs.Row.{row_view, row_views}
 use Rattle.path_rows.specs.RowMap.{indexed_key}
 use Rattle.path_rows.specs.EndKeys.{is_of, is_index_key, stands, EndAlike, IsSeenTo, AreSeenTo, IsCovered}
@@ -302,12 +301,3 @@ seen_push end index_keys [] [] row stood all one = (one, tt)
 seen_push end index_keys [] (s ∷ saved) row stood all one = absurd all
 seen_push end index_keys (r ∷ rows) [] row stood all one = absurd all
 seen_push end index_keys (r ∷ rows) (s ∷ saved) row stood all one = (all.0, seen_push end index_keys rows saved row stood all.1 one)
-
--- ---- index keys that have rows
-
-pub standing_alike : (rows : List RowView) (q p : IndexKey) → is_same q p ≡ true → is_some (row_under (indexed_key p) rows) ≡ is_some (row_under (indexed_key q) rows)
-standing_alike rows q p e = let same = same_from q p e in rw (same.kind, same.id) refl
-
-pub is_some-seen : (found : Option (Bor Row)) (there : Option RowView) → option_map (λ row. row_view row.now) found ≡ there → is_some found ≡ is_some there
-is_some-seen None there e = ap is_some e
-is_some-seen (Some row) there e = ap is_some e

@@ -1,6 +1,6 @@
 -- The rows of a map under its keys: for the calls of `RowMap`.
 use Rattle.std.proofs.Common.{◌≡◌, ℕ, ◌+◌, arith, Bool, true, false, not, cond, List, [], ◌∷◌, if◌then◌else◌, Option, Some, None, refl, sym, ap, ◌∙◌, subst}
-use Rattle.std.specs.List.{AllByRecursion, filter, sum_by}
+use Rattle.std.specs.List.{AllByRecursion}
 use Rattle.std.specs.List.Sorted.{IsStrictlySortedBy}
 use Rattle.std.specs.Ordering.{nat_cmp, is_eq, match_ordering}
 use Rattle.std.specs.Cmp.Lexicographic.{slice_cmp}
@@ -22,7 +22,7 @@ use Rattle.path_rows.specs.declared.row.Row.{Row}
 use Rattle.path_rows.specs.declared.row_key.RowKey.{RowKey}
 use Rattle.path_rows.specs.Database.{RowView, key, key_of, key_order, IsRising, is_under, row_under, row_len, rows_len}
 use Rattle.path_rows.specs.Command.{database_after_removal}
-use Rattle.path_rows.specs.Row.{row_view, row_views}
+use Rattle.path_rows.specs.Row.{row_view}
 use Rattle.path_rows.specs.RowMap.{bytes_of, views_of, len_if_any, AreUnderTheirKeys}
 use Rattle.path_rows.proofs.Order.{AllAbove}
 use Rattle.path_rows.proofs.Found.{none_removed}
@@ -86,18 +86,6 @@ own_removed test (e ∷ es) own = own_tested (test e.0) e es (remove_entry test 
 pub passed_first : (b : Bool) (e : RowKey × Row) (rest : List (RowKey × Row)) (later : List RowView) → views_of rest ≡ later → views_of (cond b (e ∷ rest) rest) ≡ cond b (row_view e.1 ∷ later) later
 passed_first true e rest later same = ap (λ l. row_view e.1 ∷ l) same
 passed_first false e rest later same = same
-
-pub passed_by : (p : RowView → Bool) (es : List (RowKey × Row)) → views_of (filter (λ e. p (row_view e.1)) es) ≡ filter p (views_of es)
-passed_by p [] = refl
-passed_by p (e ∷ es) = passed_first (p (row_view e.1)) e (filter (λ e. p (row_view e.1)) es) (filter p (views_of es)) (passed_by p es)
-
-own_kept : (b : Bool) (e : RowKey × Row) (rest : List (RowKey × Row)) → bytes_of e.0 ≡ key_of (row_view e.1) → AreUnderTheirKeys rest → AreUnderTheirKeys (cond b (e ∷ rest) rest)
-own_kept true e rest one left = (one, left)
-own_kept false e rest one left = left
-
-pub own_passed : (p : RowKey × Row → Bool) (es : List (RowKey × Row)) → AreUnderTheirKeys es → AreUnderTheirKeys (filter p es)
-own_passed p [] own = tt
-own_passed p (e ∷ es) own = own_kept (p e) e (filter p es) own.0 (own_passed p es own.1)
 
 -- ---- a row under its key
 
@@ -182,10 +170,6 @@ set_bytes q row (e ∷ es) sorted =
     put_first (key_cmp q e.0) q row e es (insert_entry key_cmp es q row) (lookup (is_at (key_cmp q)) es) refl
     (λ below. lookup-none (is_at (key_cmp q)) es (none_below_head key_cmp_total q e es sorted below).1)
     (set_bytes q row es (sorted_tail key_cmp e.0 (keys_of es) sorted))
-
-pub sum_views : (rows : List Row) → sum_by (λ row. row_len (row_view row)) rows ≡ rows_len (row_views rows)
-sum_views [] = refl
-sum_views (row ∷ rows) = sum_by-cons (λ row. row_len (row_view row)) row rows ∙ ap (λ n. row_len (row_view row) + n) (sum_views rows) ∙ sym (sum_by-cons row_len (row_view row) (row_views rows))
 
 -- ---- a value that replaces another
 

@@ -23,4 +23,5 @@ mod Walked
 mod Newest
 mod Kept
 mod Counts
+mod Purged
 pub mod Exports

@@ -1,6 +1,5 @@
--- The index keys after a purge and a removal: for `purge` and `remove`.
-use Rattle.std.proofs.Common.{◌≡◌, ℕ, Bool, true, false, not, ◌&&◌, List, if◌then◌else◌, Option, Some, None, refl, sym, ap, ◌∙◌, subst}
-use Rattle.std.specs.Option.{is_some}
+-- The index keys after a removal: for `remove`.
+use Rattle.std.proofs.Common.{◌≡◌, ℕ, Bool, true, false, not, ◌&&◌, List, if◌then◌else◌, Some, None, refl, sym, ap, ◌∙◌, subst}
 use Rattle.std.specs.Ordering.{nat_cmp}
 use Rattle.std.specs.Cmp.Lexicographic.{slice_cmp}
 use Rattle.std.proofs.lemmas.Bool.{false≢true}
@@ -8,36 +7,15 @@ use Rattle.std.proofs.lemmas.Map.Lookups.{exact_bytes}
 use Rattle.end_index.specs.declared.index_key.IndexKey.{IndexKey}
 use Rattle.end_index.specs.IndexKey.{has, is_same}
 use Rattle.path_rows.specs.Database.{RowView, IsRising, is_under, row_under}
-use Rattle.path_rows.specs.Command.{is_valid_beyond, database_after_purge, database_after_removal}
-use Rattle.path_rows.specs.CommandLaws.{kept_if}
+use Rattle.path_rows.specs.Command.{database_after_removal}
 use Rattle.path_rows.specs.RowMap.{indexed_key}
 use Rattle.path_rows.specs.Saved.{is_key}
 use Rattle.path_rows.specs.EndKeys.{is_of, is_index_key, ends_at, stands, IsEndIndex}
-use Rattle.path_rows.proofs.Keys.{test_leaves, its_key, equal_from}
+use Rattle.path_rows.proofs.Keys.{its_key, equal_from}
 use Rattle.path_rows.proofs.Rising.{rising_filtered}
 use Rattle.path_rows.proofs.Canon.{database_is_canonical}
 use Rattle.path_rows.proofs.PutRow.{found_is_under, removal_leaves, is_key_itself}
 use Rattle.path_rows.proofs.IndexKeys.{EndOf, same_if, same_from, one_index_key, both_from}
-
--- ---- a purge
-
-purged_index_key : (end : EndOf) (number : ℕ) (p : RowView → Bool) (found : Option RowView) → (is_some (kept_if p found) && ends_at end number found) ≡ ends_at end number (kept_if p found)
-purged_index_key end number p None = refl
-purged_index_key end number p (Some row) = by (p row)
-  where
-    by : (b : Bool) → (is_some (if b then Some row else None) && ends_at end number (Some row)) ≡ ends_at end number (if b then Some row else None)
-    by true = refl
-    by false = refl
-
-pub purged_index : (end : EndOf) (rows : List RowView) (moment : ℕ) (before after : List IndexKey) → IsRising rows → IsEndIndex end rows before
-    → ((q : IndexKey) → has after q ≡ (is_some (row_under (indexed_key q) (database_after_purge rows moment)) && has before q)) → IsEndIndex end (database_after_purge rows moment) after
-purged_index end rows moment before after rising index kept q =
-    let left = test_leaves (indexed_key q) (is_valid_beyond moment) rows rising in
-    kept q
-    ∙ ap (λ b. is_some (row_under (indexed_key q) (database_after_purge rows moment)) && b) (index q)
-    ∙ ap (λ found. is_some found && stands end rows q) left
-    ∙ purged_index_key end q.isd_as (is_valid_beyond moment) (row_under (indexed_key q) rows)
-    ∙ sym (ap (ends_at end q.isd_as) left)
 
 -- ---- a removal
 
@@ -81,12 +59,6 @@ module _ (end : EndOf) (rows : List RowView) (rising : IsRising rows) (l : List 
 -- where no row is under a key, a removal keeps all index keys
 pub kept_index : (end : EndOf) (rows left : List RowView) (index_keys : List IndexKey) → left ≡ rows → IsEndIndex end rows index_keys → IsEndIndex end left index_keys
 kept_index end rows left index_keys same index q = index q ∙ ap (λ rows. stands end rows q) (sym same)
-
-pub purged_now : (end : EndOf) (rows now : List RowView) (moment : ℕ) (before after : List IndexKey) → now ≡ database_after_purge rows moment → IsRising rows → IsEndIndex end rows before
-    → ((q : IndexKey) → has after q ≡ (is_some (row_under (indexed_key q) now) && has before q)) → IsEndIndex end now after
-purged_now end rows now moment before after left rising index kept =
-    subst (λ l. IsEndIndex end l after) (sym left)
-    (purged_index end rows moment before after rising index (λ q. kept q ∙ ap (λ l. is_some (row_under (indexed_key q) l) && has before q) left))
 
 -- a removal under a key without a row changes nothing
 pub none_to_remove : (l : List ℕ) (rows : List RowView) → IsRising rows → row_under l rows ≡ None → database_after_removal rows l ≡ rows

@@ -73,7 +73,7 @@ above_tested : (low row : RowView) (rows : List RowView) (b : Bool) → key_orde
 above_tested low row rows true below above = (below, above)
 above_tested low row rows false below above = above
 
-above_filtered : (p : RowView → Bool) (low : RowView) (rows : List RowView) → AllAbove low rows → AllAbove low (filter p rows)
+pub above_filtered : (p : RowView → Bool) (low : RowView) (rows : List RowView) → AllAbove low rows → AllAbove low (filter p rows)
 above_filtered p low [] above = tt
 above_filtered p low (row ∷ rows) above = above_tested low row (filter p rows) (p row) above.0 (above_filtered p low rows above.1)
 

@@ -12,3 +12,4 @@ pub mod Answer
 pub mod CommandLaws
 pub mod OutcomeLaws
 pub mod Wanted
+pub mod Purge

@@ -1,7 +1,8 @@
 -- The rows of a map by their keys.
-use Rattle.std.specs.Prelude.{◌≡◌, ℕ, List, ◌∷◌, if◌then◌else◌, Option, Some, None}
+use Rattle.std.specs.Prelude.{◌≡◌, ℕ, ◌≤◌, List, ◌∷◌, if◌then◌else◌, Option, Some, None}
 use Rattle.std.specs.List.{AllByRecursion}
 use Rattle.std.specs.Map.{values_of}
+use Rattle.seg_check.specs.Expiry.{expiry_of}
 use Rattle.end_index.specs.declared.index_key.IndexKey.{IndexKey}
 use Rattle.path_rows.specs.declared.row.Row.{Row}
 use Rattle.path_rows.specs.declared.row_key.RowKey.{RowKey}
@@ -20,12 +21,18 @@ views_of entries = row_views (values_of entries)
 abbrev pub AreUnderTheirKeys : List (RowKey × Row) → Type 0
 AreUnderTheirKeys entries = AllByRecursion (λ entry. bytes_of entry.0 ≡ key_of (row_view entry.1)) entries
 
--- The entries of a map of rows.
-pub record AreKeyed (entries : List (RowKey × Row)) : Type 0 where
+-- No row expires before the bound.
+abbrev pub NoneExpiresBefore : ℕ → List RowView → Type 0
+NoneExpiresBefore least rows = AllByRecursion (λ row. least ≤ expiry_of row.1) rows
+
+-- The entries of a map of rows, and a lower bound of the moments at which the rows expire.
+pub record IsRowMap (entries : List (RowKey × Row)) (least : ℕ) : Type 0 where
   -- Each row is under its own key.
   pub own : AreUnderTheirKeys entries
   -- The keys rise.
   pub rising : IsRising (views_of entries)
+  -- No row expires before the bound.
+  pub bounded : NoneExpiresBefore least (views_of entries)
 
 -- After a put, the row is under its key, and the row under each other key is the one before.
 abbrev pub HasRowPut : List RowView → RowView → List RowView → Type 0

@@ -1,6 +1,6 @@
 //! The database.
 
-ghost use Rattle.std.specs.Prelude.{◌≡◌, ◌-◌, ◌^◌, ◌<◌, ◌≤◌, [], ◌∷◌, ◌++◌, None, length, min, max, not, count_by, if◌then◌else◌, IfOk, IfErr, OnOk, OnErr};
+ghost use Rattle.std.specs.Prelude.{◌≡◌, ◌-◌, ◌^◌, ◌<◌, ◌≤◌, [], ◌∷◌, ◌++◌, true, false, None, length, min, max, not, count_by, if◌then◌else◌, IfOk, IfErr, OnOk, OnErr};
 ghost use Rattle.std.specs.List.{AllByRecursion};
 ghost use Rattle.std.specs.Option.{option_copied, option_map, is_some, ForSome};
 ghost use Rattle.path_rows.specs.declared.error.ApplyError.TheVariants.{Full};
@@ -8,6 +8,7 @@ ghost use Rattle.path_rows.specs.Database.{IsDatabase, AreWhole, key, row_under,
 ghost use Rattle.path_rows.specs.Put.{database_after_puts, changes_of};
 ghost use Rattle.path_rows.specs.Outcome.{outcome_of_puts, outcome_of_drops};
 ghost use Rattle.path_rows.specs.Command.{database_after, database_after_purge, database_after_removal, is_valid_beyond, outcome_of, TakesMemory};
+ghost use Rattle.path_rows.specs.Purge.{HasPassed};
 ghost use Rattle.path_rows.specs.Row.{row_view, row_views};
 ghost use Rattle.path_rows.specs.Answer.{answer_of, segments_of};
 ghost use Rattle.seg_core.specs.Encoding.{IsSegment};
@@ -16,10 +17,11 @@ ghost use Rattle.isd_as.specs.IsdAs.{isd_as_number};
 use crate::answers::{Wanted, first_shown, is_indexed, shown_at};
 use crate::command::Command;
 use crate::end::End;
-use crate::end_keys::{add_both, index_key_of, keep_standing, sweep, touched_keys};
+use crate::end_keys::{add_both, index_key_of, sweep, touched_keys};
 use crate::error::ApplyError;
 use crate::format::type_byte;
 use crate::outcome::Outcome;
+use crate::purge_walk::PurgeWalk;
 use crate::row::Row;
 use crate::row_list::Rows;
 use crate::row_map::RowMap;
@@ -235,12 +237,34 @@ impl PathDb {
         ensures outcome { result ≡ outcome_of_drops (count_by (λ row. not (is_valid_beyond moment row)) self.old) }
         ensures whole { IsDatabase self.new }
     {
+        if self.rows.outlasts(moment) {
+            return Outcome::dropped(0);
+        }
         let before = self.rows.len();
-        self.rows.purge(moment);
-        keep_standing(&mut self.by_first, &self.rows);
-        keep_standing(&mut self.by_last, &self.rows);
-        self.bytes = self.rows.bytes();
-        Outcome::dropped(before - self.rows.len())
+        let mut walk = PurgeWalk::new(moment);
+        while self.drop_next(&mut walk) {}
+        Outcome::dropped(before - self.len())
+    }
+
+    /// Drops the next row of a walk that expires at the walk's moment or before. `false` means that
+    /// no such row is left.
+    fn drop_next(&mut self, walk: &mut PurgeWalk) -> bool
+        requires { HasPassed walk.old self.old }
+        ensures others { database_after_purge self.new walk.old.moment ≡ database_after_purge self.old walk.old.moment }
+        ensures dropped { result ≡ true → length self.new < length self.old }
+        ensures none { result ≡ false → database_after_purge self.new walk.old.moment ≡ self.new }
+        ensures passed { HasPassed walk.new self.new }
+        ensures moment { walk.new.moment ≡ walk.old.moment }
+        ensures whole { IsDatabase self.new }
+    {
+        let Some(row) = walk.next_expired(&self.rows) else {
+            self.rows.keep_least_expiry(walk.least);
+            return false;
+        };
+        let kind = row.kind;
+        let id = row.id;
+        self.remove(kind, &id);
+        true
     }
 
     /// Drops the row of a type and an id, where there is one.

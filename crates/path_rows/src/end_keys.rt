@@ -1,12 +1,10 @@
 //! The rows by the ISD-AS at one of their ends.
 
-ghost use Rattle.std.specs.Prelude.{◌≡◌, ◌&&◌, map, ◌⊎◌, ◌<◌, true, length, IfOk, OnOk, OnErr};
+ghost use Rattle.std.specs.Prelude.{◌≡◌, map, ◌⊎◌, ◌<◌, true, length, IfOk, OnOk, OnErr};
 ghost use Rattle.end_index.specs.declared.index_key.IndexKey.{IndexKey};
 ghost use Rattle.end_index.specs.IndexKey.{has};
-ghost use Rattle.std.specs.Option.{is_some, option_map};
+ghost use Rattle.std.specs.Option.{option_map};
 ghost use Rattle.path_rows.specs.declared.end.End.TheVariants.{First, Last};
-ghost use Rattle.path_rows.specs.Database.{row_under};
-ghost use Rattle.path_rows.specs.RowMap.{indexed_key};
 ghost use Rattle.path_rows.specs.Row.{row_view, row_views};
 ghost use Rattle.path_rows.specs.Saved.{saved_view};
 ghost use Rattle.path_rows.specs.EndKeys.{entry_at_end, is_of, is_index_key, stands, EndAlike, IsSeenTo, AreSeenTo, IsEndIndex, IsCovered, IsIndexGrown, HasAll};
@@ -126,13 +124,6 @@ pub(crate) fn add_both(
 {
     add_keys(by_first, firsts)?;
     add_keys(by_last, lasts)
-}
-
-/// Removes the index keys without a row. This takes no memory.
-pub(crate) fn keep_standing(index: &mut EndIndex, rows: &RowMap)
-    ensures { (q : IndexKey) → has index.new q ≡ (is_some (row_under (indexed_key q) rows.now) && has index.old q) }
-{
-    index.retain(|index_key| rows.at(index_key).is_some());
 }
 
 /// Removes those of the touched index keys that have no row. This takes no memory.

@@ -19,6 +19,7 @@ mod format;
 mod key_order;
 mod outcome;
 mod outcome_laws;
+mod purge_walk;
 mod row;
 mod row_key;
 mod row_list;

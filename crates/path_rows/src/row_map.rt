@@ -1,6 +1,6 @@
 //! The rows of a database by their keys.
 
-ghost use Rattle.std.specs.Prelude.{◌≡◌, ◌+◌, ◌*◌, ◌<◌, ◌≤◌, ◌^◌, [], IfOk, OnErr, None, filter, length};
+ghost use Rattle.std.specs.Prelude.{◌≡◌, ◌+◌, ◌*◌, ◌<◌, ◌≤◌, ◌^◌, [], true, not, IfOk, OnErr, None, filter, length};
 ghost use Rattle.std.specs.Option.{ForSome, option_map};
 ghost use Rattle.path_rows.specs.declared.end.End.TheVariants.{First, Last};
 ghost use Rattle.path_rows.specs.Database.{IsRising, key, key_of, row_under, row_len, rows_len};
@@ -9,7 +9,8 @@ ghost use Rattle.path_rows.specs.Answer.{is_of_type};
 ghost use Rattle.path_rows.specs.EndKeys.{entry_at_end, IsSeenTo};
 ghost use Rattle.path_rows.specs.Put.{database_after_put, change_of};
 ghost use Rattle.path_rows.specs.Row.{row_view};
-ghost use Rattle.path_rows.specs.RowMap.{HasRowPut, bytes_of, len_if_any, indexed_key};
+ghost use Rattle.path_rows.specs.RowMap.{HasRowPut, NoneExpiresBefore, bytes_of, len_if_any, indexed_key};
+ghost use Rattle.path_rows.specs.Purge.{is_below};
 
 use crate::change::Change;
 use crate::end_keys::keeps_keys;
@@ -30,18 +31,21 @@ use std::mem::replace;
 #[derive(Drop)]
 pub(crate) struct RowMap {
     rows: BTreeMap<RowKey, Row>,
+    /// No row expires before this moment, in half seconds since 1970. A put lowers it, a removal
+    /// leaves it, and a purge that visits the rows makes it exact. It is 2^64 - 1 in a new map.
+    least_expiry: u64,
 }
 
 impl Model for RowMap {
     ghost use Rattle.std.specs.Prelude.{List};
     ghost use Rattle.path_rows.specs.Database.{RowView};
-    ghost use Rattle.path_rows.specs.RowMap.{views_of, AreKeyed};
+    ghost use Rattle.path_rows.specs.RowMap.{views_of, IsRowMap};
 
     ghost Value = { List RowView };
 
     ghost view = { λ s. views_of s.rows.entries };
 
-    ghost invariant = { λ s. AreKeyed s.rows.entries };
+    ghost invariant = { λ s. IsRowMap s.rows.entries s.least_expiry };
 }
 
 impl RowMap {
@@ -51,6 +55,7 @@ impl RowMap {
     {
         RowMap {
             rows: BTreeMap::new(alloc),
+            least_expiry: u64::MAX,
         }
     }
 
@@ -87,6 +92,15 @@ impl RowMap {
         RowRange::of(self.rows.range(low..high))
     }
 
+    /// The rows whose keys are not lower than this one, in the order of their keys. No others are
+    /// visited.
+    pub(crate) fn from(&self, key: RowKey) -> RowRange<'_>
+        ensures same { result ≡ filter (λ row. not (is_below key row)) self.now }
+        ensures rising { IsRising self.now }
+    {
+        RowRange::of(self.rows.range(key..))
+    }
+
     /// An equal map, which shares the segments. A copy of no rows takes no memory.
     pub(crate) fn try_clone(&self, alloc: Global) -> Result<RowMap, AllocError>
         ensures same { IfOk result (λ copy. copy ≡ self.now) }
@@ -97,14 +111,8 @@ impl RowMap {
         }
         Ok(RowMap {
             rows: self.rows.clone()?,
+            least_expiry: self.least_expiry,
         })
-    }
-
-    /// The bytes of the records of all rows.
-    pub(crate) fn bytes(&self) -> u128
-        ensures { result ≡ rows_len self.now }
-    {
-        self.rows.values().map(|row| u128::from(row.len())).sum()
     }
 
     /// The row of an index key.
@@ -138,7 +146,9 @@ impl RowMap {
         ensures rising { IsRising self.new }
     {
         let key = row_key(row.kind, &row.id);
+        let expires = expiry(&row.segment);
         let old = self.rows.insert(key, row)?;
+        self.least_expiry = self.least_expiry.min(expires);
         Ok(old)
     }
 
@@ -164,6 +174,7 @@ impl RowMap {
         if old.segment.timestamp() >= row.segment.timestamp() {
             return Some(Change::Kept);
         }
+        self.least_expiry = self.least_expiry.min(expiry(&row.segment));
         *bytes += u128::from(row.len());
         let old = replace(old, row);
         *bytes -= u128::from(old.len());
@@ -182,17 +193,25 @@ impl RowMap {
         self.rows.remove(&key)
     }
 
-    /// Keeps the rows that expire after a moment, in half seconds since 1970. This takes no memory.
-    pub(crate) fn purge(&mut self, moment: u64)
-        ensures left { self.new ≡ database_after_purge self.old moment }
-        ensures rising { IsRising self.new }
+    /// Whether every row is known to expire after a moment, in half seconds since 1970. No row is
+    /// visited.
+    pub(crate) fn outlasts(&self, moment: u64) -> bool
+        ensures { result ≡ true → database_after_purge self.now moment ≡ self.now }
     {
-        self.rows.retain(|_, row| moment < expiry(&row.segment));
+        moment < self.least_expiry
+    }
+
+    /// Keeps a lower bound of the moments at which the rows expire, in half seconds since 1970.
+    pub(crate) fn keep_least_expiry(&mut self, least: u64)
+        requires { NoneExpiresBefore least self.old }
+        ensures { self.new ≡ self.old }
+    {
+        self.least_expiry = least;
     }
 }
 
 /// The key of a type and an id.
-fn row_key(kind: SegType, id: &[u8; 32]) -> RowKey
+pub(crate) fn row_key(kind: SegType, id: &[u8; 32]) -> RowKey
     ensures { bytes_of result ≡ key kind id.now }
 {
     RowKey {

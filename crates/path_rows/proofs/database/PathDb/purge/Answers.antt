@@ -1,40 +1,52 @@
-use Rattle.std.proofs.Common.{◌≡◌, ◌-◌, not, length, sym, ap, ◌∙◌, subst, arith}
+use Rattle.std.proofs.Common.{◌≡◌, ◌-◌, ℕ, List, not, length, sym, ap, ◌∙◌, arith}
 use Rattle.std.specs.List.{count_by}
-use Rattle.path_rows.specs.declared.end.End.TheVariants.{First, Last}
-use Rattle.path_rows.specs.Database.{rows_len, IsDatabase}
-use Rattle.path_rows.specs.Command.{is_valid_beyond}
-use Rattle.path_rows.specs.EndKeys.{entry_at_end}
+use Rattle.path_rows.specs.Database.{RowView, rows_len}
+use Rattle.path_rows.specs.Command.{is_valid_beyond, database_after_purge}
 use Rattle.path_rows.specs.Outcome.{outcome_of_drops}
-use Rattle.path_rows.proofs.Rising.{database_filtered}
 use Rattle.path_rows.proofs.Drops.{dropped_count, fewer_left, fewer_bytes}
-use Rattle.path_rows.proofs.Removed.{purged_now}
 use Rattle.path_rows.proofs.database.PathDb.purge.Goals as goal
+
+-- where all rows are known to outlast the moment, none is dropped
+pub returns-then-outlasts-clause-outcome : goal.returns-then-outlasts-clause-outcome
+returns-then-outlasts-clause-outcome c =
+    let rows = c.self.inside.rows in
+    let same : database_after_purge rows c.args.moment ≡ rows = c.outlasts.ensures c.if-outlasts.true in
+    let none : 0 ≡ count_by (λ row. not (is_valid_beyond c.args.moment row)) rows = omega (arith, dropped_count (is_valid_beyond c.args.moment) rows, ap length same) in
+    c.dropped.ensures ∙ ap outcome_of_drops none ∙ ap (λ l. outcome_of_drops (count_by (λ row. not (is_valid_beyond c.args.moment row)) l)) c.self.view_is
+
+pub loop-walk-smaller : goal.loop-walk-smaller
+loop-walk-smaller c = c.drop_next.ensures.dropped c.loop-walk-test.true
+
+pub loop-walk-preserved : goal.loop-walk-preserved
+loop-walk-preserved c =
+    let at = c.loop-walk.invariant.moment in
+    record {
+      purged = sym (ap (database_after_purge c.drop_next.new.self) at) ∙ c.drop_next.ensures.others ∙ ap (database_after_purge c.loop-walk.self) at ∙ c.loop-walk.invariant.purged;
+      passed = c.drop_next.ensures.passed;
+      moment = c.drop_next.ensures.moment ∙ at;
+    }
+
+-- the rows once no expired one is left
+purged_all : (moment at : ℕ) (start before now : List RowView) → at ≡ moment → database_after_purge now at ≡ database_after_purge before at → database_after_purge now at ≡ now
+    → database_after_purge before moment ≡ database_after_purge start moment → now ≡ database_after_purge start moment
+purged_all moment at start before now e others none purged = sym none ∙ others ∙ ap (database_after_purge before) e ∙ purged
+
+pub returns-clause-database : goal.returns-clause-database
+returns-clause-database c =
+    purged_all c.args.moment c.loop-walk.walk.moment c.args.self.now c.loop-walk.self c.drop_next.new.self c.loop-walk.invariant.moment c.drop_next.ensures.others (c.drop_next.ensures.none c.loop-walk-test.false) c.loop-walk.invariant.purged
 
 pub overflow_sub-before : goal.overflow_sub-before
 overflow_sub-before c =
-    let rows = c.self.inside.rows in
-    omega (arith, ap length c.purge.ensures.left, fewer_left (is_valid_beyond c.args.moment) rows, c.len.ensures.same, c.len-before.ensures.same)
-
-pub invariant_of-self : goal.invariant_of-self
-invariant_of-self c =
-    let rows = c.self.inside.rows in
-    let table = c.self.invariant in
-    record {
-      database = subst IsDatabase (sym c.purge.ensures.left) (database_filtered (is_valid_beyond c.args.moment) rows table.database);
-      counted = c.bytes-self-inside.ensures;
-      first = purged_now (entry_at_end First) rows c.purge.new.self c.args.moment c.self.inside.by_first c.keep_standing.new.index c.purge.ensures.left table.database.rising table.first c.keep_standing.ensures;
-      last = purged_now (entry_at_end Last) rows c.purge.new.self c.args.moment c.self.inside.by_last c.keep_standing-2.new.index c.purge.ensures.left table.database.rising table.last c.keep_standing-2.ensures;
-    }
-
-pub returns-clause-whole : goal.returns-clause-whole
-returns-clause-whole c = (invariant_of-self c).database
+    let rows = c.args.self.now in
+    let now = purged_all c.args.moment c.loop-walk.walk.moment rows c.loop-walk.self c.drop_next.new.self c.loop-walk.invariant.moment c.drop_next.ensures.others (c.drop_next.ensures.none c.loop-walk-test.false) c.loop-walk.invariant.purged in
+    omega (arith, c.len-before.ensures.same, ap length c.self.view_is, ap length now, fewer_left (is_valid_beyond c.args.moment) rows, c.len.ensures.count)
 
 pub returns-clause-fewer : goal.returns-clause-fewer
-returns-clause-fewer c =
-    rw (← c.self.view_is) (omega (arith, ap rows_len c.purge.ensures.left, fewer_bytes (is_valid_beyond c.args.moment) c.self.inside.rows))
+returns-clause-fewer c = omega (arith, ap rows_len (returns-clause-database c), fewer_bytes (is_valid_beyond c.args.moment) c.args.self.now)
 
 pub returns-clause-outcome : goal.returns-clause-outcome
 returns-clause-outcome c =
-    let rows = c.self.inside.rows in
-    let count : c.len-before.result - c.len.result ≡ count_by (λ row. not (is_valid_beyond c.args.moment row)) c.self.inside.rows = omega (arith, ap length c.purge.ensures.left, dropped_count (is_valid_beyond c.args.moment) rows, c.len.ensures.same, c.len-before.ensures.same) in
-    c.dropped.ensures ∙ ap outcome_of_drops (rw (← c.self.view_is) count)
+    let rows = c.args.self.now in
+    let before : c.len-before.result ≡ length rows = c.len-before.ensures.same ∙ ap length c.self.view_is in
+    let count : c.len-before.result - c.len.result ≡ count_by (λ row. not (is_valid_beyond c.args.moment row)) rows = omega (arith, before, ap length (returns-clause-database c), dropped_count (is_valid_beyond c.args.moment) rows, c.len.ensures.count) in
+    c.dropped-2.ensures ∙ ap outcome_of_drops count

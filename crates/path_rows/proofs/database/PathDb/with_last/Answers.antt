@@ -1,4 +1,4 @@
-use Rattle.std.proofs.Common.{◌≡◌, [], ◌∷◌, ◌++◌, sym, ap, ◌∙◌, subst, arith}
+use Rattle.std.proofs.Common.{[], ◌∷◌, ◌++◌, sym, ap, ◌∙◌, subst, arith}
 use Rattle.path_rows.specs.declared.end.End.TheVariants.{First, Last}
 use Rattle.path_rows.specs.Database.{IsDatabase}
 use Rattle.path_rows.specs.Row.{row_view}

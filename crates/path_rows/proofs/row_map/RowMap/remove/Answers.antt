@@ -3,14 +3,19 @@ use Rattle.std.specs.Option.{option_map}
 use Rattle.path_rows.specs.Database.{row_under}
 use Rattle.path_rows.specs.Command.{database_after_removal}
 use Rattle.path_rows.specs.Row.{row_view}
-use Rattle.path_rows.specs.RowMap.{views_of, AreUnderTheirKeys}
+use Rattle.path_rows.specs.RowMap.{views_of, AreUnderTheirKeys, NoneExpiresBefore}
 use Rattle.path_rows.proofs.Keyed.{rising_from, found_by, removed_by, own_removed, removed_bytes}
+use Rattle.path_rows.proofs.Purged.{bound_removed}
 use Rattle.path_rows.proofs.row_map.RowMap.remove.Goals as goal
 
 pub invariant_of-self : goal.invariant_of-self
 invariant_of-self c =
     let own = subst AreUnderTheirKeys (sym c.remove.ensures.entries) (own_removed _ c.self.inside.rows.entries c.self.invariant.own) in
-    record { own = own; rising = rising_from c.remove.new.self.entries c.remove.ensures.ordered own }
+    record {
+      own = own;
+      rising = rising_from c.remove.new.self.entries c.remove.ensures.ordered own;
+      bounded = subst (λ es. NoneExpiresBefore c.self.inside.least_expiry (views_of es)) (sym c.remove.ensures.entries) (bound_removed c.self.inside.least_expiry _ c.self.inside.rows.entries c.self.invariant.bounded);
+    }
 
 pub returns-clause-rising : goal.returns-clause-rising
 returns-clause-rising c = (invariant_of-self c).rising

@@ -7,12 +7,13 @@ use Rattle.path_rows.specs.declared.end.End.TheVariants.{First, Last}
 use Rattle.path_rows.specs.Database.{key_of, row_under, row_len, rows_len}
 use Rattle.path_rows.specs.EndKeys.{entry_at_end}
 use Rattle.path_rows.specs.Row.{row_view}
-use Rattle.path_rows.specs.RowMap.{views_of, len_if_any, AreKeyed, AreUnderTheirKeys}
+use Rattle.path_rows.specs.RowMap.{views_of, len_if_any, IsRowMap, NoneExpiresBefore, AreUnderTheirKeys}
 use Rattle.path_rows.specs.Saved.{wins}
 use Rattle.path_rows.proofs.Keyed.{key_cmp, rising_from, set_by, own_set, its_bytes, set_bytes, placed_is_set, placed_same, found_at}
 use Rattle.path_rows.proofs.Keys.{its_key}
 use Rattle.path_rows.proofs.IndexKeys.{seen_alike}
 use Rattle.path_rows.proofs.PutRow.{found_is_under, kept_rows, kept_change, new_rows, updated_change}
+use Rattle.path_rows.proofs.Purged.{bound_set}
 use Rattle.path_rows.proofs.row_map.RowMap.renew.Goals as goal
 
 pub invariant_of-self-then-not-keeps_keys : goal.invariant_of-self-then-not-keeps_keys
@@ -21,7 +22,7 @@ invariant_of-self-then-not-keeps_keys c =
     let old = c.in_ok-old.old.now in
     let is : lookup (is_at (key_cmp c.row_key-key.result)) es ≡ Some old = sym c.in_ok-old.ensures.value in
     let same : (c.get_mut.follows.lender old).entries ≡ es = (c.get_mut.follows.holds old).0 ∙ placed_same c.row_key-key.result old es is in
-    subst AreKeyed (sym same) c.self.invariant
+    subst (λ l. IsRowMap l c.self.inside.least_expiry) (sym same) c.self.invariant
 
 pub returns-then-not-keeps_keys-clause-bytes : goal.returns-then-not-keeps_keys-clause-bytes
 returns-then-not-keeps_keys-clause-bytes c =
@@ -45,7 +46,7 @@ invariant_of-self-then-timestamp c =
     let old = c.in_ok-old.old.now in
     let is : lookup (is_at (key_cmp c.row_key-key.result)) es ≡ Some old = sym c.in_ok-old.ensures.value in
     let same : (c.get_mut.follows.lender old).entries ≡ es = (c.get_mut.follows.holds old).0 ∙ placed_same c.row_key-key.result old es is in
-    subst AreKeyed (sym same) c.self.invariant
+    subst (λ l. IsRowMap l c.self.inside.least_expiry) (sym same) c.self.invariant
 
 pub returns-then-timestamp-clause-rows : goal.returns-then-timestamp-clause-rows
 returns-then-timestamp-clause-rows c =
@@ -122,7 +123,11 @@ invariant_of-self-2 c =
     (c.get_mut.follows.holds c.replace-old.new.dest).0 ∙ ap (λ row. set_value (is_at (key_cmp c.row_key-key.result)) es row) c.replace-old.ensures.after
     ∙ placed_is_set c.row_key-key.result c.args.row old es c.in_ok-old.ensures.ordered is in
     let own = subst AreUnderTheirKeys (sym put) (own_set c.row_key-key.result c.args.row its es c.self.invariant.own) in
-    record { own = own; rising = rising_from (c.get_mut.follows.lender c.replace-old.new.dest).entries (c.get_mut.follows.holds c.replace-old.new.dest).4 own }
+    record {
+      own = own;
+      rising = rising_from (c.get_mut.follows.lender c.replace-old.new.dest).entries (c.get_mut.follows.holds c.replace-old.new.dest).4 own;
+      bounded = subst (λ l. NoneExpiresBefore c.min-self-inside.result (views_of l)) (sym put) (bound_set c.self.inside.least_expiry c.min-self-inside.result c.row_key-key.result c.args.row es (omega (arith, c.min-self-inside.ensures)) (omega (arith, c.min-self-inside.ensures, c.expiry.ensures)) c.self.invariant.bounded);
+    }
 
 pub returns-clause-rows : goal.returns-clause-rows
 returns-clause-rows c =

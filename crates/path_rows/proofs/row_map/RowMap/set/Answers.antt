@@ -1,9 +1,10 @@
-use Rattle.std.proofs.Common.{rules, ◌≡◌, None, Some, if◌then◌else◌, sym, ap, ◌∙◌, subst}
+use Rattle.std.proofs.Common.{rules, ◌≡◌, None, Some, if◌then◌else◌, sym, ap, ◌∙◌, subst, arith}
 use Rattle.std.specs.Option.{option_map}
 use Rattle.path_rows.specs.Database.{key_of, is_under, row_under}
 use Rattle.path_rows.specs.Row.{row_view}
-use Rattle.path_rows.specs.RowMap.{views_of, AreUnderTheirKeys}
+use Rattle.path_rows.specs.RowMap.{views_of, AreUnderTheirKeys, NoneExpiresBefore}
 use Rattle.path_rows.proofs.Keyed.{rising_from, found_by, set_by, own_set, its_bytes, set_bytes}
+use Rattle.path_rows.proofs.Purged.{bound_set}
 use Rattle.path_rows.proofs.row_map.RowMap.set.Goals as goal
 
 pub returns-in_err-old-clause-absent : goal.returns-in_err-old-clause-absent
@@ -19,7 +20,11 @@ pub invariant_of-self-2 : goal.invariant_of-self-2
 invariant_of-self-2 c =
     let its = its_bytes c.row_key-key.result c.args.row c.row_key-key.ensures in
     let own = subst AreUnderTheirKeys (sym c.in_ok-old.ensures.entries) (own_set c.row_key-key.result c.args.row its c.self.inside.rows.entries c.self.invariant.own) in
-    record { own = own; rising = rising_from c.insert.new.self.entries c.in_ok-old.ensures.ordered own }
+    record {
+      own = own;
+      rising = rising_from c.insert.new.self.entries c.in_ok-old.ensures.ordered own;
+      bounded = subst (λ es. NoneExpiresBefore c.min-self-inside.result (views_of es)) (sym c.in_ok-old.ensures.entries) (bound_set c.self.inside.least_expiry c.min-self-inside.result c.row_key-key.result c.args.row c.self.inside.rows.entries (omega (arith, c.min-self-inside.ensures)) (omega (arith, c.min-self-inside.ensures, c.expiry-expires.ensures)) c.self.invariant.bounded);
+    }
 
 pub returns-clause-rising : goal.returns-clause-rising
 returns-clause-rising c = (invariant_of-self-2 c).rising
