@@ -157,6 +157,7 @@ module _ (old : StateView) (hidden : PrivateState) (has : IsState old hidden) (d
       rests = has.shape.rests;
       load = has.shape.load;
       staged = has.shape.staged;
+      follower = has.shape.follower;
       plan = has.shape.plan;
       epoch = has.shape.epoch;
       bytes = has.shape.bytes;
@@ -202,6 +203,7 @@ module _ (old : StateView) (hidden : PrivateState) (has : IsState old hidden) (d
         rests = has.shape.rests;
         load = has.shape.load;
         staged = has.shape.staged;
+        follower = has.shape.follower;
         plan =
             let sized = sectors_fit (old.epoch + 1) old.geometry.checkpoint made.sealed (encoding_made merge) (spelled_so old.geometry (other old.half) (old.epoch + 1) old.disk merge made) made.fits in
             record {

@@ -1,5 +1,5 @@
 -- The checkpointer's steps on a state.
-use Rattle.std.proofs.Common.{◌≡◌, ◌≢◌, inl, inr, ℕ, ◌+◌, ◌*◌, ◌≤◌, ◌++◌, Bool, true, false, List, [], ◌∷◌, length, Option, Result, refl, sym, ◌∙◌, ap, subst, arith}
+use Rattle.std.proofs.Common.{◌≡◌, ◌≢◌, inl, inr, ℕ, ◌+◌, ◌*◌, ◌≤◌, ◌++◌, Bool, true, false, List, [], ◌∷◌, length, take, drop, Option, Result, refl, sym, ◌∙◌, ap, subst, arith}
 use Rattle.std.proofs.lemmas.Bool.{eqb-true, eqb-false}
 use Rattle.std.specs.List.{AllByRecursion}
 use Rattle.byte_lists.specs.Content.{part}
@@ -10,6 +10,7 @@ use Rattle.sector_dev.specs.Calls.{Keeps, WriteCall, SyncCall}
 use Rattle.sector_dev.proofs.Stretches.{honest_before, honest_after}
 use Rattle.store_layout.specs.Limits.{AreAsLarge, limits_of}
 use Rattle.store_layout.specs.CommandFormat.{IsAllowed}
+use Rattle.store_layout.specs.Journal.{gate_behind}
 use Rattle.store_layout.specs.Layout.{Geometry, other, area_at, gate_at}
 use Rattle.store_layout.specs.Checkpoint.{Checkpoint, checkpoint_encoding}
 use Rattle.store_layout.proofs.Exports.{later_allow_more}
@@ -20,6 +21,8 @@ use Rattle.ckpt_stream.specs.Merge.{MergeView, encoding_if_any}
 use Rattle.group_phases.specs.declared.phases.Check.{Check}
 use Rattle.group_phases.specs.declared.phases.Check.TheVariants.{Ready, Planned, Laid, Switched, SwitchFailed, Live, Closing, CloseFailed}
 use Rattle.byte_lists.specs.Sectors.{open_gate, closed_gate}
+use Rattle.group_phases.specs.declared.phases.Flush.{Flush}
+use Rattle.group_phases.specs.declared.phases.Flush.TheVariants.{Following, Followed, DurableFollowed}
 use Rattle.group_phases.specs.Tail.{GroupOrSeal, Commands, Seal}
 use Rattle.group_phases.specs.Halves.{HasCheckpoint}
 use Rattle.group_phases.specs.CommitState.{load_of, IsHeldBy}
@@ -32,7 +35,7 @@ use Rattle.group_core.specs.declared.values.Commit.{Commit}
 use Rattle.group_core.specs.StateView.{StateView}
 use Rattle.group_core.specs.Stops.{config_of, commit_state_of}
 use Rattle.group_core.specs.Steps.{is_whole, TakesPlanTurn, TakesChunkTurn}
-use Rattle.group_core.specs.Invariant.{PrivateState, FitsLoad, MayBePending, HasPlan, HasNextEpoch, CountsAt, StateInvariant, DeviceInvariant, DeviceInvariantWith, IsState}
+use Rattle.group_core.specs.Invariant.{PrivateState, FitsLoad, HasFollowerBytes, IsFollowerMade, MayBePending, HasPlan, HasNextEpoch, CountsAt, StateInvariant, DeviceInvariant, DeviceInvariantWith, IsState}
 use Rattle.group_core.specs.Merging.{HasMerge, IsUnderWay, Streams}
 use Rattle.group_core.proofs.Soundness.{sound_at_work, either_stays}
 use Rattle.group_core.proofs.FlushSteps.{success, failure}
@@ -70,6 +73,24 @@ module _ (small large : ℕ) (grows : small ≤ large) where
     fits.1,
   )
   load_larger geometry place gate Seal fits = tt
+
+  -- and what follows
+  bytes_larger : (geometry : Geometry) (place gate : ℕ) (pending : List Command) (taken following : ℕ) (bytes : List ℕ)
+      → HasFollowerBytes (limits_of small) geometry place gate pending taken following bytes → HasFollowerBytes (limits_of large) geometry place gate pending taken following bytes
+  bytes_larger geometry place gate pending taken following bytes has = record {
+    some = has.some;
+    many = has.many;
+    inside = has.inside;
+    load = load_larger geometry (place + length (take taken pending)) (gate_behind command_format gate (take taken pending)) (Commands (take following (drop taken pending))) has.load;
+    made = has.made;
+  }
+
+  pub follower_larger : (phase : Flush) (geometry : Geometry) (place gate : ℕ) (pending : List Command) (taken following : ℕ) (bytes : List ℕ)
+      → IsFollowerMade phase (limits_of small) geometry place gate pending taken following bytes → IsFollowerMade phase (limits_of large) geometry place gate pending taken following bytes
+  follower_larger Following geometry place gate pending taken following bytes has = bytes_larger geometry place gate pending taken following bytes has
+  follower_larger Followed geometry place gate pending taken following bytes has = bytes_larger geometry place gate pending taken following bytes has
+  follower_larger DurableFollowed geometry place gate pending taken following bytes has = bytes_larger geometry place gate pending taken following bytes has
+  follower_larger _ geometry place gate pending taken following bytes has = tt
 
 -- what is so where a value had its turn: the phase; and that all is written, where the value says
 -- so
@@ -118,6 +139,7 @@ module _ (old : StateView) (hidden : PrivateState) (has : IsState old hidden) wh
       rests = has.shape.rests;
       load = has.shape.load;
       staged = has.shape.staged;
+      follower = has.shape.follower;
       plan = has_plan;
       epoch = epoch;
       bytes = bytes;
@@ -236,6 +258,7 @@ module _ (old : StateView) (hidden : PrivateState) (has : IsState old hidden) wh
             rests = has.shape.rests;
             load = load_larger old.version latest has.shape.known old.geometry old.value.place old.gate (load_of (commit_state_of old)) has.shape.load;
             staged = has.shape.staged;
+            follower = follower_larger old.version latest has.shape.known old.flush old.geometry old.value.place old.gate old.pending old.taken old.following hidden.staged_next has.shape.follower;
             plan = has.shape.plan;
             epoch = tt;
             bytes = has.shape.bytes;

@@ -36,12 +36,12 @@ use Rattle.group_core.proofs.Soundness.{sound_at_work}
 use Rattle.group_core.proofs.KeptOutcomes.{take_more, committed_kept}
 
 -- a list in two parts
-take_drop : {A : Type 0} (n : ℕ) (list : List A) → take n list ++ drop n list ≡ list
+pub take_drop : {A : Type 0} (n : ℕ) (list : List A) → take n list ++ drop n list ≡ list
 take_drop zero list = refl
 take_drop (suc n) [] = refl
 take_drop (suc n) (x ∷ list) = ap (λ (l : List _). x ∷ l) (take_drop n list)
 
-all_drop : {A : Type 0} (P : A → Type 0) (n : ℕ) (list : List A) → AllByRecursion P list → AllByRecursion P (drop n list)
+pub all_drop : {A : Type 0} (P : A → Type 0) (n : ℕ) (list : List A) → AllByRecursion P list → AllByRecursion P (drop n list)
 all_drop P zero list all = all
 all_drop P (suc n) [] all = all
 all_drop P (suc n) (x ∷ list) all = all_drop P n list all.1
@@ -119,6 +119,7 @@ module _ (old : StateView) (hidden : PrivateState) (has : IsState old hidden) (t
       rests = λ _. refl;
       load = tt;
       staged = λ (other : Resting ≢ Resting). absurd (other refl);
+      follower = tt;
       plan = has.shape.plan;
       epoch = has.shape.epoch;
       bytes = has.shape.bytes;
@@ -228,6 +229,7 @@ module _ (old : StateView) (hidden : PrivateState) (has : IsState old hidden) (t
         rests = λ _. none;
         load = subst (FitsLoad (limits_of old.version) old.geometry old.value.place 0) (sym load_none) tt;
         staged = λ (not_resting : Resting ≢ Resting). absurd (not_resting refl);
+        follower = tt;
         plan = has.shape.plan;
         epoch = tt;
         bytes = has.shape.bytes;

@@ -34,6 +34,7 @@ module _ (old : StateView) (hidden : PrivateState) (has : IsState old hidden) wh
     rests = has.shape.rests;
     load = has.shape.load;
     staged = has.shape.staged;
+    follower = has.shape.follower;
     plan = has.shape.plan;
     epoch = has.shape.epoch;
     bytes = has.shape.bytes;
@@ -76,7 +77,7 @@ module _ (old : StateView) (hidden : PrivateState) (has : IsState old hidden) wh
   -- the state stops
   pub halted_state : IsState (record old { stopped = true }) hidden
   halted_state = record {
-    shape = flushed_shape old hidden has old.disk old.flush old.group true (record { staged = λ is. is; rests = λ is. is; going = λ (is : true ≡ false). cc }) refl;
+    shape = flushed_shape old hidden has old.disk old.flush old.group true (record { staged = λ is. is; rests = λ is. is; going = λ (is : true ≡ false). cc; follower = has.shape.follower }) refl;
     sound = λ honest. either_stays hidden.merge old (record old { stopped = true })
         (λ with. record {
           sound = record { behind = with.sound.behind; held = with.sound.held; counts = with.sound.counts; fits = λ (is : true ≡ false). absurd cc };

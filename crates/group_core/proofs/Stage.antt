@@ -71,12 +71,12 @@ module _ (limits : Limits) (commands : List Command) where
 -- ---- the state
 
 -- pending commands are allowed, and so is each front of them
-pending_allowed : (version : ℕ) (commands : List Command) → AllByRecursion (MayBePending version) commands
+pub pending_allowed : (version : ℕ) (commands : List Command) → AllByRecursion (MayBePending version) commands
     → AllByRecursion (IsAllowed command_format (limits_of version)) commands
 pending_allowed version [] all = tt
 pending_allowed version (command ∷ commands) all = (all.0.allowed, pending_allowed version commands all.1)
 
-all_take : {A : Type 0} (P : A → Type 0) (n : ℕ) (list : List A) → AllByRecursion P list → AllByRecursion P (take n list)
+pub all_take : {A : Type 0} (P : A → Type 0) (n : ℕ) (list : List A) → AllByRecursion P list → AllByRecursion P (take n list)
 all_take P zero list all = tt
 all_take P (suc n) [] all = tt
 all_take P (suc n) (x ∷ list) all = (all.0, all_take P n list all.1)
@@ -127,6 +127,7 @@ module _ (old : StateView) (hidden : PrivateState) (has : IsState old hidden) (m
       rests = λ (is : Staged ≡ Resting). cc;
       load = load;
       staged = λ _. same;
+      follower = tt;
       plan = has.shape.plan;
       epoch = has.shape.epoch;
       bytes = has.shape.bytes;

@@ -62,8 +62,8 @@ module _ (store : StoreView) (whole : IsStoreWhole store) (device : IsHonest sto
   rows_fit : stopped ≡ false → FitArea view store.rows
   rows_fit goes = omega (arith, (going.0 goes).rows, counted store.rows)
 
-  start_shape : (staged : List ℕ) → StateInvariant view (record { staged = staged; tip = store.rows; place = store.place; owed = []; merge = None })
-  start_shape staged = record {
+  start_shape : (staged staged_next : List ℕ) → StateInvariant view (record { staged = staged; staged_next = staged_next; tip = store.rows; place = store.place; owed = []; merge = None })
+  start_shape staged staged_next = record {
     limits = whole.room.allowed;
     sectors = whole.room.room;
     room = whole.within.seal;
@@ -80,6 +80,7 @@ module _ (store : StoreView) (whole : IsStoreWhole store) (device : IsHonest sto
     rests = λ _. refl;
     load = tt;
     staged = λ (flying : Resting ≢ Resting). absurd (flying refl);
+    follower = tt;
     plan = record { sectors = 0; whole = refl; inside = omega arith; written = omega arith };
     epoch = no_epoch store.sealed;
     bytes = refl;
@@ -104,6 +105,7 @@ module _ (store : StoreView) (whole : IsStoreWhole store) (device : IsHonest sto
       value = rest.tells.value i;
       pending = [];
       taken = 0;
+      following = 0;
       flush = Resting;
       check = check i;
       half = half i;
@@ -215,10 +217,10 @@ module _ (store : StoreView) (whole : IsStoreWhole store) (device : IsHonest sto
   either honest true broken = inr (is_broken honest broken)
   either honest false fine = inl (record { sound = sound honest ((whole.sound honest).rest fine); streams = λ goes is. absurd (never_planned store.sealed is) })
 
-  pub started_state : (staged : List ℕ) → IsState view (record { staged = staged; tip = store.rows; place = store.place; owed = []; merge = None })
-  started_state staged = record { shape = start_shape staged; sound = λ honest. either honest store.broken refl }
+  pub started_state : (staged staged_next : List ℕ) → IsState view (record { staged = staged; staged_next = staged_next; tip = store.rows; place = store.place; owed = []; merge = None })
+  started_state staged staged_next = record { shape = start_shape staged staged_next; sound = λ honest. either honest store.broken refl }
 
   pub started_so : (seen : StateView) (hidden : PrivateState) → seen ≡ view → hidden.tip ≡ store.rows → hidden.place ≡ store.place → hidden.owed ≡ [] → hidden.merge ≡ None → IsState seen hidden
   started_so seen hidden seen_is tip place owed merge =
       subst (λ (v : StateView). IsState v hidden) (sym seen_is)
-      (subst (λ (h : PrivateState). IsState view h) (λ i. record { staged = hidden.staged; tip = sym tip i; place = sym place i; owed = sym owed i; merge = sym merge i }) (started_state hidden.staged))
+      (subst (λ (h : PrivateState). IsState view h) (λ i. record { staged = hidden.staged; staged_next = hidden.staged_next; tip = sym tip i; place = sym place i; owed = sym owed i; merge = sym merge i }) (started_state hidden.staged hidden.staged_next))

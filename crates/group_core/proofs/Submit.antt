@@ -1,5 +1,5 @@
 -- Accepting a command on a state.
-use Rattle.std.proofs.Common.{◌≡◌, ◌⊎◌, inl, inr, ℕ, zero, suc, ◌+◌, ◌-◌, ◌*◌, ◌<◌, ◌≤◌, max, true, false, List, [], ◌∷◌, ◌++◌, length, take, Ok, refl, sym, ◌∙◌, ap, subst, arith, length-append}
+use Rattle.std.proofs.Common.{◌≡◌, ◌⊎◌, inl, inr, ℕ, zero, suc, ◌+◌, ◌-◌, ◌*◌, ◌<◌, ◌≤◌, max, true, false, List, [], ◌∷◌, ◌++◌, length, take, drop, Ok, refl, sym, ◌∙◌, ap, subst, arith, length-append, length-drop}
 use Rattle.std.specs.List.{AllByRecursion}
 use Rattle.std.specs.Ordering.{nat_cmp}
 use Rattle.std.specs.BTreeMap.{insert_entry}
@@ -9,23 +9,55 @@ use Rattle.path_rows.specs.Database.{RowView, rows_len}
 use Rattle.path_rows.specs.declared.command.Command.{Command}
 use Rattle.path_rows.specs.Command.{database_after, outcome_of}
 use Rattle.path_db.specs.RecordLaws.{WrittenRowsAreCounted}
-use Rattle.store_layout.specs.Limits.{limits_of}
+use Rattle.store_layout.specs.Limits.{Limits, limits_of}
+use Rattle.store_layout.specs.Journal.{gate_behind}
+use Rattle.store_layout.specs.Layout.{Geometry}
 use Rattle.store_layout.specs.StoreFormat.{db_after}
 use Rattle.store_layout.proofs.Exports.{folds_in_parts}
 use Rattle.gate_journal.specs.Commands.{command_format}
 use Rattle.store_open.specs.PathStores.{store_format}
+use Rattle.group_phases.specs.declared.phases.Flush.{Flush}
+use Rattle.group_phases.specs.declared.phases.Flush.TheVariants.{Following, Followed, DurableFollowed}
 use Rattle.group_phases.specs.Tail.{Commands, load_bytes}
 use Rattle.group_phases.specs.CommitState.{load_by, load_of}
-use Rattle.group_phases.proofs.Exports.{held_when_accepted}
+use Rattle.group_phases.proofs.Exports.{take_front, drop_front, held_when_accepted}
 use Rattle.group_core.specs.StateView.{StateView}
 use Rattle.group_core.specs.Stops.{config_of, commit_state_of}
-use Rattle.group_core.specs.Invariant.{PrivateState, FitsLoad, MayBePending, FitArea, StateInvariant, IsState}
+use Rattle.group_core.specs.Invariant.{PrivateState, FitsLoad, HasFollowerBytes, IsFollowerMade, MayBePending, FitArea, StateInvariant, IsState}
 use Rattle.group_core.specs.Keeping.{Outcomes}
 use Rattle.group_core.specs.Showing.{IsFrontOf}
 use Rattle.group_core.specs.Submitting.{next_place, accepted_rows, MayBeSubmitted, CheckpointHasRoom, IsTicketOf, Submits}
 use Rattle.group_core.specs.declared.ticket.Ticket.{Ticket}
 use Rattle.group_core.proofs.KeptOutcomes.{one_more_kept}
 use Rattle.group_core.proofs.Soundness.{either_stays}
+
+-- what follows stays where commands come after it
+bytes_before_more : (limits : Limits) (geometry : Geometry) (place gate : ℕ) (pending more : List Command) (taken following : ℕ) (bytes : List ℕ)
+    → HasFollowerBytes limits geometry place gate pending taken following bytes → HasFollowerBytes limits geometry place gate (pending ++ more) taken following bytes
+bytes_before_more limits geometry place gate pending more taken following bytes has = record {
+  some = has.some;
+  many = has.many;
+  inside = omega (arith, has.inside, length-append pending more);
+  load = subst (λ (list : List Command). FitsLoad limits geometry (place + length list) (gate_behind command_format gate list) (Commands (take following (drop taken (pending ++ more))))) (sym front_same)
+      (subst (λ (list : List Command). FitsLoad limits geometry (place + length (take taken pending)) (gate_behind command_format gate (take taken pending)) (Commands list)) (sym next_same) has.load);
+  made = has.made
+      ∙ ap (λ (list : List Command). load_bytes command_format (place + length (take taken pending)) (Commands list)) (sym next_same)
+      ∙ ap (λ (list : List Command). load_bytes command_format (place + length list) (Commands (take following (drop taken (pending ++ more))))) (sym front_same);
+}
+  where
+    front_same : take taken (pending ++ more) ≡ take taken pending
+    front_same = take_front taken pending more (omega (arith, has.inside))
+
+    next_same : take following (drop taken (pending ++ more)) ≡ take following (drop taken pending)
+    next_same = ap (take following) (drop_front taken pending more (omega (arith, has.inside)))
+        ∙ take_front following (drop taken pending) more (omega (arith, has.inside, length-drop taken pending))
+
+follower_before_more : (phase : Flush) (limits : Limits) (geometry : Geometry) (place gate : ℕ) (pending more : List Command) (taken following : ℕ) (bytes : List ℕ)
+    → IsFollowerMade phase limits geometry place gate pending taken following bytes → IsFollowerMade phase limits geometry place gate (pending ++ more) taken following bytes
+follower_before_more Following limits geometry place gate pending more taken following bytes has = bytes_before_more limits geometry place gate pending more taken following bytes has
+follower_before_more Followed limits geometry place gate pending more taken following bytes has = bytes_before_more limits geometry place gate pending more taken following bytes has
+follower_before_more DurableFollowed limits geometry place gate pending more taken following bytes has = bytes_before_more limits geometry place gate pending more taken following bytes has
+follower_before_more _ limits geometry place gate pending more taken following bytes has = tt
 
 -- what accepting a command touches
 record Touched : Type 0 where
@@ -110,6 +142,7 @@ module _ (old : StateView) (hidden : PrivateState) (has : IsState old hidden) wh
       rests = has.shape.rests;
       load = subst (FitsLoad (limits_of old.version) old.geometry old.value.place old.gate) (sym load_is) has.shape.load;
       staged = λ flying. has.shape.staged flying ∙ ap (load_bytes command_format old.value.place) (sym load_is);
+      follower = follower_before_more old.flush (limits_of old.version) old.geometry old.value.place old.gate old.pending (command ∷ []) old.taken old.following hidden.staged_next has.shape.follower;
       plan = has.shape.plan;
       epoch = has.shape.epoch;
       bytes = has.shape.bytes;

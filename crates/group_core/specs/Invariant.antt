@@ -1,5 +1,5 @@
 -- The invariant of every state.
-use Rattle.std.specs.Prelude.{◌≡◌, ◌≢◌, ℕ, ◌+◌, ◌*◌, ◌^◌, ◌<◌, ◌≤◌, ◌⊎◌, true, false, List, length, take, Option}
+use Rattle.std.specs.Prelude.{◌≡◌, ◌≢◌, ℕ, ◌+◌, ◌*◌, ◌^◌, ◌<◌, ◌≤◌, ◌⊎◌, true, false, List, length, take, drop, Option}
 use Rattle.std.specs.List.{AllByRecursion}
 use Rattle.byte_lists.specs.declared.format.TheConstants.{SECTOR}
 use Rattle.path_rows.specs.Database.{RowView}
@@ -10,6 +10,7 @@ use Rattle.sector_dev.specs.Image.{EveryImage}
 use Rattle.store_layout.specs.Limits.{Limits, limits_of}
 use Rattle.store_layout.specs.CommandFormat.{IsAllowed}
 use Rattle.store_layout.specs.Group.{last_place, group_sectors, JournalHasRoom, CanBeGroup}
+use Rattle.store_layout.specs.Journal.{gate_behind}
 use Rattle.store_layout.specs.Layout.{Geometry, IsGeometry, image_sectors}
 use Rattle.store_layout.specs.StoreFormat.{db_after}
 use Rattle.store_layout.specs.Checkpoint.{Checkpoint, checkpoint_encoding, checkpoint_size}
@@ -17,7 +18,8 @@ use Rattle.gate_journal.specs.Commands.{command_format}
 use Rattle.ckpt_pair.specs.Versions.{latest}
 use Rattle.ckpt_pair.specs.Rows.{rows_format}
 use Rattle.store_open.specs.PathStores.{store_format}
-use Rattle.group_phases.specs.declared.phases.Flush.TheVariants.{Resting}
+use Rattle.group_phases.specs.declared.phases.Flush.{Flush}
+use Rattle.group_phases.specs.declared.phases.Flush.TheVariants.{Resting, Following, Followed, DurableFollowed}
 use Rattle.group_phases.specs.declared.phases.Check.{Check}
 use Rattle.group_phases.specs.declared.phases.Check.TheVariants.{Ready, Sealed, Planned, Laid, Switched, SwitchFailed, Live, Closing, CloseFailed}
 use Rattle.group_phases.specs.Tail.{GroupOrSeal, Commands, Seal, load_bytes}
@@ -33,6 +35,8 @@ use Rattle.group_core.specs.Showing.{IsFrontOf}
 pub record PrivateState : Type 0 where
   -- The bytes to write of what is in flight.
   pub staged : List ℕ
+  -- The bytes to write of the following group.
+  pub staged_next : List ℕ
   -- The rows after all commands that are accepted.
   pub tip : List RowView
   -- The place of the first command that is pending.
@@ -47,6 +51,28 @@ abbrev pub FitsLoad : Limits → Geometry → ℕ → ℕ → GroupOrSeal Comman
 FitsLoad limits geometry place gate (Commands commands) =
     CanBeGroup command_format limits place commands × JournalHasRoom gate (group_sectors command_format commands) geometry.journal
 FitsLoad limits geometry place gate Seal = Unit {0}
+
+-- The `following` commands after the first `taken` pending ones may be a group after the group in
+-- flight, and the bytes to write of it are made.
+pub record HasFollowerBytes (limits : Limits) (geometry : Geometry) (place gate : ℕ) (pending : List Command) (taken following : ℕ) (bytes : List ℕ) : Type 0 where
+  -- A group is in flight, and not a seal.
+  pub some : 1 ≤ taken
+  -- At least one command follows.
+  pub many : 1 ≤ following
+  -- No more commands are in flight and follow than are pending.
+  pub inside : taken + following ≤ length pending
+  -- The following group may be after the gate that ends the group in flight.
+  pub load : FitsLoad limits geometry (place + length (take taken pending)) (gate_behind command_format gate (take taken pending))
+      (Commands (take following (drop taken pending)))
+  -- The bytes to write of the following group are made.
+  pub made : bytes ≡ load_bytes command_format (place + length (take taken pending)) (Commands (take following (drop taken pending)))
+
+-- The following group's bytes are made in the phases that have one.
+abbrev pub IsFollowerMade : Flush → Limits → Geometry → ℕ → ℕ → List Command → ℕ → ℕ → List ℕ → Type 0
+IsFollowerMade Following limits geometry place gate pending taken following bytes = HasFollowerBytes limits geometry place gate pending taken following bytes
+IsFollowerMade Followed limits geometry place gate pending taken following bytes = HasFollowerBytes limits geometry place gate pending taken following bytes
+IsFollowerMade DurableFollowed limits geometry place gate pending taken following bytes = HasFollowerBytes limits geometry place gate pending taken following bytes
+IsFollowerMade _ limits geometry place gate pending taken following bytes = Unit {0}
 
 -- A command that was accepted is within its limits, and allowed by the state's version.
 pub record MayBePending (version : ℕ) (command : Command) : Type 0 where
@@ -126,6 +152,8 @@ pub record StateInvariant (view : StateView) (hidden : PrivateState) : Type 0 wh
   pub load : FitsLoad (limits_of view.version) view.geometry view.value.place view.gate (load_of (commit_state_of view))
   -- The bytes of what is in flight are made.
   pub staged : view.flush ≢ Resting → hidden.staged ≡ load_bytes command_format view.value.place (load_of (commit_state_of view))
+  -- The bytes to write of the following group are made, where a group follows.
+  pub follower : IsFollowerMade view.flush (limits_of view.version) view.geometry view.value.place view.gate view.pending view.taken view.following hidden.staged_next
   -- The new checkpoint is within its area.
   pub plan : HasPlan view.geometry (checkpointing_of view)
   -- Until the new half counts, there is an epoch for it.

@@ -43,6 +43,7 @@ started store home stopped = record {
   pending = [];
   kept = [];
   taken = 0;
+  following = 0;
   flush = Resting;
   group = no_turn;
   check = check_in store.sealed;

@@ -30,6 +30,9 @@ pub record StateView : Type 0 where
   -- The number of the first pending commands that are in flight: 0 while the flusher rests, and
   -- where a seal is in flight.
   pub taken : ℕ
+  -- The number of the pending commands after those taken that follow them as the next group. It
+  -- counts only in the phases that have a following group.
+  pub following : ℕ
   -- The phase of the flusher.
   pub flush : Flush
   -- The flusher's last commit value.

@@ -14,6 +14,7 @@ use Rattle.group_core.specs.declared.error.StepError.TheVariants.{Fault, Stopped
 use Rattle.group_core.specs.StateView.{StateView}
 use Rattle.group_core.specs.Stops.{commit_state_of}
 use Rattle.group_core.specs.Steps.{next_sectors}
+use Rattle.group_core.specs.Following.{with_follower_in_flight}
 
 -- A call that writes bytes from a sector on, or a call that syncs.
 pub data DeviceCall : Type 0 where
@@ -38,6 +39,10 @@ StepCall call (Err Damaged) old new = ⊥
 -- The write of what is in flight, after the tail's gate.
 abbrev pub load_write : StateView → DeviceCall
 load_write view = Write (journal_at view.geometry view.half + (view.gate + 1)) (load_bytes command_format view.value.place (load_of (commit_state_of view)))
+
+-- The write of the following group: what is written of it when it is in flight.
+abbrev pub follower_write : StateView → DeviceCall
+follower_write view = load_write (with_follower_in_flight view)
 
 -- The write of the tail's gate, open.
 abbrev pub gate_write : StateView → DeviceCall

@@ -23,6 +23,7 @@ commit_state_of view = record {
   value = view.value;
   pending = view.pending;
   taken = view.taken;
+  following = view.following;
   flush = view.flush;
   check = view.check;
   half = view.half;

@@ -1,6 +1,6 @@
 //! Why a step was refused.
 
-use crate::values::{Commit, Durable};
+use crate::values::{Commit, Durable, DurableFollowed};
 
 /// Why a step with a value of phase `P` was refused. The first that holds is answered, in this
 /// order: `Stranger`, `Stopped`, and then `Fault`. `NoMemory` and `Damaged` are reserved for
@@ -25,4 +25,12 @@ pub enum PublishError {
     NoMemory(Durable),
     /// It is not this value's turn, or the value is another state's. The value is returned.
     Stranger(Durable),
+}
+
+/// Why publishing a followed group was refused. `Stranger` is judged first.
+pub enum PublishFollowedError {
+    /// Memory was refused. The value is returned, and the same group is owed.
+    NoMemory(DurableFollowed),
+    /// It is not this value's turn, or the value is another state's. The value is returned.
+    Stranger(DurableFollowed),
 }

@@ -94,7 +94,7 @@ impl<D: Device, S: Showcase> State<D, S> {
 
     /// Returns the value, where it is its turn and the state goes on. A state that has stopped
     /// spends the value.
-    fn group_turn<P: Copy>(
+    pub(crate) fn group_turn<P: Copy>(
         &mut self,
         phase: Flush,
         value: Commit<P>,

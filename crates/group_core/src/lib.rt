@@ -16,6 +16,7 @@ mod checkpointer;
 mod ending;
 mod error;
 mod flusher;
+mod following;
 mod halting;
 mod numbers;
 mod phases;
@@ -34,11 +35,12 @@ mod values;
 
 pub use beginning::BeginError;
 pub use bookkeeping::Turn;
-pub use error::{PublishError, StepError};
+pub use error::{PublishError, PublishFollowedError, StepError};
+pub use following::FollowError;
 pub use numbers::{Numbers, ShowsRows};
 pub use phases::{
-    AtClosing, AtDurable, AtLaid, AtLive, AtOpened, AtPlan, AtStable, AtStaged, AtSwitched,
-    AtWritten,
+    AtClosing, AtDurable, AtDurableFollowed, AtFollowed, AtFollowing, AtLaid, AtLive, AtOpened,
+    AtPlan, AtStable, AtStaged, AtSwitched, AtWritten,
 };
 pub use plain_show::PlainShow;
 pub use showcase::Showcase;
@@ -47,5 +49,6 @@ pub use state::State;
 pub use submit_error::SubmitError;
 pub use ticket::{Receipt, Redeemed, Ticket};
 pub use values::{
-    Closing, Commit, Durable, Laid, Live, Opened, Plan, Stable, Staged, Switched, Written,
+    Closing, Commit, Durable, DurableFollowed, Followed, Following, Laid, Live, Opened, Plan,
+    Stable, Staged, Switched, Written,
 };

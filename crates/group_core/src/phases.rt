@@ -20,6 +20,18 @@ pub struct AtOpened;
 #[derive(Clone, Copy)]
 pub struct AtDurable;
 
+/// A group that follows the group in flight is staged, and the tail's gate was written open.
+#[derive(Clone, Copy)]
+pub struct AtFollowing;
+
+/// The following group was written after the gate that ends the group in flight.
+#[derive(Clone, Copy)]
+pub struct AtFollowed;
+
+/// The tail's gate and the following group are synced.
+#[derive(Clone, Copy)]
+pub struct AtDurableFollowed;
+
 /// A checkpoint is being written.
 #[derive(Clone, Copy)]
 pub struct AtPlan {

@@ -59,9 +59,9 @@ impl From<AllocError> for StageError {
 /// The longest front of commands that fits one group: its number of commands, and the number of
 /// bytes of their records.
 #[derive(Clone, Copy)]
-struct Front {
-    count: usize,
-    bytes: usize,
+pub(crate) struct Front {
+    pub(crate) count: usize,
+    pub(crate) bytes: usize,
 }
 
 impl<D: Device, S: Showcase> State<D, S> {
@@ -112,7 +112,7 @@ impl<D: Device, S: Showcase> State<D, S> {
 }
 
 /// The longest front of commands that fits one group.
-fn longest_front(commands: &[Command], version: u32) -> Front
+pub(crate) fn longest_front(commands: &[Command], version: u32) -> Front
     requires { All IsWithinLimits commands.now }
     ensures longest { IsLongestFront (limits_of version) commands.now result.count }
     ensures some { 1 ≤ length commands.now → 1 ≤ result.count }
@@ -134,7 +134,11 @@ fn longest_front(commands: &[Command], version: u32) -> Front
 }
 
 /// The bytes to write for a group: its payload, and the closed gate after it.
-fn group_bytes(alloc: Global, commands: &[Command], place: u64) -> Result<Vec<u8>, AllocError>
+pub(crate) fn group_bytes(
+    alloc: Global,
+    commands: &[Command],
+    place: u64,
+) -> Result<Vec<u8>, AllocError>
     requires { IsWithinGroupLimits commands.now place }
     ensures { IfOk result (λ bytes. bytes.items ≡ load_bytes command_format place (Commands commands.now)) }
 {

@@ -39,9 +39,14 @@ pub struct State<D: Device, S: Showcase> {
     /// The number of the first pending commands that are in flight: 0 while the flusher rests, and
     /// where a seal is in flight.
     pub(crate) taken: usize,
+    /// The number of the pending commands after those taken that follow them as the next group. It
+    /// counts only in the phases that have a following group.
+    pub(crate) following: usize,
     /// The bytes of the one write of what is in flight, in whole sectors: a group with the closed
     /// gate after it, or a seal.
     pub(crate) staged: Vec<u8>,
+    /// The bytes of the one write of the following group, with the closed gate after it.
+    pub(crate) staged_next: Vec<u8>,
     /// The phase of the flusher.
     pub(crate) flush: Flush,
     /// The flusher's last commit value.
@@ -83,6 +88,7 @@ impl<D: Device, S: Showcase> Model for State<D, S> {
       pending = s.pending.items;
       kept = s.kept;
       taken = s.taken;
+      following = s.following;
       flush = s.flush;
       group = s.group;
       check = s.check;
@@ -104,6 +110,7 @@ impl<D: Device, S: Showcase> Model for State<D, S> {
       pending = s.pending.items;
       kept = s.kept;
       taken = s.taken;
+      following = s.following;
       flush = s.flush;
       group = s.group;
       check = s.check;
@@ -115,5 +122,5 @@ impl<D: Device, S: Showcase> Model for State<D, S> {
       checkpoint = encoding_if_any s.merge;
       written = s.written;
       stopped = s.stopped;
-    }) (record { staged = s.staged.items; tip = s.tip; place = s.place; owed = S.owed s.show; merge = s.merge }) };
+    }) (record { staged = s.staged.items; staged_next = s.staged_next.items; tip = s.tip; place = s.place; owed = S.owed s.show; merge = s.merge }) };
 }

@@ -5,8 +5,8 @@ ghost use Rattle.std.specs.Prelude.{◌≡◌, ◌↔◌, IsTrue};
 ghost use Rattle.group_core.specs.Values.{IsOf, IsSame};
 
 use crate::phases::{
-    AtClosing, AtDurable, AtLaid, AtLive, AtOpened, AtPlan, AtStable, AtStaged, AtSwitched,
-    AtWritten,
+    AtClosing, AtDurable, AtDurableFollowed, AtFollowed, AtFollowing, AtLaid, AtLive, AtOpened,
+    AtPlan, AtStable, AtStaged, AtSwitched, AtWritten,
 };
 
 /// A value of an actor: the home of the state that gave it, the number of its group or plan, and
@@ -27,6 +27,12 @@ pub type Stable = Commit<AtStable>;
 pub type Opened = Commit<AtOpened>;
 /// No stop can lose the group or the seal.
 pub type Durable = Commit<AtDurable>;
+/// The gate was written open, not synced, and a group that follows is staged.
+pub type Following = Commit<AtFollowing>;
+/// The gate was written open, and a group that follows was written, both not synced.
+pub type Followed = Commit<AtFollowed>;
+/// No stop can lose the group, and a group that follows is written and synced.
+pub type DurableFollowed = Commit<AtDurableFollowed>;
 /// A checkpoint that is being written.
 pub type Plan = Commit<AtPlan>;
 /// A checkpoint that is whole and synced.

@@ -39,7 +39,7 @@ allowed_larger : {C : Type 0} (format : CommandFormat C) (small large : Limits) 
 allowed_larger format small large larger [] all = all
 allowed_larger format small large larger (command ∷ more) all = (format.grows small large (format.encoding command) command larger all.0, allowed_larger format small large larger more all.1)
 
-load_larger : {C : Type 0} (format : CommandFormat C) (small large : Limits) (geometry : Geometry) (tail : Tail C) (load : GroupOrSeal C) → AreAsLarge small large
+pub load_larger : {C : Type 0} (format : CommandFormat C) (small large : Limits) (geometry : Geometry) (tail : Tail C) (load : GroupOrSeal C) → AreAsLarge small large
     → CanBeLoad format small geometry tail load → CanBeLoad format large geometry tail load
 load_larger format small large geometry tail (Commands commands) larger can = (
   record {

@@ -6,7 +6,7 @@ use Rattle.store_layout.specs.StoreValues.{value_after}
 use Rattle.store_layout.specs.Limits.{limits_of}
 use Rattle.store_layout.proofs.Exports.{folds_in_parts}
 use Rattle.group_phases.specs.declared.phases.Flush.{Flush}
-use Rattle.group_phases.specs.declared.phases.Flush.TheVariants.{Resting, Staged, Written, Stable, Opened, Doubtful, Durable}
+use Rattle.group_phases.specs.declared.phases.Flush.TheVariants.{Resting, Staged, Written, Stable, Opened, Doubtful, Durable, Following, Followed, DurableFollowed}
 use Rattle.group_phases.specs.declared.phases.Check.{Check}
 use Rattle.group_phases.specs.declared.phases.Check.TheVariants.{Ready, Sealed, Planned, Laid, Switched, SwitchFailed, Live, Closing, CloseFailed}
 use Rattle.group_phases.specs.Tail.{GroupOrSeal, Commands, Seal, group_commands, Tail, without_load, with_load}
@@ -96,3 +96,8 @@ opens_by_both_parts Db C config state moment held image is =
     by_phase Doubtful same (inl reads) sealed = none (may_at Doubtful 0 same (inl refl)) reads
     by_phase Doubtful same (inr reads) sealed = all (may_at Doubtful state.taken same (inr refl)) reads sealed
     by_phase Durable same reads sealed = all (may_at Durable state.taken same refl) reads sealed
+    by_phase Following same (inl reads) sealed = none (may_at Following 0 same (inl refl)) reads
+    by_phase Following same (inr reads) sealed = all (may_at Following state.taken same (inr refl)) reads sealed
+    by_phase Followed same (inl reads) sealed = none (may_at Followed 0 same (inl refl)) reads
+    by_phase Followed same (inr reads) sealed = all (may_at Followed state.taken same (inr refl)) reads sealed
+    by_phase DurableFollowed same reads sealed = all (may_at DurableFollowed state.taken same refl) reads sealed

@@ -15,6 +15,9 @@ pub use Rattle.group_phases.proofs.CommitStates.{unsealed_may, opens_by_both_par
 pub use Rattle.group_phases.proofs.Kept.{whole_journal, keeps_flusher_part, checkpoint_inside, front_gate, front_area, front_checkpoint, half_front, half_journal, half_first, old_kept, new_kept, written_kept, base_kept, keeps_base_part, journal_apart_beside, beside_apart, beside_inside, tail_writes_leave_base, base_writes_leave_tail, syncs_leave_both}
 -- the flusher's steps
 pub use Rattle.group_phases.proofs.FlusherSteps.{length-seal, length-load, length-open_gate, closed_gate_closed, writes_in_journal, written_part, journal_part, synced_clean, writes_load, syncs_load, opens_tail_gate, syncs_tail_gate, publishes_group}
+-- a group that follows: its steps, and what stays of it
+pub use Rattle.group_phases.proofs.FollowingSteps.{writes_follower, syncs_follower, publishes_follower, keeps_follower}
+pub use Rattle.group_phases.proofs.Followers.{take_front, drop_front, keeps_followed, follows_under_larger_limits, follows_before_more}
 -- the checkpointer's steps
 pub use Rattle.group_phases.proofs.CheckpointerSteps.{stays_under_larger_limits, takes_the_new_version, publishes_seal, begins_plan, writes_chunk, syncs_chunks, opens_half, syncs_half, closes_half, syncs_close, writes_beside_journal}
 -- both parts at once
@@ -23,3 +26,4 @@ pub use Rattle.group_phases.proofs.HeldChecks.{held_checked, held_while_chunk_is
 pub use Rattle.group_phases.proofs.HeldTurns.{held_when_group_is_published, held_when_seal_is_published, held_when_plan_begins, held_under_the_new_version}
 pub use Rattle.group_phases.proofs.HeldCommands.{held_when_accepted, held_when_group_is_staged, held_when_seal_is_staged}
 pub use Rattle.group_phases.proofs.HeldOpened.{held_at_rest, held_behind_seal}
+pub use Rattle.group_phases.proofs.HeldFollowing.{held_when_follower_is_staged, held_while_follower_is_written, held_while_followed_is_synced, held_when_followed_is_published}

@@ -18,6 +18,7 @@ use Rattle.group_phases.specs.HeldChecks.{checked, HeldWhileChunkIsWritten, Held
 use Rattle.group_phases.proofs.HalfReads.{title_kept}
 use Rattle.group_phases.proofs.Kept.{keeps_flusher_part, base_writes_leave_tail, syncs_leave_both}
 use Rattle.group_phases.proofs.FlusherSteps.{length-open_gate}
+use Rattle.group_phases.proofs.Followers.{keeps_followed}
 use Rattle.group_phases.proofs.CheckpointerSteps.{length-gates, writes_beside_journal, writes_chunk, syncs_chunks, opens_half, syncs_half, closes_half, syncs_close}
 
 module _ {Db C : Type 0} (config : StoreConfig Db C) (state : CommitState Db C) (behind : DeviceContents Db C) (old new : Moment) (held : IsHeldBy config state behind old) where
@@ -36,6 +37,8 @@ module _ {Db C : Type 0} (config : StoreConfig Db C) (state : CommitState Db C) 
         old new held.title same held.flusher;
     base = part_now;
     seal = may;
+    follower = keeps_followed state.flush config.format.commands (limits_of state.version) config.geometry (tail_of state behind)
+        state.pending state.taken state.following old new held.title same held.follower;
   }
 
   -- its own part, at a phase that is known, and whether a seal is in flight there

@@ -13,13 +13,8 @@ use Rattle.sector_dev.specs.Disk.{Moment}
 use Rattle.group_phases.specs.CommitState.{CommitState, DeviceContents, load_by, load_of, seals, tail_of, IsHeldBy}
 use Rattle.group_phases.specs.HeldCommands.{HeldWhenAccepted, HeldWhenGroupIsStaged, HeldWhenSealIsStaged}
 use Rattle.group_phases.proofs.CommitStates.{unsealed_may}
+use Rattle.group_phases.proofs.Followers.{take_front, follows_before_more}
 use Rattle.group_phases.proofs.HeldTurns.{load_some}
-
--- a front of a list stays where the list grows after it
-take_front : {A : Type 0} (n : ℕ) (front behind : List A) → n ≤ length front → take n (front ++ behind) ≡ take n front
-take_front zero front behind inside = refl
-take_front (suc n) [] behind inside = absurd (omega arith)
-take_front (suc n) (x ∷ front) behind inside = ap (λ (list : List _). x ∷ list) (take_front n front behind (omega arith))
 
 load_front : {A : Type 0} (n : ℕ) (front behind : List A) → n ≤ length front → load_by n (front ++ behind) ≡ load_by n front
 load_front zero front behind inside = refl
@@ -35,6 +30,8 @@ held_when_accepted Db C config state behind moment command held = record {
       subst (λ (load : GroupOrSeal C). FlusherPart state.flush config.format.commands (limits_of state.version) config.geometry (tail_of state behind) load moment) (sym same) held.flusher;
   base = held.base;
   seal = subst (λ (load : GroupOrSeal C). MayBeSealed state.check (seals state.flush load)) (sym same) held.seal;
+  follower = follows_before_more state.flush config.format.commands (limits_of state.version) config.geometry (tail_of state behind)
+      state.pending (command ∷ []) state.taken state.following moment held.follower;
 }
   where
     same : load_by state.taken (state.pending ++ command ∷ []) ≡ load_by state.taken state.pending
@@ -63,6 +60,7 @@ held_when_group_is_staged Db C config state behind moment taken is some can held
       (subst (λ (place : ℕ). CanBeGroup config.format.commands (limits_of state.version) place (take taken state.pending)) (sym held.place) can.can, can.room));
   base = held.base;
   seal = subst (λ (load : GroupOrSeal C). MayBeSealed state.check (seals Staged load)) (sym group) (unsealed_may state.check);
+  follower = tt;
 }
   where
     group : load_by taken state.pending ≡ Commands (take taken state.pending)
@@ -77,4 +75,5 @@ held_when_seal_is_staged Db C config state behind moment is ready place held = r
   flusher = staged_part config state behind moment held is Seal (omega (arith, place, held.place));
   base = held.base;
   seal = subst (λ (p : Check). MayBeSealed p (seals Staged (load_by 0 state.pending))) (sym ready) tt;
+  follower = tt;
 }

@@ -118,6 +118,7 @@ module _ {Db C : Type 0} (format : StoreFormat Db C) (latest : ℕ) (geometry : 
         first = record { closed = first; clean = clean format latest alone moment none is _ _ };
       };
       seal = tt;
+      follower = tt;
     };
   }
 
@@ -142,6 +143,7 @@ module _ {Db C : Type 0} (format : StoreFormat Db C) (latest : ℕ) (geometry : 
               (resting_there format latest sealed moment none is (other chosen) journal.place last goes_on.journal reached goes_on.unsealed);
           base = (old_stands, record { closed = is.tail.0; clean = clean format latest sealed moment none is _ _ });
           seal = refl;
+          follower = tt;
         };
       };
       old_is = refl;

@@ -11,12 +11,14 @@ use Rattle.group_phases.specs.declared.phases.Check.{Check}
 use Rattle.group_phases.specs.declared.phases.Check.TheVariants.{Ready, Sealed, Live}
 use Rattle.group_phases.specs.Tail.{GroupOrSeal, Commands, Seal, Tail}
 use Rattle.group_phases.specs.FlusherPart.{FlusherPart}
+use Rattle.group_phases.specs.FollowerPart.{IsFollowed}
 use Rattle.group_phases.specs.BasePart.{CheckpointPair, BasePart, MayBeSealed}
 use Rattle.group_phases.specs.CheckpointerSteps.{tail_switched, base_switched}
 use Rattle.group_phases.specs.CommitState.{load_by, load_of, seals, tail_of, checkpoint_pair_of}
 use Rattle.group_phases.specs.HeldTurns.{HeldWhenGroupIsPublished, HeldWhenSealIsPublished, HeldWhenPlanBegins, HeldUnderTheNewVersion}
 use Rattle.group_phases.proofs.CommitStates.{unsealed_may}
 use Rattle.group_phases.proofs.FlusherSteps.{publishes_group}
+use Rattle.group_phases.proofs.Followers.{follows_under_larger_limits}
 use Rattle.group_phases.proofs.CheckpointerSteps.{stays_under_larger_limits, takes_the_new_version, publishes_seal, begins_plan}
 
 -- what is in flight, by how many commands are
@@ -33,6 +35,7 @@ held_when_group_is_published Db C config state behind moment is some held = reco
   flusher = publishes_group C config.format.commands (limits_of state.version) config.geometry tail group moment held.title durable;
   base = held.base;
   seal = unsealed_may state.check;
+  follower = tt;
 }
   where
     group : List C
@@ -60,6 +63,7 @@ held_when_seal_is_published Db C config state behind moment next is none turn he
       (subst (λ (start : ℕ). FlusherPart Resting config.format.commands (limits_of state.version) config.geometry (tail_of_next start) Seal moment) folds.place published.1);
   base = published.0;
   seal = refl;
+  follower = tt;
 }
   where
     tail : Tail C
@@ -95,6 +99,7 @@ held_when_plan_begins Db C config state behind moment next is held folds can = r
   flusher = subst (λ (start : ℕ). FlusherPart state.flush config.format.commands (limits_of state.version) config.geometry (record { half = state.half; start = start; groups = behind.groups; gate = state.gate }) (load_of state) moment) same_place held.flusher;
   base = begins_plan Db C config base next state.written moment folds can sealed;
   seal = held_seal;
+  follower = subst (λ (start : ℕ). IsFollowed state.flush config.format.commands (limits_of state.version) config.geometry (record { half = state.half; start = start; groups = behind.groups; gate = state.gate }) state.pending state.taken state.following moment) same_place held.follower;
 }
   where
     base : CheckpointPair Db C
@@ -119,6 +124,8 @@ held_under_the_new_version Db C config state behind moment is held = record {
       (tail_of state behind) (load_of state) moment (later_allow_more state.version behind.new.head.version live.tail) held.flusher;
   base = subst (λ (p : Check). BasePart p config later state.written moment) (sym is) (takes_the_new_version Db C config base state.written moment live);
   seal = held.seal;
+  follower = follows_under_larger_limits state.flush config.format.commands (limits_of state.version) (limits_of behind.new.head.version) config.geometry (tail_of state behind)
+      state.pending state.taken state.following moment (later_allow_more state.version behind.new.head.version live.tail) held.follower;
 }
   where
     base : CheckpointPair Db C

@@ -7,9 +7,12 @@ pub mod Openings
 pub mod CommitStates
 pub mod Kept
 pub mod FlusherSteps
+pub mod FollowingSteps
 pub mod CheckpointerSteps
+pub mod Followers
 pub mod HeldSteps
 pub mod HeldChecks
 pub mod HeldTurns
 pub mod HeldCommands
+pub mod HeldFollowing
 pub mod HeldOpened

@@ -13,7 +13,7 @@ use Rattle.store_layout.specs.Journal.{all_of, gate_behind}
 use Rattle.store_layout.specs.Layout.{Geometry, journal_at, image_sectors, journal_of}
 use Rattle.store_layout.proofs.Exports.{chain_agrees, chain_more, all_of_more, journal_long}
 use Rattle.group_phases.specs.declared.phases.Flush.{Flush}
-use Rattle.group_phases.specs.declared.phases.Flush.TheVariants.{Resting, Staged, Written, Stable, Opened, Doubtful, Durable}
+use Rattle.group_phases.specs.declared.phases.Flush.TheVariants.{Resting, Staged, Written, Stable, Opened, Doubtful, Durable, Following, Followed, DurableFollowed}
 use Rattle.group_phases.specs.Range.{Untouched, as_moment}
 use Rattle.group_phases.specs.StoreConfig.{AreCleanSectors}
 use Rattle.group_phases.specs.Tail.{GroupOrSeal, Commands, Seal, written_sectors, Tail, CanBeLoad, without_load, with_load}
@@ -126,6 +126,12 @@ module _ {C : Type 0} (format : CommandFormat C) (limits : Limits) (geometry : G
       by_phase Doubtful facts = (load_kept load behind_inside behind facts.0, sectors_kept (tail.gate + 1) (written_sectors format load) behind facts.1)
       by_phase Durable facts =
           (load_kept load behind_inside behind facts.0, sectors_kept (tail.gate + 1) (written_sectors format load) behind facts.1, open_kept inside gate facts.2, sectors_kept tail.gate 1 gate facts.3)
+      by_phase Following facts =
+          (load_kept load behind_inside behind facts.0, sectors_kept (tail.gate + 1) (written_sectors format load) behind facts.1, open_kept inside gate facts.2)
+      by_phase Followed facts =
+          (load_kept load behind_inside behind facts.0, sectors_kept (tail.gate + 1) (written_sectors format load) behind facts.1, open_kept inside gate facts.2)
+      by_phase DurableFollowed facts =
+          (load_kept load behind_inside behind facts.0, sectors_kept (tail.gate + 1) (written_sectors format load) behind facts.1, open_kept inside gate facts.2, sectors_kept tail.gate 1 gate facts.3)
 
 -- what the tail's journal reads as, at a moment
 module _ {C : Type 0} (format : CommandFormat C) (limits : Limits) (geometry : Geometry) (tail : Tail C) (moment : Moment) (room : image_sectors geometry ≤ whole_sectors moment.reads)
@@ -209,5 +215,10 @@ reads_by_its_part C phase format limits geometry tail load moment title has imag
     by_phase Opened facts = either facts.0 facts.1
     by_phase Doubtful facts = either facts.0 facts.1
     by_phase Durable facts =
+        reads_with format limits geometry tail im room_im groups load has.can (behind facts.0 facts.1)
+        (open_kept format limits geometry tail moment im room inside (same tail.gate 1 facts.3) facts.2)
+    by_phase Following facts = either facts.0 facts.1
+    by_phase Followed facts = either facts.0 facts.1
+    by_phase DurableFollowed facts =
         reads_with format limits geometry tail im room_im groups load has.can (behind facts.0 facts.1)
         (open_kept format limits geometry tail moment im room inside (same tail.gate 1 facts.3) facts.2)

@@ -9,11 +9,12 @@ use Rattle.store_layout.specs.Checkpoint.{Checkpoint}
 use Rattle.store_layout.specs.Opening.{StoreValue, OpensTo}
 use Rattle.store_layout.specs.StoreValues.{value_after}
 use Rattle.group_phases.specs.declared.phases.Flush.{Flush}
-use Rattle.group_phases.specs.declared.phases.Flush.TheVariants.{Resting, Staged, Written, Stable, Opened, Doubtful, Durable}
+use Rattle.group_phases.specs.declared.phases.Flush.TheVariants.{Resting, Staged, Written, Stable, Opened, Doubtful, Durable, Following, Followed, DurableFollowed}
 use Rattle.group_phases.specs.declared.phases.Check.{Check}
 use Rattle.group_phases.specs.StoreConfig.{StoreConfig, HasTitle}
 use Rattle.group_phases.specs.Tail.{GroupOrSeal, Commands, Seal, Tail, tail_place}
 use Rattle.group_phases.specs.FlusherPart.{FlusherPart}
+use Rattle.group_phases.specs.FollowerPart.{IsFollowed}
 use Rattle.group_phases.specs.BasePart.{CheckpointPair, BasePart, MayBeSealed}
 
 -- The fields of a state that count for its device.
@@ -25,6 +26,9 @@ pub record CommitState (Db C : Type 0) : Type 0 where
   -- The number of the first pending commands that are in flight: 0 where a seal is in flight, or
   -- nothing.
   pub taken : ℕ
+  -- The number of the pending commands after those taken that follow them as the next group. It
+  -- counts only in the phases that have a following group.
+  pub following : ℕ
   -- The phase of the flusher.
   pub flush : Flush
   -- The phase of the checkpointer.
@@ -61,6 +65,9 @@ seals Stable load = is_seal load
 seals Opened load = is_seal load
 seals Doubtful load = is_seal load
 seals Durable load = is_seal load
+seals Following load = is_seal load
+seals Followed load = is_seal load
+seals DurableFollowed load = is_seal load
 
 -- What is on the device for a state, and in no field of the state.
 pub record DeviceContents (Db C : Type 0) : Type 0 where
@@ -108,6 +115,9 @@ pub record IsHeldBy {Db C : Type 0} (config : StoreConfig Db C) (state : CommitS
   pub base : BasePart state.check config (checkpoint_pair_of state behind) state.written moment
   -- A seal is in flight only where the other half is ready.
   pub seal : MayBeSealed state.check (seals state.flush (load_of state))
+  -- The following group's part holds, where a group follows.
+  pub follower : IsFollowed state.flush config.format.commands (limits_of state.version) config.geometry (tail_of state behind)
+      state.pending state.taken state.following moment
 
 -- The device holds what such a state represents, for some contents.
 pub record IsHeld {Db C : Type 0} (config : StoreConfig Db C) (state : CommitState Db C) (moment : Moment) : Type 0 where
@@ -124,6 +134,9 @@ MayKeep Stable taken kept = kept ≡ 0
 MayKeep Opened taken kept = (kept ≡ 0) ⊎ (kept ≡ taken)
 MayKeep Doubtful taken kept = (kept ≡ 0) ⊎ (kept ≡ taken)
 MayKeep Durable taken kept = kept ≡ taken
+MayKeep Following taken kept = (kept ≡ 0) ⊎ (kept ≡ taken)
+MayKeep Followed taken kept = (kept ≡ 0) ⊎ (kept ≡ taken)
+MayKeep DurableFollowed taken kept = kept ≡ taken
 
 -- The image opens to this value, by a half of this version or a later one.
 pub record OpensSince {Db C : Type 0} (config : StoreConfig Db C) (version : ℕ) (image : List ℕ) (value : StoreValue Db) : Type 0 where

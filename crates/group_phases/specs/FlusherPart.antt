@@ -10,7 +10,7 @@ use Rattle.store_layout.specs.CommandFormat.{CommandFormat}
 use Rattle.store_layout.specs.Journal.{gate_behind, IsGroupChain, Reading, IsJournal}
 use Rattle.store_layout.specs.Layout.{Geometry, journal_of}
 use Rattle.group_phases.specs.declared.phases.Flush.{Flush}
-use Rattle.group_phases.specs.declared.phases.Flush.TheVariants.{Resting, Staged, Written, Stable, Opened, Doubtful, Durable}
+use Rattle.group_phases.specs.declared.phases.Flush.TheVariants.{Resting, Staged, Written, Stable, Opened, Doubtful, Durable, Following, Followed, DurableFollowed}
 use Rattle.group_phases.specs.StoreConfig.{AreCleanSectors}
 use Rattle.group_phases.specs.Tail.{GroupOrSeal, Commands, Seal, payload_of, load_sectors, written_sectors, Tail, tail_place, CanBeLoad, without_load, with_load}
 
@@ -48,6 +48,17 @@ pub record HasLoad {C : Type 0} (format : CommandFormat C) (geometry : Geometry)
 abbrev pub IsLoadClean : {C : Type 0} → CommandFormat C → Geometry → Tail C → GroupOrSeal C → Moment → Type 0
 IsLoadClean format geometry tail load moment = AreCleanSectors geometry tail.half (tail.gate + 1) (written_sectors format load) moment
 
+-- What is in flight is there and clean, and the tail's gate is open.
+abbrev pub IsLoadOpened : {C : Type 0} → CommandFormat C → Geometry → Tail C → GroupOrSeal C → Moment → Type 0
+IsLoadOpened format geometry tail load moment =
+    HasLoad format geometry tail load moment × IsLoadClean format geometry tail load moment × HasOpenGate geometry tail moment
+
+-- What is in flight is there and clean, and the tail's gate is open and clean.
+abbrev pub IsLoadDurable : {C : Type 0} → CommandFormat C → Geometry → Tail C → GroupOrSeal C → Moment → Type 0
+IsLoadDurable format geometry tail load moment =
+    HasLoad format geometry tail load moment × IsLoadClean format geometry tail load moment × HasOpenGate geometry tail moment
+    × AreCleanSectors geometry tail.half tail.gate 1 moment
+
 -- The facts of each phase, beside the groups.
 abbrev pub AtPhase : {C : Type 0} → Flush → CommandFormat C → Geometry → Tail C → GroupOrSeal C → Moment → Type 0
 AtPhase Resting format geometry tail load moment = HasClosedGate geometry tail moment
@@ -55,12 +66,12 @@ AtPhase Staged format geometry tail load moment = HasClosedGate geometry tail mo
 AtPhase Written format geometry tail load moment = HasClosedGate geometry tail moment × HasLoad format geometry tail load moment
 AtPhase Stable format geometry tail load moment =
     HasClosedGate geometry tail moment × HasLoad format geometry tail load moment × IsLoadClean format geometry tail load moment
-AtPhase Opened format geometry tail load moment =
-    HasLoad format geometry tail load moment × IsLoadClean format geometry tail load moment × HasOpenGate geometry tail moment
+AtPhase Opened format geometry tail load moment = IsLoadOpened format geometry tail load moment
 AtPhase Doubtful format geometry tail load moment = HasLoad format geometry tail load moment × IsLoadClean format geometry tail load moment
-AtPhase Durable format geometry tail load moment =
-    HasLoad format geometry tail load moment × IsLoadClean format geometry tail load moment × HasOpenGate geometry tail moment
-    × AreCleanSectors geometry tail.half tail.gate 1 moment
+AtPhase Durable format geometry tail load moment = IsLoadDurable format geometry tail load moment
+AtPhase Following format geometry tail load moment = IsLoadOpened format geometry tail load moment
+AtPhase Followed format geometry tail load moment = IsLoadOpened format geometry tail load moment
+AtPhase DurableFollowed format geometry tail load moment = IsLoadDurable format geometry tail load moment
 
 -- What the flusher relies on in each phase.
 pub record FlusherPart {C : Type 0} (phase : Flush) (format : CommandFormat C) (limits : Limits) (geometry : Geometry) (tail : Tail C) (load : GroupOrSeal C)
@@ -88,3 +99,8 @@ MayRead Opened format limits geometry tail load image =
 MayRead Doubtful format limits geometry tail load image =
     JournalReadsAs format limits geometry tail image (without_load tail) ⊎ JournalReadsAs format limits geometry tail image (with_load format tail load)
 MayRead Durable format limits geometry tail load image = JournalReadsAs format limits geometry tail image (with_load format tail load)
+MayRead Following format limits geometry tail load image =
+    JournalReadsAs format limits geometry tail image (without_load tail) ⊎ JournalReadsAs format limits geometry tail image (with_load format tail load)
+MayRead Followed format limits geometry tail load image =
+    JournalReadsAs format limits geometry tail image (without_load tail) ⊎ JournalReadsAs format limits geometry tail image (with_load format tail load)
+MayRead DurableFollowed format limits geometry tail load image = JournalReadsAs format limits geometry tail image (with_load format tail load)

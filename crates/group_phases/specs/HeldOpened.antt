@@ -30,6 +30,7 @@ commit_state_at_opening format opening = record {
   value = opening_value format opening;
   pending = [];
   taken = 0;
+  following = 0;
   flush = Resting;
   check = check_of opening.tail;
   half = last_half opening;

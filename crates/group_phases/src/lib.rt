@@ -7,6 +7,7 @@
 
 mod checkpointer_laws;
 mod flusher_laws;
+mod following_laws;
 mod held_laws;
 mod kept_laws;
 mod phases;
@@ -20,9 +21,12 @@ pub use checkpointer_laws::{
 pub use flusher_laws::{
     durable_groups_are_published, flusher_calls_go_on, flusher_writes_lie_in_the_journal,
 };
+pub use following_laws::{
+    followers_are_published, followers_go_on, followers_stay_where_untouched,
+};
 pub use held_laws::{
     calls_leave_fronts, checkpointer_calls_are_held, commands_are_held, flusher_calls_are_held,
-    turns_are_held,
+    followers_are_held, turns_are_held,
 };
 pub use kept_laws::{calls_leave_the_other_part, parts_stay_where_untouched};
 pub use phases::{Check, Flush};

@@ -10,7 +10,13 @@
 ///    ^                                                                 |                                            |
 ///    |                                                                 '--open_gate fails--> Doubtful               |
 ///    '--publish-----------------------------------------------------------------------------------------------------'
+///
+/// Opened --follow--> Following --write_following--> Followed --sync_followed--> DurableFollowed --publish_followed--> Stable
 /// ```
+///
+/// The second line is the way of a group that is followed: the next group is written before the gate
+/// of the group in flight is synced. One sync then makes that gate durable and the next group
+/// stable, and publishing leaves the next group in flight.
 ///
 /// In each phase the groups that are committed are in the tail's journal, clean. What else holds of
 /// an honest device there:
@@ -24,6 +30,16 @@
 /// Opened     open              it is there*                         nothing or all
 /// Doubtful   open or closed    it is there*                         nothing or all
 /// Durable    open*             it is there*                         all
+/// ```
+///
+/// The following group is written after the gate that ends the group in flight. That gate is closed
+/// and clean from `Stable` on, so a stop keeps nothing of the following group:
+///
+/// ```text
+///                   the tail's gate, what is in flight, what a stop keeps   the following group
+/// Following         as at Opened                                            anything may be there
+/// Followed          as at Opened                                            it is there
+/// DurableFollowed   as at Durable                                           it is there*
 /// ```
 ///
 /// `*`: and clean, which says that no write was made there since the last sync that succeeded: so
@@ -44,6 +60,12 @@ pub enum Flush {
     Doubtful,
     /// A sync after the gate's write succeeded.
     Durable,
+    /// The tail's gate was written open, and the bytes to write of the following group are made.
+    Following,
+    /// The following group was written after the gate that ends the group in flight.
+    Followed,
+    /// A sync after both writes succeeded: the gate's and the following group's.
+    DurableFollowed,
 }
 
 /// How far the checkpointer is.

@@ -20,6 +20,7 @@ invariant_of-result g c =
       pending = c.new.ensures.items i;
       kept = c.new-2.ensures i;
       taken = 0;
+      following = 0;
       flush = Resting;
       group = no_turn;
       check = (c.check_of-check.ensures ∙ ap check_in c.is_sealed.ensures) i;
