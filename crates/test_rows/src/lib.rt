@@ -7,6 +7,8 @@ mod drops;
 #[cfg(test)]
 mod memory;
 #[cfg(test)]
+mod one_key;
+#[cfg(test)]
 mod puts;
 #[cfg(test)]
 mod reads;

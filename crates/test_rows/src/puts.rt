@@ -1,6 +1,6 @@
 //! Registrations: of two segments with one key the newer one is kept.
 
-use crate::worked::{apply, dated, len_of, no_rows, put, register, standing};
+use crate::worked::{apply, dated, four, len_of, no_rows, put, register, standing};
 use path_db::{ApplyError, Command, Outcome, PathDb, Registration};
 use seg_core::SegType;
 use std::alloc::Global;
@@ -46,15 +46,6 @@ fn newer_timestamp_wins(rt: HostRuntime) -> Result<(), Fail> {
         assert_put(&rt, rt.alloc(), &mut database, put, found)?;
     }
     Ok(())
-}
-
-/// The same four segments in one registration.
-fn four(alloc: Global) -> Result<Registration, Fail> {
-    let mut rows = Vec::new(alloc);
-    for (timestamp, segment_id) in [(10, 1), (11, 2), (11, 3), (9, 4)] {
-        rows.push((SegType::Down, dated(alloc, timestamp, segment_id)?))?;
-    }
-    Ok(Registration::new(rows))
 }
 
 /// Checks that the second of four segments is there once they are registered.

@@ -35,6 +35,16 @@ pub(crate) fn register(alloc: Global, kind: SegType, segment: Segment) -> Result
     Ok(Command::Register(Registration::new(rows)))
 }
 
+/// The worked segment as a down segment with the timestamps 10, 11, 11 and 9, each time with another
+/// segment id, in one registration.
+pub(crate) fn four(alloc: Global) -> Result<Registration, Fail> {
+    let mut rows = Vec::new(alloc);
+    for (timestamp, segment_id) in [(10, 1), (11, 2), (11, 3), (9, 4)] {
+        rows.push((SegType::Down, dated(alloc, timestamp, segment_id)?))?;
+    }
+    Ok(Registration::new(rows))
+}
+
 // ---- databases: no test needs a fact about one, so these calls, which have no contracts, keep the tests' proofs short
 
 /// A database without rows.
