@@ -19,7 +19,7 @@ use Rattle.group_recovery.specs.declared.events.StepRefusal.TheVariants as why
 use Rattle.group_recovery.specs.Machine.{Machine, machine_of}
 use Rattle.group_recovery.specs.Bookkeeping.{Bookkeeping, bookkeeping_of, rows_before_next, with_outcome, IsInFlight, stopped_by, KeepsBooks, EventsKeepTheBooks, StopsAreForGood}
 use Rattle.group_recovery.specs.Reopening.{PrefixesAreReopened, FrontsAreReopened}
-use Rattle.group_recovery.specs.RunSteps.{RunView, FlushEvent, CheckEvent, StageEvent, BeginEvent, PublishEvent, HaltEvent, LookupEvent, SubmitEvent, RedeemEvent}
+use Rattle.group_recovery.specs.RunSteps.{RunView, FlushEvent, CheckEvent, StageEvent, BeginEvent, PublishEvent, FollowEvent, PublishFollowedEvent, HaltEvent, LookupEvent, SubmitEvent, RedeemEvent}
 use Rattle.group_recovery.proofs.Runs.{none_or_some}
 
 module _ (old new : StateView) where
@@ -81,6 +81,18 @@ module _ (old new : StateView) where
   published reply.NoValue step = so step.1
   published _ step = absurd step
 
+  followed : (r : Reply) → FollowEvent r old new → Keeps event.Follow r
+  followed reply.Done step = (step.2.front, so step.3)
+  followed (reply.FollowRefused e) step = so step.2
+  followed reply.NoValue step = so step.1
+  followed _ step = absurd step
+
+  published_followed : (r : Reply) → PublishFollowedEvent r old new → Keeps event.PublishFollowed r
+  published_followed reply.Done step = so step.2
+  published_followed (reply.PublishRefused publish.NoMemory) step = so step.2
+  published_followed reply.NoValue step = so step.1
+  published_followed _ step = absurd step
+
   half_counted : (has : Type 0) (after : StateView) (failed : Check) (r : Reply) → bookkeeping_of after ≡ record (bookkeeping_of old) { version = 2 } → CheckEvent has after failed r old new
       → Keeps event.SyncHalf r
   half_counted has after failed reply.Done same step = so step.3 ∙ same
@@ -119,6 +131,10 @@ books_kept event.SyncGroup r old new step = flushed old.state new.state _ _ _ r 
 books_kept event.OpenGate r old new step = flushed old.state new.state _ _ _ r step.1
 books_kept event.SyncGate r old new step = flushed old.state new.state _ _ _ r step.1
 books_kept event.Publish r old new step = published old.state new.state r step.1
+books_kept event.Follow r old new step = followed old.state new.state r step.1
+books_kept event.WriteFollowing r old new step = flushed old.state new.state _ _ _ r step.1
+books_kept event.SyncFollowed r old new step = flushed old.state new.state _ _ _ r step.1
+books_kept event.PublishFollowed r old new step = published_followed old.state new.state r step.1
 books_kept (event.Redeem k) r old new step = redeemed k r old new step
 books_kept event.Begin r old new step = begun_so old.state new.state r step.1
 books_kept event.WriteChunk r old new step = checked old.state new.state _ (chunk_written old.state) _ r refl step.1
@@ -143,6 +159,8 @@ module _ (old new : Bookkeeping) (stopped : old.stopped ≡ true) where
   still_stopped (event.Submit command) (reply.Accepted place) machine keeps = ap (λ (b : Bookkeeping). b.stopped) keeps.1 ∙ stopped
   still_stopped event.Stage reply.Done machine keeps = ap (λ (b : Bookkeeping). b.stopped) keeps.1 ∙ stopped
   still_stopped event.Publish reply.Done machine keeps = ap (λ (b : Bookkeeping). b.stopped) keeps ∙ stopped
+  still_stopped event.Follow reply.Done machine keeps = ap (λ (b : Bookkeeping). b.stopped) keeps.1 ∙ stopped
+  still_stopped event.PublishFollowed reply.Done machine keeps = ap (λ (b : Bookkeeping). b.stopped) keeps ∙ stopped
   still_stopped (event.Redeem k) (reply.Committed place outcome) machine keeps = ap (λ (b : Bookkeeping). b.stopped) keeps.2 ∙ stopped
   still_stopped (event.Redeem k) (reply.Unknown place) machine keeps = ap (λ (b : Bookkeeping). b.stopped) keeps.2 ∙ stopped
   still_stopped event.SyncHalf reply.Done machine keeps = ap (λ (b : Bookkeeping). b.stopped) keeps ∙ stopped

@@ -22,10 +22,11 @@ use Rattle.group_core.specs.declared.ticket.Ticket.{Ticket}
 use Rattle.group_core.specs.StateView.{StateView}
 use Rattle.group_core.specs.Steps.{IsFlushTurn, IsCheckTurn, IsPlanTurn, is_whole, spent}
 use Rattle.group_core.specs.Staging.{Takes, staged_by}
+use Rattle.group_core.specs.Following.{followed_by}
 use Rattle.group_core.specs.Beginning.{plan_begun}
 use Rattle.group_core.specs.Redeeming.{outcome_at}
 use Rattle.group_core.specs.Submitting.{next_place}
-use Rattle.group_recovery.specs.RunSteps.{IsPlanOutAt, IsPlanOut, FlushEvent, CheckEvent, StageEvent, BeginEvent, HaltEvent, LookupEvent}
+use Rattle.group_recovery.specs.RunSteps.{IsPlanOutAt, IsPlanOut, FlushEvent, CheckEvent, StageEvent, FollowEvent, BeginEvent, HaltEvent, LookupEvent}
 use Rattle.group_recovery.specs.Holding.{HoldsGroup, HoldsPlan, SealWaits, HoldsTickets, IsHolding}
 use Rattle.group_recovery.proofs.Prefix.{Moves}
 
@@ -78,6 +79,9 @@ module _ {old new : StateView} (stays : GroupStays old new) where
   group_stays (group.Stable value) holds = (out_so holds.0, turn_so holds.1)
   group_stays (group.Opened value) holds = (out_so holds.0, turn_so holds.1)
   group_stays (group.Durable value) holds = (out_so holds.0, turn_so holds.1)
+  group_stays (group.Following value) holds = (out_so holds.0, turn_so holds.1)
+  group_stays (group.Followed value) holds = (out_so holds.0, turn_so holds.1)
+  group_stays (group.DurableFollowed value) holds = (out_so holds.0, turn_so holds.1)
 
 module _ {old new : StateView} (stays : PlanStays old new) where
   plan_out_so : {out : Bool} → old.plan.out ≡ out → new.plan.out ≡ out
@@ -185,6 +189,20 @@ module _ (old : StateView) where
       ready (inr sealing) none = sealing.ready
   stage_rest (reply.StageRefused e) new step = subst (FlushRest old) (sym step.1) flush_same
   stage_rest _ new step = absurd step
+
+  follow_touched : (following : ℕ) → FlushRest old (followed_by old following)
+  follow_touched following = record {
+    still = record { value = refl; pending = refl; geometry = refl };
+    tickets = record { home = refl; next = refl; kept = refl };
+    plan = record { home = refl; check = refl; plan = refl; checkpoint = refl; written = refl };
+    seal = λ waits. waits;
+  }
+
+  pub follow_rest : (reply : Reply) (new : StateView) → FollowEvent reply old new → FlushRest old new
+  follow_rest reply.Done new step = subst (FlushRest old) (sym step.3) (follow_touched new.following)
+  follow_rest (reply.FollowRefused e) new step = subst (FlushRest old) (sym step.2) flush_same
+  follow_rest reply.NoValue new step = subst (FlushRest old) (sym step.1) flush_same
+  follow_rest _ new step = absurd step
 
   check_touched : (disk : Disk) (phase : Check) (turn : Turn) (bytes : List ℕ) (written epoch version : ℕ) (stopped : Bool) → (old.check ≡ check.Ready → phase ≡ check.Ready)
       → CheckRest old (record old { disk = disk; check = phase; plan = turn; checkpoint = bytes; written = written; epoch = epoch; version = version; stopped = stopped })

@@ -9,7 +9,7 @@ use Rattle.group_recovery.specs.declared.events.PublishRefusal.TheVariants as pu
 use Rattle.group_core.specs.StateView.{StateView}
 use Rattle.group_recovery.specs.Machine.{Machine, machine_of, committed_front}
 use Rattle.group_recovery.specs.MachineSteps.{machine_after, EventsMakeMachineSteps}
-use Rattle.group_recovery.specs.RunSteps.{RunView, PublishEvent, SubmitEvent, RedeemEvent, IsRunStep}
+use Rattle.group_recovery.specs.RunSteps.{RunView, PublishEvent, PublishFollowedEvent, SubmitEvent, RedeemEvent, IsRunStep}
 use Rattle.group_recovery.proofs.Held.{Still}
 use Rattle.group_recovery.proofs.Runs.{none_or_some, IsFlushers, IsCheckers, flush_leaves, check_leaves}
 
@@ -38,6 +38,12 @@ published (reply.PublishRefused publish.NoMemory) old new step = ap machine_of s
 published reply.NoValue old new step = ap machine_of step.1
 published _ old new step = absurd step
 
+published_followed : (r : Reply) (old new : StateView) → PublishFollowedEvent r old new → machine_of new ≡ machine_after event.PublishFollowed r old.taken (machine_of old)
+published_followed reply.Done old new step = ap machine_of step.2
+published_followed (reply.PublishRefused publish.NoMemory) old new step = ap machine_of step.2
+published_followed reply.NoValue old new step = ap machine_of step.1
+published_followed _ old new step = absurd step
+
 submitted : (command : Command) (r : Reply) (old new : RunView) → SubmitEvent command r old new → machine_of new.state ≡ machine_after (event.Submit command) r old.state.taken (machine_of old.state)
 submitted command (reply.Accepted place) old new step = ap machine_of step.3
 submitted command (reply.Refused e) old new step = ap (λ (run : RunView). machine_of run.state) step.1
@@ -58,6 +64,10 @@ machine_steps event.SyncGroup r old new step = flushed event.SyncGroup r old new
 machine_steps event.OpenGate r old new step = flushed event.OpenGate r old new step tt
 machine_steps event.SyncGate r old new step = flushed event.SyncGate r old new step tt
 machine_steps event.Publish r old new step = published r old.state new.state step.1
+machine_steps event.Follow r old new step = flushed event.Follow r old new step tt
+machine_steps event.WriteFollowing r old new step = flushed event.WriteFollowing r old new step tt
+machine_steps event.SyncFollowed r old new step = flushed event.SyncFollowed r old new step tt
+machine_steps event.PublishFollowed r old new step = published_followed r old.state new.state step.1
 machine_steps (event.Redeem k) r old new step = redeemed k r old new step
 machine_steps event.Begin r old new step = checked event.Begin r old new step tt
 machine_steps event.WriteChunk r old new step = checked event.WriteChunk r old new step tt

@@ -18,15 +18,16 @@ use Rattle.group_core.specs.declared.ticket.Ticket.{Ticket}
 use Rattle.group_core.specs.StateView.{StateView}
 use Rattle.group_core.specs.Stops.{StepLeaves}
 use Rattle.group_core.specs.Publishing.{group_committed, journal_sealed}
+use Rattle.group_core.specs.Following.{with_follower_in_flight}
 use Rattle.group_core.specs.Submitting.{next_place}
 use Rattle.group_core.specs.Redeeming.{halted}
 use Rattle.group_recovery.specs.SameDevice.{DeviceGoesOn}
-use Rattle.group_recovery.specs.RunSteps.{RunView, PublishEvent, SubmitEvent, RedeemEvent, IsRunStep, IsRun}
+use Rattle.group_recovery.specs.RunSteps.{RunView, PublishEvent, PublishFollowedEvent, SubmitEvent, RedeemEvent, IsRunStep, IsRun}
 use Rattle.group_recovery.specs.Holding.{HoldsGroup, HoldsPlan, SealWaits, HoldsTickets, IsHolding}
 use Rattle.group_recovery.specs.Winding.{ending_events, winding_events, HasWound}
 use Rattle.group_recovery.specs.RunLeaves.{accepted_by, accepted_in, lock_order, RunLeaves}
 use Rattle.group_recovery.proofs.Prefix.{Moves, leaves_at_first, leaves_then}
-use Rattle.group_recovery.proofs.Held.{TicketsStay, GroupStays, PlanStays, moves_none, tickets_stay, group_stays, plan_stays, FlushRest, CheckRest, flush_rest, check_rest, stage_rest, begin_rest, halt_rest, lookup_rest, planned_busy, at_busy, flush_holding}
+use Rattle.group_recovery.proofs.Held.{TicketsStay, GroupStays, PlanStays, moves_none, tickets_stay, group_stays, plan_stays, FlushRest, CheckRest, flush_rest, check_rest, stage_rest, follow_rest, begin_rest, halt_rest, lookup_rest, planned_busy, at_busy, flush_holding}
 
 pub none_or_some : (n : ℕ) → (n ≡ 0) ⊎ (1 ≤ n)
 none_or_some zero = inl refl
@@ -51,6 +52,19 @@ publish_moves _ old new inside step = absurd step
 
 still_so : {old new : StateView} → new ≡ old → Moves [] old new
 still_so is = moves_none (record { value = ap (λ (v : StateView). v.value) is; pending = ap (λ (v : StateView). v.pending) is; geometry = ap (λ (v : StateView). v.geometry) is })
+
+-- publishing a group that another follows commits it
+publish_followed_moves : (reply : Reply) (old new : StateView) → old.taken ≤ length old.pending → PublishFollowedEvent reply old new → Moves [] old new
+publish_followed_moves reply.Done old new inside step = record {
+  shown = old.taken;
+  inside = inside;
+  value = ap (λ (v : StateView). v.value) step.2;
+  pending = ap (λ (v : StateView). v.pending) step.2 ∙ sym (append-nil (drop old.taken old.pending));
+  geometry = ap (λ (v : StateView). v.geometry) step.2;
+}
+publish_followed_moves (reply.PublishRefused publish.NoMemory) old new inside step = still_so step.2
+publish_followed_moves reply.NoValue old new inside step = still_so step.1
+publish_followed_moves _ old new inside step = absurd step
 
 submit_moves : (command : Command) (reply : Reply) (old new : RunView) → SubmitEvent command reply old new → Moves (accepted_by (event.Submit command) reply) old.state new.state
 submit_moves command (reply.Accepted place) old new step = record {
@@ -90,6 +104,9 @@ IsFlushers event.WriteGroup = Unit {0}
 IsFlushers event.SyncGroup = Unit {0}
 IsFlushers event.OpenGate = Unit {0}
 IsFlushers event.SyncGate = Unit {0}
+IsFlushers event.Follow = Unit {0}
+IsFlushers event.WriteFollowing = Unit {0}
+IsFlushers event.SyncFollowed = Unit {0}
 IsFlushers (event.Lookup query now) = Unit {0}
 IsFlushers event.Halt = Unit {0}
 IsFlushers _ = ⊥
@@ -110,6 +127,9 @@ flush_leaves event.WriteGroup r old new step is = flush_rest old.state flush.Sta
 flush_leaves event.SyncGroup r old new step is = flush_rest old.state flush.Written flush.Stable flush.Written r new.state step.1
 flush_leaves event.OpenGate r old new step is = flush_rest old.state flush.Stable flush.Opened flush.Doubtful r new.state step.1
 flush_leaves event.SyncGate r old new step is = flush_rest old.state flush.Opened flush.Durable flush.Opened r new.state step.1
+flush_leaves event.Follow r old new step is = follow_rest old.state r new.state step.1
+flush_leaves event.WriteFollowing r old new step is = flush_rest old.state flush.Following flush.Followed flush.Following r new.state step.1
+flush_leaves event.SyncFollowed r old new step is = flush_rest old.state flush.Followed flush.DurableFollowed flush.Followed r new.state step.1
 flush_leaves (event.Lookup query now) r old new step is = lookup_rest old.state query now r new.state step.1
 flush_leaves event.Halt r old new step is = halt_rest old.state r new.state step.1
 flush_leaves _ r old new step is = absurd is
@@ -129,6 +149,10 @@ step_moves event.SyncGroup r old new inside step = flush_moves event.SyncGroup r
 step_moves event.OpenGate r old new inside step = flush_moves event.OpenGate r old new step tt
 step_moves event.SyncGate r old new inside step = flush_moves event.SyncGate r old new step tt
 step_moves event.Publish r old new inside step = publish_moves r old.state new.state inside step.1
+step_moves event.Follow r old new inside step = flush_moves event.Follow r old new step tt
+step_moves event.WriteFollowing r old new inside step = flush_moves event.WriteFollowing r old new step tt
+step_moves event.SyncFollowed r old new inside step = flush_moves event.SyncFollowed r old new step tt
+step_moves event.PublishFollowed r old new inside step = publish_followed_moves r old.state new.state inside step.1
 step_moves (event.Redeem k) r old new inside step = redeem_moves k r old new step
 step_moves event.Begin r old new inside step = check_moves event.Begin r old new step tt
 step_moves event.WriteChunk r old new inside step = check_moves event.WriteChunk r old new step tt
@@ -163,6 +187,18 @@ module _ {tickets : List (Option Ticket)} {after : HeldGroup} (planned : HeldPla
       next : next_place (group_committed old) ≡ next_place old
       next = omega (arith, length-take-le old.taken old.pending inside, length-drop old.taken old.pending)
 
+  -- and the following group is in flight
+  follower_holding : (is : new ≡ with_follower_in_flight old) → old.taken ≤ length old.pending → 1 ≤ old.following → HoldsTickets tickets old → HoldsPlan planned old → IsHolding new tickets after planned
+  follower_holding is inside some kept plans = record {
+    tickets = tickets_stay (subst (TicketsStay old) (sym is) (record { home = refl; next = next; kept = refl })) kept;
+    group = holds;
+    plan = plan_stays (subst (PlanStays old) (sym is) (record { home = refl; check = refl; plan = refl; checkpoint = refl; written = refl })) planned plans;
+    seal = subst SealWaits (sym is) (λ out (none : old.following ≡ 0). absurd (omega (arith, some, none)));
+  }
+    where
+      next : next_place (with_follower_in_flight old) ≡ next_place old
+      next = omega (arith, length-take-le old.taken old.pending inside, length-drop old.taken old.pending)
+
   seal_holding : (is : new ≡ journal_sealed old) → old.check ≡ check.Ready → HoldsTickets tickets old → HoldsPlan planned old → IsHolding new tickets after planned
   seal_holding is ready kept plans = record {
     tickets = tickets_stay (subst (TicketsStay old) (sym is) (record { home = refl; next = refl; kept = refl })) kept;
@@ -189,6 +225,13 @@ publish_holding {tickets} {held} {after} {planned} reply.Done old new inside ste
 publish_holding {planned = planned} (reply.PublishRefused publish.NoMemory) old new inside step holding holds = same_holding planned old new holds step.2 holding.tickets holding.plan holding.seal
 publish_holding {planned = planned} reply.NoValue old new inside step holding holds = same_holding planned old new holds step.1 holding.tickets holding.plan holding.seal
 publish_holding _ old new inside step holding holds = absurd step
+
+pub publish_followed_holding : {tickets : List (Option Ticket)} {held after : HeldGroup} {planned : HeldPlan} (reply : Reply) (old new : StateView) → old.taken ≤ length old.pending → PublishFollowedEvent reply old new
+    → IsHolding old tickets held planned → HoldsGroup after new → IsHolding new tickets after planned
+publish_followed_holding {planned = planned} reply.Done old new inside step holding holds = follower_holding planned old new holds step.2 inside step.1.some holding.tickets holding.plan
+publish_followed_holding {planned = planned} (reply.PublishRefused publish.NoMemory) old new inside step holding holds = same_holding planned old new holds step.2 holding.tickets holding.plan holding.seal
+publish_followed_holding {planned = planned} reply.NoValue old new inside step holding holds = same_holding planned old new holds step.1 holding.tickets holding.plan holding.seal
+publish_followed_holding _ old new inside step holding holds = absurd step
 
 -- a command or a ticket: the commit values stay
 pub record OthersStay (old new : StateView) : Type 0 where
@@ -304,7 +347,7 @@ pub gone_first : (start : RunView) → StepLeaves start.state start.state → Go
 gone_first start stays = record { replies = []; so_far = so_far_first [] [] start refl refl stays }
 
 -- one more of these events, which is read from a list of them
-pub gone_ending : (list : List Event) (i : ℕ) (item : Event) (r : Reply) (start mid new : RunView) → list ≡ ending_events → i < 12 → item ≡ get_or list i item → GoneBy (take i ending_events) start mid
+pub gone_ending : (list : List Event) (i : ℕ) (item : Event) (r : Reply) (start mid new : RunView) → list ≡ ending_events → i < 15 → item ≡ get_or list i item → GoneBy (take i ending_events) start mid
     → mid.state.taken ≤ length mid.state.pending → IsRunStep (get_or list i item) r mid new → StepLeaves mid.state new.state → GoneBy (take (i + 1) ending_events) start new
 gone_ending list i item r start mid new are inside is gone taken step leaves = record {
   replies = gone.replies ++ r ∷ [];
@@ -314,8 +357,8 @@ gone_ending list i item r start mid new are inside is gone taken step leaves = r
 }
 
 -- all of these events
-pub gone_to_the_end : (i : ℕ) (start now : RunView) → 12 ≤ i → i ≤ 12 → GoneBy (take i ending_events) start now → GoneBy (winding_events 0) start now
-gone_to_the_end i start now least most gone = let all : i ≡ 12 = omega arith in subst (λ (n : ℕ). GoneBy (take n ending_events) start now) all gone
+pub gone_to_the_end : (i : ℕ) (start now : RunView) → 15 ≤ i → i ≤ 15 → GoneBy (take i ending_events) start now → GoneBy (winding_events 0) start now
+gone_to_the_end i start now least most gone = let all : i ≡ 15 = omega arith in subst (λ (n : ℕ). GoneBy (take n ending_events) start now) all gone
 
 -- one more ticket
 pub gone_redeeming : (k : ℕ) (r : Reply) (start mid new : RunView) → GoneBy (winding_events k) start mid → mid.state.taken ≤ length mid.state.pending → IsRunStep (event.Redeem k) r mid new
@@ -338,7 +381,7 @@ winding_then [] k all = (tt, tt)
 winding_then (e ∷ events) k all = (all.0, winding_then events k all.1)
 
 all_winding : (n : ℕ) → AllWinding (winding_events n)
-all_winding zero = (tt, (tt, (tt, (tt, (tt, (tt, (tt, (tt, (tt, (tt, (tt, (tt, tt))))))))))))
+all_winding zero = (tt, (tt, (tt, (tt, (tt, (tt, (tt, (tt, (tt, (tt, (tt, (tt, (tt, (tt, (tt, tt)))))))))))))))
 all_winding (suc n) = winding_then (winding_events n) n (all_winding n)
 
 none_accepted : (e : Event) (r : Reply) → IsWinding e → accepted_by e r ≡ []

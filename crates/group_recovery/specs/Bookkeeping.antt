@@ -1,6 +1,6 @@
 -- What a state keeps beside its machine, and the effect of each event of a run on it, by the
 -- event's reply.
-use Rattle.std.specs.Prelude.{◌≡◌, ℕ, ◌+◌, ◌<◌, ◌≤◌, ◌⊎◌, Bool, true, List, length, Some}
+use Rattle.std.specs.Prelude.{◌≡◌, ℕ, ◌+◌, ◌<◌, ◌≤◌, ◌⊎◌, Bool, true, List, length, drop, Some}
 use Rattle.std.specs.Ordering.{nat_cmp}
 use Rattle.std.specs.BTreeMap.{insert_entry}
 use Rattle.path_rows.specs.Database.{RowView}
@@ -28,6 +28,8 @@ pub record Bookkeeping : Type 0 where
   pub outcomes : List (ℕ × Outcome)
   -- The number of pending commands that are in flight.
   pub taken : ℕ
+  -- The number of the pending commands after those in flight that follow them.
+  pub following : ℕ
   -- Whether the state has stopped.
   pub stopped : Bool
   -- The format version of the half that counts.
@@ -35,7 +37,7 @@ pub record Bookkeeping : Type 0 where
 
 -- The bookkeeping of a state.
 abbrev pub bookkeeping_of : StateView → Bookkeeping
-bookkeeping_of view = record { outcomes = view.kept; taken = view.taken; stopped = view.stopped; version = view.version }
+bookkeeping_of view = record { outcomes = view.kept; taken = view.taken; following = view.following; stopped = view.stopped; version = view.version }
 
 -- The place of the next command that is accepted.
 abbrev pub next_in : Machine → ℕ
@@ -69,13 +71,18 @@ stopped_by _ books = books
 
 -- The effect of an event on the bookkeeping, for this machine before the event. A command is
 -- accepted at the next place, and its outcome is kept until its ticket is redeemed. A group or a
--- seal is staged, and published. A new half counts, in the version that is written.
+-- seal is staged, and published. A group follows: the longest front of the commands after those in
+-- flight that fits a group. The following group is in flight after the group before it is published.
+-- A new half counts, in the version that is written.
 abbrev pub KeepsBooks : Event → Reply → Machine → Bookkeeping → Bookkeeping → Type 0
 KeepsBooks (event.Submit command) (reply.Accepted place) machine old new =
     (place ≡ next_in machine) × (new ≡ with_outcome place (outcome_of (rows_before_next machine) command) old)
 KeepsBooks event.Stage reply.Done machine old new =
     IsInFlight old.version machine new.taken × (new ≡ record old { taken = new.taken })
 KeepsBooks event.Publish reply.Done machine old new = new ≡ record old { taken = 0 }
+KeepsBooks event.Follow reply.Done machine old new =
+    IsLongestFront (limits_of old.version) (drop old.taken machine.pending) new.following × (new ≡ record old { following = new.following })
+KeepsBooks event.PublishFollowed reply.Done machine old new = new ≡ record old { taken = old.following; following = 0 }
 KeepsBooks (event.Redeem k) (reply.Committed place outcome) machine old new =
     (place < machine.place) × (outcome_at place old.outcomes ≡ Some outcome) × (new ≡ without_outcome place old)
 KeepsBooks (event.Redeem k) (reply.Unknown place) machine old new =

@@ -40,6 +40,9 @@ HoldsGroup (group.Written value) view = (view.group.out ≡ true) × IsFlushTurn
 HoldsGroup (group.Stable value) view = (view.group.out ≡ true) × IsFlushTurn flush.Stable value view
 HoldsGroup (group.Opened value) view = (view.group.out ≡ true) × IsFlushTurn flush.Opened value view
 HoldsGroup (group.Durable value) view = (view.group.out ≡ true) × IsFlushTurn flush.Durable value view
+HoldsGroup (group.Following value) view = (view.group.out ≡ true) × IsFlushTurn flush.Following value view
+HoldsGroup (group.Followed value) view = (view.group.out ≡ true) × IsFlushTurn flush.Followed value view
+HoldsGroup (group.DurableFollowed value) view = (view.group.out ≡ true) × IsFlushTurn flush.DurableFollowed value view
 
 -- The checkpointer's value is held exactly where it is out, and its phase is the state's.
 abbrev pub HoldsPlan : HeldPlan → StateView → Type 0

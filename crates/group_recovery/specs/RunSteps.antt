@@ -16,14 +16,16 @@ use Rattle.group_recovery.specs.declared.events.Reply.{Reply}
 use Rattle.group_recovery.specs.declared.events.Reply.TheVariants as reply
 use Rattle.group_recovery.specs.declared.events.StepRefusal.TheVariants as why
 use Rattle.group_recovery.specs.declared.events.PublishRefusal.TheVariants as publish
+use Rattle.group_core.specs.declared.phases.AtOpened.{AtOpened}
 use Rattle.group_core.specs.declared.phases.AtPlan.{AtPlan}
 use Rattle.group_core.specs.declared.phases.AtStaged.{AtStaged}
 use Rattle.group_core.specs.declared.values.Commit.{Commit}
 use Rattle.group_core.specs.StateView.{StateView}
 use Rattle.group_recovery.specs.Machine.{machine_of, served}
-use Rattle.group_core.specs.Steps.{spent, is_whole, chunk_written, at_phase, half_counts, half_ready}
+use Rattle.group_core.specs.Steps.{IsFlushTurn, spent, is_whole, chunk_written, at_phase, half_counts, half_ready}
 use Rattle.group_core.specs.Staging.{Stages}
 use Rattle.group_core.specs.Publishing.{IsPublished}
+use Rattle.group_core.specs.Following.{TakesFollower, followed_by, IsFollowRefused, HasFollower, with_follower_in_flight}
 use Rattle.group_core.specs.Beginning.{BeginsCheckpoint}
 use Rattle.group_core.specs.Redeeming.{outcome_at, kept_without, halted}
 use Rattle.group_core.specs.Submitting.{MayBeSubmitted, CheckpointHasRoom, IsSubmitRefused, next_place, with_pending_command}
@@ -99,6 +101,25 @@ PublishEvent (reply.PublishRefused publish.NoMemory) old new = IsGroupOut flush.
 PublishEvent reply.NoValue old new = (¬ IsGroupOut flush.Durable old) × (new ≡ old)
 PublishEvent _ old new = ⊥
 
+-- Staging a group that follows the group in flight, which takes the flusher's value. A run's own
+-- value is no stranger.
+abbrev pub FollowEvent : Reply → StateView → StateView → Type 0
+FollowEvent reply.Done old new =
+    IsGroupOut flush.Opened old × (old.stopped ≡ false) × TakesFollower old new.following × (new ≡ followed_by old new.following)
+FollowEvent (reply.FollowRefused e) old new =
+    IsGroupOut flush.Opened old × ((value : Commit AtOpened) × (IsFlushTurn flush.Opened value old × IsFollowRefused e value old)) × (new ≡ old)
+FollowEvent reply.NoValue old new = (¬ IsGroupOut flush.Opened old) × (new ≡ old)
+FollowEvent _ old new = ⊥
+
+-- Publishing a group that another follows. The flusher's value is then that of the following group.
+abbrev pub PublishFollowedEvent : Reply → StateView → StateView → Type 0
+PublishFollowedEvent reply.Done old new =
+    IsGroupOut flush.DurableFollowed old × HasFollower old × (new ≡ with_follower_in_flight old)
+PublishFollowedEvent (reply.PublishRefused publish.NoMemory) old new =
+    IsGroupOut flush.DurableFollowed old × HasFollower old × (new ≡ old)
+PublishFollowedEvent reply.NoValue old new = (¬ IsGroupOut flush.DurableFollowed old) × (new ≡ old)
+PublishFollowedEvent _ old new = ⊥
+
 -- Stopping the state.
 abbrev pub HaltEvent : Reply → StateView → StateView → Type 0
 HaltEvent reply.Done old new = new ≡ halted old
@@ -153,6 +174,10 @@ IsRunStep event.SyncGroup reply old new = OnState (FlushEvent flush.Written flus
 IsRunStep event.OpenGate reply old new = OnState (FlushEvent flush.Stable flush.Opened flush.Doubtful reply) old new
 IsRunStep event.SyncGate reply old new = OnState (FlushEvent flush.Opened flush.Durable flush.Opened reply) old new
 IsRunStep event.Publish reply old new = OnState (PublishEvent reply) old new
+IsRunStep event.Follow reply old new = OnState (FollowEvent reply) old new
+IsRunStep event.WriteFollowing reply old new = OnState (FlushEvent flush.Following flush.Followed flush.Following reply) old new
+IsRunStep event.SyncFollowed reply old new = OnState (FlushEvent flush.Followed flush.DurableFollowed flush.Followed reply) old new
+IsRunStep event.PublishFollowed reply old new = OnState (PublishFollowedEvent reply) old new
 IsRunStep (event.Redeem k) reply old new = RedeemEvent k reply old new
 IsRunStep event.Begin reply old new = OnState (BeginEvent reply) old new
 IsRunStep event.WriteChunk reply old new =

@@ -10,11 +10,12 @@ use Rattle.group_recovery.specs.RunSteps.{RunView, IsRun}
 use Rattle.group_recovery.specs.RunLeaves.{accepted_in, lock_order, RunLeaves}
 
 -- The events that end a run's values. The state is stopped, and then each step that a value may be
--- at is tried, which spends the value: the flusher's, from the first to publishing, and the
--- checkpointer's.
+-- at is tried, which spends the value. The flusher's steps with a following group come first, since
+-- publishing a followed group leaves the following group's value at `OpenGate`. The flusher's other
+-- steps and the checkpointer's come after that.
 abbrev pub ending_events : List Event
 ending_events =
-    event.Halt ∷ event.WriteGroup ∷ event.SyncGroup ∷ event.OpenGate ∷ event.SyncGate ∷ event.Publish
+    event.Halt ∷ event.WriteFollowing ∷ event.SyncFollowed ∷ event.PublishFollowed ∷ event.WriteGroup ∷ event.SyncGroup ∷ event.OpenGate ∷ event.SyncGate ∷ event.Publish
     ∷ event.WriteChunk ∷ event.SyncChunks ∷ event.OpenHalf ∷ event.SyncHalf ∷ event.CloseHalf ∷ event.SyncClose ∷ []
 
 -- The events that redeem the first tickets, each once.

@@ -1,6 +1,6 @@
 //! The events of a run, and the replies to them.
 
-use group_core::{BeginError, StageError, SubmitError};
+use group_core::{BeginError, FollowError, StageError, SubmitError};
 use path_db::{Command, Outcome};
 use seg_core::Segment;
 use seg_lookup::Query;
@@ -22,6 +22,14 @@ pub enum Event {
     SyncGate,
     /// Publishes the durable group or seal.
     Publish,
+    /// Stages a group to follow the group in flight.
+    Follow,
+    /// Writes the following group.
+    WriteFollowing,
+    /// Syncs the gate and the following group.
+    SyncFollowed,
+    /// Publishes the durable group in flight, which another group follows.
+    PublishFollowed,
     /// Redeems the ticket of the k-th command that this run accepted, counted from 0.
     Redeem(usize),
     /// Begins a checkpoint.
@@ -79,6 +87,8 @@ pub enum Reply {
     Done,
     /// Nothing was staged.
     StageRefused(StageError),
+    /// No group follows.
+    FollowRefused(FollowError),
     /// No checkpoint was begun.
     BeginRefused(BeginError),
     /// A step with a value was refused.

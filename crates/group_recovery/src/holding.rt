@@ -4,7 +4,10 @@ ghost use Rattle.std.specs.Prelude.{◌≡◌};
 ghost use Rattle.group_recovery.specs.declared.holding.HeldGroup.TheVariants.{None as no_group};
 ghost use Rattle.group_recovery.specs.declared.holding.HeldPlan.TheVariants.{None as no_plan};
 
-use group_core::{Closing, Durable, Laid, Live, Opened, Plan, Stable, Staged, Switched, Written};
+use group_core::{
+    Closing, Durable, DurableFollowed, Followed, Following, Laid, Live, Opened, Plan, Stable,
+    Staged, Switched, Written,
+};
 use std::mem;
 
 /// The flusher's value.
@@ -16,6 +19,9 @@ pub(crate) enum HeldGroup {
     Stable(Stable),
     Opened(Opened),
     Durable(Durable),
+    Following(Following),
+    Followed(Followed),
+    DurableFollowed(DurableFollowed),
 }
 
 /// The checkpointer's value.

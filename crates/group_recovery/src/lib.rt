@@ -8,6 +8,7 @@
 #![tactic(auto)]
 
 mod events;
+mod follow_events;
 mod group_events;
 mod holding;
 mod plan_events;

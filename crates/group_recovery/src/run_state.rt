@@ -7,6 +7,7 @@ ghost use Rattle.group_recovery.specs.StartsRun.{StartsRun};
 ghost use Rattle.group_recovery.specs.Winding.{HandsOutDevice};
 
 use crate::events::{Event, Reply};
+use crate::follow_events::{follow, publish_followed, sync_followed, write_following};
 use crate::group_events::{open_gate, publish, stage, sync_gate, sync_group, write_group};
 use crate::holding::{HeldGroup, HeldPlan};
 use crate::plan_events::{
@@ -118,6 +119,13 @@ impl<D: Device> Run<D> {
             Event::Publish => {
                 self.state.stops_leave_fronts();
                 publish(&mut self.group, &mut self.state)
+            }
+            Event::Follow => follow(&mut self.group, &mut self.state),
+            Event::WriteFollowing => write_following(&mut self.group, &mut self.state),
+            Event::SyncFollowed => sync_followed(&mut self.group, &mut self.state),
+            Event::PublishFollowed => {
+                self.state.stops_leave_fronts();
+                publish_followed(&mut self.group, &mut self.state)
             }
             Event::Redeem(k) => redeem(&mut self.tickets, &mut self.state, *k),
             Event::Begin => begin(&mut self.plan, &mut self.state),

@@ -8,11 +8,14 @@ use crate::run_state::Run;
 use sector_dev::Device;
 
 /// The events that stop a state and spend the values that are out.
-fn endings() -> [Event; 12]
+fn endings() -> [Event; 15]
     ensures { result ≡ ending_events }
 {
     [
         Event::Halt,
+        Event::WriteFollowing,
+        Event::SyncFollowed,
+        Event::PublishFollowed,
         Event::WriteGroup,
         Event::SyncGroup,
         Event::OpenGate,

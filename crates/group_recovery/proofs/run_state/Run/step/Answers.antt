@@ -2,8 +2,8 @@ use Rattle.std.proofs.Common.{◌≡◌, true, false}
 use Rattle.group_phases.specs.declared.phases.Flush.TheVariants as flush
 use Rattle.group_phases.specs.declared.phases.Check.TheVariants as check
 use Rattle.group_core.specs.Steps.{spent, chunk_written, half_counts}
-use Rattle.group_recovery.proofs.Held.{flush_rest, stage_rest, check_rest, begin_rest, planned_busy, at_busy, flush_holding, check_holding}
-use Rattle.group_recovery.proofs.Runs.{publish_holding, halt_holding}
+use Rattle.group_recovery.proofs.Held.{flush_rest, stage_rest, follow_rest, check_rest, begin_rest, planned_busy, at_busy, flush_holding, check_holding}
+use Rattle.group_recovery.proofs.Runs.{publish_holding, publish_followed_holding, halt_holding}
 use Rattle.group_recovery.proofs.run_state.Run.step.Goals as goal
 
 pub invariant_of-self-in-Stage : goal.invariant_of-self-in-Stage
@@ -29,6 +29,22 @@ invariant_of-self-in-SyncGate g c =
 pub invariant_of-self-in-Publish : goal.invariant_of-self-in-Publish
 invariant_of-self-in-Publish g c =
     publish_holding c.publish.result c.self.inside.state c.publish.new.state c.stops_leave_fronts.ensures.taken c.publish.ensures.step c.self.invariant c.publish.ensures.held
+
+pub invariant_of-self-in-Follow : goal.invariant_of-self-in-Follow
+invariant_of-self-in-Follow g c =
+    flush_holding (follow_rest c.self.inside.state c.follow.result c.follow.new.state c.follow.ensures.step) c.self.invariant c.follow.ensures.held
+
+pub invariant_of-self-in-WriteFollowing : goal.invariant_of-self-in-WriteFollowing
+invariant_of-self-in-WriteFollowing g c =
+    flush_holding (flush_rest c.self.inside.state flush.Following flush.Followed flush.Following c.write_following.result c.write_following.new.state c.write_following.ensures.step) c.self.invariant c.write_following.ensures.held
+
+pub invariant_of-self-in-SyncFollowed : goal.invariant_of-self-in-SyncFollowed
+invariant_of-self-in-SyncFollowed g c =
+    flush_holding (flush_rest c.self.inside.state flush.Followed flush.DurableFollowed flush.Followed c.sync_followed.result c.sync_followed.new.state c.sync_followed.ensures.step) c.self.invariant c.sync_followed.ensures.held
+
+pub invariant_of-self-in-PublishFollowed : goal.invariant_of-self-in-PublishFollowed
+invariant_of-self-in-PublishFollowed g c =
+    publish_followed_holding c.publish_followed.result c.self.inside.state c.publish_followed.new.state c.stops_leave_fronts-in-PublishFollowed.ensures.taken c.publish_followed.ensures.step c.self.invariant c.publish_followed.ensures.held
 
 pub invariant_of-self-in-Begin : goal.invariant_of-self-in-Begin
 invariant_of-self-in-Begin g c =
