@@ -6,10 +6,10 @@ use crate::accepting::next_peer;
 use crate::reports::Reports;
 use crate::seats::MOST_SESSIONS;
 use crate::server::Server;
-use path_hub::{Completed, Hub, HubName};
+use path_hub::{CommitTimes, Completed, Hub, HubName};
 use sector_dev::Device;
 use seg_check::Verifier;
-use status_page::{Asked, Counts};
+use status_page::{Asked, Counts, EndCounts, RefusedCounts};
 use status_server::{Deadline, ReplyKind, answer, part, read_request, send};
 use std::alloc::AllocError;
 use std::net::{OpenListener, TcpStream};
@@ -74,17 +74,42 @@ impl<L: OpenListener<Stream = TcpStream> + Drop, V: Verifier, O: Reports> Server
         ensures checkpoints { result.checkpoints ≡ completed.checkpoints }
     {
         Counts {
+            call: None,
             groups: completed.groups,
             seals: completed.seals,
             checkpoints: completed.checkpoints,
+            commits: CommitTimes::new(),
             sessions: self.seats.taken().min(MOST_SESSIONS),
             started: self.door.started(),
-            refused: self.turned_away.all(),
+            refused: self.refused(),
+            ended: self.ended(),
             registered: self.replies.of(ReplyKind::Registered),
             found: self.replies.of(ReplyKind::Found),
             purged: self.replies.of(ReplyKind::Purged),
             removed: self.replies.of(ReplyKind::Removed),
+            dropped: 0,
             seconds: self.seconds(clock),
+        }
+    }
+
+    /// The number of connections that were refused a session, by the reason.
+    fn refused(&self) -> RefusedCounts {
+        RefusedCounts {
+            seats: self.turned_away.all(),
+            address: 0,
+            thread: 0,
+        }
+    }
+
+    /// The number of sessions that have ended, by the cause.
+    fn ended(&self) -> EndCounts {
+        EndCounts {
+            closed: 0,
+            idle: 0,
+            frame: 0,
+            connection: 0,
+            memory: 0,
+            server: 0,
         }
     }
 
