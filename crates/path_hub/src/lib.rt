@@ -11,6 +11,7 @@
 #![tactic(auto)]
 
 mod bells;
+mod board;
 mod changes;
 mod crew;
 mod error;

@@ -1,10 +1,12 @@
 //! Requests of a server's numbers, at its second listener.
 
+use crate::doors::{Door, Holds, Latch};
 use crate::peers::{EMPTY_LOOKUP, NO_DESTINATION, Peer};
 use crate::rows::{FOUND, LOOKUP, PURGE, REGISTERED, REGISTRATION};
 use crate::stores::{LEAST, failing, formatted, opens_to};
 use crate::worlds::{Clients, Counts, Outside, World, listen, options, serve_watched};
 use path_server::bound_accepts;
+use sector_dev::HeldDevice;
 use std::alloc::Global;
 use std::io;
 use std::io::{ErrorKind, Read, Write};
@@ -180,11 +182,11 @@ pathd_checkpoints_total 0
 pathd_commit_seconds_bucket{le=\"0.000500\"} ";
 
 /// The page between the last two times of commits.
-const ALL_TIMED: &str = "\npathd_commit_seconds_bucket{le=\"+Inf\"} 0\npathd_commit_seconds_sum ";
+const ALL_TIMED: &str = "\npathd_commit_seconds_bucket{le=\"+Inf\"} 4\npathd_commit_seconds_sum ";
 
 /// The page between the times of commits and the number of seconds.
 const BEFORE_SECONDS: &str = "
-pathd_commit_seconds_count 0
+pathd_commit_seconds_count 4
 # HELP pathd_sessions Sessions that are open.
 # TYPE pathd_sessions gauge
 pathd_sessions 1
@@ -273,6 +275,20 @@ fn page_after_a_session(rt: HostRuntime) -> Result<(), Fail> {
     Ok(())
 }
 
+/// Asks for the page and for the health while a sync is held under the state's lock, and for the
+/// page after it.
+#[derive(Drop)]
+struct Waiting<'a> {
+    door: &'a Door,
+    at: SocketAddr,
+}
+
+/// The line of the call that is held, but for its time.
+const HELD_CALL: &str = "\npathd_call_seconds{call=\"sync_group\"} ";
+
+/// The line of a call that is not under way.
+const NO_CALL: &str = "\npathd_call_seconds{call=\"sync_group\"} 0.000000\n";
+
 /// The answer where commands are accepted.
 const IS_HEALTHY: &str =
     "HTTP/1.1 200 OK\r\nContent-Type: text/plain\r\nContent-Length: 3\r\nConnection: close\r\n\r\nok\n";
@@ -280,6 +296,63 @@ const IS_HEALTHY: &str =
 /// The answer where they are not.
 const HAS_STOPPED: &str =
     "HTTP/1.1 503 Service Unavailable\r\nContent-Type: text/plain\r\nContent-Length: 65\r\nConnection: close\r\n\r\nthe store has stopped: no command is accepted, and lookups go on\n";
+
+impl Clients for Waiting<'_> {
+    type Seen = [bool; 7];
+
+    fn meet<R: Outside>(&self, rt: R, alloc: Global, to: SocketAddr) -> io::Result<[bool; 7]> {
+        let mut peer = Peer::connect(rt, alloc, to)?;
+        // The store is open once a request is answered.
+        let is_open = peer.asks(EMPTY_LOOKUP, NO_DESTINATION)?;
+        self.door.arm(&rt);
+        peer.send(REGISTRATION)?;
+        let is_held = self.door.is_held_soon(&rt);
+        let held = answer_to(rt, alloc, self.at, GET_NUMBERS);
+        let health = answer_to(rt, alloc, self.at, GET_HEALTH);
+        self.door.open(&rt);
+        let is_acknowledged = peer.receives(REGISTERED)?;
+        let after = answer_to(rt, alloc, self.at, GET_NUMBERS)?;
+        let held = held?;
+        Ok([
+            is_open,
+            is_held,
+            held.as_str().contains(HELD_CALL) && !held.as_str().contains(NO_CALL),
+            held.as_str().contains("\npathd_commands_pending 1\n"),
+            health?.as_str() == IS_HEALTHY,
+            is_acknowledged,
+            after.as_str().contains(NO_CALL),
+        ])
+    }
+}
+
+#[test]
+fn page_while_a_sync_is_held(rt: HostRuntime) -> Result<(), Fail> {
+    let alloc = rt.alloc();
+    let door = Door::new();
+    let holds = Holds {
+        rt: &rt,
+        door: &door,
+    };
+    let device = HeldDevice::new(formatted(&rt, alloc, LEAST), holds);
+    let options = options(&rt, alloc, 1);
+    let (status, at) = listen_for_status(&rt);
+    let clients = Waiting { door: &door, at };
+    let (device, served, seen) = serve_watched(
+        &rt,
+        alloc,
+        device,
+        status,
+        &options,
+        &clients,
+        &Counts::new(),
+    );
+    assert_eq!(rt; served, Ok(1));
+    assert_eq!(rt; seen?, [true; 7]);
+    assert_eq!(rt; door.latch(&rt), Latch::Open);
+    let (device, _gate) = device.into_parts();
+    let _device = opens_to(&rt, alloc, device, (1, 93, 1));
+    Ok(())
+}
 
 /// Asks for the health before and after a fault of the device.
 #[derive(Drop)]
