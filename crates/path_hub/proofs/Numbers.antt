@@ -5,5 +5,5 @@ use Rattle.group_core.specs.Numbers.{numbers_of}
 use Rattle.group_core.specs.StateView.{StateView}
 use Rattle.path_hub.specs.Numbers.{AreNumbers}
 
-pub are_numbers : (numbers : Numbers) (state : StateView) → numbers ≡ numbers_of state → AreNumbers numbers
-are_numbers numbers state are = record { state = state; are = are }
+pub are_of_a_state : (numbers : Numbers) (state : StateView) → numbers ≡ numbers_of state → ∥ AreNumbers numbers ∥₁
+are_of_a_state numbers state are = ∣ record { state = state; are = are } ∣₁

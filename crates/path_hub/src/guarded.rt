@@ -6,20 +6,40 @@ ghost use Rattle.store_loops.specs.Receipts.{IsTicketOrCommand, IsRedeemed, Lead
 
 use crate::hub::Hub;
 use crate::name::HubName;
-use crate::show::HubNote;
+use crate::show::{HubNote, HubShow};
+use crate::tally::Done;
 use group_core::{
     AtClosing, AtLaid, AtLive, AtOpened, AtPlan, AtStable, AtStaged, AtSwitched, AtWritten,
     BeginError, Closing, Commit, Durable, Laid, Live, Opened, Plan, PublishError, Redeemed, Stable,
-    StageError, Staged, StepError, SubmitError, Switched, Ticket, Written,
+    StageError, Staged, State, StepError, SubmitError, Switched, Ticket, Written,
 };
 use path_db::Command;
 use sector_dev::Device;
 use std::sync::atomic::Ordering;
 use std::sync::{MutexGuard, Wait};
 use std::time::Clock;
-use store_loops::{Awaited, Steps};
+use store_loops::{Awaited, DeviceCall, Steps};
+
+/// The state of a hub under its lock.
+type Guarded<'a, D, N, R> = MutexGuard<'a, State<D, HubShow<N, R>>>;
 
 impl<D: Device, N: HubName, R: Wait + Clock> Hub<D, N, R> {
+    /// Takes the state's lock for a call that uses the device, and notes on the board that the call
+    /// begins.
+    fn begin_call(&self, call: DeviceCall) -> Guarded<'_, D, N, R> {
+        let state = self.state.lock(&self.rt);
+        self.board.begin(&self.rt, call);
+        state
+    }
+
+    /// Shows the state's numbers on the board at the end of a guarded call, with what the call has
+    /// completed, and gives the lock up.
+    #[tactic(auto, using(crate::proofs::Numbers::are_of_a_state))]
+    fn end_call(&self, state: Guarded<'_, D, N, R>, done: Done) {
+        self.board.end(&self.rt, state.numbers(), done);
+        MutexGuard::unlock(state);
+    }
+
     /// Wakes all that wait, where a step found that the state must stop.
     fn wake_if_stopped<T, P>(&self, next: &Result<T, StepError<P>>) {
         if let Err(StepError::Fault | StepError::Damaged) = next {
@@ -39,7 +59,7 @@ impl<D: Device, N: HubName, R: Wait + Clock> Steps for Hub<D, N, R> {
     fn submit(&self, command: Command) -> Result<Ticket, (Command, SubmitError)> {
         let mut state = self.state.lock(&self.rt);
         let submitted = state.submit(command);
-        MutexGuard::unlock(state);
+        self.end_call(state, Done::Nothing);
         if submitted.is_ok() {
             self.changes.announce(Awaited::Work);
         }
@@ -50,14 +70,14 @@ impl<D: Device, N: HubName, R: Wait + Clock> Steps for Hub<D, N, R> {
     fn redeem(&self, ticket: Ticket) -> Redeemed<HubNote<N>> {
         let mut state = self.state.lock(&self.rt);
         let redeemed = state.redeem(ticket);
-        MutexGuard::unlock(state);
+        self.end_call(state, Done::Nothing);
         redeemed
     }
 
     fn halt(&self) {
         let mut state = self.state.lock(&self.rt);
         state.halt();
-        MutexGuard::unlock(state);
+        self.end_call(state, Done::Nothing);
         self.changes.announce_stop();
     }
 
@@ -65,49 +85,49 @@ impl<D: Device, N: HubName, R: Wait + Clock> Steps for Hub<D, N, R> {
         self.has_stranger.store(true, Ordering::SeqCst);
         let mut state = self.state.lock(&self.rt);
         state.give_up(value);
-        MutexGuard::unlock(state);
+        self.end_call(state, Done::Nothing);
         self.changes.announce_stop();
     }
 
     fn stage(&self) -> Result<Staged, StageError> {
         let mut state = self.state.lock(&self.rt);
         let staged = state.stage();
-        MutexGuard::unlock(state);
+        self.end_call(state, Done::Staged.unless_refused(staged.is_ok()));
         staged
     }
 
     #[tactic(auto, using(store_loops::proofs::Through::flush_leads))]
     fn write_group(&self, value: Staged) -> Result<Written, StepError<AtStaged>> {
-        let mut state = self.state.lock(&self.rt);
+        let mut state = self.begin_call(DeviceCall::WriteGroup);
         let next = state.write_group(value);
-        MutexGuard::unlock(state);
+        self.end_call(state, Done::Nothing);
         self.wake_if_stopped(&next);
         next
     }
 
     #[tactic(auto, using(store_loops::proofs::Through::flush_leads))]
     fn sync_group(&self, value: Written) -> Result<Stable, StepError<AtWritten>> {
-        let mut state = self.state.lock(&self.rt);
+        let mut state = self.begin_call(DeviceCall::SyncGroup);
         let next = state.sync_group(value);
-        MutexGuard::unlock(state);
+        self.end_call(state, Done::Nothing);
         self.wake_if_stopped(&next);
         next
     }
 
     #[tactic(auto, using(store_loops::proofs::Through::flush_leads))]
     fn open_gate(&self, value: Stable) -> Result<Opened, StepError<AtStable>> {
-        let mut state = self.state.lock(&self.rt);
+        let mut state = self.begin_call(DeviceCall::OpenGate);
         let next = state.open_gate(value);
-        MutexGuard::unlock(state);
+        self.end_call(state, Done::Nothing);
         self.wake_if_stopped(&next);
         next
     }
 
     #[tactic(auto, using(store_loops::proofs::Through::flush_leads))]
     fn sync_gate(&self, value: Opened) -> Result<Durable, StepError<AtOpened>> {
-        let mut state = self.state.lock(&self.rt);
+        let mut state = self.begin_call(DeviceCall::SyncGate);
         let next = state.sync_gate(value);
-        MutexGuard::unlock(state);
+        self.end_call(state, Done::Nothing);
         self.wake_if_stopped(&next);
         next
     }
@@ -119,10 +139,8 @@ impl<D: Device, N: HubName, R: Wait + Clock> Steps for Hub<D, N, R> {
         let published = state.publish(value);
         let to = state.place();
         let sealed = state.is_sealed();
-        if published.is_ok() {
-            self.tally.count_published(from, to);
-        }
-        MutexGuard::unlock(state);
+        let done = Done::published(from, to).unless_refused(published.is_ok());
+        self.end_call(state, done);
         self.changes.announce_outcomes(from, to);
         if sealed {
             self.changes.announce(Awaited::Seal);
@@ -131,9 +149,9 @@ impl<D: Device, N: HubName, R: Wait + Clock> Steps for Hub<D, N, R> {
     }
 
     fn begin(&self) -> Result<Plan, BeginError> {
-        let mut state = self.state.lock(&self.rt);
+        let mut state = self.begin_call(DeviceCall::Begin);
         let begun = state.begin();
-        MutexGuard::unlock(state);
+        self.end_call(state, Done::Nothing);
         if let Err(BeginError::Fault | BeginError::Damaged) = begun {
             self.changes.announce_stop();
         }
@@ -142,62 +160,59 @@ impl<D: Device, N: HubName, R: Wait + Clock> Steps for Hub<D, N, R> {
 
     #[tactic(auto, using(store_loops::proofs::Through::chunk_leads))]
     fn write_chunk(&self, value: Plan) -> Result<Plan, StepError<AtPlan>> {
-        let mut state = self.state.lock(&self.rt);
+        let mut state = self.begin_call(DeviceCall::WriteChunk);
         let next = state.write_chunk(value);
-        MutexGuard::unlock(state);
+        self.end_call(state, Done::Nothing);
         self.wake_if_stopped(&next);
         next
     }
 
     #[tactic(auto, using(store_loops::proofs::Through::chunks_lead))]
     fn sync_chunks(&self, value: Plan) -> Result<Laid, StepError<AtPlan>> {
-        let mut state = self.state.lock(&self.rt);
+        let mut state = self.begin_call(DeviceCall::SyncChunks);
         let next = state.sync_chunks(value);
-        MutexGuard::unlock(state);
+        self.end_call(state, Done::Nothing);
         self.wake_if_stopped(&next);
         next
     }
 
     #[tactic(auto, using(store_loops::proofs::Through::gate_leads))]
     fn open_half(&self, value: Laid) -> Result<Switched, StepError<AtLaid>> {
-        let mut state = self.state.lock(&self.rt);
+        let mut state = self.begin_call(DeviceCall::OpenHalf);
         let next = state.open_half(value);
-        MutexGuard::unlock(state);
+        self.end_call(state, Done::Nothing);
         self.wake_if_stopped(&next);
         next
     }
 
     #[tactic(auto, using(store_loops::proofs::Through::half_leads))]
     fn sync_half(&self, value: Switched) -> Result<Live, StepError<AtSwitched>> {
-        let mut state = self.state.lock(&self.rt);
+        let mut state = self.begin_call(DeviceCall::SyncHalf);
         let next = state.sync_half(value);
-        MutexGuard::unlock(state);
+        self.end_call(state, Done::Nothing);
         self.wake_if_stopped(&next);
         next
     }
 
     #[tactic(auto, using(store_loops::proofs::Through::gate_leads))]
     fn close_half(&self, value: Live) -> Result<Closing, StepError<AtLive>> {
-        let mut state = self.state.lock(&self.rt);
+        let mut state = self.begin_call(DeviceCall::CloseHalf);
         let next = state.close_half(value);
-        MutexGuard::unlock(state);
+        self.end_call(state, Done::Nothing);
         self.wake_if_stopped(&next);
         next
     }
 
     #[tactic(auto, using(store_loops::proofs::Through::close_leads))]
     fn sync_close(&self, value: Closing) -> Result<(), StepError<AtClosing>> {
-        let mut state = self.state.lock(&self.rt);
-        let done = state.sync_close(value);
-        if done.is_ok() {
-            self.tally.count_checkpoint();
-        }
-        MutexGuard::unlock(state);
-        if done.is_ok() {
+        let mut state = self.begin_call(DeviceCall::SyncClose);
+        let closed = state.sync_close(value);
+        self.end_call(state, Done::Checkpoint.unless_refused(closed.is_ok()));
+        if closed.is_ok() {
             self.changes.announce(Awaited::Work);
         }
-        self.wake_if_stopped(&done);
-        done
+        self.wake_if_stopped(&closed);
+        closed
     }
 
     fn changes(&self, awaited: Awaited) -> u64 {

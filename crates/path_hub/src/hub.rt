@@ -5,19 +5,20 @@ ghost use Rattle.path_hub.specs.declared.error.HubError.TheVariants.{NoReader};
 ghost use Rattle.path_hub.specs.Committed.{ReceiptShows, RefusesCommand};
 ghost use Rattle.path_hub.specs.Numbers.{AreNumbers};
 
+use crate::board::Board;
 use crate::changes::Changes;
 use crate::error::HubError;
 use crate::name::HubName;
 use crate::reader::HubReader;
 use crate::show::{HubNote, HubShow};
-use crate::tally::{Completed, Tally};
+use crate::tally::Completed;
 use group_core::{Numbers, Receipt, Redeemed, State};
 use path_db::Command;
 use sector_dev::Device;
 use std::sync::atomic::{AtomicBool, Ordering};
-use std::sync::{Mutex, MutexGuard, Wait};
+use std::sync::{Mutex, Wait};
 use std::time::Clock;
-use store_loops::{Awaited, Steps};
+use store_loops::{Awaited, DeviceCall, Steps};
 
 /// The number of readers of a hub.
 pub const READERS: usize = 64;
@@ -31,7 +32,7 @@ pub struct Hub<D: Device, N: HubName, R: Wait + Clock> {
     pub(crate) rt: R,
     pub(crate) state: Mutex<State<D, HubShow<N, R>>>,
     pub(crate) changes: Changes,
-    pub(crate) tally: Tally,
+    pub(crate) board: Board,
     /// Whether an actor has given up a stranger.
     pub(crate) has_stranger: AtomicBool,
     pub(crate) readers: Mutex<Vec<HubReader<N>>>,
@@ -96,18 +97,21 @@ impl<D: Device, N: HubName, R: Wait + Clock> Hub<D, N, R> {
         }
     }
 
-    /// The numbers of the state at one moment, and how much both actors had completed then. The
-    /// lock is taken for this one read. The clause is about the state's numbers; what the actors
-    /// completed is open.
-    #[tactic(auto, using(crate::proofs::Numbers::are_numbers))]
+    /// The numbers of the state at the end of the last guarded call, and how much both actors had
+    /// completed then. The state's lock is not taken, so the call does not wait for the device. The
+    /// clause says that the numbers are of one state; no clause can say that it is this hub's, nor
+    /// what the actors have completed.
     pub fn numbers(&self) -> (Numbers, Completed)
-        ensures { AreNumbers result.0 }
+        ensures { ∥ AreNumbers result.0 ∥₁ }
     {
-        let state = self.state.lock(&self.rt);
-        let numbers = state.numbers();
-        let completed = self.tally.completed();
-        MutexGuard::unlock(state);
-        (numbers, completed)
+        self.board.numbers(&self.rt)
+    }
+
+    /// The guarded call that is using the device, and the time that it has taken so far, in
+    /// microseconds. The state's lock is not taken. The result is `None` where there is no such
+    /// call, or the clock cannot be read. No clause can say which call is under way.
+    pub fn under_way(&self) -> Option<(DeviceCall, u64)> {
+        self.board.under_way(&self.rt)
     }
 
     /// Whether an actor has given up a value that a step refused as a stranger.

@@ -11,6 +11,7 @@
 #![tactic(auto)]
 
 mod bells;
+mod board;
 mod changes;
 mod crew;
 mod error;
@@ -33,5 +34,7 @@ pub use published::Published;
 pub use reader::HubReader;
 pub use rule::{ReaderRule, SeenGroups, SeesAll};
 pub use show::{HubNote, HubShow};
-pub use store_loops::{Awaited, Steps, checkpointer_loop, flusher_loop};
+pub use store_loops::{
+    Awaited, BUCKETS, Bucket, CommitTimes, DeviceCall, Steps, checkpointer_loop, flusher_loop,
+};
 pub use tally::Completed;

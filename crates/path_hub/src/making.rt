@@ -9,6 +9,7 @@ ghost use Rattle.path_hub.specs.declared.error.HubError.TheVariants.{NoMemory, N
 ghost use Rattle.path_hub.specs.Shown.{IsShownAfter};
 ghost use Rattle.path_hub.specs.Left.{OpensAfter};
 
+use crate::board::Board;
 use crate::changes::Changes;
 use crate::error::HubError;
 use crate::hub::{Hub, READERS};
@@ -16,7 +17,6 @@ use crate::name::HubName;
 use crate::published::Published;
 use crate::reader::HubReader;
 use crate::show::{HubShow, HubWriter};
-use crate::tally::Tally;
 use group_core::State;
 use left_right::writer::Writer;
 use path_db::PathDb;
@@ -83,6 +83,7 @@ fn do_with<N: HubName, D: Device + Drop, J: HubJob<D, R>, R: Wait + Clock + Copy
 
 impl<D: Device, N: HubName, R: Wait + Clock> Hub<D, N, R> {
     /// A hub of this name over a store, or the store again.
+    #[tactic(auto, using(crate::proofs::Numbers::are_of_a_state))]
     pub(crate) fn open(
         rt: R,
         alloc: Global,
@@ -106,11 +107,13 @@ impl<D: Device, N: HubName, R: Wait + Clock> Hub<D, N, R> {
             }
         };
         let show = HubShow::over(rt, alloc, writer);
+        let state = State::new(alloc, store, show, home);
+        let board = Board::new(state.numbers());
         Ok(Hub {
             rt,
-            state: Mutex::new(State::new(alloc, store, show, home)),
+            state: Mutex::new(state),
             changes: Changes::new(),
-            tally: Tally::new(),
+            board,
             has_stranger: AtomicBool::new(false),
             readers: Mutex::new(readers),
         })
@@ -128,7 +131,7 @@ impl<D: Device, N: HubName, R: Wait + Clock> Hub<D, N, R> {
             rt: _rt,
             state,
             changes: _changes,
-            tally: _tally,
+            board: _board,
             has_stranger: _has_stranger,
             readers: _readers,
         } = self;

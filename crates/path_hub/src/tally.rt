@@ -1,8 +1,12 @@
 //! How much both actors have completed.
 
-use std::sync::atomic::{AtomicU64, Ordering};
+ghost use Rattle.std.specs.Prelude.{◌≡◌, nat_lt, if◌then◌else◌};
+ghost use Rattle.path_hub.specs.declared.tally.Done.TheVariants.{Nothing, Group, Seal};
+ghost use Rattle.path_hub.specs.Completed.{completed_after};
 
-/// How much was completed since a hub was made.
+use store_loops::CommitTimes;
+
+/// How much was completed since a hub was made. Each count stays at 2^64 - 1.
 #[derive(Clone, Copy, Debug, PartialEq, Eq)]
 pub struct Completed {
     /// The number of groups of commands that were committed.
@@ -11,45 +15,69 @@ pub struct Completed {
     pub seals: u64,
     /// The number of checkpoints that were made.
     pub checkpoints: u64,
+    /// How long the commits of groups took, from the call that staged the group to the call that
+    /// published it. A commit at whose beginning or end the clock could not be read is left out.
+    pub commits: CommitTimes,
 }
 
-/// Counts what both actors complete. The counts are changed and read only by threads that have the
-/// state's lock.
-#[derive(Drop)]
-pub(crate) struct Tally {
-    groups: AtomicU64,
-    seals: AtomicU64,
-    checkpoints: AtomicU64,
+/// What a guarded call has completed.
+#[derive(Clone, Copy, Debug, PartialEq, Eq)]
+pub(crate) enum Done {
+    /// Nothing that is counted.
+    Nothing,
+    /// A group or a seal was staged.
+    Staged,
+    /// A group was committed.
+    Group,
+    /// A journal was sealed.
+    Seal,
+    /// A checkpoint was made.
+    Checkpoint,
 }
 
-impl Tally {
-    /// All counts 0.
-    pub(crate) fn new() -> Tally {
-        Tally {
-            groups: AtomicU64::new(0),
-            seals: AtomicU64::new(0),
-            checkpoints: AtomicU64::new(0),
+impl Done {
+    /// What a publication has completed, by the places before and after it: a group takes places,
+    /// and a seal none.
+    pub(crate) fn published(from: u64, to: u64) -> Done
+        ensures { result ≡ (if nat_lt from to then Group else Seal) }
+    {
+        if from < to { Done::Group } else { Done::Seal }
+    }
+
+    /// This, unless the call was refused.
+    pub(crate) fn unless_refused(self, is_ok: bool) -> Done
+        ensures { result ≡ (if is_ok then self else Nothing) }
+    {
+        if is_ok { self } else { Done::Nothing }
+    }
+}
+
+impl Completed {
+    /// Nothing was completed yet.
+    pub(crate) fn new() -> Completed {
+        Completed {
+            groups: 0,
+            seals: 0,
+            checkpoints: 0,
+            commits: CommitTimes::new(),
         }
     }
 
-    /// Counts what was published, by the places before and after: a group takes places, and a seal
-    /// none.
-    pub(crate) fn count_published(&self, from: u64, to: u64) {
-        let counter = if from < to { &self.groups } else { &self.seals };
-        counter.fetch_add(1, Ordering::SeqCst);
-    }
-
-    /// Counts a checkpoint.
-    pub(crate) fn count_checkpoint(&self) {
-        self.checkpoints.fetch_add(1, Ordering::SeqCst);
-    }
-
-    /// The counts.
-    pub(crate) fn completed(&self) -> Completed {
-        Completed {
-            groups: self.groups.load(Ordering::SeqCst),
-            seals: self.seals.load(Ordering::SeqCst),
-            checkpoints: self.checkpoints.load(Ordering::SeqCst),
+    /// Counts what a guarded call has completed. The commit of a group took this many microseconds,
+    /// unless the time is unknown.
+    pub(crate) fn add(&mut self, done: Done, time: Option<u64>)
+        ensures { self.new ≡ completed_after done time self.old }
+    {
+        match done {
+            Done::Nothing | Done::Staged => {}
+            Done::Group => {
+                self.groups = self.groups.saturating_add(1);
+                if let Some(microseconds) = time {
+                    self.commits.add(microseconds);
+                }
+            }
+            Done::Seal => self.seals = self.seals.saturating_add(1),
+            Done::Checkpoint => self.checkpoints = self.checkpoints.saturating_add(1),
         }
     }
 }

@@ -9,7 +9,7 @@ use crate::server::Server;
 use path_hub::{Completed, Hub, HubName};
 use sector_dev::Device;
 use seg_check::Verifier;
-use status_page::{Asked, Counts};
+use status_page::{Asked, CallTime, Counts, EndCounts, RefusedCounts};
 use status_server::{Deadline, ReplyKind, answer, part, read_request, send};
 use std::alloc::AllocError;
 use std::net::{OpenListener, TcpStream};
@@ -55,7 +55,7 @@ impl<L: OpenListener<Stream = TcpStream> + Drop, V: Verifier, O: Reports> Server
         }
     }
 
-    /// The text of an answer. The state's lock is taken for one read.
+    /// The text of an answer. The state's lock is not taken.
     fn text_for<D: Device, N: HubName, R: Wait + Clock>(
         &self,
         hub: &Hub<D, N, R>,
@@ -63,28 +63,57 @@ impl<L: OpenListener<Stream = TcpStream> + Drop, V: Verifier, O: Reports> Server
     ) -> Result<String, AllocError> {
         let refusals = self.replies.refusals(self.alloc)?;
         let (numbers, completed) = hub.numbers();
-        let counts = self.counts(hub.handle(), completed);
+        let call = call_of(hub);
+        let counts = self.counts(hub.handle(), call, completed);
         answer(self.alloc, asked, &numbers, &counts, refusals.as_slice())
     }
 
-    /// The counts of what the server has done, with what its actors have completed.
-    fn counts(&self, clock: &impl Clock, completed: Completed) -> Counts
+    /// The counts of what the server has done, with what its actors have completed, and the call of
+    /// the device that is under way.
+    fn counts(&self, clock: &impl Clock, call: Option<CallTime>, completed: Completed) -> Counts
+        ensures call { result.call ≡ call }
         ensures groups { result.groups ≡ completed.groups }
         ensures seals { result.seals ≡ completed.seals }
         ensures checkpoints { result.checkpoints ≡ completed.checkpoints }
+        ensures commits { result.commits ≡ completed.commits }
     {
         Counts {
+            call,
             groups: completed.groups,
             seals: completed.seals,
             checkpoints: completed.checkpoints,
+            commits: completed.commits,
             sessions: self.seats.taken().min(MOST_SESSIONS),
             started: self.door.started(),
-            refused: self.turned_away.all(),
+            refused: self.refused(),
+            ended: self.ended(),
             registered: self.replies.of(ReplyKind::Registered),
             found: self.replies.of(ReplyKind::Found),
             purged: self.replies.of(ReplyKind::Purged),
             removed: self.replies.of(ReplyKind::Removed),
+            dropped: 0,
             seconds: self.seconds(clock),
+        }
+    }
+
+    /// The number of connections that were refused a session, by the reason.
+    fn refused(&self) -> RefusedCounts {
+        RefusedCounts {
+            seats: self.turned_away.all(),
+            address: 0,
+            thread: 0,
+        }
+    }
+
+    /// The number of sessions that have ended, by the cause.
+    fn ended(&self) -> EndCounts {
+        EndCounts {
+            closed: 0,
+            idle: 0,
+            frame: 0,
+            connection: 0,
+            memory: 0,
+            server: 0,
         }
     }
 
@@ -98,4 +127,10 @@ impl<L: OpenListener<Stream = TcpStream> + Drop, V: Verifier, O: Reports> Server
             Err(_) => 0,
         }
     }
+}
+
+/// The call of a hub that is using the device.
+fn call_of<D: Device, N: HubName, R: Wait + Clock>(hub: &Hub<D, N, R>) -> Option<CallTime> {
+    let (call, microseconds) = hub.under_way()?;
+    Some(CallTime { call, microseconds })
 }

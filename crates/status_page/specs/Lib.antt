@@ -1,5 +1,9 @@
+pub mod Build
+pub mod Calls
+pub mod Commits
 pub mod Lines
 pub mod Page
 pub mod Phases
 pub mod Request
 pub mod Response
+pub mod Sessions

@@ -5,26 +5,34 @@ use Rattle.hex.specs.Hex.{encode_lower}
 use Rattle.group_core.specs.declared.numbers.Numbers.{Numbers}
 use Rattle.status_page.specs.declared.counts.Counts.{Counts}
 use Rattle.status_page.specs.declared.counts.CodeCount.{CodeCount}
-use Rattle.status_page.specs.Lines.{type_line, labelled, counter, gauge, flag}
+use Rattle.status_page.specs.declared.build.TheConstants.{VERSION}
+use Rattle.status_page.specs.Lines.{heading, labelled, counter, gauge, flag}
 use Rattle.status_page.specs.Phases.{actor_lines}
+use Rattle.status_page.specs.Calls.{call_text}
+use Rattle.status_page.specs.Commits.{commit_text}
+use Rattle.status_page.specs.Sessions.{session_text}
+use Rattle.status_page.specs.Build.{build_lines}
 
 -- The lines of the rows: their number, their bytes, and how many bytes have room.
 unfoldable pub row_lines : Numbers → List ℕ
 row_lines numbers =
-    gauge (codes "pathd_rows") numbers.rows
-    ++ (gauge (codes "pathd_rows_bytes") numbers.bytes ++ gauge (codes "pathd_rows_limit_bytes") numbers.most_bytes)
+    gauge (codes "pathd_rows") (codes "Segments in the store.") numbers.rows
+    ++ (gauge (codes "pathd_rows_bytes") (codes "Bytes of the records of these segments.") numbers.bytes
+    ++ gauge (codes "pathd_rows_limit_bytes") (codes "Bytes of records that have room.") numbers.most_bytes)
 
 -- The lines of the commands that are committed and that are pending, and whether more are taken.
 unfoldable pub command_lines : Numbers → List ℕ
 command_lines numbers =
-    counter (codes "pathd_commands_total") numbers.place
-    ++ (gauge (codes "pathd_commands_pending") numbers.pending ++ gauge (codes "pathd_stopped") (flag numbers.stopped))
+    counter (codes "pathd_commands_total") (codes "Commands that were committed since the store was made.") numbers.place
+    ++ (gauge (codes "pathd_commands_pending") (codes "Commands that are accepted and not committed yet.") numbers.pending
+    ++ gauge (codes "pathd_stopped") (codes "1 where the store takes no more commands.") (flag numbers.stopped))
 
 -- The lines of the epoch, the version, and whether a sealed journal awaits its checkpoint.
 unfoldable pub version_lines : Numbers → List ℕ
 version_lines numbers =
-    gauge (codes "pathd_epoch") numbers.epoch
-    ++ (gauge (codes "pathd_format_version") numbers.version ++ gauge (codes "pathd_journal_sealed") (flag numbers.sealed))
+    gauge (codes "pathd_epoch") (codes "Number of the checkpoint that counts.") numbers.epoch
+    ++ (gauge (codes "pathd_format_version") (codes "Version of the format of the half that counts.") numbers.version
+    ++ gauge (codes "pathd_journal_sealed") (codes "1 where a full journal awaits its checkpoint.") (flag numbers.sealed))
 
 -- The lines of a store's numbers.
 unfoldable pub store_metrics : Numbers → List ℕ
@@ -32,16 +40,11 @@ store_metrics numbers =
     row_lines numbers ++ (command_lines numbers ++ (version_lines numbers ++ actor_lines numbers.flush numbers.check))
 
 -- The lines of what both actors have done.
-unfoldable pub commit_lines : Counts → List ℕ
-commit_lines counts =
-    counter (codes "pathd_groups_total") counts.groups
-    ++ (counter (codes "pathd_seals_total") counts.seals ++ counter (codes "pathd_checkpoints_total") counts.checkpoints)
-
--- The lines of the sessions.
-unfoldable pub session_lines : Counts → List ℕ
-session_lines counts =
-    gauge (codes "pathd_sessions") counts.sessions
-    ++ (counter (codes "pathd_sessions_started_total") counts.started ++ counter (codes "pathd_sessions_refused_total") counts.refused)
+unfoldable pub actor_work : Counts → List ℕ
+actor_work counts =
+    counter (codes "pathd_groups_total") (codes "Groups of commands that were committed.") counts.groups
+    ++ (counter (codes "pathd_seals_total") (codes "Journals that were sealed.") counts.seals
+    ++ counter (codes "pathd_checkpoints_total") (codes "Checkpoints that were completed.") counts.checkpoints)
 
 -- The name of the metric of replies by kind.
 abbrev pub replies : List ℕ
@@ -60,12 +63,20 @@ accepted_lines counts =
 -- The lines of the replies by their kinds, except refusals.
 unfoldable pub reply_lines : Counts → List ℕ
 reply_lines counts =
-    type_line replies (codes "counter") ++ (labelled replies (codes "kind=\"found\"") counts.found ++ accepted_lines counts)
+    heading replies (codes "Replies to messages that were not refused, by kind.") (codes "counter")
+    ++ (labelled replies (codes "kind=\"found\"") counts.found ++ accepted_lines counts)
+
+-- The lines of the process: the notices that it has dropped, how long it has run, and which program
+-- it is.
+unfoldable pub process_lines : Counts → List ℕ
+process_lines counts =
+    counter (codes "pathd_notices_dropped_total") (codes "Notices that were dropped, since the log took none.") counts.dropped
+    ++ (gauge (codes "pathd_uptime_seconds") (codes "Time that the server has run.") counts.seconds ++ build_lines VERSION.now)
 
 -- The lines of what the server has done.
 unfoldable pub work_text : Counts → List ℕ
 work_text counts =
-    commit_lines counts ++ (session_lines counts ++ (reply_lines counts ++ gauge (codes "pathd_uptime_seconds") counts.seconds))
+    actor_work counts ++ (commit_text counts.commits ++ (session_text counts ++ (reply_lines counts ++ process_lines counts)))
 
 -- The label with a code, in hexadecimal digits.
 unfoldable pub refusal_label : ℕ → List ℕ
@@ -77,9 +88,10 @@ refusal_line refusal = labelled refusals (refusal_label refusal.code) refusal.co
 
 -- The lines of the refusals by their codes.
 unfoldable pub refusals_text : List CodeCount → List ℕ
-refusals_text counted = type_line refusals (codes "counter") ++ flat_map refusal_line counted
+refusals_text counted = heading refusals (codes "Messages that were refused, by code.") (codes "counter") ++ flat_map refusal_line counted
 
--- The page: the numbers of a state, what the server has done, and how many messages it refused with
--- which codes.
+-- The page: the numbers of a state, the call of its device that is under way, what the server has
+-- done, and how many messages it refused with which codes.
 abbrev pub page_text : Numbers → Counts → List CodeCount → List ℕ
-page_text numbers counts refused = store_metrics numbers ++ (work_text counts ++ refusals_text refused)
+page_text numbers counts refused =
+    store_metrics numbers ++ (call_text counts.call ++ (work_text counts ++ refusals_text refused))

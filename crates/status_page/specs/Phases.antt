@@ -4,7 +4,7 @@ use Rattle.group_phases.specs.declared.phases.Flush.{Flush}
 use Rattle.group_phases.specs.declared.phases.Flush.TheVariants as flush
 use Rattle.group_phases.specs.declared.phases.Check.{Check}
 use Rattle.group_phases.specs.declared.phases.Check.TheVariants as check
-use Rattle.status_page.specs.Lines.{type_line, labelled}
+use Rattle.status_page.specs.Lines.{heading, labelled}
 
 -- The number of the flusher's phase, in the order of the lines.
 abbrev pub flush_number : Flush → ℕ
@@ -55,7 +55,9 @@ flush_ends now =
 
 -- The lines of the flusher's phases.
 unfoldable pub flush_lines : Flush → List ℕ
-flush_lines flush = type_line flusher (codes "gauge") ++ (flush_begins (flush_number flush) ++ flush_ends (flush_number flush))
+flush_lines flush =
+    heading flusher (codes "1 for the step that the flusher is in.") (codes "gauge")
+    ++ (flush_begins (flush_number flush) ++ flush_ends (flush_number flush))
 
 -- The checkpointer's phases until a checkpoint is laid.
 unfoldable pub check_begins : ℕ → List ℕ
@@ -78,7 +80,7 @@ check_ends now =
 -- The lines of the checkpointer's phases.
 unfoldable pub check_lines : Check → List ℕ
 check_lines check =
-    type_line checkpointer (codes "gauge")
+    heading checkpointer (codes "1 for the step that the checkpointer is in.") (codes "gauge")
     ++ (check_begins (check_number check) ++ (check_switches (check_number check) ++ check_ends (check_number check)))
 
 -- The lines of both actors' phases.

@@ -5,6 +5,14 @@ ghost use Rattle.status_page.specs.Response.{page_head, response_text};
 
 use std::alloc::{AllocError, Global};
 
+/// The response to a question for the server's health, where commands are accepted.
+pub const HEALTHY: &str =
+    "HTTP/1.1 200 OK\r\nContent-Type: text/plain\r\nContent-Length: 3\r\nConnection: close\r\n\r\nok\n";
+
+/// The response to a question for the server's health, where the store has stopped.
+pub const STOPPED: &str =
+    "HTTP/1.1 503 Service Unavailable\r\nContent-Type: text/plain\r\nContent-Length: 65\r\nConnection: close\r\n\r\nthe store has stopped: no command is accepted, and lookups go on\n";
+
 /// The response to a request for another path.
 pub const NOT_FOUND: &str =
     "HTTP/1.1 404 Not Found\r\nContent-Length: 0\r\nConnection: close\r\n\r\n";

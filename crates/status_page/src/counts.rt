@@ -1,20 +1,28 @@
 //! What a server has done.
 
+use store_loops::{CommitTimes, DeviceCall};
+
 /// What a server has done since it started.
 #[derive(Clone, Copy, Debug, PartialEq, Eq)]
 pub struct Counts {
+    /// The call of the device that is under way.
+    pub call: Option<CallTime>,
     /// The number of groups of commands that were committed.
     pub groups: u64,
     /// The number of journals that were sealed.
     pub seals: u64,
     /// The number of checkpoints that were completed.
     pub checkpoints: u64,
+    /// How long the commits of groups took.
+    pub commits: CommitTimes,
     /// The number of sessions that are open.
     pub sessions: u64,
     /// The number of sessions that were started.
     pub started: u64,
-    /// The number of sessions that were refused because too many were open.
-    pub refused: u64,
+    /// The number of connections that were refused a session.
+    pub refused: RefusedCounts,
+    /// The number of sessions that have ended.
+    pub ended: EndCounts,
     /// The number of registrations that were accepted.
     pub registered: u64,
     /// The number of lookups that were answered.
@@ -23,8 +31,47 @@ pub struct Counts {
     pub purged: u64,
     /// The number of removals that were accepted.
     pub removed: u64,
+    /// The number of notices that were dropped, since the log took none.
+    pub dropped: u64,
     /// The number of seconds that the server has run.
     pub seconds: u64,
+}
+
+/// A call of the device that is under way.
+#[derive(Clone, Copy, Debug, PartialEq, Eq)]
+pub struct CallTime {
+    /// The call.
+    pub call: DeviceCall,
+    /// The time that the call has taken so far, in microseconds.
+    pub microseconds: u64,
+}
+
+/// The number of connections that were refused a session, by the reason.
+#[derive(Clone, Copy, Debug, PartialEq, Eq)]
+pub struct RefusedCounts {
+    /// All seats were taken.
+    pub seats: u64,
+    /// The peer's address had as many sessions as one address may have.
+    pub address: u64,
+    /// No thread was given.
+    pub thread: u64,
+}
+
+/// The number of sessions that have ended, by the cause.
+#[derive(Clone, Copy, Debug, PartialEq, Eq)]
+pub struct EndCounts {
+    /// The peer ended its input after a whole frame.
+    pub closed: u64,
+    /// The peer sent or took nothing for too long.
+    pub idle: u64,
+    /// The peer sent a frame that is faulty.
+    pub frame: u64,
+    /// The connection failed, or ended within a frame.
+    pub connection: u64,
+    /// Memory was refused.
+    pub memory: u64,
+    /// The server ended.
+    pub server: u64,
 }
 
 /// The number of messages that were refused with one code.

@@ -7,13 +7,18 @@
 #![tactic(auto)]
 
 mod answers;
+mod build;
+mod calls;
+mod commits;
 mod counts;
 mod lines;
 mod phases;
 mod request;
+mod sessions;
 mod text;
 
-pub use answers::{BAD_REQUEST, NOT_ALLOWED, NOT_FOUND, response};
-pub use counts::{CodeCount, Counts};
+pub use answers::{BAD_REQUEST, HEALTHY, NOT_ALLOWED, NOT_FOUND, STOPPED, response};
+pub use build::VERSION;
+pub use counts::{CallTime, CodeCount, Counts, EndCounts, RefusedCounts};
 pub use request::{Asked, read_head};
 pub use text::page;

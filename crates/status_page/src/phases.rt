@@ -3,7 +3,7 @@
 ghost use Rattle.std.specs.Prelude.{◌≡◌, IfOk, string_bytes};
 ghost use Rattle.status_page.specs.Phases.{flush_number, check_number, phase_line, flush_begins, flush_ends, flush_lines, check_begins, check_switches, check_ends, check_lines, actor_lines};
 
-use crate::lines::{labelled, type_line};
+use crate::lines::{heading, labelled};
 use group_phases::{Check, Flush};
 use std::alloc::{AllocError, Global};
 
@@ -42,10 +42,11 @@ fn phase_line(
 fn flush_lines(alloc: Global, flush: Flush) -> Result<String, AllocError>
     ensures { IfOk result (λ lines. string_bytes lines ≡ flush_lines flush) }
 {
-    let kind = type_line(alloc, FLUSHER, "gauge")?;
+    let help = "1 for the step that the flusher is in.";
+    let heading = heading(alloc, FLUSHER, help, "gauge")?;
     let begins = flush_begins(alloc, flush_number(flush))?;
     let ends = flush_ends(alloc, flush_number(flush))?;
-    format!(in alloc; "{kind}{begins}{ends}")
+    format!(in alloc; "{heading}{begins}{ends}")
 }
 
 /// The phases until a group is written and synced.
@@ -76,11 +77,12 @@ fn flush_ends(alloc: Global, now: u64) -> Result<String, AllocError>
 fn check_lines(alloc: Global, check: Check) -> Result<String, AllocError>
     ensures { IfOk result (λ lines. string_bytes lines ≡ check_lines check) }
 {
-    let kind = type_line(alloc, CHECKPOINTER, "gauge")?;
+    let help = "1 for the step that the checkpointer is in.";
+    let heading = heading(alloc, CHECKPOINTER, help, "gauge")?;
     let begins = check_begins(alloc, check_number(check))?;
     let switches = check_switches(alloc, check_number(check))?;
     let ends = check_ends(alloc, check_number(check))?;
-    format!(in alloc; "{kind}{begins}{switches}{ends}")
+    format!(in alloc; "{heading}{begins}{switches}{ends}")
 }
 
 /// The phases until a checkpoint is laid.

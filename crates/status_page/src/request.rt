@@ -9,9 +9,12 @@ use httparse::{Error, Status};
 const MOST_FIELDS: usize = 64;
 
 /// The path of the page.
-const PATH: &[u8] = b"/metrics";
+const PAGE: &[u8] = b"/metrics";
 
-/// The method of a request for the page.
+/// The path of the server's health.
+const HEALTH: &[u8] = b"/healthz";
+
+/// The method of a request for either.
 const METHOD: &[u8] = b"GET";
 
 /// What a peer asks for.
@@ -19,9 +22,11 @@ const METHOD: &[u8] = b"GET";
 pub enum Asked {
     /// The page.
     Page,
+    /// Whether commands are accepted.
+    Health,
     /// Another path.
     OtherPath,
-    /// The page, by another method than GET.
+    /// The page or the health, by another method than GET.
     OtherMethod,
     /// The peer has not sent the whole head of a request yet.
     More,
@@ -47,11 +52,14 @@ pub fn read_head(bytes: &[u8]) -> Asked
 fn judge(method: &[u8], path: &[u8]) -> Asked
     ensures { IsJudged method.now path.now result }
 {
-    if path != PATH {
+    let is_page = path == PAGE;
+    if !is_page && path != HEALTH {
         Asked::OtherPath
     } else if method != METHOD {
         Asked::OtherMethod
-    } else {
+    } else if is_page {
         Asked::Page
+    } else {
+        Asked::Health
     }
 }

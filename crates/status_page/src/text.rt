@@ -1,11 +1,15 @@
 //! The text of the page.
 
 ghost use Rattle.std.specs.Prelude.{◌≡◌, IfOk, string_bytes};
-ghost use Rattle.status_page.specs.Page.{row_lines, command_lines, version_lines, commit_lines, session_lines, accepted_lines, reply_lines, refusal_label, refusal_line, refusals_text, store_metrics, work_text, page_text};
+ghost use Rattle.status_page.specs.Page.{row_lines, command_lines, version_lines, actor_work, accepted_lines, reply_lines, process_lines, refusal_label, refusal_line, refusals_text, store_metrics, work_text, page_text};
 
+use crate::build::{VERSION, build_lines};
+use crate::calls::call_text;
+use crate::commits::commit_text;
 use crate::counts::{CodeCount, Counts};
-use crate::lines::{counter, flag, gauge, labelled, type_line};
+use crate::lines::{counter, flag, gauge, heading, labelled};
 use crate::phases::actor_lines;
+use crate::sessions::session_text;
 use group_core::Numbers;
 use std::alloc::{AllocError, Global};
 
@@ -16,8 +20,8 @@ const REPLIES: &str = "pathd_replies_total";
 const REFUSALS: &str = "pathd_refusals_total";
 
 /// The page of a state's numbers, of what the server has done, and of how many messages it refused
-/// with which codes. Each metric has a line with its type, and then its own lines. The page is text
-/// in the exposition format of Prometheus, version 0.0.4.
+/// with which codes. Each metric has two lines with what it says and with its type, and then its
+/// own lines. The page is text in the exposition format of Prometheus, version 0.0.4.
 pub fn page(
     alloc: Global,
     numbers: &Numbers,
@@ -27,9 +31,10 @@ pub fn page(
     ensures { IfOk result (λ text. string_bytes text ≡ page_text numbers.now counts.now refusals.now) }
 {
     let store = store_text(alloc, numbers)?;
+    let call = call_text(alloc, counts.call)?;
     let work = work_text(alloc, counts)?;
     let refused = refusals_text(alloc, refusals)?;
-    format!(in alloc; "{store}{work}{refused}")
+    format!(in alloc; "{store}{call}{work}{refused}")
 }
 
 /// The lines of a store's numbers.
@@ -49,9 +54,11 @@ fn store_text(alloc: Global, numbers: &Numbers) -> Result<String, AllocError>
 fn row_lines(alloc: Global, numbers: &Numbers) -> Result<String, AllocError>
     ensures { IfOk result (λ text. string_bytes text ≡ row_lines numbers.now) }
 {
-    let rows = gauge(alloc, "pathd_rows", numbers.rows)?;
-    let bytes = gauge(alloc, "pathd_rows_bytes", numbers.bytes)?;
-    let most = gauge(alloc, "pathd_rows_limit_bytes", numbers.most_bytes)?;
+    let rows = gauge(alloc, "pathd_rows", "Segments in the store.", numbers.rows)?;
+    let help = "Bytes of the records of these segments.";
+    let bytes = gauge(alloc, "pathd_rows_bytes", help, numbers.bytes)?;
+    let help = "Bytes of records that have room.";
+    let most = gauge(alloc, "pathd_rows_limit_bytes", help, numbers.most_bytes)?;
     format!(in alloc; "{rows}{bytes}{most}")
 }
 
@@ -60,9 +67,12 @@ fn row_lines(alloc: Global, numbers: &Numbers) -> Result<String, AllocError>
 fn command_lines(alloc: Global, numbers: &Numbers) -> Result<String, AllocError>
     ensures { IfOk result (λ text. string_bytes text ≡ command_lines numbers.now) }
 {
-    let place = counter(alloc, "pathd_commands_total", numbers.place)?;
-    let pending = gauge(alloc, "pathd_commands_pending", numbers.pending)?;
-    let stopped = gauge(alloc, "pathd_stopped", flag(numbers.stopped))?;
+    let help = "Commands that were committed since the store was made.";
+    let place = counter(alloc, "pathd_commands_total", help, numbers.place)?;
+    let help = "Commands that are accepted and not committed yet.";
+    let pending = gauge(alloc, "pathd_commands_pending", help, numbers.pending)?;
+    let help = "1 where the store takes no more commands.";
+    let stopped = gauge(alloc, "pathd_stopped", help, flag(numbers.stopped))?;
     format!(in alloc; "{place}{pending}{stopped}")
 }
 
@@ -71,9 +81,17 @@ fn command_lines(alloc: Global, numbers: &Numbers) -> Result<String, AllocError>
 fn version_lines(alloc: Global, numbers: &Numbers) -> Result<String, AllocError>
     ensures { IfOk result (λ text. string_bytes text ≡ version_lines numbers.now) }
 {
-    let epoch = gauge(alloc, "pathd_epoch", numbers.epoch)?;
-    let version = gauge(alloc, "pathd_format_version", u64::from(numbers.version))?;
-    let sealed = gauge(alloc, "pathd_journal_sealed", flag(numbers.sealed))?;
+    let help = "Number of the checkpoint that counts.";
+    let epoch = gauge(alloc, "pathd_epoch", help, numbers.epoch)?;
+    let help = "Version of the format of the half that counts.";
+    let version = gauge(
+        alloc,
+        "pathd_format_version",
+        help,
+        u64::from(numbers.version),
+    )?;
+    let help = "1 where a full journal awaits its checkpoint.";
+    let sealed = gauge(alloc, "pathd_journal_sealed", help, flag(numbers.sealed))?;
     format!(in alloc; "{epoch}{version}{sealed}")
 }
 
@@ -82,33 +100,40 @@ fn version_lines(alloc: Global, numbers: &Numbers) -> Result<String, AllocError>
 fn work_text(alloc: Global, counts: &Counts) -> Result<String, AllocError>
     ensures { IfOk result (λ text. string_bytes text ≡ work_text counts.now) }
 {
-    let commits = commit_lines(alloc, counts)?;
-    let sessions = session_lines(alloc, counts)?;
+    let actors = actor_work(alloc, counts)?;
+    let commits = commit_text(alloc, &counts.commits)?;
+    let sessions = session_text(alloc, counts)?;
     let replies = reply_lines(alloc, counts)?;
-    let seconds = gauge(alloc, "pathd_uptime_seconds", counts.seconds)?;
-    format!(in alloc; "{commits}{sessions}{replies}{seconds}")
+    let process = process_lines(alloc, counts)?;
+    format!(in alloc; "{actors}{commits}{sessions}{replies}{process}")
 }
 
 /// The lines of what both actors have done.
-#[tactic(auto, unfolding(crate::specs::Page::commit_lines))]
-fn commit_lines(alloc: Global, counts: &Counts) -> Result<String, AllocError>
-    ensures { IfOk result (λ text. string_bytes text ≡ commit_lines counts.now) }
+#[tactic(auto, unfolding(crate::specs::Page::actor_work))]
+fn actor_work(alloc: Global, counts: &Counts) -> Result<String, AllocError>
+    ensures { IfOk result (λ text. string_bytes text ≡ actor_work counts.now) }
 {
-    let groups = counter(alloc, "pathd_groups_total", counts.groups)?;
-    let seals = counter(alloc, "pathd_seals_total", counts.seals)?;
-    let checkpoints = counter(alloc, "pathd_checkpoints_total", counts.checkpoints)?;
+    let help = "Groups of commands that were committed.";
+    let groups = counter(alloc, "pathd_groups_total", help, counts.groups)?;
+    let help = "Journals that were sealed.";
+    let seals = counter(alloc, "pathd_seals_total", help, counts.seals)?;
+    let help = "Checkpoints that were completed.";
+    let checkpoints = counter(alloc, "pathd_checkpoints_total", help, counts.checkpoints)?;
     format!(in alloc; "{groups}{seals}{checkpoints}")
 }
 
-/// The lines of the sessions.
-#[tactic(auto, unfolding(crate::specs::Page::session_lines))]
-fn session_lines(alloc: Global, counts: &Counts) -> Result<String, AllocError>
-    ensures { IfOk result (λ text. string_bytes text ≡ session_lines counts.now) }
+/// The lines of the process: the notices that it has dropped, how long it has run, and which
+/// program it is.
+#[tactic(auto, unfolding(crate::specs::Page::process_lines))]
+fn process_lines(alloc: Global, counts: &Counts) -> Result<String, AllocError>
+    ensures { IfOk result (λ text. string_bytes text ≡ process_lines counts.now) }
 {
-    let open = gauge(alloc, "pathd_sessions", counts.sessions)?;
-    let started = counter(alloc, "pathd_sessions_started_total", counts.started)?;
-    let refused = counter(alloc, "pathd_sessions_refused_total", counts.refused)?;
-    format!(in alloc; "{open}{started}{refused}")
+    let help = "Notices that were dropped, since the log took none.";
+    let dropped = counter(alloc, "pathd_notices_dropped_total", help, counts.dropped)?;
+    let help = "Time that the server has run.";
+    let seconds = gauge(alloc, "pathd_uptime_seconds", help, counts.seconds)?;
+    let build = build_lines(alloc, VERSION)?;
+    format!(in alloc; "{dropped}{seconds}{build}")
 }
 
 /// The lines of the replies by their kinds, except refusals.
@@ -116,10 +141,11 @@ fn session_lines(alloc: Global, counts: &Counts) -> Result<String, AllocError>
 fn reply_lines(alloc: Global, counts: &Counts) -> Result<String, AllocError>
     ensures { IfOk result (λ text. string_bytes text ≡ reply_lines counts.now) }
 {
-    let kind = type_line(alloc, REPLIES, "counter")?;
+    let help = "Replies to messages that were not refused, by kind.";
+    let heading = heading(alloc, REPLIES, help, "counter")?;
     let found = labelled(alloc, REPLIES, "kind=\"found\"", counts.found)?;
     let accepted = accepted_lines(alloc, counts)?;
-    format!(in alloc; "{kind}{found}{accepted}")
+    format!(in alloc; "{heading}{found}{accepted}")
 }
 
 /// The lines of the replies to commands that were accepted.
@@ -138,7 +164,8 @@ fn accepted_lines(alloc: Global, counts: &Counts) -> Result<String, AllocError>
 fn refusals_text(alloc: Global, refusals: &[CodeCount]) -> Result<String, AllocError>
     ensures { IfOk result (λ text. string_bytes text ≡ refusals_text refusals.now) }
 {
-    let mut text = type_line(alloc, REFUSALS, "counter")?;
+    let help = "Messages that were refused, by code.";
+    let mut text = heading(alloc, REFUSALS, help, "counter")?;
     for refusal in refusals {
         let line = refusal_line(alloc, *refusal)?;
         text.push_str(line.as_str())?;

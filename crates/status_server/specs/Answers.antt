@@ -1,14 +1,29 @@
 -- The responses that a peer is sent.
-use Rattle.std.specs.Prelude.{ℕ, List, codes}
+use Rattle.std.specs.Prelude.{ℕ, Bool, true, false, List, codes}
 use Rattle.group_core.specs.declared.numbers.Numbers.{Numbers}
 use Rattle.status_page.specs.declared.counts.Counts.{Counts}
 use Rattle.status_page.specs.declared.counts.CodeCount.{CodeCount}
 use Rattle.status_page.specs.declared.request.Asked.{Asked}
-use Rattle.status_page.specs.declared.request.Asked.TheVariants.{Page, OtherPath, OtherMethod, More, Unreadable}
+use Rattle.status_page.specs.declared.request.Asked.TheVariants.{Page, Health, OtherPath, OtherMethod, More, Unreadable}
 use Rattle.status_page.specs.Page.{page_text}
 use Rattle.status_page.specs.Response.{response_text}
 
--- The response where the path is not the page's.
+-- The response where commands are accepted.
+abbrev pub healthy : List ℕ
+healthy = codes "HTTP/1.1 200 OK\r\nContent-Type: text/plain\r\nContent-Length: 3\r\nConnection: close\r\n\r\nok\n"
+
+-- The response where the store has stopped.
+abbrev pub has_stopped : List ℕ
+has_stopped =
+    codes
+    "HTTP/1.1 503 Service Unavailable\r\nContent-Type: text/plain\r\nContent-Length: 65\r\nConnection: close\r\n\r\nthe store has stopped: no command is accepted, and lookups go on\n"
+
+-- The response to a question for the server's health: whether the store has stopped.
+abbrev pub health_text : Bool → List ℕ
+health_text false = healthy
+health_text true = has_stopped
+
+-- The response where the path is none of the two.
 abbrev pub not_found : List ℕ
 not_found = codes "HTTP/1.1 404 Not Found\r\nContent-Length: 0\r\nConnection: close\r\n\r\n"
 
@@ -20,9 +35,10 @@ not_allowed = codes "HTTP/1.1 405 Method Not Allowed\r\nAllow: GET\r\nContent-Le
 abbrev pub bad_request : List ℕ
 bad_request = codes "HTTP/1.1 400 Bad Request\r\nContent-Length: 0\r\nConnection: close\r\n\r\n"
 
--- The text that a peer is sent for what it asks: the page, or why the page is not sent.
+-- The text that a peer is sent for what it asks: the page, the health, or why neither is sent.
 abbrev pub answer_text : Asked → Numbers → Counts → List CodeCount → List ℕ
 answer_text Page numbers counts refused = response_text (page_text numbers counts refused)
+answer_text Health numbers counts refused = health_text numbers.stopped
 answer_text OtherPath numbers counts refused = not_found
 answer_text OtherMethod numbers counts refused = not_allowed
 answer_text More numbers counts refused = bad_request

@@ -8,7 +8,7 @@ use status_page::{Asked, read_head};
 use std::alloc::{AllocError, Global};
 use std::io::{Read, Write};
 use std::net::{Shutdown, TcpStream};
-use std::time::Clock;
+use std::time::{Clock, Duration};
 
 /// The most bytes of the head of a request, rounded up to a whole read.
 pub const MOST_HEAD: usize = 4_096;
@@ -16,10 +16,15 @@ pub const MOST_HEAD: usize = 4_096;
 /// The most bytes of one read.
 const PIECE: usize = 1_024;
 
+/// The longest time until the first byte, in milliseconds. One thread answers all peers, so peers
+/// that connect and say nothing hold up each other peer for this time, and not for the whole time
+/// of a connection. A peer that asks for the numbers sends its request at once.
+const SILENCE: u64 = 250;
+
 /// Reads what a peer asks for. The result is `More` where the peer's first `MOST_HEAD` bytes, or
-/// all that it sends, have no whole head, and `None` where the time is over, the connection or the
-/// clock failed, or memory was refused. No contract of the system's calls says which bytes a peer
-/// sent.
+/// all that it sends, have no whole head, and `None` where the time is over, no byte came in the
+/// first 250 milliseconds, the connection or the clock failed, or memory was refused. The deadline
+/// is later than that. No contract of the system's calls says which bytes a peer sent.
 #[tactic(auto, using(crate::proofs::RequestLemmas::is_read, crate::proofs::RequestLemmas::taken_is_read))]
 pub fn read_request(
     clock: &impl Clock,
@@ -29,10 +34,12 @@ pub fn read_request(
 ) -> Option<Asked>
     ensures { IfSome result IsRead }
 {
+    let silence = Deadline::after(clock, Duration::from_millis(SILENCE)).ok()?;
     let mut head = Vec::new(alloc);
     for _ in 0..MOST_HEAD {
         let mut piece = [0u8; PIECE];
-        let count = read_by(clock, stream, deadline, &mut piece)?;
+        let until = if head.is_empty() { &silence } else { deadline };
+        let count = read_by(clock, stream, until, &mut piece)?;
         match take_piece(&mut head, piece.get(..count)?) {
             Ok(Some(asked)) => return Some(asked),
             Ok(None) => {}

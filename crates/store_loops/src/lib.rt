@@ -3,14 +3,19 @@
 //!
 //! To the layer above: the trait `Steps` has the guarded calls of a state that several threads work
 //! on, and what each of them answers; `flusher_loop` and `checkpointer_loop` make these calls until
-//! the state has stopped.
+//! the state has stopped. `DeviceCall` names the calls that use the device, and `CommitTimes` has how
+//! long commits took.
 #![tactic(auto)]
 
+mod calls;
 mod checkpointer;
+mod commits;
 mod flusher;
 mod retrying;
 mod steps;
 
+pub use calls::DeviceCall;
 pub use checkpointer::checkpointer_loop;
+pub use commits::{BUCKETS, Bucket, CommitTimes};
 pub use flusher::flusher_loop;
 pub use steps::{Awaited, Steps};

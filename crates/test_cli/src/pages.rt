@@ -2,8 +2,9 @@
 
 use group_core::Numbers;
 use group_phases::{Check, Flush};
-use status_page::{CodeCount, Counts, page, response};
+use status_page::{CallTime, CodeCount, Counts, EndCounts, RefusedCounts, page, response};
 use std::test::Fail;
+use store_loops::{CommitTimes, DeviceCall};
 
 /// A state that has committed five commands and has two rows, while a group is being written and a
 /// journal is sealed.
@@ -21,20 +22,47 @@ const NUMBERS: Numbers = Numbers {
     stopped: false,
 };
 
-/// What the server has done.
-const COUNTS: Counts = Counts {
-    groups: 4,
-    seals: 1,
-    checkpoints: 0,
-    sessions: 6,
-    started: 20,
-    refused: 8,
-    registered: 2,
-    found: 1_234,
-    purged: 3,
-    removed: 0,
-    seconds: 86_400,
-};
+/// The times of some commits, in microseconds.
+const TIMES: [u64; 4] = [700, 4_000, 5_000, 61_060_300];
+
+/// What the server has done, while a gate is being synced.
+fn counts() -> Counts {
+    let mut commits = CommitTimes::new();
+    for time in TIMES {
+        commits.add(time);
+    }
+    Counts {
+        call: Some(CallTime {
+            call: DeviceCall::SyncGate,
+            microseconds: 12_003_045,
+        }),
+        groups: 4,
+        seals: 1,
+        checkpoints: 0,
+        commits,
+        sessions: 6,
+        started: 20,
+        refused: RefusedCounts {
+            seats: 8,
+            address: 2,
+            thread: 1,
+        },
+        ended: EndCounts {
+            closed: 5,
+            idle: 4,
+            frame: 3,
+            connection: 2,
+            memory: 1,
+            server: 0,
+        },
+        registered: 2,
+        found: 1_234,
+        purged: 3,
+        removed: 0,
+        dropped: 12,
+        seconds: 86_400,
+    }
+}
 
 /// What it has refused.
 const REFUSALS: [CodeCount; 2] = [
@@ -49,24 +77,34 @@ const REFUSALS: [CodeCount; 2] = [
 ];
 
 const PAGE: &str = "\
+# HELP pathd_rows Segments in the store.
 # TYPE pathd_rows gauge
 pathd_rows 2
+# HELP pathd_rows_bytes Bytes of the records of these segments.
 # TYPE pathd_rows_bytes gauge
 pathd_rows_bytes 186
+# HELP pathd_rows_limit_bytes Bytes of records that have room.
 # TYPE pathd_rows_limit_bytes gauge
 pathd_rows_limit_bytes 992
+# HELP pathd_commands_total Commands that were committed since the store was made.
 # TYPE pathd_commands_total counter
 pathd_commands_total 5
+# HELP pathd_commands_pending Commands that are accepted and not committed yet.
 # TYPE pathd_commands_pending gauge
 pathd_commands_pending 3
+# HELP pathd_stopped 1 where the store takes no more commands.
 # TYPE pathd_stopped gauge
 pathd_stopped 0
+# HELP pathd_epoch Number of the checkpoint that counts.
 # TYPE pathd_epoch gauge
 pathd_epoch 7
+# HELP pathd_format_version Version of the format of the half that counts.
 # TYPE pathd_format_version gauge
 pathd_format_version 2
+# HELP pathd_journal_sealed 1 where a full journal awaits its checkpoint.
 # TYPE pathd_journal_sealed gauge
 pathd_journal_sealed 1
+# HELP pathd_flusher_phase 1 for the step that the flusher is in.
 # TYPE pathd_flusher_phase gauge
 pathd_flusher_phase{phase=\"resting\"} 0
 pathd_flusher_phase{phase=\"staged\"} 0
@@ -75,6 +113,7 @@ pathd_flusher_phase{phase=\"stable\"} 0
 pathd_flusher_phase{phase=\"opened\"} 0
 pathd_flusher_phase{phase=\"doubtful\"} 0
 pathd_flusher_phase{phase=\"durable\"} 0
+# HELP pathd_checkpointer_phase 1 for the step that the checkpointer is in.
 # TYPE pathd_checkpointer_phase gauge
 pathd_checkpointer_phase{phase=\"ready\"} 0
 pathd_checkpointer_phase{phase=\"sealed\"} 1
@@ -85,25 +124,79 @@ pathd_checkpointer_phase{phase=\"switch_failed\"} 0
 pathd_checkpointer_phase{phase=\"live\"} 0
 pathd_checkpointer_phase{phase=\"closing\"} 0
 pathd_checkpointer_phase{phase=\"close_failed\"} 0
+# HELP pathd_call_seconds Time that the call of the device has taken so far, where it is under way.
+# TYPE pathd_call_seconds gauge
+pathd_call_seconds{call=\"write_group\"} 0.000000
+pathd_call_seconds{call=\"sync_group\"} 0.000000
+pathd_call_seconds{call=\"open_gate\"} 0.000000
+pathd_call_seconds{call=\"sync_gate\"} 12.003045
+pathd_call_seconds{call=\"begin\"} 0.000000
+pathd_call_seconds{call=\"write_chunk\"} 0.000000
+pathd_call_seconds{call=\"sync_chunks\"} 0.000000
+pathd_call_seconds{call=\"open_half\"} 0.000000
+pathd_call_seconds{call=\"sync_half\"} 0.000000
+pathd_call_seconds{call=\"close_half\"} 0.000000
+pathd_call_seconds{call=\"sync_close\"} 0.000000
+# HELP pathd_groups_total Groups of commands that were committed.
 # TYPE pathd_groups_total counter
 pathd_groups_total 4
+# HELP pathd_seals_total Journals that were sealed.
 # TYPE pathd_seals_total counter
 pathd_seals_total 1
+# HELP pathd_checkpoints_total Checkpoints that were completed.
 # TYPE pathd_checkpoints_total counter
 pathd_checkpoints_total 0
+# HELP pathd_commit_seconds Time from the first step of a group to its commit.
+# TYPE pathd_commit_seconds histogram
+pathd_commit_seconds_bucket{le=\"0.000500\"} 0
+pathd_commit_seconds_bucket{le=\"0.001000\"} 1
+pathd_commit_seconds_bucket{le=\"0.002000\"} 1
+pathd_commit_seconds_bucket{le=\"0.005000\"} 3
+pathd_commit_seconds_bucket{le=\"0.010000\"} 3
+pathd_commit_seconds_bucket{le=\"0.020000\"} 3
+pathd_commit_seconds_bucket{le=\"0.050000\"} 3
+pathd_commit_seconds_bucket{le=\"0.100000\"} 3
+pathd_commit_seconds_bucket{le=\"0.200000\"} 3
+pathd_commit_seconds_bucket{le=\"0.500000\"} 3
+pathd_commit_seconds_bucket{le=\"1.000000\"} 3
+pathd_commit_seconds_bucket{le=\"+Inf\"} 4
+pathd_commit_seconds_sum 61.070000
+pathd_commit_seconds_count 4
+# HELP pathd_sessions Sessions that are open.
 # TYPE pathd_sessions gauge
 pathd_sessions 6
+# HELP pathd_sessions_started_total Sessions that were started.
 # TYPE pathd_sessions_started_total counter
 pathd_sessions_started_total 20
+# HELP pathd_sessions_refused_total Connections that were refused a session, by the reason.
 # TYPE pathd_sessions_refused_total counter
-pathd_sessions_refused_total 8
+pathd_sessions_refused_total{reason=\"seats\"} 8
+pathd_sessions_refused_total{reason=\"address\"} 2
+pathd_sessions_refused_total{reason=\"thread\"} 1
+# HELP pathd_session_ends_total Sessions that have ended, by the cause.
+# TYPE pathd_session_ends_total counter
+pathd_session_ends_total{cause=\"closed\"} 5
+pathd_session_ends_total{cause=\"idle\"} 4
+pathd_session_ends_total{cause=\"frame\"} 3
+pathd_session_ends_total{cause=\"connection\"} 2
+pathd_session_ends_total{cause=\"memory\"} 1
+pathd_session_ends_total{cause=\"server\"} 0
+# HELP pathd_replies_total Replies to messages that were not refused, by kind.
 # TYPE pathd_replies_total counter
 pathd_replies_total{kind=\"found\"} 1234
 pathd_replies_total{kind=\"registered\"} 2
 pathd_replies_total{kind=\"purged\"} 3
 pathd_replies_total{kind=\"removed\"} 0
+# HELP pathd_notices_dropped_total Notices that were dropped, since the log took none.
+# TYPE pathd_notices_dropped_total counter
+pathd_notices_dropped_total 12
+# HELP pathd_uptime_seconds Time that the server has run.
 # TYPE pathd_uptime_seconds gauge
 pathd_uptime_seconds 86400
+# HELP pathd_build_info 1 for the version of the program, and the format that its checkpoints have.
+# TYPE pathd_build_info gauge
+pathd_build_info{version=\"0.9.0\",format=\"2\"} 1
+# HELP pathd_refusals_total Messages that were refused, by code.
 # TYPE pathd_refusals_total counter
 pathd_refusals_total{code=\"01\"} 9
 pathd_refusals_total{code=\"ff\"} 18446744073709551615
@@ -112,7 +205,7 @@ pathd_refusals_total{code=\"ff\"} 18446744073709551615
 #[test]
 fn page_of_some_numbers(rt: HostRuntime) -> Result<(), Fail> {
     let alloc = rt.alloc();
-    let text = page(alloc, &NUMBERS, &COUNTS, &REFUSALS)?;
+    let text = page(alloc, &NUMBERS, &counts(), &REFUSALS)?;
     assert_eq!(rt; text.as_str(), PAGE);
     let whole = response(alloc, text.as_str())?;
     assert!(rt; whole.as_str().ends_with(PAGE));

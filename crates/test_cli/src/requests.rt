@@ -3,10 +3,14 @@
 use status_page::{Asked, read_head};
 use std::test::Fail;
 
-const REQUESTS: [(&str, Asked); 13] = [
+const REQUESTS: [(&str, Asked); 17] = [
     ("GET /metrics HTTP/1.1\r\nHost: a\r\n\r\n", Asked::Page),
     ("GET /metrics HTTP/1.0\r\n\r\n", Asked::Page),
     ("GET /metrics HTTP/1.1\n\n", Asked::Page),
+    ("GET /healthz HTTP/1.1\r\nHost: a\r\n\r\n", Asked::Health),
+    ("GET /healthz HTTP/1.0\r\n\r\n", Asked::Health),
+    ("HEAD /healthz HTTP/1.1\r\n\r\n", Asked::OtherMethod),
+    ("GET /health HTTP/1.1\r\n\r\n", Asked::OtherPath),
     ("GET / HTTP/1.1\r\n\r\n", Asked::OtherPath),
     ("GET /metrics/ HTTP/1.1\r\n\r\n", Asked::OtherPath),
     ("GET /metrics?a HTTP/1.1\r\n\r\n", Asked::OtherPath),

@@ -1,10 +1,12 @@
 //! Requests of a server's numbers, at its second listener.
 
+use crate::doors::{Door, Holds, Latch};
 use crate::peers::{EMPTY_LOOKUP, NO_DESTINATION, Peer};
 use crate::rows::{FOUND, LOOKUP, PURGE, REGISTERED, REGISTRATION};
-use crate::stores::{LEAST, formatted, opens_to};
+use crate::stores::{LEAST, failing, formatted, opens_to};
 use crate::worlds::{Clients, Counts, Outside, World, listen, options, serve_watched};
 use path_server::bound_accepts;
+use sector_dev::HeldDevice;
 use std::alloc::Global;
 use std::io;
 use std::io::{ErrorKind, Read, Write};
@@ -18,6 +20,9 @@ const PATIENCE: u64 = 20;
 
 /// The request of the numbers.
 const GET_NUMBERS: &str = "GET /metrics HTTP/1.1\r\nHost: localhost\r\n\r\n";
+
+/// The request of the server's health.
+const GET_HEALTH: &str = "GET /healthz HTTP/1.1\r\nHost: localhost\r\n\r\n";
 
 /// A listener for requests of the numbers, and its address.
 fn listen_for_status<R: World>(rt: R) -> (Option<TcpListener>, SocketAddr) {
@@ -101,26 +106,36 @@ impl Clients for Counting {
     }
 }
 
-/// The page before the number of seconds.
-const BEFORE_SECONDS: &str = "\
+/// The page before the number of commits that took half a millisecond.
+const BEFORE_TIMES: &str = "\
+# HELP pathd_rows Segments in the store.
 # TYPE pathd_rows gauge
 pathd_rows 1
+# HELP pathd_rows_bytes Bytes of the records of these segments.
 # TYPE pathd_rows_bytes gauge
 pathd_rows_bytes 93
+# HELP pathd_rows_limit_bytes Bytes of records that have room.
 # TYPE pathd_rows_limit_bytes gauge
 pathd_rows_limit_bytes 992
+# HELP pathd_commands_total Commands that were committed since the store was made.
 # TYPE pathd_commands_total counter
 pathd_commands_total 4
+# HELP pathd_commands_pending Commands that are accepted and not committed yet.
 # TYPE pathd_commands_pending gauge
 pathd_commands_pending 0
+# HELP pathd_stopped 1 where the store takes no more commands.
 # TYPE pathd_stopped gauge
 pathd_stopped 0
+# HELP pathd_epoch Number of the checkpoint that counts.
 # TYPE pathd_epoch gauge
 pathd_epoch 1
+# HELP pathd_format_version Version of the format of the half that counts.
 # TYPE pathd_format_version gauge
 pathd_format_version 2
+# HELP pathd_journal_sealed 1 where a full journal awaits its checkpoint.
 # TYPE pathd_journal_sealed gauge
 pathd_journal_sealed 0
+# HELP pathd_flusher_phase 1 for the step that the flusher is in.
 # TYPE pathd_flusher_phase gauge
 pathd_flusher_phase{phase=\"resting\"} 1
 pathd_flusher_phase{phase=\"staged\"} 0
@@ -129,6 +144,7 @@ pathd_flusher_phase{phase=\"stable\"} 0
 pathd_flusher_phase{phase=\"opened\"} 0
 pathd_flusher_phase{phase=\"doubtful\"} 0
 pathd_flusher_phase{phase=\"durable\"} 0
+# HELP pathd_checkpointer_phase 1 for the step that the checkpointer is in.
 # TYPE pathd_checkpointer_phase gauge
 pathd_checkpointer_phase{phase=\"ready\"} 1
 pathd_checkpointer_phase{phase=\"sealed\"} 0
@@ -139,43 +155,101 @@ pathd_checkpointer_phase{phase=\"switch_failed\"} 0
 pathd_checkpointer_phase{phase=\"live\"} 0
 pathd_checkpointer_phase{phase=\"closing\"} 0
 pathd_checkpointer_phase{phase=\"close_failed\"} 0
+# HELP pathd_call_seconds Time that the call of the device has taken so far, where it is under way.
+# TYPE pathd_call_seconds gauge
+pathd_call_seconds{call=\"write_group\"} 0.000000
+pathd_call_seconds{call=\"sync_group\"} 0.000000
+pathd_call_seconds{call=\"open_gate\"} 0.000000
+pathd_call_seconds{call=\"sync_gate\"} 0.000000
+pathd_call_seconds{call=\"begin\"} 0.000000
+pathd_call_seconds{call=\"write_chunk\"} 0.000000
+pathd_call_seconds{call=\"sync_chunks\"} 0.000000
+pathd_call_seconds{call=\"open_half\"} 0.000000
+pathd_call_seconds{call=\"sync_half\"} 0.000000
+pathd_call_seconds{call=\"close_half\"} 0.000000
+pathd_call_seconds{call=\"sync_close\"} 0.000000
+# HELP pathd_groups_total Groups of commands that were committed.
 # TYPE pathd_groups_total counter
 pathd_groups_total 4
+# HELP pathd_seals_total Journals that were sealed.
 # TYPE pathd_seals_total counter
 pathd_seals_total 0
+# HELP pathd_checkpoints_total Checkpoints that were completed.
 # TYPE pathd_checkpoints_total counter
 pathd_checkpoints_total 0
+# HELP pathd_commit_seconds Time from the first step of a group to its commit.
+# TYPE pathd_commit_seconds histogram
+pathd_commit_seconds_bucket{le=\"0.000500\"} ";
+
+/// The page between the last two times of commits.
+const ALL_TIMED: &str = "\npathd_commit_seconds_bucket{le=\"+Inf\"} 4\npathd_commit_seconds_sum ";
+
+/// The page between the times of commits and the number of seconds.
+const BEFORE_SECONDS: &str = "
+pathd_commit_seconds_count 4
+# HELP pathd_sessions Sessions that are open.
 # TYPE pathd_sessions gauge
 pathd_sessions 1
+# HELP pathd_sessions_started_total Sessions that were started.
 # TYPE pathd_sessions_started_total counter
 pathd_sessions_started_total 1
+# HELP pathd_sessions_refused_total Connections that were refused a session, by the reason.
 # TYPE pathd_sessions_refused_total counter
-pathd_sessions_refused_total 0
+pathd_sessions_refused_total{reason=\"seats\"} 0
+pathd_sessions_refused_total{reason=\"address\"} 0
+pathd_sessions_refused_total{reason=\"thread\"} 0
+# HELP pathd_session_ends_total Sessions that have ended, by the cause.
+# TYPE pathd_session_ends_total counter
+pathd_session_ends_total{cause=\"closed\"} 0
+pathd_session_ends_total{cause=\"idle\"} 0
+pathd_session_ends_total{cause=\"frame\"} 0
+pathd_session_ends_total{cause=\"connection\"} 0
+pathd_session_ends_total{cause=\"memory\"} 0
+pathd_session_ends_total{cause=\"server\"} 0
+# HELP pathd_replies_total Replies to messages that were not refused, by kind.
 # TYPE pathd_replies_total counter
 pathd_replies_total{kind=\"found\"} 1
 pathd_replies_total{kind=\"registered\"} 2
 pathd_replies_total{kind=\"purged\"} 1
 pathd_replies_total{kind=\"removed\"} 1
+# HELP pathd_notices_dropped_total Notices that were dropped, since the log took none.
+# TYPE pathd_notices_dropped_total counter
+pathd_notices_dropped_total 0
+# HELP pathd_uptime_seconds Time that the server has run.
 # TYPE pathd_uptime_seconds gauge
 pathd_uptime_seconds ";
 
 /// The page after the number of seconds.
 const AFTER_SECONDS: &str = "
+# HELP pathd_build_info 1 for the version of the program, and the format that its checkpoints have.
+# TYPE pathd_build_info gauge
+pathd_build_info{version=\"0.9.0\",format=\"2\"} 1
+# HELP pathd_refusals_total Messages that were refused, by code.
 # TYPE pathd_refusals_total counter
 pathd_refusals_total{code=\"29\"} 1
 pathd_refusals_total{code=\"41\"} 2
 ";
 
-/// The page in an answer, without the number of seconds.
+/// A text without the number at its front.
+fn after_number(text: &str) -> &str {
+    text.trim_start_matches(|letter: char| letter.is_ascii_digit() || letter == '.')
+}
+
+/// The page in an answer, whatever the times of commits and the number of seconds are.
 fn is_page(answer: &str) -> bool {
     let Some((head, page)) = answer.split_once("\r\n\r\n") else {
         return false;
     };
-    let Some(rest) = page.strip_prefix(BEFORE_SECONDS) else {
+    let Some(rest) = page.strip_prefix(BEFORE_TIMES) else {
         return false;
     };
-    let rest = rest.trim_start_matches(|letter: char| letter.is_ascii_digit());
-    head.starts_with("HTTP/1.1 200 OK\r\n") && rest == AFTER_SECONDS
+    let Some((_times, rest)) = rest.split_once(ALL_TIMED) else {
+        return false;
+    };
+    let Some(rest) = after_number(rest).strip_prefix(BEFORE_SECONDS) else {
+        return false;
+    };
+    head.starts_with("HTTP/1.1 200 OK\r\n") && after_number(rest) == AFTER_SECONDS
 }
 
 #[test]
@@ -198,6 +272,125 @@ fn page_after_a_session(rt: HostRuntime) -> Result<(), Fail> {
     let (is_replied, answer) = seen?;
     assert!(rt; is_replied && is_page(answer.as_str()), "{answer}");
     let _device = opens_to(&rt, alloc, device, (1, 93, 4));
+    Ok(())
+}
+
+/// Asks for the page and for the health while a sync is held under the state's lock, and for the
+/// page after it.
+#[derive(Drop)]
+struct Waiting<'a> {
+    door: &'a Door,
+    at: SocketAddr,
+}
+
+/// The line of the call that is held, but for its time.
+const HELD_CALL: &str = "\npathd_call_seconds{call=\"sync_group\"} ";
+
+/// The line of a call that is not under way.
+const NO_CALL: &str = "\npathd_call_seconds{call=\"sync_group\"} 0.000000\n";
+
+/// The answer where commands are accepted.
+const IS_HEALTHY: &str =
+    "HTTP/1.1 200 OK\r\nContent-Type: text/plain\r\nContent-Length: 3\r\nConnection: close\r\n\r\nok\n";
+
+/// The answer where they are not.
+const HAS_STOPPED: &str =
+    "HTTP/1.1 503 Service Unavailable\r\nContent-Type: text/plain\r\nContent-Length: 65\r\nConnection: close\r\n\r\nthe store has stopped: no command is accepted, and lookups go on\n";
+
+impl Clients for Waiting<'_> {
+    type Seen = [bool; 7];
+
+    fn meet<R: Outside>(&self, rt: R, alloc: Global, to: SocketAddr) -> io::Result<[bool; 7]> {
+        let mut peer = Peer::connect(rt, alloc, to)?;
+        // The store is open once a request is answered.
+        let is_open = peer.asks(EMPTY_LOOKUP, NO_DESTINATION)?;
+        self.door.arm(&rt);
+        peer.send(REGISTRATION)?;
+        let is_held = self.door.is_held_soon(&rt);
+        let held = answer_to(rt, alloc, self.at, GET_NUMBERS);
+        let health = answer_to(rt, alloc, self.at, GET_HEALTH);
+        self.door.open(&rt);
+        let is_acknowledged = peer.receives(REGISTERED)?;
+        let after = answer_to(rt, alloc, self.at, GET_NUMBERS)?;
+        let held = held?;
+        Ok([
+            is_open,
+            is_held,
+            held.as_str().contains(HELD_CALL) && !held.as_str().contains(NO_CALL),
+            held.as_str().contains("\npathd_commands_pending 1\n"),
+            health?.as_str() == IS_HEALTHY,
+            is_acknowledged,
+            after.as_str().contains(NO_CALL),
+        ])
+    }
+}
+
+#[test]
+fn page_while_a_sync_is_held(rt: HostRuntime) -> Result<(), Fail> {
+    let alloc = rt.alloc();
+    let door = Door::new();
+    let holds = Holds {
+        rt: &rt,
+        door: &door,
+    };
+    let device = HeldDevice::new(formatted(&rt, alloc, LEAST), holds);
+    let options = options(&rt, alloc, 1);
+    let (status, at) = listen_for_status(&rt);
+    let clients = Waiting { door: &door, at };
+    let (device, served, seen) = serve_watched(
+        &rt,
+        alloc,
+        device,
+        status,
+        &options,
+        &clients,
+        &Counts::new(),
+    );
+    assert_eq!(rt; served, Ok(1));
+    assert_eq!(rt; seen?, [true; 7]);
+    assert_eq!(rt; door.latch(&rt), Latch::Open);
+    let (device, _gate) = device.into_parts();
+    let _device = opens_to(&rt, alloc, device, (1, 93, 1));
+    Ok(())
+}
+
+/// Asks for the health before and after a fault of the device.
+#[derive(Drop)]
+struct Stopping {
+    at: SocketAddr,
+}
+
+impl Clients for Stopping {
+    type Seen = [bool; 4];
+
+    fn meet<R: Outside>(&self, rt: R, alloc: Global, to: SocketAddr) -> io::Result<[bool; 4]> {
+        let mut peer = Peer::connect(rt, alloc, to)?;
+        let is_acknowledged = peer.asks(REGISTRATION, REGISTERED)?;
+        let before = answer_to(rt, alloc, self.at, GET_HEALTH)?;
+        let is_unknown = peer.asks(PURGE, "00000002ff62")?;
+        let after = answer_to(rt, alloc, self.at, GET_HEALTH)?;
+        Ok([
+            is_acknowledged,
+            before.as_str() == IS_HEALTHY,
+            is_unknown,
+            after.as_str() == HAS_STOPPED,
+        ])
+    }
+}
+
+#[test]
+fn health_before_and_after_a_fault(rt: HostRuntime) -> Result<(), Fail> {
+    let alloc = rt.alloc();
+    let device = failing(&rt, alloc);
+    let options = options(&rt, alloc, 1);
+    let (status, at) = listen_for_status(&rt);
+    let clients = Stopping { at };
+    let counts = Counts::new();
+    let (_device, served, seen) = serve_watched(
+        &rt, alloc, device, status, &options, &clients, &counts,
+    );
+    assert_eq!(rt; served, Ok(1));
+    assert_eq!(rt; seen?, [true; 4]);
     Ok(())
 }
 

@@ -2,7 +2,7 @@ use Rattle.std.proofs.Common.{◌++◌, ◌∙◌, ap, sym, take, codes, string_
 use Rattle.std.specs.List.{flat_map}
 use Rattle.std.proofs.lemmas.List.{take_more, flat_map_more}
 use Rattle.status_page.specs.declared.counts.CodeCount.{CodeCount}
-use Rattle.status_page.specs.Lines.{type_line}
+use Rattle.status_page.specs.Lines.{heading}
 use Rattle.status_page.specs.Page.{refusals, refusal_line}
 use Rattle.status_page.proofs.text.refusals_text.Goals as goal
 
@@ -13,7 +13,7 @@ loop-refusal-preserved c =
     let index = c.loop-refusal.refusal-index in
     let none : CodeCount = record { code = 0; count = 0 } in
     let refusal = get_or counted index none in
-    let name = type_line refusals (codes "counter") in
+    let name = heading refusals (codes "Messages that were refused, by code.") (codes "counter") in
     let earlier = take index counted in
     let line = c.as_str.ensures.value ∙ c.in_ok-line.ensures in
     c.in_ok-push_str.ensures.bytes
