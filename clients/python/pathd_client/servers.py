@@ -53,6 +53,7 @@ class Servers:
         self._when_full = when_full
         self._retry = retry
         self._changed = threading.Condition()
+        self._has_ended = False
         # The server that has answered last: the first that the next lookup asks.
         self._first = 0
         opened = [
@@ -122,8 +123,10 @@ class Servers:
 
     def close(self) -> None:
         """Ends the threads, and closes the sessions. Commands that wait are lost: `drain` waits for
-        them before."""
+        them before. A call that waits for acknowledgements is a NotAcknowledged, as later ones are.
+        """
         with self._changed:
+            self._has_ended = True
             for sender in self._senders:
                 sender.end()
         for sender in self._senders:
@@ -142,7 +145,8 @@ class Servers:
 
     def _is_decided(self, delivery: Delivery) -> bool:
         is_acknowledged = delivery.is_acknowledged(self._acknowledge)
-        return is_acknowledged or not delivery.can_be_acknowledged(self._acknowledge)
+        may_be = not self._has_ended and delivery.can_be_acknowledged(self._acknowledge)
+        return is_acknowledged or not may_be
 
     def _ask_each(self, lookup: Lookup, deadline: Deadline) -> Reply:
         """Asks the servers one after the other, until one answers. Each has an equal part of the

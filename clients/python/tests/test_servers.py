@@ -279,6 +279,18 @@ class Ends(unittest.TestCase):
             servers.close()
             self.assertLess(time.monotonic() - begun, 5.0)
 
+    def test_calls_end(self) -> None:
+        with FakeStore(is_silent) as silent:
+            servers = servers_of(silent)
+            timer = threading.Timer(0.2, servers.close)
+            timer.start()
+            begun = time.monotonic()
+            for _ in range(2):
+                with self.assertRaises(NotAcknowledged):
+                    servers.command(PURGE)
+            self.assertLess(time.monotonic() - begun, 5.0)
+            timer.join()
+
 
 if __name__ == "__main__":
     unittest.main()
