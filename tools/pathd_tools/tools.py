@@ -42,6 +42,7 @@ ATTACKS = [
     Tool("refused-tests", "attacks.refused_tests", "refuses each allocation of each test"),
     Tool("refused", "attacks.refused", "refused-memory, refused-calls and refused-tests"),
     Tool("peers", "attacks.peers", "slow, silent, deaf and resetting peers, 10,000 connections, and the server's memory"),
+    Tool("servers", "attacks.servers", "three servers with the same commands, each killed and started again in turn"),
     Tool("soak", "attacks.soak", "a mixed load for an hour, with many checkpoints"),
     Tool("full-disk", "attacks.full_disk", "a file system that runs out of room; as root"),
     Tool("snapshots", "attacks.snapshots", "snapshots of a store beside its running server; as root"),
