@@ -34,6 +34,7 @@ PROGRAMS = [
     ("protoc go protoc-gen-go golang-google-protobuf-dev", "go-client PROGRAM"),
     (GRPC, "grpc PROGRAM"),
     ("root losetup", "block-device PROGRAM"),
+    ("root ip nft wg haproxy stunnel openssl python3-protobuf", "network PROGRAM"),
     ("root btrfs", "snapshots --program PROGRAM"),
     ("root losetup nspawn nft ip make protoc python3-protobuf python3-venv", "units --short PROGRAM"),
     ("gcc python3", "refused-calls --program PROGRAM"),

@@ -27,6 +27,7 @@ CHECKS = [
     Tool("locks", "locks.sh", "the commands beside another process's lock"),
     Tool("faults", "faults.sh", "the commands while calls on the store's file fail or are interrupted"),
     Tool("block-device", "block_device.sh", "the commands over a loop device, also one that loses writes; as root"),
+    Tool("network", "network.sh", "the tunnel and the proxies of docs/NETWORK.md, in two network namespaces; as root"),
     Tool("alert-rules", "checks.alert_rules", "the alert rules and their tests, and the dashboard's expressions, by promtool"),
     Tool("package", "package.sh", "makes the Debian package, and installs and removes it in a new system; as root"),
     Tool("units", "units.sh", "the steps of docs/OPERATING.md and the units of deploy/ in a container; as root"),
