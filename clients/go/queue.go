@@ -31,27 +31,23 @@ func (q *queue) put(d *delivery) (dropped []*delivery) {
 	return dropped
 }
 
-// begin answers the front of the queue, commands of one kind, at most so many: they are under way.
-// Commands of one kind may be carried out twice and in any order, as no other comes between them.
+// begin answers the front of the queue, at most so many commands: purges alone, or none. They are
+// under way. Some of them may be carried out, and after that all of them in their order: the rows are
+// those that all of them leave.
 func (q *queue) begin(most int) []*delivery {
 	count := 0
-	for count < len(q.waiting) && count < most && q.waiting[count].kind == q.waiting[0].kind {
+	for count < len(q.waiting) && count < most && (q.waiting[count].kind == purge) == (q.waiting[0].kind == purge) {
 		count++
 	}
 	q.underWay = count
 	return append([]*delivery(nil), q.waiting[:count]...)
 }
 
-// end takes out those of the commands under way that are settled. The others wait again.
-func (q *queue) end(isSettled func(number int) bool) {
-	var kept []*delivery
-	for number, d := range q.waiting[:q.underWay] {
-		if isSettled(number) {
-			q.bytes -= d.size()
-		} else {
-			kept = append(kept, d)
-		}
+// end takes out the first commands under way, which are settled. The others wait again.
+func (q *queue) end(settled int) {
+	for _, d := range q.waiting[:settled] {
+		q.bytes -= d.size()
 	}
-	q.waiting = append(kept, q.waiting[q.underWay:]...)
+	q.waiting = append([]*delivery(nil), q.waiting[settled:]...)
 	q.underWay = 0
 }

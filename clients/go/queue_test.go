@@ -20,16 +20,14 @@ func filled(most, mostBytes int, listed []*delivery) *queue {
 	return q
 }
 
-func all(int) bool { return true }
-
-func TestAFrontIsOfOneKind(t *testing.T) {
-	listed := numbered(register, register, purge, register)
+func TestPurgesAreApart(t *testing.T) {
+	listed := numbered(register, remove, purge, purge, register)
 	q := filled(9, 999, listed)
-	for _, wanted := range [][]*delivery{listed[:2], listed[2:3], listed[3:]} {
+	for _, wanted := range [][]*delivery{listed[:2], listed[2:4], listed[4:]} {
 		if front := q.begin(window); !reflect.DeepEqual(front, wanted) {
 			t.Errorf("%v", front)
 		}
-		q.end(all)
+		q.end(len(wanted))
 	}
 	if front := q.begin(window); len(front) != 0 || q.bytes != 0 {
 		t.Errorf("%v, %d bytes", front, q.bytes)
@@ -43,8 +41,8 @@ func TestWhatIsNotSettledStaysInFront(t *testing.T) {
 	listed := numbered(register, register, register, register)
 	q := filled(9, 999, listed)
 	q.begin(3)
-	q.end(func(number int) bool { return number == 1 })
-	if front := q.begin(window); !reflect.DeepEqual(front, []*delivery{listed[0], listed[2], listed[3]}) {
+	q.end(1)
+	if front := q.begin(window); !reflect.DeepEqual(front, listed[1:]) {
 		t.Errorf("%v", front)
 	}
 }

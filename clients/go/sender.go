@@ -114,24 +114,24 @@ func (s *sender) send(ctx context.Context, batch []*delivery) (results []Result,
 	return results, err
 }
 
-// settle notes the results, and answers what went wrong.
+// settle notes the results up to the first that is not for good, and answers what went wrong. The
+// commands from there on are sent again, so that they are carried out in their order.
 func (s *sender) settle(batch []*delivery, results []Result, err error) error {
 	s.servers.lock.Lock()
 	defer s.servers.lock.Unlock()
-	isSettled := func(number int) bool {
-		return number < len(results) && !isSentAgain(results[number].Err)
-	}
-	for number, got := range results {
-		if !isSettled(number) {
+	settled := 0
+	for _, got := range results {
+		if isSentAgain(got.Err) {
 			err = got.Err
-			continue
+			break
 		}
-		batch[number].results[s.number] = got
+		batch[settled].results[s.number] = got
+		settled++
 		if got.Err != nil {
 			s.state.Refused++
 		}
 	}
-	s.queue.end(isSettled)
+	s.queue.end(settled)
 	s.state.Err = err
 	s.servers.notify()
 	return err

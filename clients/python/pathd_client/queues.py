@@ -4,9 +4,10 @@ from __future__ import annotations
 from collections import deque
 from dataclasses import dataclass
 from enum import Enum
-from itertools import takewhile
+from itertools import islice, takewhile
 
 from .deliveries import Delivery
+from .requests import Purge
 
 
 class WhenFull(Enum):
@@ -66,22 +67,22 @@ class CommandQueue:
         return dropped
 
     def begin(self, most: int) -> list[Delivery]:
-        """The front of the queue: commands of one kind, at most so many. They are under way.
+        """The front of the queue, at most so many commands: purges alone, or none. They are under
+        way.
 
-        Commands of one kind may be carried out twice, and in any order: nothing else of the rows
-        changes by that.
+        Some of them may be carried out, and after that all of them in their order: the rows are
+        those that all of them leave.
         """
         if not self._waiting:
             return []
-        kind = type(self._waiting[0].command)
-        alike = takewhile(lambda delivery: type(delivery.command) is kind, self._waiting)
-        front = [delivery for delivery, _ in zip(alike, range(most), strict=False)]
+        are_purges = isinstance(self._waiting[0].command, Purge)
+        alike = takewhile(lambda it: isinstance(it.command, Purge) is are_purges, self._waiting)
+        front = list(islice(alike, most))
         self._under_way = len(front)
         return front
 
-    def end(self, settled: list[Delivery]) -> None:
-        """Takes out those of the commands under way that are settled. The others wait again."""
-        front = [self._waiting.popleft() for _ in range(self._under_way)]
-        self._waiting.extendleft(it for it in reversed(front) if it not in settled)
+    def end(self, settled: int) -> None:
+        """Takes out the first commands under way, which are settled. The others wait again."""
+        for _ in range(settled):
+            self.size -= self._waiting.popleft().size
         self._under_way = 0
-        self.size -= sum(delivery.size for delivery in settled)

@@ -110,14 +110,18 @@ class Sender:
     def _settle(
         self, batch: Sequence[Delivery], replies: Sequence[Reply | None], fault: str | None
     ) -> None:
-        settled = []
+        """Notes the replies up to the first that is none, or none for good. The commands from there
+        on are sent again, so that they are carried out in their order."""
+        settled = 0
         for delivery, reply in zip(batch, replies, strict=True):
             if isinstance(reply, Refused) and reply.code in SENT_AGAIN:
                 fault = str(reply)
-            elif reply is not None:
-                self._refused += isinstance(reply, Refused)
-                delivery.settle(self._number, reply)
-                settled.append(delivery)
+                break
+            if reply is None:
+                break
+            self._refused += isinstance(reply, Refused)
+            delivery.settle(self._number, reply)
+            settled += 1
         self._queue.end(settled)
         self._fault = fault
         self._changed.notify_all()

@@ -26,12 +26,12 @@ def filled(*listed: Delivery, bounds: Bounds = Bounds()) -> CommandQueue:
 class Orders(unittest.TestCase):
     """What is sent next."""
 
-    def test_a_front_is_of_one_kind(self) -> None:
-        listed = deliveries(registration(0), registration(1), PURGE, registration(2))
+    def test_purges_are_apart(self) -> None:
+        listed = deliveries(registration(0), REMOVE, PURGE, PURGE, registration(1))
         queue = filled(*listed)
-        for front in (listed[:2], listed[2:3], listed[3:], listed[:0]):
+        for front in (listed[:2], listed[2:4], listed[4:], listed[:0]):
             self.assertEqual(queue.begin(64), front)
-            queue.end(front)
+            queue.end(len(front))
         self.assertEqual((len(queue), queue.size), (0, 0))
 
     def test_a_front_is_bounded(self) -> None:
@@ -42,8 +42,9 @@ class Orders(unittest.TestCase):
         listed = deliveries(*map(registration, range(4)))
         queue = filled(*listed)
         queue.begin(3)
-        queue.end([listed[1]])
-        self.assertEqual(queue.begin(64), [listed[0], listed[2], listed[3]])
+        queue.end(1)
+        self.assertEqual(queue.begin(64), listed[1:])
+        self.assertEqual(queue.size, sum(delivery.size for delivery in listed[1:]))
 
 
 class Rooms(unittest.TestCase):
@@ -68,7 +69,7 @@ class Rooms(unittest.TestCase):
         queue = filled(first, second, bounds=Bounds(commands=2))
         queue.begin(1)
         self.assertEqual(queue.put(third), [second])
-        queue.end([first])
+        queue.end(1)
         self.assertEqual(queue.begin(64), [third])
 
     def test_a_new_command_without_any_room(self) -> None:

@@ -147,6 +147,24 @@ class Commands(unittest.TestCase):
                 self.assertEqual(servers.command(PURGE), [TAKEN])
             self.assertEqual(len(store.commands), 3)
 
+    def test_what_follows_a_refusal_that_passes_is_sent_again(self) -> None:
+        """A removal never comes before the registration that it follows."""
+        refused = [content(0)]
+
+        def answer(sent: bytes) -> bytes:
+            if sent in refused:
+                refused.remove(sent)
+                return refusal(Code.BUSY)
+            return acknowledges(sent)
+
+        with FakeStore() as up, FakeStore(answer, is_up=False) as away:
+            with servers_of(up, away, acknowledge=Acknowledge.ONE) as servers:
+                servers.command(registration(0))
+                servers.command(REMOVE)
+                away.start()
+                self.assertTrue(servers.drain(PATIENCE))
+        self.assertEqual(away.commands, [content(0), frame(REMOVE)[4:]] * 2)
+
     def test_too_many_bytes_are_sent_to_none(self) -> None:
         with FakeStore() as store, servers_of(store) as servers:
             with self.assertRaises(ValueError):
