@@ -65,7 +65,7 @@ func (c *Client) Close() {
 // Register registers segments: of one type and the same hops the newest stays. It returns once the
 // registration is on the server's device.
 func (c *Client) Register(ctx context.Context, segments *pb.SegmentsRegistrationRequest) (Ack, error) {
-	body, err := proto.MarshalOptions{Deterministic: true}.Marshal(segments)
+	body, err := registrationBody(segments)
 	if err != nil {
 		return Ack{}, err
 	}
@@ -87,18 +87,35 @@ func (c *Client) Lookup(ctx context.Context, source, destination uint64) (*pb.Se
 
 // Purge drops the segments that expire at a moment or before, in half seconds since 1970.
 func (c *Client) Purge(ctx context.Context, moment uint64) (Ack, error) {
-	return c.command(ctx, purge, binary.BigEndian.AppendUint64(nil, moment))
+	return c.command(ctx, purge, purgeBody(moment))
 }
 
 // Remove drops the segment of a type with an id.
 func (c *Client) Remove(ctx context.Context, kind pb.SegmentType, id [32]byte) (Ack, error) {
-	return c.command(ctx, remove, append([]byte{byte(kind)}, id[:]...))
+	return c.command(ctx, remove, removalBody(kind, id))
 }
 
-func (c *Client) command(ctx context.Context, kind byte, body []byte) (ack Ack, err error) {
-	if body, err = c.ask(ctx, kind, body); err != nil {
+func registrationBody(segments *pb.SegmentsRegistrationRequest) ([]byte, error) {
+	return proto.MarshalOptions{Deterministic: true}.Marshal(segments)
+}
+
+func purgeBody(moment uint64) []byte {
+	return binary.BigEndian.AppendUint64(nil, moment)
+}
+
+func removalBody(kind pb.SegmentType, id [32]byte) []byte {
+	return append([]byte{byte(kind)}, id[:]...)
+}
+
+func (c *Client) command(ctx context.Context, kind byte, body []byte) (Ack, error) {
+	body, err := c.ask(ctx, kind, body)
+	if err != nil {
 		return Ack{}, err
 	}
+	return readAck(body)
+}
+
+func readAck(body []byte) (ack Ack, err error) {
 	if len(body) != binary.Size(ack) {
 		return Ack{}, fmt.Errorf("%w: an acknowledgement of %d bytes", ErrReply, len(body))
 	}

@@ -38,6 +38,15 @@ type call struct {
 // ask answers the body of the reply to a request. Where the context ends first the reply is dropped
 // when it comes, and a command that was sent may be taken.
 func (c *Client) ask(ctx context.Context, kind byte, body []byte) ([]byte, error) {
+	asked, err := c.begin(ctx, kind, body)
+	if err != nil {
+		return nil, err
+	}
+	return c.await(asked)
+}
+
+// begin has a request sent after those before it.
+func (c *Client) begin(ctx context.Context, kind byte, body []byte) (*call, error) {
 	if 1+len(body) > mostRequest {
 		return nil, ErrTooLarge
 	}
@@ -48,16 +57,21 @@ func (c *Client) ask(ctx context.Context, kind byte, body []byte) ([]byte, error
 	asked := &call{ctx, kind, append(append(frame, kind), body...), make(chan result, 1)}
 	select {
 	case c.calls <- asked:
+		return asked, nil
 	case <-ctx.Done():
 		return nil, ctx.Err()
 	case <-c.ended:
 		return nil, c.err
 	}
+}
+
+// await answers the body of the reply to a request that was begun.
+func (c *Client) await(asked *call) ([]byte, error) {
 	select {
 	case got := <-asked.result:
 		return got.body, got.err
-	case <-ctx.Done():
-		return nil, ctx.Err()
+	case <-asked.ctx.Done():
+		return nil, asked.ctx.Err()
 	case <-c.ended:
 	}
 	select { // a reply that came before the end

@@ -35,11 +35,13 @@ PROGRAMS = [
     ("protoc go protoc-gen-go golang-google-protobuf-dev", "go-client PROGRAM"),
     (GRPC, "grpc PROGRAM"),
     ("root losetup", "block-device PROGRAM"),
+    ("root ip nft wg haproxy stunnel openssl python3-protobuf", "network PROGRAM"),
     ("root btrfs", "snapshots --program PROGRAM"),
     ("root losetup nspawn nft ip make protoc python3-protobuf python3-venv", "units --short PROGRAM"),
     ("gcc python3", "refused-calls --program PROGRAM"),
     ("gcc python3", "power-cuts --program PROGRAM"),
     ("python3", "histories --program PROGRAM"),
+    ("python3-protobuf", "servers --program PROGRAM"),
     ("gcc python3", "short-load --no-plot PROGRAM"),
     ("gcc python3 python3-matplotlib", "short-load PROGRAM"),
 ]

@@ -82,7 +82,7 @@ def format_store(program: str, store: Path, layout: model.Layout, version: int =
 
 
 class Server:
-    """A server of a store on a free port of the loopback, run by the words `under` where there are some."""
+    """A server of a store on the loopback, run by the words `under` where there are some. Port 0 is any free one."""
 
     def __init__(
         self,
@@ -93,9 +93,10 @@ class Server:
         limits: str = "",
         notices: Path | None = None,
         under: Sequence[str] = (),
+        port: int = 0,
     ) -> None:
         self.notices = notices or Path(f"{store}.notices")
-        command = [*under, program, "run", str(store), "--listen", "127.0.0.1:0", *CORE_WORDS, *words]
+        command = [*under, program, "run", str(store), "--listen", f"127.0.0.1:{port}", *CORE_WORDS, *words]
         if limits:
             command = ["bash", "-c", f'{limits} && exec "$@"', "bash", *command]
         with open(self.notices, "wb") as lines:

@@ -4,7 +4,6 @@ from __future__ import annotations
 import ipaddress
 import signal
 import sys
-import threading
 from concurrent.futures import ThreadPoolExecutor
 
 import grpc
@@ -21,6 +20,7 @@ SERVICES = [LOOKUP_SERVICE, REGISTRATION_SERVICE]
 # kinds, those that wait for a thread among them. gRPC refuses others by RESOURCE_EXHAUSTED.
 MOST_STREAMS = 4
 MOST_CALLS = 1024
+ENDING = {signal.SIGTERM, signal.SIGINT}
 OPTIONS = [("grpc.so_reuseport", 0), ("grpc.max_receive_message_length", MOST_REQUEST)]
 
 
@@ -54,15 +54,14 @@ def server_of(settings: Settings, workers: Workers, checks: health.Health) -> tu
 
 def serve(settings: Settings) -> None:
     """Serves until a signal ends it; calls under way then have as long as the deadline."""
+    # All threads that start from here on have them blocked, too: only the wait below takes one.
+    signal.pthread_sigmask(signal.SIG_BLOCK, ENDING)
     workers = Workers(settings.pathd, settings.workers)
     checks = health.Health(Session(settings.pathd), SERVICES)
     server, port = server_of(settings, workers, checks)
-    ending = threading.Event()
-    for number in (signal.SIGTERM, signal.SIGINT):
-        signal.signal(number, lambda *_: ending.set())
     server.start()
     print(f"serves at {Address(settings.listen.host, port)}", flush=True)
-    ending.wait()
+    signal.sigwait(ENDING)
     checks.stop()
     server.stop(settings.deadline).wait()
     workers.close()

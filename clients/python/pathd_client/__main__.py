@@ -9,10 +9,11 @@ from itertools import islice
 from pathlib import Path
 
 from . import (
-    DEFAULT_RETRY, MOST_ROWS, Found, Lookup, Purge, Refused, Register, Remove, Reply, Request,
-    Retry, Row, SegmentType, Session, SessionError, expiry, hops_of, make_segment, parse_isd_as,
-    parse_path, path_text, segment_id, timestamp_of,
+    DEFAULT_RETRY, MOST_ROWS, Acknowledge, Lookup, Purge, Register, Remove, Request, Retry, Row,
+    SegmentType, Servers, Session, SessionError, make_segment, parse_addresses, parse_isd_as,
+    parse_path,
 )
+from .printing import ask_servers, ask_session
 
 FILE_HELP = """\
 A line of FILE is a segment: its type (up, down or core), when it was made (in
@@ -73,40 +74,30 @@ def requests_of(options: argparse.Namespace) -> list[Request]:
             return [Remove(type_of(options.type), bytes.fromhex(options.id))]
 
 
-def lines_of(reply: Reply) -> Iterator[str]:
-    """What is printed of a reply: of a segment its type, its id, when it was made and when it
-    expires, and its path."""
-    if not isinstance(reply, Found):
-        yield str(reply)
-        return
-    for kind, segment in reply.rows:
-        hops = hops_of(segment)
-        times = f"{timestamp_of(segment)} {expiry(segment)}"
-        yield f"{kind.name.lower()} {segment_id(hops).hex()} {times} {path_text(hops)}"
-
-
 def key_of(text: str) -> bytes:
     """The key that hexadecimal digits give."""
     return bytes.fromhex(text)
 
 
-def address_of(text: str) -> tuple[str, int]:
-    """The host and the port of a text such as `127.0.0.1:30252` or `[::1]:30252`."""
-    host, colon, port = text.rpartition(":")
-    if not colon:
-        raise ValueError(f"no address: {text}")
-    return host.strip("[]"), int(port)
+def retry_of(text: str) -> Retry:
+    """As many attempts as a text says."""
+    return Retry(attempts=int(text))
 
 
 def parser_of() -> argparse.ArgumentParser:
     """The words of the command line."""
     parser = argparse.ArgumentParser(
         prog="python -m pathd_client",
-        description="Asks a pathd server to register, look up, purge or remove segments.",
+        description="Asks a pathd server, or several, to register, look up, purge or remove "
+        "segments.",
     )
     parser.add_argument(
-        "--connect", type=address_of, metavar="ADDR", default="127.0.0.1:30252",
-        help="the server's address [%(default)s]",
+        "--connect", type=parse_addresses, metavar="ADDR[,ADDR..]", default="127.0.0.1:30252",
+        help="the server's address, or those of several [%(default)s]",
+    )
+    parser.add_argument(
+        "--acknowledge", choices=[it.value for it in Acknowledge], default=Acknowledge.ALL.value,
+        help="how many of several servers have to acknowledge a command [%(default)s]",
     )
     parser.add_argument(
         "--connect-timeout", metavar="SECONDS", type=float, default=5.0,
@@ -114,11 +105,13 @@ def parser_of() -> argparse.ArgumentParser:
     )
     parser.add_argument(
         "--timeout", metavar="SECONDS", type=float, default=30.0,
-        help="how long a reply may take [%(default)s]",
+        help="how long a reply may take; of several servers, how long a request may take in all "
+        "[%(default)s]",
     )
     parser.add_argument(
-        "--attempts", metavar="N", type=int, default=DEFAULT_RETRY.attempts,
-        help="how often a request is tried at most, where it may be tried again [%(default)s]",
+        "--attempts", metavar="N", type=retry_of, default=str(DEFAULT_RETRY.attempts),
+        help="how often a request to one server is tried at most, where it may be tried again "
+        "[%(default)s]",
     )
     add_commands(parser)
     return parser
@@ -152,25 +145,33 @@ def add_commands(parser: argparse.ArgumentParser) -> None:
 
 def session_of(options: argparse.Namespace) -> Session:
     """The session that the options ask for."""
-    host, port = options.connect
+    host, port = options.connect[0]
     return Session(
         host, port,
         connect_timeout=options.connect_timeout,
         reply_timeout=options.timeout,
-        retry=Retry(attempts=options.attempts),
+        retry=options.attempts,
     )
 
 
-def ask_all(session: Session, requests: Sequence[Request]) -> bool:
-    """Prints the replies to requests, which go one after the other. Answers whether none was
-    refused."""
-    is_done = True
-    for request in requests:
-        reply = session.ask(request)
-        for line in lines_of(reply):
-            print(line)
-        is_done = is_done and not isinstance(reply, Refused)
-    return is_done
+def servers_of(options: argparse.Namespace) -> Servers:
+    """The servers that the options ask for."""
+    return Servers(
+        options.connect,
+        acknowledge=Acknowledge(options.acknowledge),
+        within=options.timeout,
+        connect_timeout=options.connect_timeout,
+        reply_timeout=options.timeout,
+    )
+
+
+def ask(options: argparse.Namespace, requests: Sequence[Request]) -> bool:
+    """Prints the replies to requests. Answers whether none was refused."""
+    if len(options.connect) == 1:
+        with session_of(options) as session:
+            return ask_session(session, requests)
+    with servers_of(options) as servers:
+        return ask_servers(servers, requests, options.timeout)
 
 
 def main() -> None:
@@ -180,14 +181,12 @@ def main() -> None:
     options = parser.parse_args()
     try:
         requests = requests_of(options)
-        session = session_of(options)
     except ValueError as fault:
         parser.error(str(fault))
     except OSError as fault:
         sys.exit(f"error: {fault}")
     try:
-        with session:
-            is_done = ask_all(session, requests)
+        is_done = ask(options, requests)
     except (OSError, ValueError, SessionError) as fault:
         sys.exit(f"error: {fault}")
     sys.exit(0 if is_done else 1)

@@ -1,6 +1,7 @@
 """A connection to a server."""
 from __future__ import annotations
 
+import contextlib
 import selectors
 import socket
 from collections.abc import Iterator
@@ -39,6 +40,11 @@ class Connection:
         """Closes the connection. Bytes that were not sent are dropped."""
         self._selector.close()
         self._socket.close()
+
+    def interrupt(self) -> None:
+        """Ends the connection, from any thread: the thread that waits for it finds its end."""
+        with contextlib.suppress(OSError):
+            self._socket.shutdown(socket.SHUT_RDWR)
 
     @property
     def sent(self) -> int:

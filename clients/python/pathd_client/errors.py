@@ -37,3 +37,15 @@ class OutcomeUnknown(SessionError):
 
 class ReplyTimeout(SessionError, TimeoutError):
     """The reply did not come in time. Whether the request was carried out is not known."""
+
+
+class NotAcknowledged(SessionError):
+    """A command was not acknowledged by as many servers as it has to be, in time or ever.
+
+    `replies` has an item for each server, in order. The command is still sent to the servers whose
+    queues have it.
+    """
+
+
+class QueueFull(SessionError):
+    """A server's queue has no room for a command, which was sent to no server."""

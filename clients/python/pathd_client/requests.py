@@ -114,4 +114,5 @@ class Remove:
 
 # Each has the kind of its frame, whether it may be carried out twice, the bytes of its body, and a
 # line that says what it asks for.
-Request = Register | Lookup | Purge | Remove
+Command = Register | Purge | Remove
+Request = Command | Lookup

@@ -9,6 +9,7 @@ from dataclasses import dataclass
 from typing import ClassVar
 
 from .connection import Connection
+from .deadlines import Deadline
 from .errors import (
     ConnectionEnded, FrameError, OutcomeUnknown, ReplyTimeout, SessionError, TurnedAway,
 )
@@ -16,6 +17,9 @@ from .frames import frame, read_frames
 from .replies import Refused, Reply, read_reply
 from .requests import Request
 from .retries import DEFAULT_RETRY, Retry
+
+# How long a connection may take at least, in seconds.
+LEAST_TIMEOUT = 0.001
 
 
 @dataclass
@@ -116,6 +120,8 @@ class Session:
         self._reply_timeout = reply_timeout
         self._retry = retry
         self._connection: Connection | None = None
+        # Of the call that is under way.
+        self._deadline = Deadline()
 
     def __enter__(self) -> Session:
         return self
@@ -129,21 +135,32 @@ class Session:
             self._connection.close()
             self._connection = None
 
-    def ask(self, request: Request) -> Reply:
+    def interrupt(self) -> None:
+        """Ends the connection, from any thread: a call that waits for a reply is a
+        ConnectionEnded."""
+        connection = self._connection
+        if connection is not None:
+            connection.interrupt()
+
+    def ask(self, request: Request, *, within: float | None = None) -> Reply:
         """Sends a request, and waits for its reply.
 
         SessionError where there is none. ValueError where the request has too many bytes; then
-        nothing is sent.
+        nothing is sent. `within` bounds the whole call, in seconds.
         """
-        return self.pipeline([request])[0]
+        return self.pipeline([request], within=within)[0]
 
-    def pipeline(self, requests: Iterable[Request]) -> list[Reply]:
+    def pipeline(
+        self, requests: Iterable[Request], *, within: float | None = None
+    ) -> list[Reply]:
         """Sends requests without waiting for the replies between them, and answers the replies in
         the order of the requests.
 
         SessionError where a request has no reply; its `replies` are those that came. ValueError
-        where a request has too many bytes; then nothing is sent.
+        where a request has too many bytes; then nothing is sent. `within` bounds the whole call, in
+        seconds: the connection, the replies and the pauses before other attempts.
         """
+        self._deadline = Deadline.after(within)
         asked = [Asked(request, frame(request)) for request in requests]
         try:
             self._answer(asked)
@@ -159,7 +176,7 @@ class Session:
         makes no difference where they are all of one kind."""
         for pause in self._retry.pauses():
             asked = [entry for entry in asked if entry.is_refused_for_now]
-            if not asked:
+            if not asked or pause >= self._deadline.left():
                 return
             time.sleep(pause)
             self._answer(asked)
@@ -177,7 +194,7 @@ class Session:
                 if queue.answered > before:
                     pauses = self._retry.pauses()
                 pause = next(pauses, None)
-                if pause is None:
+                if pause is None or pause >= self._deadline.left():
                     raise
                 queue.begin_again()
                 time.sleep(pause)
@@ -204,23 +221,25 @@ class Session:
         if self._connection is not None and self._connection.has_ended():
             self.close()
         if self._connection is None:
+            # A socket without any time to connect would not wait at all.
+            timeout = max(min(self._connect_timeout, self._deadline.left()), LEAST_TIMEOUT)
             try:
-                self._connection = Connection(self._host, self._port, self._connect_timeout)
-            except OSError as fault:
+                self._connection = Connection(self._host, self._port, timeout)
+            except (OSError, UnicodeError) as fault:
                 raise ConnectionEnded(f"no connection: {fault}") from fault
         return self._connection
 
     def _exchange_over(self, connection: Connection, queue: Queue) -> None:
-        deadline = time.monotonic() + self._reply_timeout
+        reply = Deadline.after(self._reply_timeout)
         while not queue.is_done():
             queue.fill(connection)
             try:
-                connection.transfer(deadline - time.monotonic())
+                connection.transfer(min(reply.left(), self._deadline.left()))
             except TimeoutError as fault:
-                raise ReplyTimeout(f"no reply within {self._reply_timeout:g} seconds") from fault
+                raise ReplyTimeout("no reply in time") from fault
             for content in connection.contents():
                 queue.answer(content)
-                deadline = time.monotonic() + self._reply_timeout
+                reply = Deadline.after(self._reply_timeout)
 
 
 def check_repeatable(under_way: Iterable[Asked], sent: int, ended: ConnectionEnded) -> None:

@@ -10,6 +10,7 @@ from pathlib import Path
 from pathd_client import Register, SegmentType, frame, make_segment, parse_path
 
 from .fake_server import FakeServer, ack, answers, closes, refusal
+from .fake_store import FakeStore, counts
 from .samples import MADE, PATH, PURGE, REMOVE
 
 FOLDER = Path(__file__).resolve().parents[1]
@@ -74,11 +75,35 @@ class Commands(unittest.TestCase):
         self.assertEqual(status, 1)
         self.assertIn("may have been carried out", said)
 
+    def test_several_servers(self) -> None:
+        with FakeStore(counts(3)) as one, FakeStore(counts(5)) as other:
+            to = ["--connect", f"{one.address},{other.address}"]
+            status, printed, said = run(*to, "register", "-", text=f"down {MADE} {PATH}\n")
+            self.assertEqual(run(*to, "lookup", "1-ff00:0:110", "1-ff00:0:111"), (0, "", ""))
+        acknowledged = "0 inserted, 0 updated, 0 kept, 0 purged"
+        lines = f"{one.address}: place 3: {acknowledged}\n"
+        lines += f"{other.address}: place 5: {acknowledged}\n"
+        self.assertEqual((status, printed, said), (0, lines, ""))
+        self.assertEqual((one.commands, other.commands), ([frame(Register([DOWN]))[4:]],) * 2)
+        self.assertEqual((one.lookups, other.lookups), (1, 0))
+
+    def test_a_server_that_is_away(self) -> None:
+        with FakeStore() as up, FakeStore(is_up=False) as away:
+            to = ["--connect", f"{up.address},{away.address}", "--timeout", "1"]
+            status, printed, said = run(*to, "--acknowledge", "one", "purge")
+            self.assertEqual((status, len(printed.splitlines())), (0, 1))
+            self.assertIn(f"warning: {away.address} lacks 1: no connection", said)
+            status, printed, said = run(*to, "purge")
+        self.assertEqual((status, printed), (1, ""))
+        self.assertIn("1 of 2 servers acknowledged", said)
+
     def test_words_that_are_wrong(self) -> None:
         wrong: list[list[str]] = [
             ["remove", "sideways", "00" * 32], ["remove", "up", "00"], ["remove", "up", "zz"],
             ["lookup", "1", "1-1"], ["purge", "--at", "-1"], ["purge", "--at", "x"], ["register"],
             ["--connect", "nowhere", "purge"], ["--attempts", "0", "purge"], ["store"], [],
+            ["--connect", ":1", "purge"], ["--connect", "a:1,a:1", "purge"],
+            ["--connect", "a:65536", "purge"], ["--acknowledge", "some", "purge"],
         ]
         for words in wrong:
             status, printed, said = run(*words)

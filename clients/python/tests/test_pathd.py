@@ -10,8 +10,8 @@ import unittest
 from pathlib import Path
 
 from pathd_client import (
-    Ack, Code, Found, Lookup, Purge, Refused, Register, Remove, Request, Retry, SegmentType,
-    Session, TurnedAway, hops_of, run_session, segment_id,
+    Ack, Acknowledge, Code, Found, Lookup, Purge, Refused, Register, Remove, Request, Retry,
+    SegmentType, Servers, Session, TurnedAway, hops_of, run_session, segment_id,
 )
 
 from .samples import LOOKUP, QUICKLY, large_registration, registration, row
@@ -66,6 +66,11 @@ class Server:
         """Kills the program."""
         self._process.kill()
         self._process.wait()
+
+    def shown(self) -> str:
+        """What `show` prints of the store, once the program has ended."""
+        words = [PROGRAM, "show", self._store]
+        return subprocess.run(words, check=True, capture_output=True, text=True).stdout
 
     def session(self, retry: Retry = QUICKLY) -> Session:
         """A session with the server."""
@@ -132,6 +137,35 @@ class Sessions(unittest.TestCase):
             self.assertEqual(patient.ask(Remove(SegmentType.UP, bytes(32))), Ack(0, 0, 0, 0, 0))
             for session in [patient, *sessions]:
                 session.close()
+
+
+@unittest.skipUnless(PROGRAM, "PATHD names no program")
+class Several(unittest.TestCase):
+    """Servers that get the same commands."""
+
+    def test_a_server_that_is_away_gets_the_rows(self) -> None:
+        kind, segment = row(1)
+        with Server() as one, Server() as other:
+            addresses = [("127.0.0.1", server.port) for server in (one, other)]
+            with Servers(addresses, acknowledge=Acknowledge.ONE, within=PATIENCE) as servers:
+                servers.command(registration(0))
+                self.assertTrue(servers.drain(PATIENCE))
+                one.kill()
+                servers.command(registration(1))
+                servers.command(registration(2))
+                servers.command(Remove(kind, segment_id(hops_of(segment))))
+                self.assertEqual(servers.lookup(LOOKUP), Found([row(0), row(2)]))
+                one.start()
+                self.assertTrue(servers.drain(PATIENCE))
+            one.kill()
+            other.kill()
+            self.assertEqual(rows_of(one.shown()), rows_of(other.shown()))
+            self.assertEqual(len(rows_of(one.shown())), 2)
+
+
+def rows_of(shown: str) -> list[str]:
+    """The rows that `show` prints, without the place at the end."""
+    return shown.splitlines()[:-1]
 
 
 @unittest.skipUnless(PROGRAM, "PATHD names no program")

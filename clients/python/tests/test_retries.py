@@ -2,6 +2,7 @@
 from __future__ import annotations
 
 import unittest
+from itertools import islice
 
 from pathd_client import NO_RETRY, Retry
 
@@ -12,6 +13,7 @@ class Pauses(unittest.TestCase):
     def test_one_less_than_attempts(self) -> None:
         self.assertEqual(len(list(Retry(attempts=4).pauses())), 3)
         self.assertEqual(list(NO_RETRY.pauses()), [])
+        self.assertEqual(len(list(islice(Retry(attempts=None).pauses(), 1000))), 1000)
 
     def test_they_double_up_to_the_longest(self) -> None:
         for _ in range(100):

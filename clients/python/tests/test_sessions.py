@@ -2,10 +2,11 @@
 from __future__ import annotations
 
 import socket
+import threading
 import time
 import unittest
 from collections.abc import Iterator
-from contextlib import contextmanager
+from contextlib import contextmanager, suppress
 from unittest import mock
 
 from pathd_client import (
@@ -303,6 +304,40 @@ class Faults(unittest.TestCase):
                 self.assertIsInstance(caught.exception, TimeoutError)
                 self.assertEqual(session.ask(LOOKUP), NOTHING)
         self.assertEqual(server.requests, [contents(LOOKUP), contents(LOOKUP)])
+
+    def test_a_bound_on_the_whole_call(self) -> None:
+        def is_slow(peer: Peer) -> None:
+            with suppress(ConnectionError):
+                for _ in range(100):
+                    peer.read()
+                    time.sleep(0.05)
+                    peer.send(b"\x82")
+
+        with FakeServer(is_slow) as server, session_with(server) as session:
+            with self.assertRaises(SessionError) as caught:
+                session.pipeline([LOOKUP] * 100, within=0.5)
+            self.assertIn(NOTHING, caught.exception.replies)
+            self.assertIn(None, caught.exception.replies)
+
+    def test_a_bound_on_attempts(self) -> None:
+        retry = Retry(attempts=None, first_pause=0.01, longest_pause=0.01)
+        session = Session("127.0.0.1", 1, retry=retry)
+        with self.assertRaises(ConnectionEnded):
+            session.ask(LOOKUP, within=0.1)
+
+    def test_an_interrupt(self) -> None:
+        def is_silent(peer: Peer) -> None:
+            peer.wait_for_end()
+
+        with FakeServer(is_silent, answers(b"\x82")) as server:
+            with session_with(server, NO_RETRY) as session:
+                session.interrupt()
+                timer = threading.Timer(0.2, session.interrupt)
+                timer.start()
+                with self.assertRaises(ConnectionEnded):
+                    session.ask(LOOKUP)
+                timer.join()
+                self.assertEqual(session.ask(LOOKUP), NOTHING)
 
     def test_the_time_is_that_of_one_reply(self) -> None:
         def is_slow(peer: Peer) -> None:

@@ -1,0 +1,107 @@
+package pathd
+
+import (
+	"errors"
+	"fmt"
+)
+
+// Acknowledge says how many servers have to acknowledge a command.
+type Acknowledge int
+
+// All of the servers, which is the zero value; one of them; or more than half of them.
+const (
+	All Acknowledge = iota
+	One
+	Majority
+)
+
+func (a Acknowledge) needed(servers int) int {
+	switch a {
+	case One:
+		return 1
+	case Majority:
+		return servers/2 + 1
+	}
+	return servers
+}
+
+var (
+	// ErrNoServers is the error of an empty list of servers.
+	ErrNoServers = errors.New("pathd: no servers")
+	// ErrWaiting is the error of a server that has not replied yet. It gets the command in any case.
+	ErrWaiting = errors.New("pathd: the command waits")
+	// ErrDropped is the error of a server whose queue had no room for the command.
+	ErrDropped = errors.New("pathd: the command was dropped")
+	// ErrQueueFull is the error of a command that was sent to no server, as a queue has no room.
+	ErrQueueFull = errors.New("pathd: the queue of a server is full")
+)
+
+// Result is what a server has replied to a command: an acknowledgement where Err is nil.
+type Result struct {
+	Ack Ack
+	Err error
+}
+
+// NotAcknowledged is the error of a command that too few servers have acknowledged: before the
+// context ended, or for good. It wraps the error of the context.
+type NotAcknowledged struct {
+	Results []Result // one for each server
+	cause   error
+}
+
+// Error says how many servers have acknowledged the command, and what the others replied.
+func (e *NotAcknowledged) Error() string {
+	text := fmt.Sprintf("pathd: %d of %d servers acknowledged", acknowledged(e.Results), len(e.Results))
+	for _, it := range e.Results {
+		if it.Err != nil {
+			text += "; " + it.Err.Error()
+		}
+	}
+	return text
+}
+
+// Unwrap answers the error of the context, where it ended.
+func (e *NotAcknowledged) Unwrap() error {
+	return e.cause
+}
+
+func acknowledged(results []Result) (count int) {
+	for _, it := range results {
+		if it.Err == nil {
+			count++
+		}
+	}
+	return count
+}
+
+// delivery is a command that goes to several servers.
+type delivery struct {
+	kind    byte
+	body    []byte
+	results []Result // ErrWaiting where the server's queue has it
+}
+
+func newDelivery(kind byte, body []byte, servers int) *delivery {
+	d := &delivery{kind, body, make([]Result, servers)}
+	for number := range d.results {
+		d.results[number].Err = ErrWaiting
+	}
+	return d
+}
+
+// size answers how many bytes its frame has.
+func (d *delivery) size() int {
+	return 5 + len(d.body)
+}
+
+// isDecided answers whether as many servers as it needs have acknowledged it, or can't any more.
+func (d *delivery) isDecided(by Acknowledge) bool {
+	waiting := 0
+	for _, it := range d.results {
+		if it.Err == ErrWaiting {
+			waiting++
+		}
+	}
+	count, needed := acknowledged(d.results), by.needed(len(d.results))
+	return count >= needed || count+waiting < needed
+}

@@ -1,0 +1,271 @@
+package pathd
+
+import (
+	"context"
+	"errors"
+	"fmt"
+	"sync"
+	"time"
+
+	"google.golang.org/protobuf/proto"
+	pb "pathd/segmentspb"
+)
+
+// Options of Servers. What is left out has the value in brackets.
+type Options struct {
+	// How many servers have to acknowledge a command [All].
+	Acknowledge Acknowledge
+	// The most commands that wait for one server [4096], and the most bytes of their frames [16 MiB].
+	Commands, Bytes int
+	// Whether the oldest command that waits for a server is dropped where its queue has no room; else
+	// a new one is an ErrQueueFull, and is sent to no server.
+	Drop bool
+	// How long one try of one server may take [30 seconds].
+	Timeout time.Duration
+}
+
+func (o Options) filled() Options {
+	if o.Commands <= 0 {
+		o.Commands = 4096
+	}
+	if o.Bytes <= 0 {
+		o.Bytes = 16 << 20
+	}
+	if o.Timeout <= 0 {
+		o.Timeout = 30 * time.Second
+	}
+	return o
+}
+
+// Servers are several servers that get the same commands. Any number of goroutines may use them.
+//
+// Each server has a queue, from which it is sent the commands in the order of the calls. A server that
+// is away gets them once it is back. README.md says which commands leave the servers with the same
+// rows.
+type Servers struct {
+	options Options
+	senders []*sender
+	lookups []*link
+	end     context.CancelFunc
+	running sync.WaitGroup
+
+	lock    sync.Mutex
+	changed chan struct{} // closed and made anew at each change
+	first   int           // the server that has answered last: the next lookup asks it first
+	closed  bool
+}
+
+// NewServers answers the servers at these addresses, of which there has to be one: else it is an
+// ErrNoServers. Nothing is connected before it is needed.
+func NewServers(addresses []string, options Options) (*Servers, error) {
+	if len(addresses) == 0 {
+		return nil, ErrNoServers
+	}
+	ctx, end := context.WithCancel(context.Background())
+	s := &Servers{options: options.filled(), end: end, changed: make(chan struct{})}
+	for number, address := range addresses {
+		s.lookups = append(s.lookups, newLink(address))
+		s.senders = append(s.senders, &sender{
+			servers: s, number: number, link: newLink(address),
+			queue: queue{most: s.options.Commands, mostBytes: s.options.Bytes},
+		})
+	}
+	for _, it := range s.senders {
+		s.running.Add(1)
+		go func(it *sender) {
+			defer s.running.Done()
+			it.run(ctx)
+		}(it)
+	}
+	return s, nil
+}
+
+// Close ends the sessions, and all calls that are under way. Commands that wait are lost: Drain waits
+// for them before.
+func (s *Servers) Close() {
+	s.end()
+	s.lock.Lock()
+	s.closed = true
+	s.notify()
+	s.lock.Unlock()
+	s.running.Wait()
+	for _, it := range s.lookups {
+		it.close()
+	}
+}
+
+// Register registers segments at each server, and returns once as many servers as it needs have
+// acknowledged that. It answers what each server has replied: ErrWaiting where it has not yet. Such a
+// server gets the registration in any case, also where too few have replied before the context ended,
+// which is a *NotAcknowledged.
+func (s *Servers) Register(ctx context.Context, segments *pb.SegmentsRegistrationRequest) ([]Result, error) {
+	body, err := registrationBody(segments)
+	if err != nil {
+		return nil, err
+	}
+	return s.command(ctx, register, body)
+}
+
+// Purge drops the segments that expire at a moment or before from each server, as Register registers.
+func (s *Servers) Purge(ctx context.Context, moment uint64) ([]Result, error) {
+	return s.command(ctx, purge, purgeBody(moment))
+}
+
+// Remove drops the segment of a type with an id from each server, as Register registers. A server
+// that ends before it has replied may drop it twice.
+func (s *Servers) Remove(ctx context.Context, kind pb.SegmentType, id [32]byte) ([]Result, error) {
+	return s.command(ctx, remove, removalBody(kind, id))
+}
+
+// Lookup asks one server, the one that has answered last, and where that fails the next one, until
+// one answers or the context ends. Where the context has no deadline each server is asked once.
+func (s *Servers) Lookup(ctx context.Context, source, destination uint64) (*pb.SegmentsResponse, error) {
+	body, err := proto.Marshal(&pb.SegmentsRequest{SrcIsdAs: source, DstIsdAs: destination})
+	if err != nil {
+		return nil, err
+	}
+	found := new(pb.SegmentsResponse)
+	for {
+		body, err := s.askEach(ctx, body)
+		var code Code
+		if err == nil {
+			return found, proto.Unmarshal(body, found)
+		}
+		_, isBounded := ctx.Deadline()
+		if !isBounded || errors.As(err, &code) && !isSentAgain(code) {
+			return nil, err
+		}
+		select {
+		case <-time.After(firstPause):
+		case <-ctx.Done():
+			return nil, err
+		}
+	}
+}
+
+// Drain waits until no queue has a command. It answers the error of the context where that ended
+// before.
+func (s *Servers) Drain(ctx context.Context) error {
+	s.lock.Lock()
+	defer s.lock.Unlock()
+	return s.wait(ctx, func() bool {
+		for _, it := range s.senders {
+			if len(it.queue.waiting) > 0 {
+				return false
+			}
+		}
+		return true
+	})
+}
+
+// States answers what the queue of each server comes to.
+func (s *Servers) States() (states []State) {
+	s.lock.Lock()
+	defer s.lock.Unlock()
+	for _, it := range s.senders {
+		state := it.state
+		state.Address = it.link.address
+		state.Waiting, state.Bytes = len(it.queue.waiting), it.queue.bytes
+		states = append(states, state)
+	}
+	return states
+}
+
+// command puts a command into each queue, in one order of all calls, and waits.
+func (s *Servers) command(ctx context.Context, kind byte, body []byte) ([]Result, error) {
+	if 1+len(body) > mostRequest {
+		return nil, ErrTooLarge
+	}
+	d := newDelivery(kind, body, len(s.senders))
+	s.lock.Lock()
+	defer s.lock.Unlock()
+	if s.closed {
+		return nil, ErrClosed
+	}
+	if err := s.put(d); err != nil {
+		return nil, err
+	}
+	err := s.wait(ctx, func() bool { return s.closed || d.isDecided(s.options.Acknowledge) })
+	results := append([]Result(nil), d.results...)
+	if acknowledged(results) < s.options.Acknowledge.needed(len(results)) {
+		return results, &NotAcknowledged{results, err}
+	}
+	return results, nil
+}
+
+func (s *Servers) put(d *delivery) error {
+	for _, it := range s.senders {
+		if !s.options.Drop && !it.queue.hasRoomFor(d) {
+			return fmt.Errorf("%w: %s", ErrQueueFull, it.link.address)
+		}
+	}
+	for _, it := range s.senders {
+		it.put(d)
+	}
+	s.notify()
+	return nil
+}
+
+// askEach asks the servers one after the other, until one answers the body of a reply. Each has an
+// equal part of the time that those before it have left.
+func (s *Servers) askEach(ctx context.Context, body []byte) (reply []byte, err error) {
+	s.lock.Lock()
+	first := s.first
+	s.lock.Unlock()
+	for tried := range s.lookups {
+		number := (first + tried) % len(s.lookups)
+		if reply, err = s.askOne(ctx, number, len(s.lookups)-tried, body); err == nil {
+			s.lock.Lock()
+			s.first = number
+			s.lock.Unlock()
+			return reply, nil
+		}
+		var code Code
+		if errors.As(err, &code) && !isSentAgain(code) {
+			return nil, err
+		}
+	}
+	return nil, err
+}
+
+// askOne asks a server that is the first of so many which may still be asked.
+func (s *Servers) askOne(ctx context.Context, number, left int, body []byte) ([]byte, error) {
+	part := s.options.Timeout
+	if deadline, isBounded := ctx.Deadline(); isBounded && time.Until(deadline)/time.Duration(left) < part {
+		part = time.Until(deadline) / time.Duration(left)
+	}
+	ctx, cancel := context.WithTimeout(ctx, part)
+	defer cancel()
+	client, err := s.lookups[number].session(ctx)
+	if err != nil {
+		return nil, err
+	}
+	reply, err := client.ask(ctx, lookup, body)
+	if errors.Is(err, context.DeadlineExceeded) {
+		client.Close() // the next call connects anew
+	}
+	return reply, err
+}
+
+// wait waits until something holds. The lock is held when it is called and when it returns.
+func (s *Servers) wait(ctx context.Context, holds func() bool) error {
+	for !holds() {
+		if err := ctx.Err(); err != nil {
+			return err
+		}
+		changed := s.changed
+		s.lock.Unlock()
+		select {
+		case <-changed:
+		case <-ctx.Done():
+		}
+		s.lock.Lock()
+	}
+	return nil
+}
+
+// notify lets all that wait look again. The lock is held.
+func (s *Servers) notify() {
+	close(s.changed)
+	s.changed = make(chan struct{})
+}

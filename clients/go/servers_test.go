@@ -1,0 +1,254 @@
+package pathd
+
+import (
+	"context"
+	"errors"
+	"reflect"
+	"sync"
+	"testing"
+	"time"
+
+	pb "pathd/segmentspb"
+)
+
+// serversOf answers servers, and a context for their calls.
+func serversOf(t *testing.T, options Options, stores ...*store) (*Servers, context.Context) {
+	var addresses []string
+	for _, it := range stores {
+		addresses = append(addresses, it.address)
+	}
+	servers, err := NewServers(addresses, options)
+	if err != nil {
+		t.Fatal(err)
+	}
+	ctx, cancel := context.WithTimeout(context.Background(), limit)
+	t.Cleanup(func() { servers.Close(); cancel() })
+	return servers, ctx
+}
+
+func running(t *testing.T, answer func([]byte) []byte) *store {
+	s := newStore(t, answer)
+	s.start()
+	return s
+}
+
+func TestNeeded(t *testing.T) {
+	for _, c := range []struct{ servers, majority int }{{1, 1}, {2, 2}, {3, 2}, {4, 3}, {5, 3}} {
+		if One.needed(c.servers) != 1 || Majority.needed(c.servers) != c.majority || All.needed(c.servers) != c.servers {
+			t.Errorf("%v", c)
+		}
+	}
+	if _, err := NewServers(nil, Options{}); err != ErrNoServers {
+		t.Error(err)
+	}
+}
+
+func TestEachServerGetsEachCommandInOneOrder(t *testing.T) {
+	one, other := running(t, taken), running(t, taken)
+	servers, ctx := serversOf(t, Options{}, one, other)
+	var all sync.WaitGroup
+	for number := uint64(0); number < 100; number++ {
+		all.Add(1)
+		go func(number uint64) {
+			defer all.Done()
+			results, err := servers.Purge(ctx, number)
+			if err != nil || !reflect.DeepEqual(results, make([]Result, 2)) {
+				t.Errorf("%v, %v", results, err)
+			}
+		}(number)
+	}
+	all.Wait()
+	servers.Remove(ctx, pb.SegmentType_SEGMENT_TYPE_UP, [32]byte{})
+	servers.Register(ctx, &pb.SegmentsRegistrationRequest{})
+	ofOne, _ := one.came()
+	ofOther, _ := other.came()
+	if len(ofOne) != 102 || !reflect.DeepEqual(ofOne, ofOther) {
+		t.Errorf("%d and %d commands", len(ofOne), len(ofOther))
+	}
+}
+
+func TestAServerThatIsAwayGetsCommandsLater(t *testing.T) {
+	up, away := running(t, taken), newStore(t, taken)
+	servers, ctx := serversOf(t, Options{Acknowledge: One}, up, away)
+	for number := uint64(0); number < 100; number++ {
+		if results, err := servers.Purge(ctx, number); err != nil || results[1].Err != ErrWaiting {
+			t.Errorf("%v, %v", results, err)
+		}
+	}
+	short, cancel := context.WithTimeout(ctx, 50*time.Millisecond)
+	defer cancel()
+	if err := servers.Drain(short); err != context.DeadlineExceeded {
+		t.Error(err)
+	}
+	if state := servers.States()[1]; state.Waiting != 100 || state.Err == nil || state.Address != away.address {
+		t.Errorf("%v", state)
+	}
+	away.start()
+	if err := servers.Drain(ctx); err != nil {
+		t.Error(err)
+	}
+	ofUp, _ := up.came()
+	ofAway, _ := away.came()
+	if state := servers.States()[1]; !reflect.DeepEqual(ofUp, ofAway) || state.Err != nil {
+		t.Errorf("%d commands, %v", len(ofAway), state)
+	}
+}
+
+func TestAServerThatIsStartedAgain(t *testing.T) {
+	store := running(t, silent)
+	servers, ctx := serversOf(t, Options{}, store)
+	done := make(chan error, 1)
+	go func() {
+		_, err := servers.Purge(ctx, 7)
+		done <- err
+	}()
+	store.waitFor(1)
+	store.stop()
+	store.lock.Lock()
+	store.answer = taken
+	store.lock.Unlock()
+	store.start()
+	if err := <-done; err != nil {
+		t.Error(err)
+	}
+	if commands, _ := store.came(); len(commands) != 2 || !reflect.DeepEqual(commands[0], commands[1]) {
+		t.Errorf("%x", commands)
+	}
+}
+
+func TestTooFewAcknowledge(t *testing.T) {
+	up, away := running(t, taken), newStore(t, taken)
+	servers, ctx := serversOf(t, Options{}, up, away)
+	short, cancel := context.WithTimeout(ctx, 300*time.Millisecond)
+	defer cancel()
+	results, err := servers.Purge(short, 1)
+	var few *NotAcknowledged
+	if !errors.As(err, &few) || !errors.Is(err, context.DeadlineExceeded) || len(few.Results) != 2 {
+		t.Errorf("%v", err)
+	}
+	if results[0].Err != nil || results[1].Err != ErrWaiting {
+		t.Errorf("%v", results)
+	}
+	away.start()
+	if err := servers.Drain(ctx); err != nil {
+		t.Error(err)
+	}
+}
+
+func TestRefusalsOfServers(t *testing.T) {
+	up, full := running(t, taken), running(t, refuses(Full))
+	servers, ctx := serversOf(t, Options{}, up, full)
+	results, err := servers.Purge(ctx, 1)
+	var few *NotAcknowledged
+	if !errors.As(err, &few) || few.Unwrap() != nil || results[1].Err != Full {
+		t.Errorf("%v, %v", results, err)
+	}
+	for _, code := range []Code{NoMemory, Busy, Stopped, Unsettled} {
+		left := 2
+		store := running(t, func(content []byte) []byte { // of one session, so never at one time
+			if left--; left >= 0 {
+				return refuses(code)(content)
+			}
+			return taken(content)
+		})
+		servers, ctx := serversOf(t, Options{}, store)
+		if _, err := servers.Purge(ctx, 1); err != nil {
+			t.Errorf("%v: %v", code, err)
+		}
+	}
+}
+
+func TestFullQueues(t *testing.T) {
+	up, away := running(t, taken), newStore(t, taken)
+	servers, ctx := serversOf(t, Options{Acknowledge: One, Commands: 2}, up, away)
+	for number := uint64(0); number < 2; number++ {
+		if _, err := servers.Purge(ctx, number); err != nil {
+			t.Error(err)
+		}
+	}
+	if _, err := servers.Purge(ctx, 2); !errors.Is(err, ErrQueueFull) {
+		t.Error(err)
+	}
+	if commands, _ := up.came(); len(commands) != 2 {
+		t.Errorf("%d commands", len(commands))
+	}
+	dropping, ctx := serversOf(t, Options{Bytes: 1, Drop: true}, up)
+	if results, err := dropping.Purge(ctx, 0); err == nil || results[0].Err != ErrDropped || dropping.States()[0].Dropped != 1 {
+		t.Errorf("%v, %v", results, err)
+	}
+}
+
+func TestLookupsFallOver(t *testing.T) {
+	away, up := newStore(t, taken), running(t, taken)
+	servers, ctx := serversOf(t, Options{}, away, up)
+	look := func(ctx context.Context, servers *Servers) {
+		t.Helper()
+		if _, err := servers.Lookup(ctx, 1, 2); err != nil {
+			t.Error(err)
+		}
+	}
+	look(ctx, servers)
+	away.start()
+	look(ctx, servers)
+	up.stop()
+	look(ctx, servers)
+	_, ofAway := away.came()
+	_, ofUp := up.came()
+	if ofAway != 1 || ofUp != 2 {
+		t.Errorf("%d and %d lookups", ofAway, ofUp)
+	}
+
+	hung := running(t, silent)
+	servers, ctx = serversOf(t, Options{}, hung, away)
+	short, cancel := context.WithTimeout(ctx, time.Second)
+	defer cancel()
+	begun := time.Now()
+	look(short, servers)
+	if took := time.Since(begun); took < 400*time.Millisecond {
+		t.Errorf("%v", took)
+	}
+	look(ctx, servers)
+	if _, count := hung.came(); count != 1 {
+		t.Errorf("%d lookups", count)
+	}
+}
+
+func TestLookupsThatAreRefused(t *testing.T) {
+	for code, asked := range map[Code]int{NoMemory: 1, NoCore: 0} {
+		first, other := running(t, refuses(code)), running(t, taken)
+		servers, ctx := serversOf(t, Options{}, first, other)
+		_, err := servers.Lookup(ctx, 1, 2)
+		if _, count := other.came(); count != asked || (asked == 0) != (err == code) {
+			t.Errorf("%v: %d lookups, %v", code, count, err)
+		}
+	}
+	down := newStore(t, taken)
+	servers, ctx := serversOf(t, Options{}, down)
+	short, cancel := context.WithTimeout(ctx, 200*time.Millisecond)
+	defer cancel()
+	if _, err := servers.Lookup(short, 1, 2); err == nil {
+		t.Error("a server that is away has answered")
+	}
+	if _, err := servers.Lookup(context.Background(), 1, 2); err == nil {
+		t.Error("a server that is away has answered")
+	}
+}
+
+func TestClosingServers(t *testing.T) {
+	store := running(t, silent)
+	servers, ctx := serversOf(t, Options{}, store)
+	go func() {
+		store.waitFor(1)
+		servers.Close()
+	}()
+	var few *NotAcknowledged
+	if _, err := servers.Purge(ctx, 1); !errors.As(err, &few) {
+		t.Error(err)
+	}
+	if _, err := servers.Purge(ctx, 1); err != ErrClosed {
+		t.Error(err)
+	}
+	if _, err := servers.Lookup(context.Background(), 1, 2); err != ErrClosed {
+		t.Error(err)
+	}
+}
