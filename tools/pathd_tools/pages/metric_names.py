@@ -27,7 +27,9 @@ WATCHING = TOP / "docs/WATCHING.md"
 NOT_DRAWN = {"pathd_format_version": "it changes once in a store's life"}
 
 NAME = re.compile(r"\bpathd_[a-z_]+\b")
-LABEL = re.compile(r'\b(kind|phase|code)=~?"([^"]*)"')
+LABEL = re.compile(r'\b(kind|phase|code|call|reason|cause)=~?"([^"]*)"')
+# The lines of a histogram have its name with one of these.
+PARTS = ("_bucket", "_sum", "_count")
 
 
 def files(folder: str, suffix: str) -> str:
@@ -39,13 +41,19 @@ def types(specs: str) -> dict[str, str]:
     """The type of each number of the page."""
     named = dict(re.findall(r'^(\w+) = codes "(pathd_\w+)"$', specs, re.M))
     found = {name: kind for kind, name in re.findall(r'\b(counter|gauge) \(codes "(pathd_\w+)"\)', specs)}
-    return found | {named[it]: kind for it, kind in re.findall(r'type_line (\w+) \(codes "(\w+)"\)', specs) if it in named}
+    return found | {named[it]: kind for it, kind in re.findall(r'heading (\w+) \(codes "[^"]*"\) \(codes "(\w+)"\)', specs) if it in named}
+
+
+def names(text: str, known: dict[str, str]) -> set[str]:
+    """The names in a text; a line of a histogram counts as the histogram."""
+    parts = {name + part: name for name, kind in known.items() if kind == "histogram" for part in PARTS}
+    return {parts.get(name, name) for name in NAME.findall(text)}
 
 
 def labels(specs: str) -> dict[str, set[str]]:
     """The values of each label."""
     found: dict[str, set[str]] = {"code": set(re.findall(r"\b0x([0-9a-f]{2})\b", codes()))}
-    for label, value in re.findall(r'codes "(kind|phase)=\\"(\w+)\\""', specs):
+    for label, value in re.findall(r'codes "(kind|phase|call|reason|cause)=\\"(\w+)\\""', specs):
         found.setdefault(label, set()).add(value)
     return found
 
@@ -67,7 +75,7 @@ def expressions() -> dict[Path, str]:
 def problems_of(path: Path, text: str, known: dict[str, str], values: dict[str, set[str]]) -> list[str]:
     """What is wrong with the expressions of a file."""
     where = path.relative_to(TOP)
-    found = [f"{where}: {name} is no number of the page" for name in sorted(set(NAME.findall(text)) - known.keys())]
+    found = [f"{where}: {name} is no number of the page" for name in sorted(names(text, known) - known.keys())]
     found += [f"{where}: {label} has no value {value}" for label, value in LABEL.findall(text) if not set(value.split("|")) <= values[label]]
     for function, name in re.findall(r"\b(rate|irate|increase)\((pathd_\w+)", text):
         found += [f"{where}: {function} of the gauge {name}"] if known.get(name) == "gauge" else []
@@ -78,11 +86,11 @@ def problems() -> list[str]:
     """What differs."""
     specs = files("specs", ".antt")
     known, values = types(specs), labels(specs)
-    found = [f"one of specs/ and src/ of crates/status_page alone has {it}" for it in sorted(known.keys() ^ set(NAME.findall(files("src", ".rt"))))]
+    found = [f"one of specs/ and src/ of crates/status_page alone has {it}" for it in sorted(known.keys() ^ names(files("src", ".rt"), known))]
     used = expressions()
     for path, text in used.items():
         found += problems_of(path, text, known, values)
-    drawn = set(NAME.findall(used[DASHBOARD]))
+    drawn = names(used[DASHBOARD], known)
     found += [f"{DASHBOARD.relative_to(TOP)}: {it} is not drawn" for it in sorted(known.keys() - drawn - NOT_DRAWN.keys())]
     found += [f"{it} is drawn, and listed as left out" for it in sorted(NOT_DRAWN.keys() & drawn)]
     table = dict(re.findall(r"^\| `(pathd_\w+)(?:\{[^}]*\})?` \| (\w+) \|", OPERATING.read_text(), re.M))
