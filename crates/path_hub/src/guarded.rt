@@ -1,5 +1,5 @@
-//! The guarded calls over a hub's state: each takes the lock for one call, and then wakes the
-//! threads that wait for what it changed.
+//! The guarded calls over a hub's state: each takes the lock for one call, shows the state's numbers
+//! on the board, and then wakes the threads that wait for what it changed.
 
 ghost use Rattle.std.specs.Prelude.{◌≡◌, true, false};
 ghost use Rattle.store_loops.specs.Receipts.{IsTicketOrCommand, IsRedeemed, LeadsOn, LeadsOut, IsHandedIn};
