@@ -15,6 +15,9 @@ flush_number flush.Stable = 3
 flush_number flush.Opened = 4
 flush_number flush.Doubtful = 5
 flush_number flush.Durable = 6
+flush_number flush.Following = 7
+flush_number flush.Followed = 8
+flush_number flush.DurableFollowed = 9
 
 -- The number of the checkpointer's phase, in the order of the lines.
 abbrev pub check_number : Check → ℕ
@@ -53,11 +56,17 @@ flush_ends now =
     phase_line flusher (codes "phase=\"opened\"") 4 now
     ++ (phase_line flusher (codes "phase=\"doubtful\"") 5 now ++ phase_line flusher (codes "phase=\"durable\"") 6 now)
 
+-- The flusher's phases in which a group follows the group in flight.
+unfoldable pub flush_follows : ℕ → List ℕ
+flush_follows now =
+    phase_line flusher (codes "phase=\"following\"") 7 now
+    ++ (phase_line flusher (codes "phase=\"followed\"") 8 now ++ phase_line flusher (codes "phase=\"durable_followed\"") 9 now)
+
 -- The lines of the flusher's phases.
 unfoldable pub flush_lines : Flush → List ℕ
 flush_lines flush =
     heading flusher (codes "1 for the step that the flusher is in.") (codes "gauge")
-    ++ (flush_begins (flush_number flush) ++ flush_ends (flush_number flush))
+    ++ (flush_begins (flush_number flush) ++ (flush_ends (flush_number flush) ++ flush_follows (flush_number flush)))
 
 -- The checkpointer's phases until a checkpoint is laid.
 unfoldable pub check_begins : ℕ → List ℕ

@@ -1,7 +1,7 @@
 //! The phases of the two actors of a store, as lines of a page.
 
 ghost use Rattle.std.specs.Prelude.{◌≡◌, IfOk, string_bytes};
-ghost use Rattle.status_page.specs.Phases.{flush_number, check_number, phase_line, flush_begins, flush_ends, flush_lines, check_begins, check_switches, check_ends, check_lines, actor_lines};
+ghost use Rattle.status_page.specs.Phases.{flush_number, check_number, phase_line, flush_begins, flush_ends, flush_follows, flush_lines, check_begins, check_switches, check_ends, check_lines, actor_lines};
 
 use crate::lines::{heading, labelled};
 use group_phases::{Check, Flush};
@@ -46,7 +46,8 @@ fn flush_lines(alloc: Global, flush: Flush) -> Result<String, AllocError>
     let heading = heading(alloc, FLUSHER, help, "gauge")?;
     let begins = flush_begins(alloc, flush_number(flush))?;
     let ends = flush_ends(alloc, flush_number(flush))?;
-    format!(in alloc; "{heading}{begins}{ends}")
+    let follows = flush_follows(alloc, flush_number(flush))?;
+    format!(in alloc; "{heading}{begins}{ends}{follows}")
 }
 
 /// The phases until a group is written and synced.
@@ -70,6 +71,17 @@ fn flush_ends(alloc: Global, now: u64) -> Result<String, AllocError>
     let doubtful = phase_line(alloc, FLUSHER, "phase=\"doubtful\"", 5, now)?;
     let durable = phase_line(alloc, FLUSHER, "phase=\"durable\"", 6, now)?;
     format!(in alloc; "{opened}{doubtful}{durable}")
+}
+
+/// The phases in which a group follows the group in flight.
+#[tactic(auto, unfolding(crate::specs::Phases::flush_follows))]
+fn flush_follows(alloc: Global, now: u64) -> Result<String, AllocError>
+    ensures { IfOk result (λ lines. string_bytes lines ≡ flush_follows now) }
+{
+    let following = phase_line(alloc, FLUSHER, "phase=\"following\"", 7, now)?;
+    let followed = phase_line(alloc, FLUSHER, "phase=\"followed\"", 8, now)?;
+    let durable = phase_line(alloc, FLUSHER, "phase=\"durable_followed\"", 9, now)?;
+    format!(in alloc; "{following}{followed}{durable}")
 }
 
 /// The checkpointer's phases, a line each.
@@ -130,6 +142,9 @@ fn flush_number(flush: Flush) -> u64
         Flush::Opened => 4,
         Flush::Doubtful => 5,
         Flush::Durable => 6,
+        Flush::Following => 7,
+        Flush::Followed => 8,
+        Flush::DurableFollowed => 9,
     }
 }
 

@@ -144,6 +144,9 @@ pathd_flusher_phase{phase=\"stable\"} 0
 pathd_flusher_phase{phase=\"opened\"} 0
 pathd_flusher_phase{phase=\"doubtful\"} 0
 pathd_flusher_phase{phase=\"durable\"} 0
+pathd_flusher_phase{phase=\"following\"} 0
+pathd_flusher_phase{phase=\"followed\"} 0
+pathd_flusher_phase{phase=\"durable_followed\"} 0
 # HELP pathd_checkpointer_phase 1 for the step that the checkpointer is in.
 # TYPE pathd_checkpointer_phase gauge
 pathd_checkpointer_phase{phase=\"ready\"} 1
