@@ -71,9 +71,14 @@ impl Counts {
 impl Reports for Counts {
     fn report(&self, report: Report) {
         match report {
-            Report::Stopped | Report::Defect => self.stopped.fetch_add(1, Ordering::SeqCst),
-            Report::TurnedAway(count) => self.turned_away.fetch_add(count, Ordering::SeqCst),
-        };
+            Report::Stopped | Report::Defect => {
+                self.stopped.fetch_add(1, Ordering::SeqCst);
+            }
+            Report::TurnedAway(count) => {
+                self.turned_away.fetch_add(count, Ordering::SeqCst);
+            }
+            _ => {}
+        }
     }
 }
 
