@@ -23,17 +23,21 @@ use store_open::Store;
 /// The work of threads with a hub: guests arrive one by one, and each is attended to in a thread of
 /// its own. A crew cannot name a hub itself, so all that a guest gets is of this hub.
 pub trait Crew<D: Device, R: Wait + Clock> {
-    /// The guest that one thread attends to.
-    type Guest: Send + Drop;
+    /// What one thread attends to. A guest is copied, so that the crew learns for which one no
+    /// thread was given. What a thread alone may own, such as a connection, the crew keeps under
+    /// the guest's number until the thread takes it.
+    type Guest: Copy + Send;
 
-    /// The next guest, or `None` once no more are to come. The call may wait for one.
+    /// The next guest, or `None` once no more are to come. The call may wait for one. It is made
+    /// once the threads of both actors were given, and after the last guest was given a thread or
+    /// missed.
     fn next<N: HubName>(&self, hub: &Hub<D, N, R>) -> Option<Self::Guest>;
 
     /// Attends to a guest, in a thread of its own.
     fn attend<N: HubName>(&self, hub: &Hub<D, N, R>, guest: Self::Guest);
 
-    /// No thread was given for a guest, who is dropped.
-    fn miss(&self);
+    /// No thread was given for this guest, to whom nobody attends.
+    fn miss<N: HubName>(&self, hub: &Hub<D, N, R>, guest: Self::Guest);
 
     /// The flusher has ended, as the state has stopped: because a device failed, or because `stop`
     /// was called, as it is once all guests have been attended to. The flusher's thread calls this,
@@ -143,7 +147,7 @@ fn attend_all<
             if guests.spawn(move || attend(hub, crew, guest)).is_ok() {
                 attended = attended.saturating_add(1);
             } else {
-                crew.miss();
+                crew.miss::<N>(hub, guest);
             }
         }
         attended

@@ -1,7 +1,7 @@
 -- The server's action after an accept that failed.
-use Rattle.std.specs.Prelude.{ℕ, ℤ, pos, negsuc, Bool, false, List, [], ◌∷◌, Option, Some, None, if◌then◌else◌, ◌||◌, ◌==◌}
+use Rattle.std.specs.Prelude.{ℕ, ℤ, pos, negsuc, ◌*◌, min, max, Bool, false, List, [], ◌∷◌, Option, Some, None, if◌then◌else◌, ◌||◌, ◌==◌}
 use Rattle.path_server.specs.declared.accepting.Failure.{Failure}
-use Rattle.path_server.specs.declared.accepting.Failure.TheVariants.{Again, Pause, Broken}
+use Rattle.path_server.specs.declared.accepting.Failure.TheVariants.{Nobody, Pause, Broken}
 
 -- A number is among others.
 abbrev pub is_among : List ℕ → ℕ → Bool
@@ -13,17 +13,21 @@ is_among (one ∷ more) number = (number == one) || is_among more number
 abbrev pub of_the_listener : List ℕ
 of_the_listener = 9 ∷ 14 ∷ 22 ∷ 88 ∷ 95 ∷ []
 
--- Linux's numbers of the errors after which the server waits before it accepts again: EAGAIN, and
--- ENOMEM, ENFILE, EMFILE and ENOBUFS, where memory or descriptors are used up.
-abbrev pub for_want : List ℕ
-for_want = 11 ∷ 12 ∷ 23 ∷ 24 ∷ 105 ∷ []
+-- Linux's number of the error EAGAIN, by which an accept ends after the time of its listener.
+abbrev pub timed_out : ℕ
+timed_out = 11
 
 -- The action after the error of this number.
 abbrev pub failure_of : ℤ → Failure
-failure_of (negsuc number) = Again
-failure_of (pos number) = if is_among of_the_listener number then Broken else if is_among for_want number then Pause else Again
+failure_of (negsuc number) = Pause
+failure_of (pos number) = if is_among of_the_listener number then Broken else if number == timed_out then Nobody else Pause
 
 -- The action after an error. An error without a number is the peer's.
 abbrev pub failure_after : Option ℤ → Failure
-failure_after None = Again
+failure_after None = Pause
 failure_after (Some number) = failure_of number
+
+-- The pause in milliseconds after one more accept that failed, where the one before was this, and
+-- 0 where there was none: it doubles from 50 up to 1,000.
+abbrev pub next_pause : ℕ → ℕ
+next_pause pause = min 1000 (max 50 (2 * pause))

@@ -1,1 +1,4 @@
 pub mod Accepting
+pub mod Ending
+pub mod Seating
+pub mod Tracking

@@ -2,11 +2,12 @@
 
 ghost use Rattle.std.specs.Prelude.{◌≡◌};
 ghost use Rattle.std.specs.IoError.{raw_os_error};
-ghost use Rattle.path_server.specs.Accepting.{failure_of, failure_after};
+ghost use Rattle.path_server.specs.Accepting.{failure_of, failure_after, next_pause};
 
-use libc::{EAGAIN, EBADF, EINVAL, EMFILE, ENOMEM, ENOTSOCK};
+use crate::descriptors::raised;
+use libc::{EAGAIN, EBADF, EINVAL, ENOTSOCK};
 use std::io;
-use std::net::{OpenListener, TcpStream};
+use std::net::{OpenListener, SocketAddr, TcpStream};
 use std::sync::Wait;
 use std::thread::sleep;
 use std::time::{Clock, Duration};
@@ -14,50 +15,101 @@ use std::time::{Clock, Duration};
 // Linux's numbers of errors that `libc` does not name here.
 const EFAULT: i32 = 14;
 
-const ENFILE: i32 = 23;
-
 const EOPNOTSUPP: i32 = 95;
 
-const ENOBUFS: i32 = 105;
+/// The pause in milliseconds after the first of several accepts that fail.
+const FIRST_PAUSE: u64 = 50;
 
-/// The time in milliseconds that the server waits for descriptors or memory.
-const PAUSE: u64 = 50;
+/// The longest pause in milliseconds after an accept that failed.
+const LONGEST_PAUSE: u64 = 1_000;
 
 /// The server's action after an accept that failed.
 #[derive(Clone, Copy, Debug, PartialEq, Eq)]
 pub enum Failure {
-    /// The peer or the network failed: the next connection is accepted at once.
-    Again,
-    /// Descriptors or memory are short: the next connection is accepted after a pause.
+    /// No peer came in the time of the listener: the next one is awaited.
+    Nobody,
+    /// Descriptors or memory are short, or the peer or the network failed: the next connection is
+    /// accepted after a pause.
     Pause,
     /// The listener is no listening socket, or is shut down.
     Broken,
 }
 
-/// Waits for the next peer of a listener. The result is `None` where the listener is broken, or
-/// where `goes_on`, which is called after each accept, returns `false`. Where descriptors or memory
-/// are short, the call waits until the peer can be accepted.
-pub(crate) fn next_peer<
+/// What comes of waiting for a peer.
+#[derive(Drop)]
+pub(crate) enum Arrival {
+    /// A peer has come.
+    Peer(TcpStream, SocketAddr),
+    /// No peers are awaited any more.
+    Over,
+    /// The listener is broken.
+    Broken,
+}
+
+/// Waits for the next peer of a listener. After each accept `goes_on` is asked whether peers are
+/// still awaited. After an accept that failed `fail` gets the system's number of its error, or 0
+/// where it has none, and the pause in milliseconds until the next accept, which doubles as long as
+/// accepts fail.
+pub(crate) fn next_arrival<
     R: Wait + Clock,
     L: OpenListener<Stream = TcpStream>,
-    F: Fn() -> bool + Drop,
->(rt: &R, listener: &L, goes_on: F) -> Option<TcpStream>
-    requires { F.IsAlwaysCallable goes_on }
+    G: Fn() -> bool + Drop,
+    F: Fn(i32, u64) + Drop,
+>(rt: &R, listener: &L, goes_on: G, fail: F) -> Arrival
+    requires goes_on { G.IsAlwaysCallable goes_on }
+    requires fail { F.IsAlwaysCallable fail }
 {
-    for accepted in listener.incoming() {
+    let mut pause = 0;
+    for _ in rt.forever() {
+        let accepted = accept_one(listener);
         if !goes_on() {
-            return None;
+            return Arrival::Over;
         }
         match accepted {
-            Ok(stream) => return Some(stream),
+            Ok((stream, address)) => return Arrival::Peer(stream, address),
             Err(error) => match after_failure(&error) {
-                Failure::Again => {}
-                Failure::Pause => sleep(rt, Duration::from_millis(PAUSE)),
-                Failure::Broken => return None,
+                Failure::Nobody => pause = 0,
+                Failure::Pause => {
+                    pause = next_pause(pause);
+                    fail(error.raw_os_error().unwrap_or(0), pause);
+                    sleep(rt, Duration::from_millis(pause));
+                }
+                Failure::Broken => return Arrival::Broken,
             },
         }
     }
-    None
+    unreachable!()
+}
+
+/// Waits for the next peer of a listener. The result is `None` where the listener is broken, or
+/// where `goes_on`, which is called after each accept, returns `false`.
+pub(crate) fn next_peer<
+    R: Wait + Clock,
+    L: OpenListener<Stream = TcpStream>,
+    G: Fn() -> bool + Drop,
+>(rt: &R, listener: &L, goes_on: G) -> Option<TcpStream>
+    requires { G.IsAlwaysCallable goes_on }
+{
+    match next_arrival(rt, listener, goes_on, |_, _| {}) {
+        Arrival::Peer(stream, _address) => Some(stream),
+        Arrival::Over | Arrival::Broken => None,
+    }
+}
+
+/// Accepts one connection, which lies above the standard descriptors.
+fn accept_one<L: OpenListener<Stream = TcpStream>>(
+    listener: &L,
+) -> io::Result<(TcpStream, SocketAddr)> {
+    let (stream, address) = listener.accept()?;
+    Ok((raised(stream)?, address))
+}
+
+/// The pause in milliseconds after one more accept that failed: the first one is 50, and each
+/// further one twice the one before, up to 1,000.
+fn next_pause(pause: u64) -> u64
+    ensures { result ≡ next_pause pause }
+{
+    pause.saturating_mul(2).clamp(FIRST_PAUSE, LONGEST_PAUSE)
 }
 
 /// The action after an accept that failed, by the system's number of its error. An error without a
@@ -67,7 +119,7 @@ pub fn after_failure(error: &io::Error) -> Failure
 {
     match error.raw_os_error() {
         Some(number) => failure_of(number),
-        None => Failure::Again,
+        None => Failure::Pause,
     }
 }
 
@@ -77,7 +129,7 @@ fn failure_of(number: i32) -> Failure
 {
     match number {
         EBADF | EFAULT | EINVAL | ENOTSOCK | EOPNOTSUPP => Failure::Broken,
-        EAGAIN | ENOMEM | ENFILE | EMFILE | ENOBUFS => Failure::Pause,
-        _ => Failure::Again,
+        EAGAIN => Failure::Nobody,
+        _ => Failure::Pause,
     }
 }

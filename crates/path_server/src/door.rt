@@ -1,6 +1,6 @@
 //! The door of a server, by which its peers arrive.
 
-use crate::accepting::next_peer;
+use crate::accepting::{Arrival, next_arrival};
 use std::net::{OpenListener, TcpStream};
 use std::sync::atomic::{AtomicU64, Ordering};
 use std::sync::{Mutex, Wait};
@@ -52,12 +52,21 @@ impl<L: OpenListener<Stream = TcpStream> + Drop> Door<L> {
         *listener = None;
     }
 
-    /// Waits for the next peer. The result is `None` where the door is closed, or its listener is
-    /// broken. Where descriptors or memory are short, the call waits until the peer can be
-    /// accepted.
-    pub(crate) fn next_peer<R: Wait + Clock>(&self, rt: &R) -> Option<TcpStream> {
+    /// Waits for the next peer. None is awaited where the door is closed. `goes_on` and `fail` are
+    /// called as `next_arrival` says.
+    pub(crate) fn next_arrival<R: Wait + Clock, G: Fn() -> bool + Drop, F: Fn(i32, u64) + Drop>(
+        &self,
+        rt: &R,
+        goes_on: G,
+        fail: F,
+    ) -> Arrival
+        requires goes_on { G.IsAlwaysCallable goes_on }
+        requires fail { F.IsAlwaysCallable fail }
+    {
         let listener = self.listener.lock(rt);
-        let listener = (*listener).as_ref()?;
-        next_peer(rt, listener, || true)
+        match (*listener).as_ref() {
+            Some(listener) => next_arrival(rt, listener, goes_on, fail),
+            None => Arrival::Over,
+        }
     }
 }

@@ -1,12 +1,11 @@
 //! The guests that the threads of a server attend to.
 
-use std::net::TcpStream;
-
-/// A guest that a thread attends to.
-#[derive(Drop)]
-pub(crate) enum Guest<L> {
-    /// The session of a peer, for whom a seat was taken.
-    Session(TcpStream),
+/// A guest that a thread attends to. The server keeps what the thread takes: the connection of a
+/// peer in the peer's seat, and the listener for requests of the numbers.
+#[derive(Clone, Copy)]
+pub(crate) enum Guest {
+    /// The session of the peer in the seat of this number.
+    Session(usize),
     /// The peers that ask for the numbers, one after the other.
-    Status(L),
+    Status,
 }

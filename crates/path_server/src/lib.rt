@@ -8,22 +8,32 @@
 #![tactic(auto)]
 
 mod accepting;
+mod arriving;
+mod attending;
+mod descriptors;
 mod door;
+mod ending;
+mod ends;
 mod error;
 mod guest;
+pub mod laws;
 mod listeners;
 mod options;
+mod pace;
+mod paced;
 mod reports;
 mod running;
 mod seats;
+mod seldom;
 mod server;
 mod sessions;
 mod status_listener;
-mod turned_away;
+mod tracker;
 mod turning_away;
 mod watching;
 
 pub use accepting::{Failure, after_failure};
+pub use descriptors::raised_listener;
 pub use error::RunError;
 pub use listeners::{Listeners, bound_accepts};
 pub use options::Options;

@@ -5,13 +5,14 @@ use std::net::{TcpListener, TcpStream};
 use std::os::fd::OwnedFd;
 use std::time::Duration;
 
-/// The longest wait for a peer that asks for the numbers, in milliseconds.
+/// The longest wait of an accept, in milliseconds.
 const ACCEPT: u64 = 200;
 
 /// The listeners of a server.
 #[derive(Drop)]
 pub struct Listeners<L> {
-    /// The listener for sessions.
+    /// The listener for sessions. An accept has to fail soon where no peer comes, as after
+    /// `bound_accepts`, if the server may be asked to end: it asks `Reports::wants_end` only then.
     pub sessions: L,
     /// The listener for requests of the server's numbers, if they are answered. An accept has to
     /// fail soon where no peer comes, as after `bound_accepts`, since the server checks only then

@@ -13,7 +13,11 @@ pub struct Options {
     pub key: Option<Keyed>,
     /// The number of sessions to start, or 0 for no limit.
     pub sessions: u64,
-    /// How long each read and each write of a session may wait for its peer, or `None` for no
-    /// limit.
+    /// The most sessions at one time with peers of one IP address, or 0 for no limit.
+    pub peer_sessions: u64,
+    /// How long a session waits for its peer, or `None` for no limit: for the first byte of a
+    /// frame, for the rest of the frame, and until the peer has taken a reply.
     pub idle: Option<Duration>,
+    /// How long the sessions that are open may go on once the server is to end.
+    pub grace: Duration,
 }

@@ -1,27 +1,68 @@
 //! The reports of a server while it runs.
 
 use crate::seats::MOST_SESSIONS;
+use session_core::FrameError;
 use std::fmt;
 use std::fmt::{Display, Formatter};
+use std::net::SocketAddr;
 
 /// What happened to a server that its operator should know.
 #[derive(Clone, Copy, Debug, PartialEq, Eq)]
 pub enum Report {
+    /// Every thread that serves has begun: peers are answered from now on.
+    Ready,
     /// The device failed, and the store takes no more commands. Lookups go on.
     Stopped,
+    /// The rows of the store that was opened do not fit its checkpoint area, so the store takes no
+    /// commands. Lookups go on.
+    Overfull,
     /// The store met a defect of the program, and takes no more commands. Lookups go on.
     Defect,
     /// This number of peers were turned away since the last such report, because [`MOST_SESSIONS`]
     /// sessions were open.
     TurnedAway(u64),
+    /// This number of peers were turned away since the last such report, because their address had
+    /// as many sessions open as one address may have.
+    AddressFull(u64),
+    /// This number of peers were turned away since the last such report, because no thread was
+    /// given for them.
+    NoThread(u64),
+    /// An accept failed with the system's error of this number, and the next one is made after this
+    /// number of milliseconds.
+    NotAccepted {
+        error: i32,
+        pause: u64,
+    },
+    /// This number of sessions ended by a fault since the last such report; the last one was that
+    /// of this peer, for this reason.
+    Faulted {
+        count: u64,
+        peer: Option<SocketAddr>,
+        why: FrameError,
+    },
+    /// Memory was refused to the flusher, which tries again.
+    NoMemory,
+    /// Memory was given to the flusher again.
+    MemoryGiven,
+    /// A checkpoint was begun.
+    CheckpointBegun,
+    /// A checkpoint was done, this number of milliseconds after it was begun.
+    CheckpointDone {
+        milliseconds: u64,
+    },
 }
 
 impl Display for Report {
     fn fmt<W: fmt::Write>(&self, f: &mut Formatter<W>) -> fmt::Result {
         match self {
+            Report::Ready => write!(f, "every thread that serves has begun"),
             Report::Stopped => write!(
                 f,
                 "the store has stopped at a fault of its device; lookups go on"
+            ),
+            Report::Overfull => write!(
+                f,
+                "the store takes no commands, as its rows do not fit its checkpoint area; lookups go on"
             ),
             Report::Defect => write!(
                 f,
@@ -30,15 +71,53 @@ impl Display for Report {
             Report::TurnedAway(count) => {
                 write!(f, "sessions refused, as {MOST_SESSIONS} are open: {count}")
             }
+            Report::AddressFull(count) => write!(
+                f,
+                "sessions refused, as their address has its number of them open: {count}"
+            ),
+            Report::NoThread(count) => {
+                write!(f, "sessions refused, as no thread was given: {count}")
+            }
+            Report::NotAccepted { error, pause } => write!(
+                f,
+                "an accept failed by error {error} of the system; the next one is made after {pause} ms"
+            ),
+            Report::Faulted { count, peer, why } => write_faulted(f, *count, peer.as_ref(), why),
+            Report::NoMemory => write!(f, "the flusher has no memory, and tries again"),
+            Report::MemoryGiven => write!(f, "the flusher has memory again"),
+            Report::CheckpointBegun => write!(f, "a checkpoint has begun"),
+            Report::CheckpointDone { milliseconds } => {
+                write!(f, "the checkpoint is done after {milliseconds} ms")
+            }
         }
     }
 }
 
-/// Takes the reports of a server. The thread that accepts connections and that of the flusher call
-/// it.
+/// Writes the line of sessions that ended by a fault.
+fn write_faulted<W: fmt::Write>(
+    f: &mut Formatter<W>,
+    count: u64,
+    peer: Option<&SocketAddr>,
+    why: &FrameError,
+) -> fmt::Result {
+    write!(f, "sessions ended by a fault: {count}, ")?;
+    match peer {
+        Some(peer) => write!(f, "the last one that of {peer}: {why}"),
+        None => write!(f, "the last one by this: {why}"),
+    }
+}
+
+/// Takes the reports of a server, and says whether the server is to end. Several threads call it;
+/// none of its calls waits.
 pub trait Reports {
     /// Takes a report.
     fn report(&self, report: Report);
+
+    /// Whether the server is to end: it accepts no more sessions, gives those that are open some
+    /// time, and then ends them.
+    fn wants_end(&self) -> bool {
+        false
+    }
 }
 
 /// Drops each report.

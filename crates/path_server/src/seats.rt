@@ -1,42 +1,154 @@
 //! The seats of a server: one for each session at one time.
 
+ghost use Rattle.std.specs.Prelude.{◌≡◌};
+ghost use Rattle.path_server.specs.Seating.{refusal_of};
+
 use path_hub::READERS;
+use std::alloc::{AllocError, Global};
+use std::net::{Shutdown, SocketAddr, TcpStream};
 use std::sync::atomic::{AtomicU64, Ordering};
+use std::sync::{Arc, Mutex, Wait};
 
 /// The most sessions at one time: each needs a reader of the hub.
 pub const MOST_SESSIONS: u64 = READERS as u64;
 
-/// The number of seats that are taken. Threads share the count.
+/// A connection that was accepted, and the address of its peer.
+#[derive(Drop)]
+pub(crate) struct Peer {
+    pub(crate) stream: Arc<TcpStream, Global>,
+    pub(crate) address: SocketAddr,
+}
+
+/// Why a peer has no seat.
+#[derive(Clone, Copy, Debug, PartialEq, Eq)]
+pub(crate) enum NoSeat {
+    /// All seats are taken.
+    Full,
+    /// The peers of one address have as many seats as one address may have.
+    AddressFull,
+    /// Memory for the seat was refused.
+    NoMemory,
+}
+
+/// The seats, and who has them. Threads share them.
 #[derive(Drop)]
 pub(crate) struct Seats {
+    seats: Mutex<Vec<Option<Peer>>>,
+    /// The number of seats that are taken.
     taken: AtomicU64,
+    /// The most seats of one address, or 0 for no limit.
+    most: u64,
 }
 
 impl Seats {
-    /// All seats are free.
-    pub(crate) fn new() -> Seats {
+    /// All seats are free. The peers of one address may take `most` of them, or all if that is 0.
+    pub(crate) fn new(alloc: Global, most: u64) -> Seats {
         Seats {
+            seats: Mutex::new(Vec::new(alloc)),
             taken: AtomicU64::new(0),
+            most,
         }
     }
 
-    /// Takes a seat, if one is free. While several threads ask for the last free seat, all of them
-    /// may be refused.
-    pub(crate) fn take(&self) -> bool {
-        if self.taken.fetch_add(1, Ordering::SeqCst) < MOST_SESSIONS {
-            return true;
+    /// Gives a peer a seat, and returns the number of the seat.
+    pub(crate) fn take<R: Wait>(&self, rt: &R, peer: &Peer) -> Result<usize, NoSeat> {
+        let mut seats = self.seats.lock(rt);
+        let seats = &mut *seats;
+        let held = held_by(seats.as_slice(), &peer.address);
+        if let Some(refusal) = refusal_of(self.taken(), held, self.most) {
+            return Err(refusal);
         }
-        self.leave();
-        false
+        let Ok(peer) = peer.again() else {
+            return Err(NoSeat::NoMemory);
+        };
+        let number = put(seats, peer)?;
+        self.taken.fetch_add(1, Ordering::SeqCst);
+        Ok(number)
     }
 
-    /// Leaves a seat that was taken.
-    pub(crate) fn leave(&self) {
-        self.taken.fetch_sub(1, Ordering::SeqCst);
+    /// The peer in the seat of this number, if there is one.
+    pub(crate) fn peer<R: Wait>(&self, rt: &R, number: usize) -> Option<Peer> {
+        let seats = self.seats.lock(rt);
+        match seats.as_slice().get(number) {
+            Some(Some(peer)) => peer.again().ok(),
+            Some(None) | None => None,
+        }
+    }
+
+    /// Frees the seat of this number.
+    pub(crate) fn leave<R: Wait>(&self, rt: &R, number: usize) {
+        let mut seats = self.seats.lock(rt);
+        if let Some(seat) = seats.as_mut_slice().get_mut(number) {
+            if seat.take().is_some() {
+                self.taken.fetch_sub(1, Ordering::SeqCst);
+            }
+        }
+    }
+
+    /// Shuts down the connections of all peers that have seats.
+    pub(crate) fn shut<R: Wait>(&self, rt: &R) {
+        let seats = self.seats.lock(rt);
+        for seat in seats.as_slice() {
+            if let Some(peer) = seat {
+                let _shut = peer.stream.shutdown(Shutdown::Both);
+            }
+        }
     }
 
     /// The number of seats that are taken.
     pub(crate) fn taken(&self) -> u64 {
         self.taken.load(Ordering::SeqCst)
+    }
+}
+
+impl Peer {
+    /// The same peer once more.
+    fn again(&self) -> Result<Peer, AllocError> {
+        Ok(Peer {
+            stream: Arc::try_clone(&self.stream)?,
+            address: self.address,
+        })
+    }
+}
+
+/// The number of seats that the peers of this address's host have.
+fn held_by(seats: &[Option<Peer>], address: &SocketAddr) -> u64 {
+    let mut held = 0u64;
+    for seat in seats {
+        if let Some(peer) = seat {
+            if peer.address.ip() == address.ip() {
+                held = held.saturating_add(1);
+            }
+        }
+    }
+    held
+}
+
+/// Why a further peer gets no seat, if it gets none: `taken` seats are taken, `held` of them by
+/// peers of its address, which may have `most`, where 0 is no limit.
+fn refusal_of(taken: u64, held: u64, most: u64) -> Option<NoSeat>
+    ensures { result ≡ refusal_of taken held most }
+{
+    if taken >= MOST_SESSIONS {
+        Some(NoSeat::Full)
+    } else if most > 0 && held >= most {
+        Some(NoSeat::AddressFull)
+    } else {
+        None
+    }
+}
+
+/// Puts a peer into a free seat, and returns the number of the seat.
+fn put(seats: &mut Vec<Option<Peer>>, peer: Peer) -> Result<usize, NoSeat> {
+    let number = seats.len();
+    for (free, seat) in seats.as_mut_slice().iter_mut().enumerate() {
+        if seat.is_none() {
+            *seat = Some(peer);
+            return Ok(free);
+        }
+    }
+    match seats.push(Some(peer)) {
+        Ok(()) => Ok(number),
+        Err(_refused) => Err(NoSeat::NoMemory),
     }
 }

@@ -1,25 +1,23 @@
 //! A server's work with a hub: it attends to each connection in a thread of its own.
 
 use crate::door::Door;
+use crate::ends::Ends;
 use crate::error::RunError;
 use crate::guest::Guest;
 use crate::listeners::Listeners;
 use crate::options::Options;
 use crate::reports::{Report, Reports};
 use crate::seats::Seats;
-use crate::sessions::{end_early, serve_stream};
+use crate::seldom::Seldom;
 use crate::status_listener::StatusListener;
-use crate::turned_away::TurnedAway;
-use crate::turning_away::turn_away;
 use path_hub::{Crew, Hub, HubName};
-use path_session::{HubService, SystemNow};
 use sector_dev::Device;
 use seg_check::Verifier;
-use status_server::{Counted, Replies};
+use status_server::Replies;
 use std::alloc::Global;
 use std::net::{OpenListener, TcpStream};
 use std::sync::Wait;
-use std::sync::atomic::{AtomicBool, Ordering};
+use std::sync::atomic::{AtomicBool, AtomicU64, Ordering};
 use std::time::{Clock, Instant};
 
 /// A server: where its peers arrive, the seats that they take, what each session is answered by,
@@ -29,18 +27,34 @@ pub(crate) struct Server<'a, L, V, O> {
     pub(crate) alloc: Global,
     pub(crate) door: Door<L>,
     pub(crate) seats: Seats,
-    status: StatusListener<L>,
-    options: &'a Options,
-    verifier: &'a V,
-    reports: &'a O,
-    pub(crate) turned_away: TurnedAway,
+    pub(crate) status: StatusListener<L>,
+    pub(crate) options: &'a Options,
+    pub(crate) verifier: &'a V,
+    pub(crate) reports: &'a O,
+    /// Peers that were turned away because all seats were taken.
+    pub(crate) turned_away: Seldom,
+    /// Peers that were turned away because their address had as many sessions as it may have.
+    pub(crate) address_full: Seldom,
+    /// Peers that were turned away because no thread or no memory was given for them.
+    pub(crate) no_thread: Seldom,
+    /// Accepts that failed.
+    pub(crate) not_accepted: Seldom,
+    /// Sessions that ended by a fault.
+    pub(crate) faulted: Seldom,
+    pub(crate) ends: Ends,
     pub(crate) replies: Replies,
     /// When the server began, or `None` where the clock could not be read.
     pub(crate) begun: Option<Instant>,
+    /// The number of connections that are read and dropped after the end of their sessions.
+    pub(crate) drains: AtomicU64,
+    /// Whether every thread that serves was reported to have begun.
+    ready: AtomicBool,
     /// Whether no more peers are accepted.
     ending: AtomicBool,
     /// Whether the reason for that is a broken listener.
     broken: AtomicBool,
+    /// Whether the connections of the sessions that were open were shut down.
+    pub(crate) shut: AtomicBool,
 }
 
 impl<'a, L: OpenListener<Stream = TcpStream> + Drop, V: Verifier, O: Reports> Server<'a, L, V, O> {
@@ -57,22 +71,35 @@ impl<'a, L: OpenListener<Stream = TcpStream> + Drop, V: Verifier, O: Reports> Se
         Server {
             alloc,
             door: Door::new(sessions, options.sessions),
-            seats: Seats::new(),
+            seats: Seats::new(alloc, options.peer_sessions),
             status: StatusListener::new(status),
             options,
             verifier,
             reports,
-            turned_away: TurnedAway::new(),
+            turned_away: Seldom::new(),
+            address_full: Seldom::new(),
+            no_thread: Seldom::new(),
+            not_accepted: Seldom::new(),
+            faulted: Seldom::new(),
+            ends: Ends::new(),
             replies: Replies::new(),
             begun,
+            drains: AtomicU64::new(0),
+            ready: AtomicBool::new(false),
             ending: AtomicBool::new(false),
             broken: AtomicBool::new(false),
+            shut: AtomicBool::new(false),
         }
     }
 
     /// Whether the listener for sessions broke.
     fn is_broken(&self) -> bool {
         self.broken.load(Ordering::SeqCst)
+    }
+
+    /// Records that the listener for sessions broke.
+    pub(crate) fn set_broken(&self) {
+        self.broken.store(true, Ordering::SeqCst);
     }
 
     /// Whether peers are still to come or being served.
@@ -92,36 +119,21 @@ impl<'a, L: OpenListener<Stream = TcpStream> + Drop, V: Verifier, O: Reports> Se
         Ok(self.door.started())
     }
 
-    /// The next peer for which there is a seat, which is then taken. Peers that arrive while all
-    /// seats are taken are turned away.
-    fn next_seated<R: Wait + Clock>(&self, rt: &R) -> Option<TcpStream> {
-        for _ in rt.forever() {
-            let stream = self.door.next_peer(rt)?;
-            if self.seats.take() {
-                return Some(stream);
-            }
-            turn_away(&stream);
-            if let Some(count) = self.turned_away.count(rt) {
-                self.reports.report(Report::TurnedAway(count));
-            }
+    /// Reports once that every thread that serves has begun.
+    fn report_ready(&self) {
+        if !self.ready.swap(true, Ordering::SeqCst) && !self.status.is_missed() {
+            self.reports.report(Report::Ready);
         }
-        unreachable!()
     }
 
-    /// Serves a peer by a reader of the hub, and closes the connection.
-    fn serve<D: Device, N: HubName, R: Wait + Clock>(&self, hub: &Hub<D, N, R>, stream: TcpStream) {
-        let Ok(reader) = hub.reader() else {
-            turn_away(&stream);
-            return;
-        };
-        let clock = SystemNow::new(hub.handle());
-        let service = HubService::new(hub, reader, self.verifier, clock, &self.options.cores);
-        let mut counted = Counted::new(service, &self.replies);
-        let served = serve_stream(self.alloc, &stream, &mut counted, self.options.idle);
-        hub.give_back(counted.into_service().into_reader());
-        if served.is_err() {
-            end_early(hub.handle(), &stream);
+    /// The number of the seat of the next peer, or `None` where no more are to come.
+    fn next_session<R: Wait + Clock>(&self, rt: &R) -> Option<usize> {
+        if self.door.is_done() || self.status.is_missed() {
+            return None;
         }
+        let number = self.next_seated(rt)?;
+        self.door.count();
+        Some(number)
     }
 }
 
@@ -132,42 +144,41 @@ impl<
     V: Verifier,
     O: Reports,
 > Crew<D, R> for Server<'_, L, V, O> {
-    type Guest = Guest<L>;
+    type Guest = Guest;
 
-    fn next<N: HubName>(&self, hub: &Hub<D, N, R>) -> Option<Guest<L>> {
+    fn next<N: HubName>(&self, hub: &Hub<D, N, R>) -> Option<Guest> {
         let rt = hub.handle();
-        if let Some(listener) = self.status.hand_out(rt) {
-            return Some(Guest::Status(listener));
+        if self.status.offer(rt) {
+            return Some(Guest::Status);
         }
-        if !self.door.is_done() && !self.status.is_missed() {
-            if let Some(stream) = self.next_seated(rt) {
-                self.door.count();
-                return Some(Guest::Session(stream));
-            }
-            self.broken.store(true, Ordering::SeqCst);
+        self.report_ready();
+        if let Some(number) = self.next_session(rt) {
+            return Some(Guest::Session(number));
         }
         self.ending.store(true, Ordering::SeqCst);
         self.door.close(rt);
         if self.is_broken() {
             hub.stop();
         }
+        self.await_last(rt);
         None
     }
 
-    fn attend<N: HubName>(&self, hub: &Hub<D, N, R>, guest: Guest<L>) {
+    fn attend<N: HubName>(&self, hub: &Hub<D, N, R>, guest: Guest) {
         match guest {
-            Guest::Session(stream) => {
-                self.serve(hub, stream);
-                self.seats.leave();
+            Guest::Session(number) => self.attend_session(hub, number),
+            Guest::Status => {
+                if let Some(listener) = self.status.take(hub.handle()) {
+                    self.watch(hub, &listener);
+                }
             }
-            Guest::Status(listener) => self.watch(hub, &listener),
         }
     }
 
-    fn miss(&self) {
-        if !self.status.miss() {
-            self.door.discount();
-            self.seats.leave();
+    fn miss<N: HubName>(&self, hub: &Hub<D, N, R>, guest: Guest) {
+        match guest {
+            Guest::Session(number) => self.miss_session(hub.handle(), number),
+            Guest::Status => self.status.miss(),
         }
     }
 

@@ -1,5 +1,6 @@
 //! One session over a connection.
 
+use crate::paced::Paced;
 use session_core::{FrameError, MOST_READS, Service, serve};
 use status_server::{Deadline, part};
 use std::alloc::Global;
@@ -12,23 +13,52 @@ use std::time::{Clock, Duration};
 /// peer gets the replies before the fault.
 const PARTING: u64 = 1_000;
 
+/// The result of a session, and whether it ended because the peer was too slow.
+#[derive(Clone, Copy)]
+pub(crate) struct Served {
+    /// The number of replies, or why the session ended.
+    pub(crate) replies: Result<u64, FrameError>,
+    /// Whether a read or a write failed because its time was over.
+    pub(crate) is_late: bool,
+}
+
 /// Answers the messages of a connection, and returns the number of replies, a count that stays at
 /// 2^64 - 1. Replies are sent when all messages that have arrived are answered, or the buffer of
-/// 8,192 bytes is full. A read or a write that waits for the peer longer than `idle` fails.
-pub(crate) fn serve_stream<S: Service>(
+/// 8,192 bytes is full. The session ends where a frame does not begin within the idle time, is not
+/// whole within the idle time of its first byte, or where a reply is not taken within it.
+pub(crate) fn serve_stream<C: Clock, S: Service>(
+    clock: &C,
     alloc: Global,
     stream: &TcpStream,
     service: &mut S,
     idle: Option<Duration>,
-) -> Result<u64, FrameError> {
+) -> Served {
     if set_up(stream, idle).is_err() {
-        return Err(FrameError::Read);
+        return Served {
+            replies: Err(FrameError::Read),
+            is_late: false,
+        };
     }
-    let Ok(mut output) = BufWriter::new(alloc, stream) else {
+    let mut input = Paced::new(clock, stream, idle);
+    let mut output = Paced::new(clock, stream, idle);
+    let replies = serve_buffered(alloc, &mut input, &mut output, service);
+    Served {
+        replies,
+        is_late: input.is_late() || output.is_late(),
+    }
+}
+
+/// Answers the messages of an input, by a buffer for the output.
+fn serve_buffered<C: Clock, S: Service>(
+    alloc: Global,
+    input: &mut Paced<C>,
+    output: &mut Paced<C>,
+    service: &mut S,
+) -> Result<u64, FrameError> {
+    let Ok(mut output) = BufWriter::new(alloc, output) else {
         return Err(FrameError::NoMemory);
     };
-    let mut input = stream;
-    serve(alloc, &mut input, &mut output, service, MOST_READS)
+    serve(alloc, input, &mut output, service, MOST_READS)
 }
 
 /// Sets up a connection. Small replies are sent at once, since `BufWriter` gathers them, and reads

@@ -3,41 +3,39 @@
 use std::sync::atomic::{AtomicBool, Ordering};
 use std::sync::{Mutex, Wait};
 
-/// The listener for requests of the numbers, until it is handed out.
+/// The listener for requests of the numbers, until a thread takes it.
 #[derive(Drop)]
 pub(crate) struct StatusListener<L> {
     listener: Mutex<Option<L>>,
-    /// Whether the listener was handed out, and no other guest was since.
-    is_last: AtomicBool,
+    /// Whether a thread for the listener was asked for.
+    is_offered: AtomicBool,
     /// Whether no thread was given for the listener.
     is_missed: AtomicBool,
 }
 
 impl<L: Drop> StatusListener<L> {
-    /// Takes the listener, if there is one.
+    /// Keeps the listener, if there is one.
     pub(crate) fn new(listener: Option<L>) -> StatusListener<L> {
         StatusListener {
             listener: Mutex::new(listener),
-            is_last: AtomicBool::new(false),
+            is_offered: AtomicBool::new(false),
             is_missed: AtomicBool::new(false),
         }
     }
 
-    /// Hands the listener out, once.
-    pub(crate) fn hand_out<R: Wait>(&self, rt: &R) -> Option<L> {
-        let listener = (*self.listener.lock(rt)).take();
-        self.is_last.store(listener.is_some(), Ordering::SeqCst);
-        listener
+    /// Whether a thread is to be asked for the listener, as it is once where there is one.
+    pub(crate) fn offer<R: Wait>(&self, rt: &R) -> bool {
+        !self.is_offered.swap(true, Ordering::SeqCst) && self.listener.lock(rt).is_some()
     }
 
-    /// Records that no thread was given for the last guest. Returns whether that guest is the
-    /// listener.
-    pub(crate) fn miss(&self) -> bool {
-        let is_last = self.is_last.load(Ordering::SeqCst);
-        if is_last {
-            self.is_missed.store(true, Ordering::SeqCst);
-        }
-        is_last
+    /// Takes the listener.
+    pub(crate) fn take<R: Wait>(&self, rt: &R) -> Option<L> {
+        (*self.listener.lock(rt)).take()
+    }
+
+    /// Records that no thread was given for the listener.
+    pub(crate) fn miss(&self) {
+        self.is_missed.store(true, Ordering::SeqCst);
     }
 
     /// Whether no thread was given for the listener.

@@ -11,8 +11,9 @@ use std::io::Read;
 pub const MOST_PIECE: usize = 65_536;
 
 /// The most reads of a session's input that the program makes: the `turns` that it gives to `serve`
-/// and `read_all`.
-pub const MOST_READS: u64 = 1_000_000_000;
+/// and `read_all`. No session reaches this number: a thousand million reads a second would take 584
+/// years.
+pub const MOST_READS: u64 = u64::MAX;
 
 /// A reader whose contract counts its reads: `piece` makes one read, and no other call is known to
 /// make one.

@@ -6,7 +6,7 @@ ghost use Rattle.status_server.specs.Requests.{IsRead, IsPieceTaken};
 use crate::deadline::Deadline;
 use status_page::{Asked, read_head};
 use std::alloc::{AllocError, Global};
-use std::io::{Read, Write};
+use std::io::{ErrorKind, Read, Write};
 use std::net::{Shutdown, TcpStream};
 use std::time::{Clock, Duration};
 
@@ -63,16 +63,23 @@ fn take_piece(head: &mut Vec<u8>, piece: &[u8]) -> Result<Option<Asked>, AllocEr
     }
 }
 
-/// Reads once, and returns the number of bytes, of which 0 is the end. The result is `None` where
-/// the time is over, or the connection or the clock failed.
+/// Reads once, and returns the number of bytes, of which 0 is the end. A read that is interrupted is
+/// made again for the time that is left. The result is `None` where the time is over, or the
+/// connection or the clock failed.
 fn read_by(
     clock: &impl Clock,
     mut stream: &TcpStream,
     deadline: &Deadline,
     piece: &mut [u8],
 ) -> Option<usize> {
-    stream.set_read_timeout(Some(deadline.left(clock)?)).ok()?;
-    stream.read(piece).ok()
+    for _ in 0..u64::MAX {
+        stream.set_read_timeout(Some(deadline.left(clock)?)).ok()?;
+        match stream.read(piece) {
+            Err(error) if error.kind() == ErrorKind::Interrupted => {}
+            read => return read.ok(),
+        }
+    }
+    None
 }
 
 /// Sends a text, or the front of it that the peer takes in time.
@@ -86,16 +93,23 @@ pub fn send(clock: &impl Clock, stream: &TcpStream, deadline: &Deadline, text: &
     }
 }
 
-/// Writes once, and returns the number of bytes that were taken. The result is `None` where the
-/// time is over, or the connection or the clock failed.
+/// Writes once, and returns the number of bytes that were taken. A write that is interrupted is made
+/// again for the time that is left. The result is `None` where the time is over, or the connection
+/// or the clock failed.
 fn write_by(
     clock: &impl Clock,
     mut stream: &TcpStream,
     deadline: &Deadline,
     bytes: &[u8],
 ) -> Option<usize> {
-    stream.set_write_timeout(Some(deadline.left(clock)?)).ok()?;
-    stream.write(bytes).ok()
+    for _ in 0..u64::MAX {
+        stream.set_write_timeout(Some(deadline.left(clock)?)).ok()?;
+        match stream.write(bytes) {
+            Err(error) if error.kind() == ErrorKind::Interrupted => {}
+            written => return written.ok(),
+        }
+    }
+    None
 }
 
 /// Ends a connection. A close over unread input would reset it, and the peer might lose its answer.

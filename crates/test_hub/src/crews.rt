@@ -85,7 +85,7 @@ impl<E: Errand, D: Device, R: Wait + Clock + Abort> Crew<D, R> for Guests<E> {
         self.gone.fetch_add(1, Ordering::SeqCst);
     }
 
-    fn miss(&self) {
+    fn miss<N: HubName>(&self, _hub: &Hub<D, N, R>, _guest: u64) {
         self.missed.fetch_add(1, Ordering::SeqCst);
         self.gone.fetch_add(1, Ordering::SeqCst);
     }

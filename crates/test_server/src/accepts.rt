@@ -15,15 +15,15 @@ const FAILURES: [(i32, Failure); 14] = [
     (22, Failure::Broken), // EINVAL
     (88, Failure::Broken), // ENOTSOCK
     (95, Failure::Broken), // EOPNOTSUPP
-    (11, Failure::Pause), // EAGAIN
+    (11, Failure::Nobody), // EAGAIN
     (12, Failure::Pause), // ENOMEM
     (23, Failure::Pause), // ENFILE
     (24, Failure::Pause), // EMFILE
     (105, Failure::Pause), // ENOBUFS
-    (1, Failure::Again), // EPERM
-    (71, Failure::Again), // EPROTO
-    (103, Failure::Again), // ECONNABORTED
-    (110, Failure::Again), // ETIMEDOUT
+    (1, Failure::Pause), // EPERM
+    (71, Failure::Pause), // EPROTO
+    (103, Failure::Pause), // ECONNABORTED
+    (110, Failure::Pause), // ETIMEDOUT
 ];
 
 #[test]

@@ -10,6 +10,10 @@ mod doors;
 #[cfg(test)]
 mod ends;
 #[cfg(test)]
+mod leaving;
+#[cfg(test)]
+mod pacing;
+#[cfg(test)]
 mod peers;
 #[cfg(test)]
 mod refused;

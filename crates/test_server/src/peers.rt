@@ -45,6 +45,11 @@ impl Peer {
         self.stream.write_all(bytes.as_slice())
     }
 
+    /// Bounds the time that a write waits for the server.
+    pub(crate) fn limit_writes(&mut self, time: Duration) -> io::Result<()> {
+        self.stream.set_write_timeout(Some(time))
+    }
+
     /// Sends the bytes of a hexadecimal text, each by itself.
     pub(crate) fn send_slowly(&mut self, text: &str) -> io::Result<()> {
         let bytes = bytes_of(self.alloc, text)?;

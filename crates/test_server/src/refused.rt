@@ -10,6 +10,7 @@ use std::alloc::Global;
 use std::io;
 use std::net::{OpenListener, SocketAddr, TcpStream};
 use std::test::Fail;
+use std::time::Duration;
 
 /// A listener that is none.
 #[derive(Drop)]
@@ -31,7 +32,9 @@ fn has_threads<R: World>(rt: R, alloc: Global, status: Option<Broken>) -> bool {
         cores: Roster::new(Vec::new(alloc)),
         key: None,
         sessions: 0,
+        peer_sessions: 0,
         idle: None,
+        grace: Duration::from_millis(100),
     };
     let counts = Counts::new();
     let (device, served) = serve_store(
@@ -48,9 +51,11 @@ fn has_threads<R: World>(rt: R, alloc: Global, status: Option<Broken>) -> bool {
     assert_eq!(&rt; counts.stopped(), 0);
     let _device = opens_to(&rt, alloc, device, (0, 0, 0));
     if served == Err(RunError::NoMemory) {
+        assert_eq!(&rt; counts.ready(), 0);
         return false;
     }
     assert_eq!(&rt; served, Err(RunError::Net));
+    assert_eq!(&rt; counts.ready(), 1);
     true
 }
 

@@ -14,7 +14,7 @@ use std::{io, thread};
 const SEATS: usize = 64;
 
 /// What a peer is replied for whom there is no seat.
-const NO_SEAT: &str = "00000002ff61";
+pub(crate) const NO_SEAT: &str = "00000002ff61";
 
 /// Takes all seats, sees two peers turned away, leaves the seats and takes one.
 struct Crowd;

@@ -2,7 +2,7 @@
 
 use crate::stores::opened;
 use isd_as::IsdAs;
-use path_server::{Listeners, Options, Report, Reports, RunError, serve_store};
+use path_server::{Listeners, Options, Report, Reports, RunError, bound_accepts, serve_store};
 use sector_dev::Device;
 use seg_lookup::Roster;
 use std::alloc::Global;
@@ -10,7 +10,7 @@ use std::net::{Net, Shutdown, SocketAddr, TcpListener, TcpStream};
 use std::os::fd::OwnedFd;
 use std::process::Abort;
 use std::sync::Wait;
-use std::sync::atomic::{AtomicU64, Ordering};
+use std::sync::atomic::{AtomicBool, AtomicU64, Ordering};
 use std::thread::Threads;
 use std::time::{Clock, Duration};
 use std::{io, thread};
@@ -44,36 +44,75 @@ pub(crate) trait Clients {
     fn meet<R: Outside>(&self, rt: R, alloc: Global, to: SocketAddr) -> io::Result<Self::Seen>;
 }
 
-/// How often a server reported that its store stopped, and how many peers it turned away.
+/// What a server reported, and whether it is to end.
 #[derive(Drop)]
 pub(crate) struct Counts {
+    ready: AtomicU64,
     stopped: AtomicU64,
     turned_away: AtomicU64,
+    address_full: AtomicU64,
+    wants_end: AtomicBool,
 }
 
 impl Counts {
+    /// Nothing is reported, and the server is to go on.
     pub(crate) fn new() -> Counts {
         Counts {
+            ready: AtomicU64::new(0),
             stopped: AtomicU64::new(0),
             turned_away: AtomicU64::new(0),
+            address_full: AtomicU64::new(0),
+            wants_end: AtomicBool::new(false),
         }
     }
 
+    /// How often the server was ready.
+    pub(crate) fn ready(&self) -> u64 {
+        self.ready.load(Ordering::SeqCst)
+    }
+
+    /// How often the store stopped.
     pub(crate) fn stopped(&self) -> u64 {
         self.stopped.load(Ordering::SeqCst)
     }
 
+    /// How many peers were turned away because all seats were taken.
     pub(crate) fn turned_away(&self) -> u64 {
         self.turned_away.load(Ordering::SeqCst)
+    }
+
+    /// How many peers were turned away because of the sessions of their address.
+    pub(crate) fn address_full(&self) -> u64 {
+        self.address_full.load(Ordering::SeqCst)
+    }
+
+    /// Asks the server to end.
+    pub(crate) fn want_end(&self) {
+        self.wants_end.store(true, Ordering::SeqCst);
     }
 }
 
 impl Reports for Counts {
     fn report(&self, report: Report) {
         match report {
-            Report::Stopped | Report::Defect => self.stopped.fetch_add(1, Ordering::SeqCst),
-            Report::TurnedAway(count) => self.turned_away.fetch_add(count, Ordering::SeqCst),
-        };
+            Report::Ready => {
+                self.ready.fetch_add(1, Ordering::SeqCst);
+            }
+            Report::Stopped | Report::Defect => {
+                self.stopped.fetch_add(1, Ordering::SeqCst);
+            }
+            Report::TurnedAway(count) => {
+                self.turned_away.fetch_add(count, Ordering::SeqCst);
+            }
+            Report::AddressFull(count) => {
+                self.address_full.fetch_add(count, Ordering::SeqCst);
+            }
+            _ => {}
+        }
+    }
+
+    fn wants_end(&self) -> bool {
+        self.wants_end.load(Ordering::SeqCst)
     }
 }
 
@@ -85,7 +124,9 @@ pub(crate) fn options(rt: &impl Abort, alloc: Global, sessions: u64) -> Options 
         cores: Roster::new(cores),
         key: None,
         sessions,
+        peer_sessions: 0,
         idle: Some(Duration::from_secs(10)),
+        grace: Duration::from_millis(100),
     }
 }
 
@@ -93,11 +134,12 @@ pub(crate) fn options(rt: &impl Abort, alloc: Global, sessions: u64) -> Options 
 /// saw.
 pub(crate) type Met<D, T> = (D, Result<u64, RunError>, io::Result<T>);
 
-/// A listener at a free port, and its address.
+/// A listener at a free port, whose accepts are bounded, and its address.
 pub(crate) fn listen<R: World>(rt: R) -> (TcpListener, SocketAddr) {
     let Ok(listener) = TcpListener::bind(&rt, "127.0.0.1:0") else {
         panic!(rt; "no port is free");
     };
+    assert!(&rt; bound_accepts(&listener).is_ok());
     let Ok(to) = listener.local_addr() else {
         panic!(rt; "no address");
     };

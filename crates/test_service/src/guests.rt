@@ -71,7 +71,7 @@ impl<T: Talk, D: Device, R: Wait + Clock + Abort> Crew<D, R> for Guest<T> {
         self.gone.store(1, Ordering::SeqCst);
     }
 
-    fn miss(&self) {
+    fn miss<N: HubName>(&self, _hub: &Hub<D, N, R>, _guest: ()) {
         self.gone.store(1, Ordering::SeqCst);
     }
 }

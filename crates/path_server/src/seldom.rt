@@ -1,4 +1,4 @@
-//! The number of peers that were turned away.
+//! Events that are counted, and reported now and then.
 
 use std::sync::atomic::{AtomicU64, Ordering};
 use std::sync::{Mutex, Wait};
@@ -7,11 +7,10 @@ use std::time::{Clock, Duration, Instant};
 /// The least time from one report to the next, in seconds.
 const BETWEEN: u64 = 1;
 
-/// The number of peers that were turned away since the last report of them, and when that report
-/// was.
+/// The number of events since the last report of them, and when that report was.
 #[derive(Drop)]
 struct Count {
-    peers: u64,
+    events: u64,
     reported: Option<Instant>,
 }
 
@@ -28,42 +27,42 @@ impl Count {
     }
 }
 
-/// Counts peers that were turned away, so that they are reported once a second at most.
+/// Counts events of one kind, so that they are reported once a second at most.
 #[derive(Drop)]
-pub(crate) struct TurnedAway {
+pub(crate) struct Seldom {
     count: Mutex<Count>,
-    /// The number of peers that were turned away since the server began.
+    /// The number of events since the server began.
     all: AtomicU64,
 }
 
-impl TurnedAway {
+impl Seldom {
     /// All counts 0.
-    pub(crate) fn new() -> TurnedAway {
-        TurnedAway {
+    pub(crate) fn new() -> Seldom {
+        Seldom {
             count: Mutex::new(Count {
-                peers: 0,
+                events: 0,
                 reported: None,
             }),
             all: AtomicU64::new(0),
         }
     }
 
-    /// The number of peers that were turned away since the server began.
+    /// The number of events since the server began.
     pub(crate) fn all(&self) -> u64 {
         self.all.load(Ordering::SeqCst)
     }
 
-    /// Counts one more peer. If a report is due, returns its number of peers.
+    /// Counts one more event. If a report is due, returns its number of events.
     pub(crate) fn count<R: Wait + Clock>(&self, rt: &R) -> Option<u64> {
         self.all.fetch_add(1, Ordering::SeqCst);
         let mut count = self.count.lock(rt);
-        count.peers = count.peers.saturating_add(1);
+        count.events = count.events.saturating_add(1);
         if !count.is_due(rt) {
             return None;
         }
-        let peers = count.peers;
-        count.peers = 0;
+        let events = count.events;
+        count.events = 0;
         count.reported = Instant::now(rt).ok();
-        Some(peers)
+        Some(events)
     }
 }

@@ -1,0 +1,95 @@
+//! The session of one peer of a server.
+
+use crate::ends::{Circumstances, cause_of};
+use crate::reports::{Report, Reports};
+use crate::server::Server;
+use crate::sessions::{Served, end_early, serve_stream};
+use crate::turning_away::turn_away;
+use path_hub::{Hub, HubName};
+use path_session::{HubService, SystemNow};
+use sector_dev::Device;
+use seg_check::Verifier;
+use status_server::Counted;
+use std::net::{OpenListener, SocketAddr, TcpStream};
+use std::sync::Wait;
+use std::sync::atomic::Ordering;
+use std::time::Clock;
+
+/// The most connections that are read and dropped at one time after the end of their sessions.
+const MOST_DRAINS: u64 = 64;
+
+impl<L: OpenListener<Stream = TcpStream> + Drop, V: Verifier, O: Reports> Server<'_, L, V, O> {
+    /// Serves the peer of a seat, frees the seat, and closes the connection.
+    pub(crate) fn attend_session<D: Device, N: HubName, R: Wait + Clock>(
+        &self,
+        hub: &Hub<D, N, R>,
+        number: usize,
+    ) {
+        let rt = hub.handle();
+        let Some(peer) = self.seats.peer(rt, number) else {
+            self.seats.leave(rt, number);
+            return;
+        };
+        let served = self.serve(hub, &peer.stream);
+        self.seats.leave(rt, number);
+        match served {
+            Some(served) => self.note_end(rt, &peer.stream, peer.address, served),
+            None => turn_away(&peer.stream),
+        }
+    }
+
+    /// Serves a peer by a reader of the hub. The result is `None` where there is no reader.
+    fn serve<D: Device, N: HubName, R: Wait + Clock>(
+        &self,
+        hub: &Hub<D, N, R>,
+        stream: &TcpStream,
+    ) -> Option<Served> {
+        let reader = hub.reader().ok()?;
+        let rt = hub.handle();
+        let clock = SystemNow::new(rt);
+        let service = HubService::new(hub, reader, self.verifier, clock, &self.options.cores);
+        let mut counted = Counted::new(service, &self.replies);
+        let served = serve_stream(rt, self.alloc, stream, &mut counted, self.options.idle);
+        hub.give_back(counted.into_service().into_reader());
+        Some(served)
+    }
+
+    /// Counts the end of a session, reports it if it ended by a fault and a report is due, and
+    /// drops what arrives of a connection whose input has not ended.
+    fn note_end<R: Wait + Clock>(
+        &self,
+        rt: &R,
+        stream: &TcpStream,
+        peer: SocketAddr,
+        served: Served,
+    ) {
+        let circumstances = Circumstances {
+            is_late: served.is_late,
+            is_shut: self.shut.load(Ordering::SeqCst),
+        };
+        let cause = cause_of(served.replies, circumstances);
+        self.ends.count(cause);
+        let Err(why) = served.replies else {
+            return;
+        };
+        if cause.is_fault() {
+            if let Some(count) = self.faulted.count(rt) {
+                self.reports.report(Report::Faulted {
+                    count,
+                    peer: Some(peer),
+                    why,
+                });
+            }
+        }
+        self.drain(rt, stream);
+    }
+
+    /// Drops what arrives of a connection for a while, unless this is being done for as many
+    /// connections as it may be.
+    fn drain<R: Clock>(&self, rt: &R, stream: &TcpStream) {
+        if self.drains.fetch_add(1, Ordering::SeqCst) < MOST_DRAINS {
+            end_early(rt, stream);
+        }
+        self.drains.fetch_sub(1, Ordering::SeqCst);
+    }
+}
