@@ -7,7 +7,8 @@ use std::sync::Wait;
 use std::thread::Threads;
 use std::time::Clock;
 
-/// The parts of the system that the program uses.
+/// The parts of the system that the program uses. Threads that outlive the caller have a copy of the
+/// handle.
 pub trait System: Env
     + Print
     + Eprint
@@ -17,7 +18,11 @@ pub trait System: Env
     + Wait
     + Clock
     + Threads
-    + Sync {}
+    + Clone
+    + Drop
+    + Send
+    + Sync
+    + 'static {}
 
 impl<
     R: Env
@@ -29,5 +34,9 @@ impl<
         + Wait
         + Clock
         + Threads
-        + Sync,
+        + Clone
+        + Drop
+        + Send
+        + Sync
+        + 'static,
 > System for R {}
