@@ -5,7 +5,7 @@ ghost use Rattle.std.specs.Prelude.{◌≡◌};
 use crate::input::read_to_the_end;
 use crate::lines::Lines;
 use crate::signals::Signals;
-use crate::system::System;
+use crate::system::Host;
 use crate::waiting::Line;
 use path_server::{Report, Reports};
 use std::alloc::{AllocError, Global};
@@ -29,7 +29,7 @@ pub(crate) struct Notices<R> {
     shared: Arc<Shared>,
 }
 
-impl<R: System> Notices<R> {
+impl<R: Host> Notices<R> {
     /// Starts the thread that prints, unless the program should be quiet. Memory is refused where
     /// no thread is given.
     pub(crate) fn new(rt: &R, is_quiet: bool) -> Result<Notices<R>, AllocError> {
@@ -68,11 +68,6 @@ impl<R: System> Notices<R> {
         {
             self.shared.lines.push(&self.rt, Line::Text(text));
         }
-    }
-
-    /// The number of lines that were dropped, since too many waited to be printed.
-    pub(crate) fn dropped(&self) -> u64 {
-        self.shared.lines.dropped(&self.rt)
     }
 
     /// Waits until the server is ready or has ended. Returns whether it was ever ready.
@@ -131,5 +126,9 @@ impl<R: Wait> Reports for Notices<R> {
 
     fn wants_end(&self) -> bool {
         self.shared.signals.wants_end()
+    }
+
+    fn dropped(&self) -> u64 {
+        self.shared.lines.dropped(&self.rt)
     }
 }

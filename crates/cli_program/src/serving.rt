@@ -6,7 +6,7 @@ use crate::notices::Notices;
 use crate::server_options::options_of;
 use crate::starting::{say_addresses, say_opened, say_without_cores};
 use crate::stores::{device_over, path_of};
-use crate::system::System;
+use crate::system::{Host, System};
 use clap::ArgMatches;
 use cli_words::{CORES, QUIET, STOP_ON_END_OF_INPUT};
 use path_server::{Listeners, Options, run_on};
@@ -106,7 +106,7 @@ fn serve_beside<'a, R: System, I: Read + Drop + Send + 'static, O: Write>(
 }
 
 /// Opens the store of a device and serves its sessions. Returns their number.
-fn serve_site<'a, R: System>(
+fn serve_site<'a, R: Host>(
     site: Site<'a>,
     options: &Options,
     notices: &Notices<R>,
@@ -142,7 +142,7 @@ fn store_of<D: Device + Drop>(
 
 /// Prints that peers are answered, once they are and the lines of the start are printed. From then
 /// on the end of the input, if there is one, ends the server.
-fn announce<'a, R: System, I: Read + Drop + Send + 'static, O: Write>(
+fn announce<'a, R: Host, I: Read + Drop + Send + 'static, O: Write>(
     notices: &Notices<R>,
     input: Option<I>,
     output: &mut O,

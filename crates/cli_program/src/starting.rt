@@ -1,7 +1,7 @@
 //! The lines of a server that starts.
 
 use crate::notices::Notices;
-use crate::system::System;
+use crate::system::Host;
 use ckpt_pair::area_room;
 use path_server::Listeners;
 use sector_dev::Device;
@@ -11,13 +11,13 @@ use std::time::{Clock, Instant};
 use store_open::Store;
 
 /// Says that no core AS is named.
-pub(crate) fn say_without_cores<R: System>(alloc: Global, notices: &Notices<R>) {
+pub(crate) fn say_without_cores<R: Host>(alloc: Global, notices: &Notices<R>) {
     let line = "no --cores: lookups between two named ASes are refused by 0x43";
     notices.say(line.to_string(alloc));
 }
 
 /// Says what the opening of a store has found, and how long it took.
-pub(crate) fn say_opened<R: System, D: Device>(
+pub(crate) fn say_opened<R: Host, D: Device>(
     rt: &R,
     notices: &Notices<R>,
     path: &str,
@@ -63,7 +63,7 @@ fn milliseconds_since(clock: &impl Clock, begun: Option<Instant>) -> u64 {
 }
 
 /// Says where the server listens, and what it serves.
-pub(crate) fn say_addresses<R: System, D: Device>(
+pub(crate) fn say_addresses<R: Host, D: Device>(
     alloc: Global,
     notices: &Notices<R>,
     path: &str,

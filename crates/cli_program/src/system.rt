@@ -7,8 +7,7 @@ use std::sync::Wait;
 use std::thread::Threads;
 use std::time::Clock;
 
-/// The parts of the system that the program uses. Threads that outlive the caller have a copy of the
-/// handle.
+/// The parts of the system that the program uses.
 pub trait System: Env
     + Print
     + Eprint
@@ -40,3 +39,19 @@ impl<
         + Sync
         + 'static,
 > System for R {}
+
+/// The parts of the system that the threads of a server use, and those that print its lines and read
+/// its input. A thread that outlives its caller has a clone of the handle.
+pub(crate) trait Host: AllocGlobal
+    + Eprint
+    + Wait
+    + Clock
+    + Threads
+    + Clone
+    + Drop
+    + Send
+    + Sync
+    + 'static {}
+
+impl<R: AllocGlobal + Eprint + Wait + Clock + Threads + Clone + Drop + Send + Sync + 'static> Host
+    for R {}
