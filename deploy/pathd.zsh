@@ -15,7 +15,7 @@ _pathd() {
   )
   if ((CURRENT == 2)); then
     _describe command commands
-    _arguments $help
+    _arguments $help '(- *)'{-V,--version}'[print the version]'
     return
   fi
   local command=$words[2]
@@ -55,7 +55,10 @@ _pathd() {
         '--cores[the core ASes, joined by commas]:LIST:' \
         '--key[check signatures by this key]:HEX:' \
         '--sessions[end after this number of sessions]:N:' \
+        '--peer-sessions[sessions that one address may have open]:N:' \
         '--idle[end a session whose peer is silent for so long]:SECONDS:' \
+        '--stop-on-end-of-input[end once standard input has ended]' \
+        '--grace[how long open sessions have at such an end]:SECONDS:' \
         '--quiet[print only why the program ends]' \
         '1:DEV:_files'
       ;;

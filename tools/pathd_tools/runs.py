@@ -163,6 +163,11 @@ class Replies:
         return self.contents.pop()
 
 
+def last_line(text: bytes) -> str:
+    """The last line of a standard error, which names the kind of an error; the line before says why."""
+    return text.decode().strip().rpartition("\n")[2]
+
+
 def shown(program: str, store: Path) -> tuple[int, bytes, bytes]:
     """Status, output and errors of `show`."""
     done = subprocess.run([program, "show", str(store)], capture_output=True, check=False)

@@ -25,13 +25,13 @@ trap end EXIT
 runs=0
 differences=0
 
-ends() { # the wanted status, the wanted lines of standard output and error, and the words of a command
+ends() { # the wanted status, the wanted lines of standard output and error but those that begin with `pathd: `, and the words of a command
   local wanted=$1 lines=$2 status
   shift 2
   "$program" "$@" >"$work/out" 2>&1
   status=$?
   runs=$((runs + 1))
-  if [ "$status" != "$wanted" ] || [ "$(cat "$work/out")" != "$lines" ]; then
+  if [ "$status" != "$wanted" ] || [ "$(grep -v '^pathd: ' "$work/out")" != "$lines" ]; then
     echo "$*: status $status, $(cat "$work/out")"
     differences=$((differences + 1))
   fi

@@ -46,12 +46,12 @@ interrupted() { # the same, where the command is to end as without a failure
   cmp -s "$store" "$work/wanted_store" || differs "$inject" "$*" "the file"
 }
 
-fails() { # the line that is wanted, and the same
+fails() { # the last line of standard error that is wanted, and the same
   local line=$1 inject=$2
   shift 2
   restore
   run_with "$inject" "$@"
-  [ "$status" = 1 ] && [ "$(cat "$work/err")" = "$line" ] && [ ! -s "$work/out" ] \
+  [ "$status" = 1 ] && [ "$(tail -n 1 "$work/err")" = "$line" ] && [ ! -s "$work/out" ] \
     || differs "$inject" "$*" "status $status, $(cat "$work/err"), prints $(cat "$work/out")"
 }
 

@@ -20,13 +20,13 @@ store=$work/store
 runs=0
 differences=0
 
-ends() { # the wanted status, the wanted line of standard error, and the words of a command
+ends() { # the wanted status, the wanted last line of standard error, and the words of a command
   local wanted=$1 line=$2 status
   shift 2
   "$program" "$@" >"$work/out" 2>"$work/err"
   status=$?
   runs=$((runs + 1))
-  if [ "$status" != "$wanted" ] || [ "$(cat "$work/err")" != "$line" ] || ! cmp -s "$work/before" "$store"; then
+  if [ "$status" != "$wanted" ] || [ "$(tail -n 1 "$work/err")" != "$line" ] || ! cmp -s "$work/before" "$store"; then
     echo "$holder, $*: status $status, $(cat "$work/err"), $(cmp "$work/before" "$store")"
     differences=$((differences + 1))
   fi

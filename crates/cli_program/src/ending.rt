@@ -1,6 +1,6 @@
 //! How the program ends: its status, and its last line on standard error.
 
-ghost use Rattle.std.specs.Prelude.{◌≡◌, Some};
+ghost use Rattle.std.specs.Prelude.{◌≡◌, ◌≤◌, Some};
 ghost use Rattle.cli_program.specs.Ending.{program_status};
 
 use path_server::RunError;
@@ -81,7 +81,8 @@ impl From<RunError> for Ended {
 /// The exit status of the program: 0 where the words are carried out, 1 where the program ended
 /// before that, and 2 where the words cannot be read.
 pub fn status_of(outcome: &Result<Done, Ended>) -> u8
-    ensures { result ≡ program_status outcome.now }
+    ensures status { result ≡ program_status outcome.now }
+    ensures most { result ≤ 2 }
 {
     match outcome {
         Ok(Done::Carried) => 0,

@@ -5,13 +5,23 @@
 //! and `status_of`, which tests call by themselves.
 #![tactic(auto)]
 
+mod addresses;
 mod ending;
+mod failure;
+mod input;
+mod lines;
 mod notices;
+mod options;
+mod output;
 mod running;
+mod server_options;
 mod serving;
 mod session;
+mod signals;
+mod starting;
 mod stores;
 mod system;
+mod waiting;
 
 pub use ending::{Done, Ended, status_of};
 pub use running::{carry_out, run};

@@ -1,61 +1,134 @@
-//! The server's lines on standard error.
+//! The server's lines on standard error, and the program's wishes for the server.
 
+ghost use Rattle.std.specs.Prelude.{◌≡◌};
+
+use crate::input::read_to_the_end;
+use crate::lines::Lines;
+use crate::signals::Signals;
+use crate::system::Host;
+use crate::waiting::Line;
 use path_server::{Report, Reports};
-use sector_dev::Device;
-use std::net::TcpListener;
-use store_open::Store;
+use std::alloc::{AllocError, Global};
+use std::io::Read;
+use std::sync::{Arc, Wait};
+use std::thread;
 
-/// Prints what happens to a server on standard error, a line each, unless it should be quiet. A
-/// line that cannot be printed is left out.
+/// What the threads of the program and those of its server share.
 #[derive(Drop)]
-pub(crate) struct Notices<'a, R> {
-    rt: &'a R,
-    is_quiet: bool,
+struct Shared {
+    lines: Lines,
+    signals: Signals,
 }
 
-impl<'a, R: Eprint> Notices<'a, R> {
-    pub(crate) fn new(rt: &'a R, is_quiet: bool) -> Notices<'a, R> {
-        Notices { rt, is_quiet }
+/// Takes the reports of a server, and has a thread of its own print them on standard error, a line
+/// each, unless the program should be quiet. A thread that reports waits for no print.
+#[derive(Drop)]
+pub(crate) struct Notices<R> {
+    rt: R,
+    is_quiet: bool,
+    shared: Arc<Shared>,
+}
+
+impl<R: Host> Notices<R> {
+    /// Starts the thread that prints, unless the program should be quiet. Memory is refused where
+    /// no thread is given.
+    pub(crate) fn new(rt: &R, is_quiet: bool) -> Result<Notices<R>, AllocError> {
+        let alloc: Global = rt.alloc();
+        let shared = Arc::new(
+            alloc,
+            Shared {
+                lines: Lines::new(alloc)?,
+                signals: Signals::new(),
+            },
+        )?;
+        if !is_quiet {
+            let theirs = Arc::try_clone(&shared)?;
+            let host = rt.clone()?;
+            let _printing = thread::spawn(rt, move || theirs.lines.print_all(&host))?;
+        }
+        Ok(Notices {
+            rt: rt.clone()?,
+            is_quiet,
+            shared,
+        })
     }
 
-    /// The server begins.
-    pub(crate) fn begin<D: Device>(&self, path: &str, store: &Store<D>, listener: &TcpListener) {
-        if self.is_quiet {
-            return;
-        }
-        let (version, place, rows) = (store.version(), store.place(), store.db().len());
-        let _ = match listener.local_addr() {
-            Ok(address) => eprintln!(self.rt;
-                "pathd: serves {path} at {address}: version {version}, place {place}, {rows} rows"
-            ),
-            Err(_) => eprintln!(self.rt;
-                "pathd: serves {path}: version {version}, place {place}, {rows} rows"
-            ),
-        };
+    /// The handle of the system.
+    pub(crate) fn host(&self) -> &R
+        ensures { result.now ≡ self.now.rt }
+    {
+        &self.rt
     }
 
-    /// Requests of its numbers are answered.
-    pub(crate) fn watch(&self, listener: &TcpListener) {
-        if self.is_quiet {
-            return;
+    /// Has a line of the program's own printed, unless the program should be quiet. A line for
+    /// which there was no memory is left out.
+    pub(crate) fn say(&self, line: Result<String, AllocError>) {
+        if let Ok(text) = line
+            && !self.is_quiet
+        {
+            self.shared.lines.push(&self.rt, Line::Text(text));
         }
-        if let Ok(address) = listener.local_addr() {
-            let _ = eprintln!(self.rt; "pathd: status at {address}");
-        }
+    }
+
+    /// Waits until the server is ready or has ended. Returns whether it was ever ready.
+    pub(crate) fn wait_until_ready(&self) -> bool {
+        self.shared.signals.wait_until_ready(&self.rt)
     }
 
     /// The server has ended.
+    pub(crate) fn note_over(&self) {
+        self.shared.signals.note_over(&self.rt);
+    }
+
+    /// Asks the server to end.
+    pub(crate) fn ask_for_end(&self) {
+        self.shared.signals.ask_for_end();
+    }
+
+    /// Starts a thread that asks the server to end once an input has ended. Memory is refused where
+    /// no thread is given.
+    pub(crate) fn end_with<I: Read + Drop + Send + 'static>(
+        &self,
+        input: I,
+    ) -> Result<(), AllocError> {
+        let theirs = Arc::try_clone(&self.shared)?;
+        let host = self.rt.clone()?;
+        let _reading = thread::spawn(&self.rt, move || {
+            read_to_the_end(&host, input);
+            theirs.signals.ask_for_end();
+        })?;
+        Ok(())
+    }
+
+    /// Waits until the lines that wait are printed, for at most a second.
+    pub(crate) fn flush(&self) {
+        if !self.is_quiet {
+            self.shared.lines.flush(&self.rt);
+        }
+    }
+
+    /// Ends the lines: waits until those that wait are printed, for at most a second.
     pub(crate) fn end(&self) {
         if !self.is_quiet {
-            let _ = eprintln!(self.rt; "pathd: ended");
+            self.shared.lines.end(&self.rt);
         }
     }
 }
 
-impl<R: Eprint> Reports for Notices<'_, R> {
+impl<R: Wait> Reports for Notices<R> {
     fn report(&self, report: Report) {
-        if !self.is_quiet {
-            let _ = eprintln!(self.rt; "pathd: {report}");
+        if report == Report::Ready {
+            self.shared.signals.note_ready(&self.rt);
+        } else if !self.is_quiet {
+            self.shared.lines.push(&self.rt, Line::Report(report));
         }
+    }
+
+    fn wants_end(&self) -> bool {
+        self.shared.signals.wants_end()
+    }
+
+    fn dropped(&self) -> u64 {
+        self.shared.lines.dropped(&self.rt)
     }
 }

@@ -1,6 +1,10 @@
 //! From the words of a command line to the command, and to the program's end.
 
+ghost use Rattle.std.specs.Prelude.{◌≤◌};
+
 use crate::ending::{Done, Ended, status_of};
+use crate::failure::Failure;
+use crate::output::Output;
 use crate::serving::serve_file;
 use crate::session::answer;
 use crate::stores::{format_file, show_file, status_of_file, upgrade_file};
@@ -12,10 +16,15 @@ use cli_words::{CommandLine, Subcommand, read};
 use std::env;
 use std::io::{Read, Write};
 
-/// Runs the command line; prints why it failed; returns the status. No clause says what the words
-/// do or which status is returned. The contracts of the commands that it calls do, and that of
-/// `status_of`.
-pub fn carry_out<R: System, I: Read, O: Write + Drop>(rt: &R, input: &mut I, output: O) -> u8 {
+/// Runs the command line; prints why it failed; returns the status: 0, 1 or 2, as `status_of` says.
+/// No clause says what the words do. The contracts of the commands that it calls do.
+pub fn carry_out<R: System, I: Read + Drop + Send + 'static, O: Write + Drop>(
+    rt: &R,
+    input: I,
+    output: O,
+) -> u8
+    ensures { result ≤ 2 }
+{
     let outcome = run(rt, input, output);
     if let Err(ended) = &outcome {
         let _ = eprintln!(rt; "{}", *ended);
@@ -24,11 +33,11 @@ pub fn carry_out<R: System, I: Read, O: Write + Drop>(rt: &R, input: &mut I, out
 }
 
 /// Reads the words of the command line, and does what they ask for. Where the words cannot be read,
-/// or ask for help, that is printed. No clause says what is returned, nor that the words reach
-/// their command.
-pub fn run<R: System, I: Read, O: Write + Drop>(
+/// or ask for help, that is printed. Where they are not carried out, a line on standard error says
+/// why. No clause says what is returned, nor that the words reach their command.
+pub fn run<R: System, I: Read + Drop + Send + 'static, O: Write + Drop>(
     rt: &R,
-    input: &mut I,
+    input: I,
     output: O,
 ) -> Result<Done, Ended> {
     let Ok(words) = env::args(rt) else {
@@ -39,27 +48,42 @@ pub fn run<R: System, I: Read, O: Write + Drop>(
         Ok(line) => line,
         Err(error) => return Ok(refuse(rt, &error)?),
     };
-    dispatch(rt, &line, input, output)?;
-    Ok(Done::Carried)
+    let mut output = Output::new(output);
+    let outcome = dispatch(rt, &line, input, &mut output);
+    match outcome {
+        Ok(()) => Ok(Done::Carried),
+        Err(failure) => {
+            explain(rt, &failure, &output);
+            Err(failure.ended())
+        }
+    }
 }
 
 /// Does what a command line asks for, by its command.
-fn dispatch<R: System, I: Read, O: Write + Drop>(
+fn dispatch<'a, R: System, I: Read + Drop + Send + 'static, O: Write>(
     rt: &R,
-    line: &CommandLine<'_>,
-    input: &mut I,
-    mut output: O,
-) -> Result<(), Ended> {
+    line: &CommandLine<'a>,
+    mut input: I,
+    output: &mut O,
+) -> Result<(), Failure<'a>> {
     let options = &line.options;
     match line.subcommand {
-        Subcommand::Once => answer(rt.alloc(), options, input, output)?,
-        Subcommand::Format => format_file(rt, options, &mut output)?,
-        Subcommand::Show => show_file(rt, options, output)?,
-        Subcommand::Status => status_of_file(rt, options, &mut output)?,
-        Subcommand::Upgrade => upgrade_file(rt, options, &mut output)?,
-        Subcommand::Run => serve_file(rt, options, &mut output)?,
+        Subcommand::Once => answer(rt.alloc(), options, &mut input, output),
+        Subcommand::Format => format_file(rt, options, output),
+        Subcommand::Show => show_file(rt, options, output),
+        Subcommand::Status => status_of_file(rt, options, output),
+        Subcommand::Upgrade => upgrade_file(rt, options, output),
+        Subcommand::Run => serve_file(rt, options, input, output),
     }
-    Ok(())
+}
+
+/// Prints a line that says why the words are not carried out. A line that cannot be printed is left
+/// out.
+fn explain<O>(rt: &impl Eprint, failure: &Failure<'_>, output: &Output<O>) {
+    let _ = match (failure, output.error()) {
+        (Failure::Output, Some(error)) => eprintln!(rt; "pathd: {}: {error}", *failure),
+        _ => eprintln!(rt; "pathd: {}", *failure),
+    };
 }
 
 /// Prints what was wrong with the command line, or the help that it asked for.

@@ -1,126 +1,164 @@
 //! The command that serves sessions over TCP.
 
-use crate::ending::Ended;
+use crate::addresses::{addresses_of, listen};
+use crate::failure::Failure;
 use crate::notices::Notices;
+use crate::server_options::options_of;
+use crate::starting::{say_addresses, say_opened, say_without_cores};
 use crate::stores::{device_over, path_of};
-use crate::system::System;
+use crate::system::{Host, System};
 use clap::ArgMatches;
-use cli_once::{Fault, cores_of, key_of};
-use cli_words::{CORES, IDLE, KEY, LISTEN, QUIET, SESSIONS, STATUS_LISTEN};
-use path_server::{Listeners, Options, bound_accepts, run_on};
+use cli_words::{CORES, QUIET, STOP_ON_END_OF_INPUT};
+use path_server::{Listeners, Options, run_on};
 use sector_dev::{Device, FileDevice, SystemFile};
-use seg_lookup::Roster;
 use std::alloc::Global;
-use std::fs::File;
-use std::io;
-use std::io::Write;
-use std::net::{Net, SocketAddr, TcpListener};
-use std::rt::Files;
-use std::time::Duration;
+use std::io::{Read, Write};
+use std::net::TcpListener;
+use std::time::Instant;
+use std::{io, thread};
 use store_open::{Store, open};
 
-/// The number of seconds that a peer may be silent where no option names it.
-const IDLE_SECONDS: u32 = 300;
+/// What a server begins with.
+#[derive(Drop)]
+struct Site<'a> {
+    /// The path of the device's file.
+    path: &'a str,
+    device: FileDevice<SystemFile>,
+    listeners: Listeners<TcpListener>,
+}
 
-/// Serves the sessions of a store. Prints `ready` once it listens, and the number of sessions at
-/// the end.
-pub(crate) fn serve_file<R: System, O: Write>(
+/// Serves the sessions of a store. Prints `ready` once peers are answered, and the number of
+/// sessions at the end. The words are judged before the file is opened, and the server listens
+/// before the store is opened.
+pub(crate) fn serve_file<'a, R: System, I: Read + Drop + Send + 'static, O: Write>(
     rt: &R,
-    words: &ArgMatches<'_>,
+    words: &ArgMatches<'a>,
+    input: I,
     output: &mut O,
-) -> Result<(), Ended> {
+) -> Result<(), Failure<'a>> {
     let options = options_of(rt.alloc(), words)?;
-    let store = store_of(rt, path_of(words))?;
-    let notices = Notices::new(rt, words.get_flag(QUIET));
-    let listeners = match listen(rt, words, output, &notices, &store) {
-        Ok(listeners) => listeners,
-        Err(ended) => {
-            let _device = store.into_device();
-            return Err(ended);
-        }
-    };
-    let count = run_on(rt, rt.alloc(), listeners, store, &options, &notices)?;
-    notices.end();
-    print_served(output, count).map_err(|_| Fault::Output)?;
-    Ok(())
+    let site = site_of(rt, words)?;
+    let count = serve_noted(rt, words, site, &options, input, output)?;
+    print_served(output, count).map_err(|_| Failure::Output)
 }
 
-/// Listens, and prints that it does.
-fn listen<R: System, O: Write, D: Device>(
+/// Serves the sessions of a store, with lines on standard error. Returns the number of sessions.
+fn serve_noted<'a, R: System, I: Read + Drop + Send + 'static, O: Write>(
     rt: &R,
-    words: &ArgMatches<'_>,
+    words: &ArgMatches<'a>,
+    site: Site<'a>,
+    options: &Options,
+    input: I,
     output: &mut O,
-    notices: &Notices<'_, R>,
-    store: &Store<D>,
-) -> Result<Listeners<TcpListener>, Ended> {
-    let sessions = bind(rt, words.get_str(LISTEN).unwrap_or(""))?;
-    let status = match words.get_str(STATUS_LISTEN) {
-        Some(text) => Some(bind_status(rt, text)?),
-        None => None,
+) -> Result<u64, Failure<'a>> {
+    let Ok(notices) = Notices::new(rt, words.get_flag(QUIET)) else {
+        return Err(Failure::Memory);
     };
-    notices.begin(path_of(words), store, &sessions);
-    if let Some(listener) = &status {
-        notices.watch(listener);
+    if words.get_str(CORES).is_none() {
+        say_without_cores(rt.alloc(), &notices);
     }
-    print_ready(output).map_err(|_| Fault::Output)?;
-    Ok(Listeners { sessions, status })
+    let input = words.get_flag(STOP_ON_END_OF_INPUT).then_some(input);
+    let served = serve_beside(rt, site, options, &notices, input, output);
+    notices.end();
+    served
 }
 
-/// The options of the server, as the words have them.
-fn options_of(alloc: Global, words: &ArgMatches<'_>) -> Result<Options, Fault> {
-    let cores = match words.get_str(CORES) {
-        Some(list) => cores_of(alloc, list)?,
-        None => Vec::new(alloc),
-    };
-    let key = match words.get_str(KEY) {
-        Some(text) => Some(key_of(alloc, text)?),
-        None => None,
-    };
-    let seconds = words.get_one::<u32>(IDLE).unwrap_or(IDLE_SECONDS);
-    Ok(Options {
-        cores: Roster::new(cores),
-        key,
-        sessions: words.get_one::<u64>(SESSIONS).unwrap_or(0),
-        idle: idle_of(seconds),
+/// Opens the file of the words, and listens at their addresses, once these are read.
+fn site_of<'a, R: System>(rt: &R, words: &ArgMatches<'a>) -> Result<Site<'a>, Failure<'a>> {
+    let addresses = addresses_of(words)?;
+    let path = path_of(words);
+    let device = device_over(path, device_files::open(rt, path))?;
+    let listeners = listen(rt, &addresses)?;
+    Ok(Site {
+        path,
+        device,
+        listeners,
     })
 }
 
-/// The time of this number of seconds, of which 0 is no limit.
-fn idle_of(seconds: u32) -> Option<Duration> {
-    if seconds == 0 {
-        return None;
-    }
-    Some(Duration::from_secs(u64::from(seconds)))
-}
-
-/// The store of a file, which this process alone has open from now on.
-fn store_of<R: Files<File = File> + AllocGlobal>(
+/// Serves the sessions of a store, and meanwhile announces that it does. Returns the number of
+/// sessions.
+fn serve_beside<'a, R: System, I: Read + Drop + Send + 'static, O: Write>(
     rt: &R,
+    site: Site<'a>,
+    options: &Options,
+    notices: &Notices<R>,
+    input: Option<I>,
+    output: &mut O,
+) -> Result<u64, Failure<'a>> {
+    let (served, announced) = thread::join(
+        rt,
+        || {
+            let served = serve_site(site, options, notices);
+            notices.note_over();
+            served
+        },
+        || {
+            let announced = announce(notices, input, output);
+            if announced.is_err() {
+                notices.ask_for_end();
+            }
+            announced
+        },
+    );
+    announced?;
+    served
+}
+
+/// Opens the store of a device and serves its sessions. Returns their number.
+fn serve_site<'a, R: Host>(
+    site: Site<'a>,
+    options: &Options,
+    notices: &Notices<R>,
+) -> Result<u64, Failure<'a>> {
+    let Site {
+        path,
+        device,
+        listeners,
+    } = site;
+    let rt = notices.host();
+    let begun = Instant::now(rt).ok();
+    let store = store_of(rt.alloc(), path, device)?;
+    say_opened(rt, notices, path, &store, begun);
+    say_addresses(rt.alloc(), notices, path, &store, &listeners);
+    let count = run_on(rt, rt.alloc(), listeners, store, options, notices).map_err(
+        |error| Failure::Server(error),
+    )?;
+    notices.say("ended".to_string(rt.alloc()));
+    Ok(count)
+}
+
+/// The store of a device.
+fn store_of<D: Device + Drop>(
+    alloc: Global,
     path: &str,
-) -> Result<Store<FileDevice<SystemFile>>, cli_store::Fault> {
-    let device = device_over(device_files::open(rt, path))?;
-    match open(rt.alloc(), device) {
+    device: D,
+) -> Result<Store<D>, Failure<'_>> {
+    match open(alloc, device) {
         Ok(store) => Ok(store),
-        Err((_device, error)) => Err(error.into()),
+        Err((_device, error)) => Err(Failure::Store(path, error.into())),
     }
 }
 
-/// Listens at a socket address.
-fn bind<R: System>(rt: &R, text: &str) -> Result<TcpListener, Ended> {
-    let Ok(address) = text.parse::<SocketAddr>() else {
-        return Err(Ended::Net);
-    };
-    rt.bind(address).map_err(|_| Ended::Net)
+/// Prints that peers are answered, once they are and the lines of the start are printed. From then
+/// on the end of the input, if there is one, ends the server.
+fn announce<'a, R: Host, I: Read + Drop + Send + 'static, O: Write>(
+    notices: &Notices<R>,
+    input: Option<I>,
+    output: &mut O,
+) -> Result<(), Failure<'a>> {
+    if !notices.wait_until_ready() {
+        return Ok(());
+    }
+    notices.flush();
+    print_ready(output).map_err(|_| Failure::Output)?;
+    match input {
+        Some(input) => notices.end_with(input).map_err(|_| Failure::Memory),
+        None => Ok(()),
+    }
 }
 
-/// Listens for requests of the numbers at a socket address.
-fn bind_status<R: System>(rt: &R, text: &str) -> Result<TcpListener, Ended> {
-    let listener = bind(rt, text)?;
-    bound_accepts(&listener).map_err(|_| Ended::Net)?;
-    Ok(listener)
-}
-
-/// Prints that the server listens.
+/// Prints that peers are answered.
 fn print_ready<O: Write>(output: &mut O) -> io::Result<()> {
     writeln!(output, "ready")?;
     output.flush()

@@ -17,7 +17,11 @@ pub trait System: Env
     + Wait
     + Clock
     + Threads
-    + Sync {}
+    + Clone
+    + Drop
+    + Send
+    + Sync
+    + 'static {}
 
 impl<
     R: Env
@@ -29,5 +33,25 @@ impl<
         + Wait
         + Clock
         + Threads
-        + Sync,
+        + Clone
+        + Drop
+        + Send
+        + Sync
+        + 'static,
 > System for R {}
+
+/// The parts of the system that the threads of a server use, and those that print its lines and read
+/// its input. A thread that outlives its caller has a clone of the handle.
+pub(crate) trait Host: AllocGlobal
+    + Eprint
+    + Wait
+    + Clock
+    + Threads
+    + Clone
+    + Drop
+    + Send
+    + Sync
+    + 'static {}
+
+impl<R: AllocGlobal + Eprint + Wait + Clock + Threads + Clone + Drop + Send + Sync + 'static> Host
+    for R {}

@@ -14,4 +14,6 @@ pub record HasPlainNumbers (rows : List Row) : Type 0 where
   pub checkpoint : IsPlainNumber rows (codes "checkpoint")
   pub journal : IsPlainNumber rows (codes "journal")
   pub sessions : IsPlainNumber rows (codes "sessions")
+  pub peer_sessions : IsPlainNumber rows (codes "peer-sessions")
   pub idle : IsPlainNumber rows (codes "idle")
+  pub grace : IsPlainNumber rows (codes "grace")

@@ -61,6 +61,15 @@ pub const SESSIONS: &str = "sessions";
 /// The name of its option with the seconds that a peer may be silent.
 pub const IDLE: &str = "idle";
 
+/// The name of its option with the number of sessions that one address may have open.
+pub const PEER_SESSIONS: &str = "peer-sessions";
+
+/// The name of its flag by which the end of standard input ends the server.
+pub const STOP_ON_END_OF_INPUT: &str = "stop-on-end-of-input";
+
+/// The name of its option with the seconds that open sessions have at such an end.
+pub const GRACE: &str = "grace";
+
 /// The name of its flag that turns off the lines on standard error.
 pub const QUIET: &str = "quiet";
 
@@ -76,8 +85,19 @@ pub const JOURNAL: &str = "journal";
 /// The name of the flag for the layout of a device.
 pub const LAYOUT: &str = "layout";
 
+/// The version of the program, and the versions of the store's format that it reads.
+pub const VERSION: &str = "0.9.0 (format versions 1 and 2)";
+
 /// What the help says of the core ASes.
 const CORES_HELP: &str = "The core ASes, as ISD-AS texts joined by commas";
+
+/// What follows the options in the help of the command that serves sessions.
+const RUN_NOTES: &str = concat!(
+    "DEV is a file or a block device with a store that `pathd format` has made. ADDR is an IP{n}",
+    "address and a port, as 127.0.0.1:30252 or [::1]:30252. SECONDS are whole seconds.{n}{n}",
+    "Example:{n}",
+    "  pathd run store --listen 127.0.0.1:30252 --cores 1-ff00:0:110,2-64512 --idle 60",
+);
 
 /// What the help says of the key.
 const KEY_HELP: &str = "Check signatures by this key of a test profile; without it all are trusted";
@@ -102,6 +122,7 @@ fn bare_command<'a>(alloc: Global) -> Result<Command<'a>, AllocError>
 {
     let command = Command::new(alloc, "pathd")
         .about("A path segment server for the core ASes of a SCION network")
+        .version(VERSION)
         .bin_name("pathd")?
         .subcommand_required(true);
     Ok(command)
@@ -186,12 +207,14 @@ fn run_command<'a>(alloc: Global) -> Result<Command<'a>, AllocError>
     let status = "The socket address to answer GET /metrics at, with the server's numbers";
     let command = Command::new(alloc, RUN)
         .about("Opens a store, and serves sessions over TCP")
+        .after_help(RUN_NOTES)
         .arg(device_argument(alloc))?
         .arg(option(alloc, LISTEN, "ADDR", listen).required(true))?
         .arg(option(alloc, STATUS_LISTEN, "ADDR", status))?
         .arg(option(alloc, CORES, "LIST", CORES_HELP))?
         .arg(option(alloc, KEY, "HEX", KEY_HELP))?;
-    with_limits(alloc, command)
+    let command = with_limits(alloc, command)?;
+    with_end(alloc, command)
 }
 
 /// Gives the command that serves sessions the options for how many and how long.
@@ -200,12 +223,27 @@ fn with_limits<'a>(alloc: Global, command: Command<'a>) -> Result<Command<'a>, A
     ensures { IfOk result (λ new. (out-Command new).name.now ≡ codes "run") }
 {
     let sessions = "End after this number of sessions; 0 is no end [default: 0]";
+    let peers =
+        "Refuse a session of an address that has this number open; 0 is no bound [default: 0]";
     let idle =
         "End a session whose peer is silent for this number of seconds; 0 is no end [default: 300]";
-    let quiet = "Print nothing on standard error but why the program ends";
     command
         .arg(option(alloc, SESSIONS, "N", sessions).value_parser(value_parser!(u64)))?
-        .arg(option(alloc, IDLE, "SECONDS", idle).value_parser(value_parser!(u32)))?
+        .arg(option(alloc, PEER_SESSIONS, "N", peers).value_parser(value_parser!(u64)))?
+        .arg(option(alloc, IDLE, "SECONDS", idle).value_parser(value_parser!(u32)))
+}
+
+/// Gives the command that serves sessions the options for its end and its lines.
+fn with_end<'a>(alloc: Global, command: Command<'a>) -> Result<Command<'a>, AllocError>
+    requires { (out-Command command).name.now ≡ codes "run" }
+    ensures { IfOk result (λ new. (out-Command new).name.now ≡ codes "run") }
+{
+    let stop = "End once standard input has ended: no new session, and --grace for the open ones";
+    let grace = "The seconds that open sessions have at such an end [default: 10]";
+    let quiet = "Print nothing on standard error but why the program ends";
+    command
+        .arg(flag(alloc, STOP_ON_END_OF_INPUT, stop))?
+        .arg(option(alloc, GRACE, "SECONDS", grace).value_parser(value_parser!(u32)))?
         .arg(flag(alloc, QUIET, quiet))
 }
 

@@ -7,7 +7,7 @@ ghost use Rattle.clap.specs.Words.{found_of, rows_of};
 ghost use Rattle.cli_words.specs.Numbers.{IsPlainNumber, HasPlainNumbers};
 
 use crate::command_line::{CommandLine, command_line};
-use crate::{CHECKPOINT, IDLE, JOURNAL, NOW, SESSIONS, command};
+use crate::{CHECKPOINT, GRACE, IDLE, JOURNAL, NOW, PEER_SESSIONS, SESSIONS, command};
 use clap::error::ErrorKind;
 use clap::{ArgMatches, Command, Error};
 use std::alloc::Global;
@@ -52,7 +52,9 @@ fn check_numbers(
     check_number(alloc, command, options, CHECKPOINT)?;
     check_number(alloc, command, options, JOURNAL)?;
     check_number(alloc, command, options, SESSIONS)?;
-    check_number(alloc, command, options, IDLE)
+    check_number(alloc, command, options, PEER_SESSIONS)?;
+    check_number(alloc, command, options, IDLE)?;
+    check_number(alloc, command, options, GRACE)
 }
 
 /// Refuses the value of an option that is not decimal digits alone.

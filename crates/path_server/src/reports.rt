@@ -118,6 +118,11 @@ pub trait Reports {
     fn wants_end(&self) -> bool {
         false
     }
+
+    /// The number of reports that were dropped, since too many waited to be printed.
+    fn dropped(&self) -> u64 {
+        0
+    }
 }
 
 /// Drops each report.

@@ -3,6 +3,7 @@
 ghost use Rattle.std.specs.Prelude.{◌≡◌};
 
 use crate::accepting::next_peer;
+use crate::ends::Cause;
 use crate::reports::Reports;
 use crate::seats::MOST_SESSIONS;
 use crate::server::Server;
@@ -91,7 +92,7 @@ impl<L: OpenListener<Stream = TcpStream> + Drop, V: Verifier, O: Reports> Server
             found: self.replies.of(ReplyKind::Found),
             purged: self.replies.of(ReplyKind::Purged),
             removed: self.replies.of(ReplyKind::Removed),
-            dropped: 0,
+            dropped: self.reports.dropped(),
             seconds: self.seconds(clock),
         }
     }
@@ -100,20 +101,20 @@ impl<L: OpenListener<Stream = TcpStream> + Drop, V: Verifier, O: Reports> Server
     fn refused(&self) -> RefusedCounts {
         RefusedCounts {
             seats: self.turned_away.all(),
-            address: 0,
-            thread: 0,
+            address: self.address_full.all(),
+            thread: self.no_thread.all(),
         }
     }
 
     /// The number of sessions that have ended, by the cause.
     fn ended(&self) -> EndCounts {
         EndCounts {
-            closed: 0,
-            idle: 0,
-            frame: 0,
-            connection: 0,
-            memory: 0,
-            server: 0,
+            closed: self.ends.of(Cause::Orderly),
+            idle: self.ends.of(Cause::Idle),
+            frame: self.ends.of(Cause::Frame),
+            connection: self.ends.of(Cause::Failed),
+            memory: self.ends.of(Cause::NoMemory),
+            server: self.ends.of(Cause::Server),
         }
     }
 

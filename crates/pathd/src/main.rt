@@ -12,7 +12,7 @@ use std::process::ExitCode;
 fn main(rt: HostRuntime) -> ExitCode {
     // The prover takes the handles of a runtime from the types that `main` names.
     let none: (Option<File>, Option<TcpListener>, Option<TcpStream>) = (None, None, None);
-    let status = carry_out(&rt, &mut rt.stdin(), rt.stdout());
+    let status = carry_out(&rt, rt.stdin(), rt.stdout());
     drop(none);
     ExitCode::from(status)
 }

@@ -3,8 +3,9 @@
 
 use clap::error::ErrorKind;
 use cli_words::{
-    CHECKPOINT, CORES, CommandLine, DEVICE, FORMAT, HEX, IDLE, JOURNAL, KEY, LAYOUT, LISTEN, NOW,
-    ONCE, QUIET, RUN, SESSIONS, SHOW, STATUS, STATUS_LISTEN, Subcommand, UPGRADE, read,
+    CHECKPOINT, CORES, CommandLine, DEVICE, FORMAT, GRACE, HEX, IDLE, JOURNAL, KEY, LAYOUT, LISTEN,
+    NOW, ONCE, PEER_SESSIONS, QUIET, RUN, SESSIONS, SHOW, STATUS, STATUS_LISTEN,
+    STOP_ON_END_OF_INPUT, Subcommand, UPGRADE, read,
 };
 use std::alloc::Global;
 use std::process::Abort;
@@ -38,10 +39,10 @@ struct Value {
 const ALL_OF_ONCE: &str = "once --cores 1-1,2-2 --now 5 --key 00ff --hex";
 
 const ALL_OF_RUN: &str =
-    "run --quiet --idle 4294967295 --sessions 18446744073709551615 --key 00 --cores 1-1 --status [::1]:1 --listen [::1]:0 d";
+    "run --quiet --grace 4294967295 --stop-on-end-of-input --peer-sessions 18446744073709551615 --idle 4294967295 --sessions 18446744073709551615 --key 00 --cores 1-1 --status [::1]:1 --listen [::1]:0 d";
 
 #[rattlefmt::skip]
-const VALUES: [Value; 28] = [
+const VALUES: [Value; 32] = [
     Value { line: ALL_OF_ONCE, command: ONCE, option: CORES, value: Some("1-1,2-2") },
     Value { line: ALL_OF_ONCE, command: ONCE, option: NOW, value: Some("5") },
     Value { line: ALL_OF_ONCE, command: ONCE, option: KEY, value: Some("00ff") },
@@ -64,12 +65,16 @@ const VALUES: [Value; 28] = [
     Value { line: ALL_OF_RUN, command: RUN, option: STATUS_LISTEN, value: Some("[::1]:1") },
     Value { line: ALL_OF_RUN, command: RUN, option: SESSIONS, value: Some("18446744073709551615") },
     Value { line: ALL_OF_RUN, command: RUN, option: IDLE, value: Some("4294967295") },
+    Value { line: ALL_OF_RUN, command: RUN, option: PEER_SESSIONS, value: Some("18446744073709551615") },
+    Value { line: ALL_OF_RUN, command: RUN, option: GRACE, value: Some("4294967295") },
     Value { line: ALL_OF_RUN, command: RUN, option: CORES, value: Some("1-1") },
     Value { line: ALL_OF_RUN, command: RUN, option: KEY, value: Some("00") },
     Value { line: "run d --listen a", command: RUN, option: LISTEN, value: Some("a") },
     Value { line: "run d --listen a", command: RUN, option: STATUS_LISTEN, value: None },
     Value { line: "run d --listen a", command: RUN, option: SESSIONS, value: None },
     Value { line: "run d --listen a", command: RUN, option: IDLE, value: None },
+    Value { line: "run d --listen a", command: RUN, option: PEER_SESSIONS, value: None },
+    Value { line: "run d --listen a", command: RUN, option: GRACE, value: None },
 ];
 
 /// Sees the value of an option.
@@ -105,13 +110,15 @@ struct Flag {
 }
 
 #[rattlefmt::skip]
-const FLAGS: [Flag; 6] = [
+const FLAGS: [Flag; 8] = [
     Flag { line: "once", command: ONCE, flag: HEX, is_given: false },
     Flag { line: ALL_OF_ONCE, command: ONCE, flag: HEX, is_given: true },
     Flag { line: "show d", command: SHOW, flag: LAYOUT, is_given: false },
     Flag { line: "show d --layout", command: SHOW, flag: LAYOUT, is_given: true },
     Flag { line: "run d --listen a", command: RUN, flag: QUIET, is_given: false },
     Flag { line: ALL_OF_RUN, command: RUN, flag: QUIET, is_given: true },
+    Flag { line: "run d --listen a", command: RUN, flag: STOP_ON_END_OF_INPUT, is_given: false },
+    Flag { line: ALL_OF_RUN, command: RUN, flag: STOP_ON_END_OF_INPUT, is_given: true },
 ];
 
 /// Sees whether a flag is given.
@@ -138,8 +145,8 @@ fn flags(rt: HostRuntime) {
 
 /// Lines that are refused, and how.
 #[rattlefmt::skip]
-const REFUSED: [(&str, ErrorKind); 28] = [
-    ("--version", ErrorKind::UnknownArgument),
+const REFUSED: [(&str, ErrorKind); 31] = [
+    ("run --version", ErrorKind::UnknownArgument),
     ("once d", ErrorKind::UnknownArgument),
     ("once --now", ErrorKind::InvalidValue),
     ("once --now x", ErrorKind::ValueValidation),
@@ -167,6 +174,9 @@ const REFUSED: [(&str, ErrorKind); 28] = [
     ("run d --listen a --sessions 18446744073709551616", ErrorKind::ValueValidation),
     ("run d --listen a --idle 4294967296", ErrorKind::ValueValidation),
     ("run d --listen a --idle +1", ErrorKind::ValueValidation),
+    ("run d --listen a --peer-sessions +1", ErrorKind::ValueValidation),
+    ("run d --listen a --grace +1", ErrorKind::ValueValidation),
+    ("run d --listen a --grace 4294967296", ErrorKind::ValueValidation),
 ];
 
 /// Sees how a line is refused.

@@ -1,21 +1,35 @@
 //! The system of one command line.
 //!
-//! Its words are given, what it says on standard error goes to standard output, and at one address
-//! a listener is bound already, so that a peer may connect before the server listens. All else is
-//! that of the system below, to which `passed` hands it on.
+//! Its words are given, what it says on standard error is kept, and at one address a listener is
+//! bound already, so that a peer may connect before the server listens. All else is that of the
+//! system below, to which `passed` hands it on.
 
 ghost use Rattle.std.specs.Io.{WritesAtMost};
 
-use std::alloc::Global;
+use std::alloc::{AllocError, Global};
 use std::env::FillError;
 use std::fmt::Display;
 use std::io;
 use std::net::{Net, Shutdown, SocketAddr, TcpListener, TcpStream};
 use std::os::fd::OwnedFd;
 use std::rt::Env;
+use std::sync::{Arc, Mutex, Wait};
+use std::time::{Clock, Duration};
 
 /// How a text begins that goes to standard error.
 const MARK: &str = "standard error: ";
+
+/// What follows a time, which is another one in each run.
+const MILLISECONDS: &str = " ms";
+
+/// The letter in the place of a time.
+const TIME: &str = "T";
+
+/// How a line names a peer, whose port is another one in each run.
+const PEER: &str = "that of 127.0.0.1:";
+
+/// The word in the place of a peer's port.
+const PORT: &str = "PORT";
 
 /// The word in the place of an address, which is another one in each run.
 pub(crate) const ADDRESS: &str = "ADDR";
@@ -52,17 +66,99 @@ impl Bound {
     }
 }
 
-/// The system of one command line, over the system below.
+/// The system of one command line, over the system below. Threads of the line have clones of it.
 #[derive(Drop)]
-pub(crate) struct Given<'a, R> {
-    pub(crate) host: &'a R,
+pub(crate) struct Given<R> {
+    pub(crate) host: R,
     /// The words, of which the first is the program's name.
-    pub(crate) words: Vec<String>,
+    words: Arc<Vec<String>>,
     /// What is bound at its address.
-    pub(crate) bound: &'a Bound,
+    bound: Arc<Bound>,
+    /// What the line has said on standard error.
+    said: Arc<Mutex<String>>,
+    /// Whether who says something waits for ever.
+    is_stuck: bool,
 }
 
-impl<R> Env for Given<'_, R> {
+impl<R: Copy> Clone for Given<R> {
+    fn clone(&self) -> Result<Given<R>, AllocError> {
+        Ok(Given {
+            host: self.host,
+            words: Arc::try_clone(&self.words)?,
+            bound: Arc::try_clone(&self.bound)?,
+            said: Arc::try_clone(&self.said)?,
+            is_stuck: self.is_stuck,
+        })
+    }
+}
+
+impl<R: AllocGlobal + Wait + Clock + Drop> Given<R> {
+    /// The system of a line of these words.
+    pub(crate) fn new(
+        host: R,
+        words: Vec<String>,
+        bound: &Arc<Bound>,
+        is_stuck: bool,
+    ) -> Result<Given<R>, AllocError> {
+        let alloc: Global = host.alloc();
+        Ok(Given {
+            words: Arc::new(alloc, words)?,
+            bound: Arc::try_clone(bound)?,
+            said: Arc::new(alloc, Mutex::new(String::new(alloc)))?,
+            is_stuck,
+            host,
+        })
+    }
+
+    /// What the line has said on standard error.
+    pub(crate) fn said(&self) -> Result<String, AllocError> {
+        let said = self.said.lock(&self.host);
+        String::from_str(self.host.alloc(), said.as_str())
+    }
+
+    /// Keeps a text that goes to standard error, and its end: with `ADDRESS` in the place of the
+    /// address, `PORT` in that of a peer's port, and `TIME` in that of a time.
+    fn say(&self, text: &str, end: &str) -> io::Result<()> {
+        if self.is_stuck {
+            for _ in self.host.forever() {
+                self.host.sleep(Duration::from_secs(1));
+            }
+        }
+        let alloc: Global = self.host.alloc();
+        let text = text.replace(alloc, self.bound.text.as_str(), ADDRESS)?;
+        let text = portless(alloc, text.as_str())?;
+        let text = timeless(alloc, text.as_str())?;
+        let mut said = self.said.lock(&self.host);
+        (*said).push_str(MARK)?;
+        (*said).push_str(text.as_str())?;
+        (*said).push_str(end)?;
+        Ok(())
+    }
+}
+
+/// A text with `PORT` in the place of the port of the peer that it names, if it names one.
+fn portless(alloc: Global, text: &str) -> Result<String, AllocError> {
+    match text.split_once(PEER) {
+        Some((before, after)) => {
+            let after = after.trim_start_matches(|c: char| c.is_ascii_digit());
+            format!(in alloc; "{before}{PEER}{PORT}{after}")
+        }
+        None => String::from_str(alloc, text),
+    }
+}
+
+/// A text with `TIME` in the place of the time that it has, if it has one.
+fn timeless(alloc: Global, text: &str) -> Result<String, AllocError> {
+    match text.split_once(MILLISECONDS) {
+        Some((before, after)) => {
+            let before = before.trim_end_matches(|c: char| c.is_ascii_digit());
+            format!(in alloc; "{before}{TIME}{MILLISECONDS}{after}")
+        }
+        None => String::from_str(alloc, text),
+    }
+}
+
+impl<R> Env for Given<R> {
     fn arg(&self, i: usize, buf: &mut [u8]) -> Result<usize, FillError>
         ensures bound { WritesAtMost result buf.new }
     {
@@ -92,7 +188,7 @@ fn copied(bytes: &[u8], buf: &mut [u8]) -> Result<usize, FillError>
     Ok(bytes.len())
 }
 
-impl<R: Print + AllocGlobal> Eprint for Given<'_, R> {
+impl<R: AllocGlobal + Wait + Clock + Drop> Eprint for Given<R> {
     fn eprint<D: Display + Drop>(&self, value: D) -> io::Result<()> {
         let text = format!(in self.host.alloc(); "{value}")?;
         self.say(text.as_str(), "")
@@ -104,20 +200,7 @@ impl<R: Print + AllocGlobal> Eprint for Given<'_, R> {
     }
 }
 
-impl<R: Print> Given<'_, R> {
-    /// Prints a text that goes to standard error, with `ADDRESS` in the place of the address, and
-    /// its end.
-    fn say(&self, text: &str, end: &str) -> io::Result<()> {
-        match text.split_once(self.bound.text.as_str()) {
-            Some((before, after)) => self
-                .host
-                .print(format_args!("{MARK}{before}{ADDRESS}{after}{end}")),
-            None => self.host.print(format_args!("{MARK}{text}{end}")),
-        }
-    }
-}
-
-impl<R: Net<Listener = TcpListener, Stream = TcpStream>> Net for Given<'_, R> {
+impl<R: Net<Listener = TcpListener, Stream = TcpStream>> Net for Given<R> {
     type Stream = TcpStream;
 
     type Listener = TcpListener;

@@ -1,4 +1,4 @@
-//! Whole command lines of `pathd`, each with what it prints, on standard output and on standard
+//! Whole command lines of `pathd`, each with what it prints, on standard output and then on standard
 //! error, and its status: words that are refused, help, `once`, the commands over the file of a
 //! store, of damaged ones too, and a server with its peers in the same process, up to as many
 //! sessions as may be open at one time. The files are made in the folder that the program runs in.
@@ -22,10 +22,13 @@ use crate::parts::{Before, PARTS};
 use crate::peers::meet;
 use byte_lists::SECTOR;
 use cli_program::carry_out;
+use std::collections::VecDeque;
 use std::fs::{File, OpenOptions};
+use std::io::Write;
 use std::net::{TcpListener, TcpStream};
 use std::os::unix::fs::FileExt;
 use std::rt::Files;
+use std::sync::Arc;
 use std::{fs, io, thread};
 
 /// The file of a store, and the one that is made of it.
@@ -37,7 +40,7 @@ const CHANGED: &str = "damaged";
 type Handles = (Option<File>, Option<TcpListener>, Option<TcpStream>);
 
 fn main(rt: HostRuntime) -> io::Result<()> {
-    let bound = Bound::new(&rt, rt.alloc())?;
+    let bound = Arc::new(rt.alloc(), Bound::new(&rt, rt.alloc())?)?;
     for part in PARTS.iter().copied().flatten() {
         println!(rt; "# {}", part.what)?;
         let _lock = prepared(&rt, &part.before)?;
@@ -46,11 +49,8 @@ fn main(rt: HostRuntime) -> io::Result<()> {
             let words = words_of(&rt, line, &bound)?;
             let input = joined(&rt, texts)?;
             let output = Output::new(&rt, rt.stdout(), &part.before)?;
-            let given = Given {
-                host: &rt,
-                words,
-                bound: &bound,
-            };
+            let is_stuck = matches!(part.before, Before::NoLog);
+            let given = Given::new(rt, words, &bound, is_stuck)?;
             let (status, met) = thread::join(
                 &rt,
                 || {
@@ -58,10 +58,11 @@ fn main(rt: HostRuntime) -> io::Result<()> {
                     // names.
                     let none: Handles = (None, None, None);
                     drop(none);
-                    carry_out(&given, &mut input.as_bytes(), output)
+                    carry_out(&given, input, output)
                 },
                 || meet(&rt, rt.alloc(), &bound, &part.peers),
             );
+            print!(rt; "{}", given.said()?)?;
             println!(rt; "status {status}")?;
             print!(rt; "{}", met?)?;
         }
@@ -83,11 +84,11 @@ fn words_of(rt: &impl AllocGlobal, line: &str, bound: &Bound) -> io::Result<Vec<
     Ok(words)
 }
 
-/// These texts, one after the other.
-fn joined(rt: &impl AllocGlobal, texts: &[&str]) -> io::Result<String> {
-    let mut all = String::new(rt.alloc());
+/// The bytes of these texts, one after the other.
+fn joined(rt: &impl AllocGlobal, texts: &[&str]) -> io::Result<VecDeque<u8>> {
+    let mut all = VecDeque::new(rt.alloc());
     for text in texts {
-        all.push_str(text)?;
+        all.write_all(text.as_bytes())?;
     }
     Ok(all)
 }
@@ -98,7 +99,7 @@ fn prepared<R: AllocGlobal + Files<File = File>>(
     before: &Before,
 ) -> io::Result<Option<File>> {
     match before {
-        Before::Nothing | Before::NoRoom => Ok(None),
+        Before::Nothing | Before::NoRoom | Before::NoLog => Ok(None),
         Before::Locked => {
             let file = File::open(rt, STORED)?;
             file.lock_shared()?;

@@ -13,6 +13,8 @@ pub(crate) enum Before {
     Nothing,
     /// Their standard output takes no bytes.
     NoRoom,
+    /// Their standard error takes no bytes: who writes to it waits for ever.
+    NoLog,
     /// Another opening has a shared lock on the file `store`.
     Locked,
     /// The file `damaged` is the file `store`, with these changes.
@@ -27,12 +29,16 @@ pub(crate) struct Peers {
     /// The number of sessions that are open at one time after those. If it isn't 0, one more
     /// connection is made meanwhile, and one more session is held once these have ended.
     pub(crate) together: usize,
+    /// The number of sessions after those whose peer sends nothing and waits for the server to end
+    /// them, one after the other.
+    pub(crate) silent: usize,
 }
 
 /// No peers.
 pub(crate) const NO_PEERS: Peers = Peers {
     sessions: &[],
     together: 0,
+    silent: 0,
 };
 
 /// Command lines, and the peers that are met while each of them is carried out.

@@ -11,11 +11,11 @@ use std::sync::Wait;
 use std::thread::Threads;
 use std::time::Duration;
 
-impl<R: Wait> Wait for Given<'_, R> {}
+impl<R: Wait> Wait for Given<R> {}
 
-impl<R: Threads> Threads for Given<'_, R> {}
+impl<R: Threads> Threads for Given<R> {}
 
-impl<R: Alloc> Alloc for Given<'_, R> {
+impl<R: Alloc> Alloc for Given<R> {
     type A = R::A;
 
     fn alloc(&self) -> R::A {
@@ -23,7 +23,7 @@ impl<R: Alloc> Alloc for Given<'_, R> {
     }
 }
 
-impl<R: Print> Print for Given<'_, R> {
+impl<R: Print> Print for Given<R> {
     fn print<D: Display + Drop>(&self, value: D) -> io::Result<()> {
         self.host.print(value)
     }
@@ -37,7 +37,7 @@ impl<R: Print> Print for Given<'_, R> {
     }
 }
 
-impl<R: Clock> Clock for Given<'_, R> {
+impl<R: Clock> Clock for Given<R> {
     fn monotonic(&self) -> io::Result<Duration> {
         self.host.monotonic()
     }
@@ -51,7 +51,7 @@ impl<R: Clock> Clock for Given<'_, R> {
     }
 }
 
-impl<R: Files> Files for Given<'_, R> {
+impl<R: Files> Files for Given<R> {
     type File = R::File;
 
     type Dir = R::Dir;

@@ -34,8 +34,8 @@ pub(crate) fn meet<R: Net<Listener = TcpListener, Stream = TcpStream>>(
     met
 }
 
-/// What the sessions that were held one after the other were replied, and the one that came while
-/// the others were open.
+/// What the sessions that were held one after the other were replied, the one that came while the
+/// others were open, and those of silent peers.
 fn replies_of<R: Net<Listener = TcpListener, Stream = TcpStream>>(
     rt: &R,
     alloc: Global,
@@ -53,6 +53,11 @@ fn replies_of<R: Net<Listener = TcpListener, Stream = TcpStream>>(
         all.push_str(replies.as_str())?;
         all.push_str(END)?;
         drop(with_a_place(rt, to)?);
+    }
+    for _ in 0..peers.silent {
+        let mut stream = TcpStream::connect(rt, to)?;
+        all.push_str(received(alloc, &mut stream)?.as_str())?;
+        all.push_str(END)?;
     }
     Ok(all)
 }

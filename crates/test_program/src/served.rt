@@ -21,6 +21,7 @@ pub(crate) const PARTS: &[Part] = &[
         peers: Peers {
             sessions: &[REGISTER_2096, LOOKUP, NO_KIND],
             together: 0,
+            silent: 0,
         },
         lines: &[(
             "pathd run store --listen ADDR --cores 1-ff00:0:110 --sessions 3 --idle 60",
@@ -44,6 +45,7 @@ pub(crate) const PARTS: &[Part] = &[
         peers: Peers {
             sessions: &[REGISTER_2096, LOOKUP, PURGES, FAULTY],
             together: 64,
+            silent: 0,
         },
         lines: &[(
             "pathd run other --listen ADDR --cores 1-ff00:0:110 --sessions 69 --idle 60 --quiet",
@@ -55,5 +57,40 @@ pub(crate) const PARTS: &[Part] = &[
         before: Before::Nothing,
         peers: NO_PEERS,
         lines: &[("pathd status other", &[])],
+    },
+    Part {
+        what: "a key, and a peer that is silent",
+        before: Before::Nothing,
+        peers: Peers {
+            sessions: &[REGISTER_2096],
+            together: 0,
+            silent: 1,
+        },
+        lines: &[(
+            "pathd run other --listen ADDR --key 00 --sessions 2 --idle 1",
+            &[],
+        )],
+    },
+    Part {
+        what: "an input that has ended",
+        before: Before::Nothing,
+        peers: NO_PEERS,
+        lines: &[(
+            "pathd run other --listen 127.0.0.1:0 --stop-on-end-of-input --grace 0 --quiet",
+            &["no request"],
+        )],
+    },
+    Part {
+        what: "a standard error that takes no lines",
+        before: Before::NoLog,
+        peers: Peers {
+            sessions: &[LOOKUP],
+            together: 0,
+            silent: 0,
+        },
+        lines: &[(
+            "pathd run other --listen ADDR --cores 1-ff00:0:110 --sessions 1 --idle 60",
+            &[],
+        )],
     },
 ];

@@ -34,6 +34,12 @@ pub(crate) const PARTS: &[Part] = &[
             ("pathd run none --listen localhost --cores 1-x", &[]),
             ("pathd run none --listen localhost --key 0", &[]),
             ("pathd run none --listen localhost", &[]),
+            ("pathd run none --listen :30252", &[]),
+            (
+                "pathd run none --listen 127.0.0.1:0 --status localhost:0",
+                &[],
+            ),
+            ("pathd run none --listen 127.0.0.1:0", &[]),
             ("pathd show store", &[]),
         ],
     },

@@ -53,6 +53,8 @@ pub(crate) const PARTS: &[Part] = &[
             ("pathd --help", &[]),
             ("pathd -h", &[]),
             ("pathd help", &[]),
+            ("pathd --version", &[]),
+            ("pathd -V", &[]),
             ("pathd once --help", &[]),
             ("pathd format --help", &[]),
             ("pathd help format", &[]),

@@ -98,13 +98,14 @@ def try_command(program: str, store: Path, command: str, env: dict, kind: str, h
     if kind == "memory":
         # The system's own allocations for a path are those of making the file.
         lines = {"error: memory", "error: device 1"} if command == "format" else {"error: memory"}
-    if status != 1 or not wanted[1].startswith(out) or err.decode().strip() not in lines:
+    line = runs.last_line(err)
+    if status != 1 or not wanted[1].startswith(out) or line not in lines:
         raise Wrong(f"status {status}, {out!r}, {err!r}")
     if how in PASSING:
         raise Wrong(f"ends at an interrupted or shorter transfer: {err!r}")
     if before and called([program, "show", str(store)], {}) != before:
         raise Wrong("what was there isn't shown any more")
-    return err.decode().strip()
+    return line
 
 
 def shown_of(program: str, store: Path, first: bytes) -> tuple[int, bytes, bytes]:
@@ -197,7 +198,7 @@ def try_session(program: str, store: Path, env: dict, kind: str, how: str, first
     try:
         server = runs.Server(program, store, env=env)
     except RuntimeError as ended:
-        line = str(ended).split("ended: ")[-1].strip()
+        line = runs.last_line(str(ended).split("ended: ")[-1].encode())
         if line not in ({"error: memory"} if kind == "memory" else {"error: open 2"}) or how in PASSING:
             raise Wrong(str(ended)) from ended
         result = line

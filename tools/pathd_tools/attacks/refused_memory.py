@@ -93,7 +93,7 @@ class Session:
         """What came of a run: `whole`, `stopped`, `refused` or `wrong`."""
         if done.returncode == 0 and done.stdout == self.all_bytes:
             return "whole"
-        if done.returncode == 1 and done.stderr.strip() == b"error: memory" and self.all_bytes.startswith(done.stdout):
+        if done.returncode == 1 and runs.last_line(done.stderr) == "error: memory" and self.all_bytes.startswith(done.stdout):
             return "stopped"
         return "refused" if done.returncode == 0 and self.has_one_refusal(done.stdout) else "wrong"
 

@@ -22,6 +22,8 @@ DEPLOY = TOP / "deploy"
 # What `clap` adds: a command, and an option of each command.
 HELP = "help"
 HELP_OPTIONS = frozenset({"-h", "--help"})
+# And one of the program itself, which has a version.
+VERSION_OPTIONS = frozenset({"-V", "--version"})
 # The file of a device, which is no option; and a value, where its name is not known.
 DEVICE, VALUE = "DEV", "VALUE"
 
@@ -46,7 +48,7 @@ def of_source() -> Commands:
         named = re.search(r"\bCommand::new\(alloc, ([A-Z_]+)\)", body)
         if not named:
             continue
-        body += "".join(functions[it] for it in re.findall(r"^    (\w+)\(alloc, command\)", body, re.M))
+        body += "".join(functions[it] for it in re.findall(r"\b(with_\w+)\(alloc, command\)", body))
         options = {f"--{names[name]} {value}" for name, value in re.findall(r'\boption\(alloc, (\w+), "(\w+)"', body)}
         options |= {f"--{names[name]}" for name in re.findall(r"\bflag\(alloc, (\w+),", body)}
         options |= {device} if "device_argument(alloc)" in body else set()
@@ -64,7 +66,7 @@ def of_program(program: str) -> Commands:
     found = {}
     for name in re.findall(r"^  (\w+)", listed, re.M):
         text = helped(name) if name != HELP else ""
-        options = {f"{it} {value}".strip() for it, value in re.findall(r"^ +(?:-h, )?(--\w+)(?: <(\w+)>)?", text, re.M)}
+        options = {f"{it} {value}".strip() for it, value in re.findall(r"^ +(?:-h, )?(--[\w-]+)(?: <(\w+)>)?", text, re.M)}
         options |= {"-h"} if "-h, --help" in text else set()
         found[name] = frozenset(options | set(re.findall(r"^  <(\w+)>", text, re.M)))
     return found
@@ -105,7 +107,7 @@ class Bash:
 
     def commands(self) -> Commands:
         """The command line as bash completes it; `help` has the commands as its words."""
-        names = self.given("") - HELP_OPTIONS
+        names = self.given("") - HELP_OPTIONS - VERSION_OPTIONS
         found = {name: self.options(name) for name in names - {HELP}}
         return found | ({HELP: frozenset()} if self.given(HELP, "") == names else {})
 
@@ -122,7 +124,7 @@ def of_zsh() -> Commands:
     listed = re.search(r"^  commands=\(\n(.*?)^  \)", text, re.M | re.S)[1]
     found = {name: frozenset() for name in re.findall(r"^ +'(\w+):", listed, re.M)}
     for name, body in re.findall(r"^    (\w+)\)\n(.*?)^      ;;", text, re.M | re.S):
-        options = {f"{it} {value}".strip() for it, value in re.findall(r"'(--\w+)\[[^]]*\](?::(\w+):)?'", body)}
+        options = {f"{it} {value}".strip() for it, value in re.findall(r"'(--[\w-]+)\[[^]]*\](?::(\w+):)?'", body)}
         options |= set(re.findall(r"'1:(\w+):_files'", body))
         found[name] = frozenset(options | (common if "_arguments $help" in body else frozenset()))
     return found

@@ -1,0 +1,66 @@
+//! Where a server listens.
+
+use crate::failure::Failure;
+use clap::ArgMatches;
+use cli_words::{LISTEN, STATUS_LISTEN};
+use path_server::{Listeners, bound_accepts, raised_listener};
+use std::net::{Net, SocketAddr, TcpListener, TcpStream};
+
+/// An address of the words, and its text.
+#[derive(Clone, Copy)]
+struct Address<'a> {
+    text: &'a str,
+    address: SocketAddr,
+}
+
+/// The addresses at which a server listens.
+#[derive(Clone, Copy)]
+pub(crate) struct Addresses<'a> {
+    sessions: Address<'a>,
+    /// That for requests of the server's numbers, if they are answered.
+    status: Option<Address<'a>>,
+}
+
+/// The addresses of the words. Nothing is opened for them yet.
+pub(crate) fn addresses_of<'a>(words: &ArgMatches<'a>) -> Result<Addresses<'a>, Failure<'a>> {
+    let sessions = address_of(LISTEN, words.get_str(LISTEN).unwrap_or(""))?;
+    let status = match words.get_str(STATUS_LISTEN) {
+        Some(text) => Some(address_of(STATUS_LISTEN, text)?),
+        None => None,
+    };
+    Ok(Addresses { sessions, status })
+}
+
+/// The address of an option's text.
+fn address_of<'a>(option: &'static str, text: &'a str) -> Result<Address<'a>, Failure<'a>> {
+    match text.parse::<SocketAddr>() {
+        Ok(address) => Ok(Address { text, address }),
+        Err(_) => Err(Failure::Address(option, text)),
+    }
+}
+
+/// Listens at the addresses.
+pub(crate) fn listen<'a, R: Net<Listener = TcpListener, Stream = TcpStream>>(
+    rt: &R,
+    addresses: &Addresses<'a>,
+) -> Result<Listeners<TcpListener>, Failure<'a>> {
+    let sessions = bind(rt, addresses.sessions)?;
+    let status = match addresses.status {
+        Some(address) => Some(bind(rt, address)?),
+        None => None,
+    };
+    Ok(Listeners { sessions, status })
+}
+
+/// Listens at an address, by a descriptor above the standard ones. An accept fails soon where no
+/// peer comes.
+fn bind<'a, R: Net<Listener = TcpListener, Stream = TcpStream>>(
+    rt: &R,
+    at: Address<'a>,
+) -> Result<TcpListener, Failure<'a>> {
+    let no_listener = |error| Failure::Listen(at.text, error);
+    let listener = rt.bind(at.address).map_err(no_listener)?;
+    let listener = raised_listener(listener).map_err(no_listener)?;
+    bound_accepts(&listener).map_err(no_listener)?;
+    Ok(listener)
+}

@@ -1,0 +1,124 @@
+//! Why the words of a command line are not carried out, with what a user has to know of it.
+
+ghost use Rattle.std.specs.Prelude.{◌≡◌};
+ghost use Rattle.cli_program.specs.Failures.{ended_by};
+
+use crate::ending::Ended;
+use cli_once::Fault;
+use cli_store::Fault as StoreFault;
+use cli_words::{CORES, KEY};
+use isd_as::IaError;
+use path_server::RunError;
+use std::fmt::{Display, Formatter};
+use std::io::ErrorKind;
+use std::{fmt, io};
+
+/// Why the words of a command line are not carried out. The program prints this as a line on
+/// standard error before that of `Ended`.
+#[derive(Clone, Copy)]
+pub(crate) enum Failure<'a> {
+    /// A text of the core ASes is none.
+    Core(&'a str, IaError),
+    /// The key is none. Its text is not shown.
+    Key,
+    /// The text of an option is no socket address.
+    Address(&'static str, &'a str),
+    /// A device's file is not opened or made.
+    File(&'a str, io::Error),
+    /// A device's store is not made, opened or changed.
+    Store(&'a str, StoreFault),
+    /// The program does not listen at an address.
+    Listen(&'a str, io::Error),
+    /// The server ended before its sessions were served.
+    Server(RunError),
+    /// A session of `once` ended.
+    Session(Fault),
+    /// Memory was refused, or a thread was not given.
+    Memory,
+    /// Standard output could not be written.
+    Output,
+}
+
+impl Failure<'_> {
+    /// How the program ends.
+    pub(crate) fn ended(&self) -> Ended
+        ensures { result ≡ ended_by self.now }
+    {
+        match self {
+            Failure::Core(_, error) => Ended::Session(Fault::Text(*error)),
+            Failure::Key => Ended::Session(Fault::Hex),
+            Failure::Address(_, _) | Failure::Listen(_, _) => Ended::Net,
+            Failure::File(_, _) => Ended::Store(StoreFault::File),
+            Failure::Store(_, fault) => Ended::Store(*fault),
+            Failure::Server(error) => Ended::from(*error),
+            Failure::Session(fault) => Ended::Session(*fault),
+            Failure::Memory => Ended::Session(Fault::Memory),
+            Failure::Output => Ended::Session(Fault::Output),
+        }
+    }
+}
+
+impl Display for Failure<'_> {
+    fn fmt<W: fmt::Write>(&self, f: &mut Formatter<W>) -> fmt::Result {
+        match self {
+            Failure::Core(text, IaError::BadText) => write!(f, "--{CORES}: '{text}' is no ISD-AS"),
+            Failure::Core(text, IaError::TooLarge) => {
+                write!(f, "--{CORES}: a number of '{text}' is too large")
+            }
+            Failure::Key => write!(f, "--{KEY}: no hexadecimal text of at most 64 bytes"),
+            Failure::Address(option, text) => {
+                write!(
+                    f,
+                    "--{option}: '{text}' is no socket address, as 127.0.0.1:30252"
+                )
+            }
+            Failure::File(path, error) => write_no_file(f, path, error),
+            Failure::Store(path, fault) => write_no_store(f, path, *fault),
+            Failure::Listen(text, error) => write!(f, "cannot listen at {text}: {error}"),
+            Failure::Server(error) => write!(f, "the server ended: {error}"),
+            Failure::Session(fault) => write_no_session(f, *fault),
+            Failure::Memory => write!(f, "out of memory, or of threads"),
+            Failure::Output => write!(f, "cannot write standard output"),
+        }
+    }
+}
+
+/// Writes why a device's file is not opened or made.
+fn write_no_file<W: fmt::Write>(
+    f: &mut Formatter<W>,
+    path: &str,
+    error: &io::Error,
+) -> fmt::Result {
+    // The lock of the file would have to be waited for.
+    if error.kind() == ErrorKind::WouldBlock {
+        return write!(f, "cannot open {path}: another process has it open");
+    }
+    write!(f, "cannot open {path}: {error}")
+}
+
+/// Writes why a device's store is not made, opened or changed, or not printed.
+fn write_no_store<W: fmt::Write>(
+    f: &mut Formatter<W>,
+    path: &str,
+    fault: StoreFault,
+) -> fmt::Result {
+    match fault {
+        StoreFault::Format(error) => write!(f, "cannot format {path}: {error}"),
+        StoreFault::Open(error) => write!(f, "cannot open {path}: {error}"),
+        StoreFault::Checkpoint(error) => write!(f, "cannot upgrade {path}: {error}"),
+        StoreFault::File => write!(f, "cannot open {path}"),
+        StoreFault::Memory => write!(f, "cannot open {path}: out of memory"),
+        StoreFault::Output => write!(f, "cannot write standard output"),
+    }
+}
+
+/// Writes why a session of `once` ended, or did not begin.
+fn write_no_session<W: fmt::Write>(f: &mut Formatter<W>, fault: Fault) -> fmt::Result {
+    match fault {
+        Fault::Text(error) => write!(f, "--{CORES}: {error}"),
+        Fault::Hex => write!(f, "standard input is no hexadecimal text"),
+        Fault::Frame(error) => write!(f, "the session ended: {error}"),
+        Fault::Memory => write!(f, "out of memory"),
+        Fault::Output => write!(f, "cannot write standard output"),
+    }
+}

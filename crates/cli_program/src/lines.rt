@@ -1,0 +1,119 @@
+//! The lines of a server, which one thread prints and all others hand over.
+
+use crate::waiting::{Line, Taken, Waiting};
+use std::alloc::{AllocError, Global};
+use std::sync::{Condvar, CondvarTimeouts, Mutex, Wait};
+use std::time::{Clock, Duration};
+
+/// How long the program waits for lines to be printed, in seconds.
+const LONGEST: u64 = 1;
+
+/// The lines that wait, and whether more are to come.
+#[derive(Drop)]
+struct Desk {
+    waiting: Waiting,
+    /// A line that waited is being printed.
+    is_printing: bool,
+    /// No more lines come.
+    is_ended: bool,
+}
+
+impl Desk {
+    /// Whether lines are still to be printed.
+    fn is_busy(&self) -> bool {
+        self.is_printing || !self.waiting.is_empty()
+    }
+}
+
+/// The lines of a server. A thread that hands a line over waits for no print: the lock is held for
+/// a few moves alone.
+#[derive(Drop)]
+pub(crate) struct Lines {
+    desk: Mutex<Desk>,
+    /// Rung when a line comes, and when no more come.
+    came: Condvar,
+    /// Rung when a line is printed.
+    printed: Condvar,
+}
+
+impl Lines {
+    /// No lines yet.
+    pub(crate) fn new(alloc: Global) -> Result<Lines, AllocError> {
+        let desk = Desk {
+            waiting: Waiting::new(alloc)?,
+            is_printing: false,
+            is_ended: false,
+        };
+        Ok(Lines {
+            desk: Mutex::new(desk),
+            came: Condvar::new(),
+            printed: Condvar::new(),
+        })
+    }
+
+    /// Hands a line over. Where no room is left it is dropped and counted.
+    pub(crate) fn push<R: Wait>(&self, rt: &R, line: Line) {
+        self.desk.lock(rt).waiting.push(line);
+        self.came.notify_all();
+    }
+
+    /// The number of lines that were dropped.
+    pub(crate) fn dropped<R: Wait>(&self, rt: &R) -> u64 {
+        self.desk.lock(rt).waiting.all_dropped()
+    }
+
+    /// Waits for the next line, which is to be printed. The result is `None` once all were taken and
+    /// no more come.
+    fn next<R: Wait>(&self, rt: &R) -> Option<Taken> {
+        let mut desk = self.came.wait_while(rt, self.desk.lock(rt), |desk| {
+            desk.waiting.is_empty() && !desk.is_ended
+        });
+        let taken = desk.waiting.take();
+        desk.is_printing = taken.is_some();
+        taken
+    }
+
+    /// The line that was taken last is printed.
+    fn note_printed<R: Wait>(&self, rt: &R) {
+        self.desk.lock(rt).is_printing = false;
+        self.printed.notify_all();
+    }
+
+    /// Waits until no line waits or is being printed, for at most `LONGEST` seconds.
+    pub(crate) fn flush<R: Wait + Clock>(&self, rt: &R) {
+        let longest = Duration::from_secs(LONGEST);
+        let _flushed = self
+            .printed
+            .wait_timeout_while(rt, self.desk.lock(rt), longest, |desk| desk.is_busy());
+    }
+
+    /// No more lines come. Waits as `flush` does.
+    pub(crate) fn end<R: Wait + Clock>(&self, rt: &R) {
+        self.desk.lock(rt).is_ended = true;
+        self.came.notify_all();
+        self.flush(rt);
+    }
+
+    /// Prints lines as they come, until no more come and all are printed. A line that cannot be
+    /// printed is left out.
+    pub(crate) fn print_all<R: Wait + Eprint>(&self, rt: &R) {
+        for _ in rt.forever() {
+            let Some(taken) = self.next(rt) else {
+                return;
+            };
+            print(rt, &taken);
+            self.note_printed(rt);
+        }
+    }
+}
+
+/// Prints a line, after one for those that were dropped before it.
+fn print<R: Eprint>(rt: &R, taken: &Taken) {
+    if taken.dropped > 0 {
+        let _ = eprintln!(rt; "pathd: {} lines were dropped", taken.dropped);
+    }
+    let _ = match &taken.line {
+        Line::Report(report) => eprintln!(rt; "pathd: {}", *report),
+        Line::Text(text) => eprintln!(rt; "pathd: {}", text.as_str()),
+    };
+}

@@ -1,0 +1,59 @@
+//! How a server runs, by the words of its command line.
+
+ghost use Rattle.std.specs.Prelude.{◌≡◌, ℕ, ◌*◌, codes, option_map, IfOk};
+ghost use Rattle.std.specs.Duration.{as_nanos};
+ghost use Rattle.clap.specs.Words.{first_value, found_of};
+ghost use Rattle.cli_program.specs.Options.{IsKeyOf, IsNumberOf, limit_of};
+
+use crate::failure::Failure;
+use crate::options::{cores_in, key_in, u32_in, u64_in};
+use clap::ArgMatches;
+use cli_words::{GRACE, IDLE, PEER_SESSIONS, SESSIONS};
+use path_server::Options;
+use seg_lookup::Roster;
+use std::alloc::Global;
+use std::time::Duration;
+
+/// The number of seconds that a peer may be silent where no option names it.
+const IDLE_SECONDS: u32 = 300;
+
+/// The number of seconds that open sessions have where the server is asked to end, if no option
+/// names it.
+const GRACE_SECONDS: u32 = 10;
+
+/// The options of the server, as the words have them.
+pub(crate) fn options_of<'a>(alloc: Global, words: &ArgMatches<'a>) -> Result<Options, Failure<'a>>
+    ensures key { IfOk result (λ options. IsKeyOf (first_value (found_of words.now) (codes "key")) options.key) }
+    ensures sessions { IfOk result (λ options. IsNumberOf (found_of words.now) (codes "sessions") 64 0 options.sessions) }
+    ensures peers { IfOk result (λ options. IsNumberOf (found_of words.now) (codes "peer-sessions") 64 0 options.peer_sessions) }
+    ensures idle { IfOk result (λ options. (count : ℕ) × IsNumberOf (found_of words.now) (codes "idle") 32 300 count × (option_map as_nanos options.idle ≡ limit_of count)) }
+    ensures grace { IfOk result (λ options. (count : ℕ) × IsNumberOf (found_of words.now) (codes "grace") 32 10 count × (as_nanos options.grace ≡ count * 1_000_000_000)) }
+{
+    let cores = Roster::new(cores_in(alloc, words)?);
+    let key = key_in(alloc, words)?;
+    Ok(Options {
+        cores,
+        key,
+        sessions: u64_in(words, SESSIONS),
+        peer_sessions: u64_in(words, PEER_SESSIONS),
+        idle: limit(u32_in(words, IDLE, IDLE_SECONDS)),
+        grace: seconds(u32_in(words, GRACE, GRACE_SECONDS)),
+    })
+}
+
+/// The time of this number of seconds, of which 0 is no limit.
+fn limit(count: u32) -> Option<Duration>
+    ensures { option_map as_nanos result ≡ limit_of count }
+{
+    if count == 0 {
+        return None;
+    }
+    Some(seconds(count))
+}
+
+/// The time of this number of seconds.
+fn seconds(count: u32) -> Duration
+    ensures { as_nanos result ≡ count * 1_000_000_000 }
+{
+    Duration::from_secs(u64::from(count))
+}
