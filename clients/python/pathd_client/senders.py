@@ -16,6 +16,9 @@ from .sessions import Session
 # After these refusals a command is sent again: later, or once the server was started again.
 SENT_AGAIN = PASSING_CODES | {Code.STOPPED, Code.OUTCOME_UNKNOWN}
 
+# How long a thread that ends is waited for before its connection is ended once more, in seconds.
+LOOK_AGAIN = 0.05
+
 
 @dataclass(frozen=True)
 class State:
@@ -74,12 +77,14 @@ class Sender:
     def end(self) -> None:
         """Has the thread end, which sends no more."""
         self._has_ended = True
-        self._session.interrupt()
         self._changed.notify_all()
 
     def join(self) -> None:
-        """Waits until the thread has ended. Without the lock."""
-        self._thread.join()
+        """Waits until the thread has ended, after `end`, without the lock. It waits for no reply;
+        for a connection that is being made it does."""
+        while self._thread.is_alive():
+            self._session.interrupt()
+            self._thread.join(LOOK_AGAIN)
         self._session.close()
 
     def _send_all(self) -> None:

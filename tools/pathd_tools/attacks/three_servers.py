@@ -143,6 +143,11 @@ class Three:
             server.kill()
 
 
+def most_waiting(servers: Servers) -> int:
+    """How many commands wait for the server for which most do."""
+    return max(state.waiting for state in servers.states.values())
+
+
 def turns(three: Three, servers: Servers, until: float, seed: int) -> Iterator[int]:
     """Kills each server in turn, and starts it again. Answers how many commands waited then for the one that had most."""
     chance = random.Random(seed)
@@ -150,7 +155,7 @@ def turns(three: Three, servers: Servers, until: float, seed: int) -> Iterator[i
     while time.monotonic() < until:
         three.kill(number)
         time.sleep(chance.uniform(1.0, 2.0))
-        yield max(state.waiting for state in servers.states.values())
+        yield most_waiting(servers)
         three.start(number)
         servers.drain(WITHIN)
         number = (number + 1) % SERVERS
@@ -179,12 +184,13 @@ def attack(three: Three, options: Namespace) -> list[str]:
         for thread in threads:
             thread.join()
         took = time.monotonic() - begun
+        waited.append(most_waiting(servers))
         faults = [] if servers.drain(PATIENCE) else [f"queues are not empty: {servers.states}"]
         faults += [f"{address}: {state}" for address, state in servers.states.items() if state.refused or state.dropped]
     three.close()
     figures = [writer.figures for writer in writers] + readers
     print_figures(figures, options.acknowledge, took)
-    print(f"  {three.kills} kills; at most {max(waited, default=0)} commands waited for a server")
+    print(f"  {three.kills} kills; at most {max(waited)} commands waited for a server")
     return faults + [fault for it in figures for fault in it.faults] + compared(three, writers)
 
 
