@@ -10,7 +10,7 @@ use crate::waiting::Line;
 use path_server::{Report, Reports};
 use std::alloc::{AllocError, Global};
 use std::io::Read;
-use std::sync::{Arc, Wait};
+use std::sync::Arc;
 use std::thread;
 
 /// What the threads of the program and those of its server share.
@@ -70,6 +70,19 @@ impl<R: Host> Notices<R> {
         }
     }
 
+    /// The rows of the store that was opened do not fit, so the server's store stops at once.
+    pub(crate) fn note_overfull(&self) {
+        self.shared.signals.note_overfull();
+        self.push(Report::Overfull);
+    }
+
+    /// Has a report printed, unless the program should be quiet.
+    fn push(&self, report: Report) {
+        if !self.is_quiet {
+            self.shared.lines.push(&self.rt, Line::Report(report));
+        }
+    }
+
     /// Waits until the server is ready or has ended. Returns whether it was ever ready.
     pub(crate) fn wait_until_ready(&self) -> bool {
         self.shared.signals.wait_until_ready(&self.rt)
@@ -115,12 +128,13 @@ impl<R: Host> Notices<R> {
     }
 }
 
-impl<R: Wait> Reports for Notices<R> {
+impl<R: Host> Reports for Notices<R> {
     fn report(&self, report: Report) {
-        if report == Report::Ready {
-            self.shared.signals.note_ready(&self.rt);
-        } else if !self.is_quiet {
-            self.shared.lines.push(&self.rt, Line::Report(report));
+        match report {
+            Report::Ready => self.shared.signals.note_ready(&self.rt),
+            // It is no fault of the device, and was said when the store was opened.
+            Report::Stopped if self.shared.signals.is_overfull() => {}
+            _ => self.push(report),
         }
     }
 

@@ -4,7 +4,7 @@ use crate::addresses::{addresses_of, listen};
 use crate::failure::Failure;
 use crate::notices::Notices;
 use crate::server_options::options_of;
-use crate::starting::{say_addresses, say_opened, say_without_cores};
+use crate::starting::{say_addresses, say_opened, say_overfull, say_without_cores};
 use crate::stores::{device_over, path_of};
 use crate::system::{Host, System};
 use clap::ArgMatches;
@@ -121,6 +121,7 @@ fn serve_site<'a, R: Host>(
     let store = store_of(rt.alloc(), path, device)?;
     say_opened(rt, notices, path, &store, begun);
     say_addresses(rt.alloc(), notices, path, &store, &listeners);
+    say_overfull(notices, &store);
     let count = run_on(rt, rt.alloc(), listeners, store, options, notices).map_err(
         |error| Failure::Server(error),
     )?;

@@ -17,6 +17,8 @@ pub(crate) struct Signals {
     /// Rung when the stage changes.
     changed: Condvar,
     wants_end: AtomicBool,
+    /// The rows of the server's store did not fit when it was opened.
+    is_overfull: AtomicBool,
 }
 
 impl Signals {
@@ -29,6 +31,7 @@ impl Signals {
             }),
             changed: Condvar::new(),
             wants_end: AtomicBool::new(false),
+            is_overfull: AtomicBool::new(false),
         }
     }
 
@@ -62,5 +65,15 @@ impl Signals {
     /// Whether the server is asked to end.
     pub(crate) fn wants_end(&self) -> bool {
         self.wants_end.load(Ordering::SeqCst)
+    }
+
+    /// The rows of the server's store do not fit.
+    pub(crate) fn note_overfull(&self) {
+        self.is_overfull.store(true, Ordering::SeqCst);
+    }
+
+    /// Whether the rows of the server's store did not fit when it was opened.
+    pub(crate) fn is_overfull(&self) -> bool {
+        self.is_overfull.load(Ordering::SeqCst)
     }
 }

@@ -28,6 +28,19 @@ pub(crate) fn say_opened<R: Host, D: Device>(
     notices.say(opened_line(rt.alloc(), path, store, milliseconds));
 }
 
+/// Says that the rows of a store do not fit its checkpoint area, if they do not.
+pub(crate) fn say_overfull<R: Host, D: Device>(notices: &Notices<R>, store: &Store<D>) {
+    if is_overfull(store) {
+        notices.note_overfull();
+    }
+}
+
+/// Whether the rows of a store, or those of its sealed half, do not fit its checkpoint area.
+fn is_overfull<D: Device>(store: &Store<D>) -> bool {
+    let room = area_room(store.geometry().checkpoint);
+    store.db().encoded_len() > room || (store.is_sealed() && store.sealed_len() > room)
+}
+
 /// The line of what the opening of a store has found.
 fn opened_line<D: Device>(
     alloc: Global,

@@ -16,6 +16,19 @@ const FAULTY: &str = "0000000101000000020400";
 /// The parts of served stores.
 pub(crate) const PARTS: &[Part] = &[
     Part {
+        what: "rows that no checkpoint has room for",
+        before: Before::Nothing,
+        peers: Peers {
+            sessions: &["0000000102"],
+            together: 0,
+            silent: 0,
+        },
+        lines: &[(
+            "pathd run damaged --listen ADDR --cores 1-ff00:0:110 --sessions 1 --idle 60",
+            &[],
+        )],
+    },
+    Part {
         what: "sessions",
         before: Before::Nothing,
         peers: Peers {
