@@ -4,7 +4,7 @@ use Rattle.store_loops.specs.declared.commits.CommitTimes.{CommitTimes}
 use Rattle.store_loops.specs.Commits.{one_more, times_after}
 use Rattle.path_hub.specs.declared.tally.Completed.{Completed}
 use Rattle.path_hub.specs.declared.tally.Done.{Done}
-use Rattle.path_hub.specs.declared.tally.Done.TheVariants.{Nothing, Staged, Group, Seal, Checkpoint}
+use Rattle.path_hub.specs.declared.tally.Done.TheVariants.{Nothing, Staged, Followed, Group, Seal, Checkpoint}
 
 -- The times of commits after one more, whose time may be unknown.
 abbrev pub timed : Option ℕ → CommitTimes → CommitTimes
@@ -15,6 +15,7 @@ timed (Some microseconds) times = times_after microseconds times
 abbrev pub completed_after : Done → Option ℕ → Completed → Completed
 completed_after Nothing time old = old
 completed_after Staged time old = old
+completed_after Followed time old = old
 completed_after Group time old = record old { groups = one_more old.groups; commits = timed time old.commits }
 completed_after Seal time old = record old { seals = one_more old.seals }
 completed_after Checkpoint time old = record old { checkpoints = one_more old.checkpoints }

@@ -33,6 +33,8 @@ struct Sheet {
     begun: Option<Begun>,
     /// When the flusher staged what is in flight, unless the clock could not be read then.
     staged: Option<Instant>,
+    /// When the flusher staged the group that follows, unless the clock could not be read then.
+    followed: Option<Instant>,
     ghost of_a_state: { ∥ AreNumbers numbers ∥₁ },
 }
 
@@ -57,8 +59,11 @@ impl Sheet {
     {
         let time = self.commit_time(clock, done);
         self.completed.add(done, time);
-        if done == Done::Staged {
-            self.staged = Instant::now(clock).ok();
+        match done {
+            Done::Staged => self.staged = Instant::now(clock).ok(),
+            Done::Followed => self.followed = Instant::now(clock).ok(),
+            Done::Group => self.staged = self.followed,
+            Done::Nothing | Done::Seal | Done::Checkpoint => {}
         }
         self.begun = None;
         self.numbers = numbers;
@@ -92,6 +97,7 @@ impl Board {
                 completed: Completed::new(),
                 begun: None,
                 staged: None,
+                followed: None,
             }),
         }
     }

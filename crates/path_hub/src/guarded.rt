@@ -2,16 +2,17 @@
 //! on the board, and then wakes the threads that wait for what it changed.
 
 ghost use Rattle.std.specs.Prelude.{◌≡◌, true, false};
-ghost use Rattle.store_loops.specs.Receipts.{IsTicketOrCommand, IsRedeemed, LeadsOn, LeadsOut, IsHandedIn};
+ghost use Rattle.store_loops.specs.Receipts.{IsTicketOrCommand, IsRedeemed, LeadsOn, LeadsOut, IsHandedIn, IsFollowedOrBack, IsPassedOn};
 
 use crate::hub::Hub;
 use crate::name::HubName;
 use crate::show::{HubNote, HubShow};
 use crate::tally::Done;
 use group_core::{
-    AtClosing, AtLaid, AtLive, AtOpened, AtPlan, AtStable, AtStaged, AtSwitched, AtWritten,
-    BeginError, Closing, Commit, Durable, Laid, Live, Opened, Plan, PublishError, Redeemed, Stable,
-    StageError, Staged, State, StepError, SubmitError, Switched, Ticket, Written,
+    AtClosing, AtFollowed, AtFollowing, AtLaid, AtLive, AtOpened, AtPlan, AtStable, AtStaged,
+    AtSwitched, AtWritten, BeginError, Closing, Commit, Durable, DurableFollowed, FollowError,
+    Followed, Following, Laid, Live, Opened, Plan, PublishError, PublishFollowedError, Redeemed,
+    Stable, StageError, Staged, State, StepError, SubmitError, Switched, Ticket, Written,
 };
 use path_db::Command;
 use sector_dev::Device;
@@ -145,6 +146,44 @@ impl<D: Device, N: HubName, R: Wait + Clock> Steps for Hub<D, N, R> {
         if sealed {
             self.changes.announce(Awaited::Seal);
         }
+        published
+    }
+
+    #[tactic(auto, using(store_loops::proofs::Through::followed_or_back))]
+    fn follow(&self, value: Opened) -> Result<Following, (Opened, FollowError)> {
+        let mut state = self.state.lock(&self.rt);
+        let next = state.follow(value);
+        self.end_call(state, Done::Followed.unless_refused(next.is_ok()));
+        next
+    }
+
+    #[tactic(auto, using(store_loops::proofs::Through::flush_leads))]
+    fn write_following(&self, value: Following) -> Result<Followed, StepError<AtFollowing>> {
+        let mut state = self.begin_call(DeviceCall::WriteFollowing);
+        let next = state.write_following(value);
+        self.end_call(state, Done::Nothing);
+        self.wake_if_stopped(&next);
+        next
+    }
+
+    #[tactic(auto, using(store_loops::proofs::Through::flush_leads))]
+    fn sync_followed(&self, value: Followed) -> Result<DurableFollowed, StepError<AtFollowed>> {
+        let mut state = self.begin_call(DeviceCall::SyncFollowed);
+        let next = state.sync_followed(value);
+        self.end_call(state, Done::Nothing);
+        self.wake_if_stopped(&next);
+        next
+    }
+
+    #[tactic(auto, using(store_loops::proofs::Through::passed_on))]
+    fn publish_followed(&self, value: DurableFollowed) -> Result<Stable, PublishFollowedError> {
+        let mut state = self.state.lock(&self.rt);
+        let from = state.place();
+        let published = state.publish_followed(value);
+        let to = state.place();
+        let done = Done::published(from, to).unless_refused(published.is_ok());
+        self.end_call(state, done);
+        self.changes.announce_outcomes(from, to);
         published
     }
 

@@ -27,6 +27,8 @@ pub(crate) enum Done {
     Nothing,
     /// A group or a seal was staged.
     Staged,
+    /// A group was staged to follow the group in flight.
+    Followed,
     /// A group was committed.
     Group,
     /// A journal was sealed.
@@ -69,7 +71,7 @@ impl Completed {
         ensures { self.new ≡ completed_after done time self.old }
     {
         match done {
-            Done::Nothing | Done::Staged => {}
+            Done::Nothing | Done::Staged | Done::Followed => {}
             Done::Group => {
                 self.groups = self.groups.saturating_add(1);
                 if let Some(microseconds) = time {

@@ -1,7 +1,7 @@
 -- The call of the device that is under way, as lines of a page.
 use Rattle.std.specs.Prelude.{ℕ, List, ◌++◌, ◌==◌, if◌then◌else◌, Option, Some, None, codes}
 use Rattle.store_loops.specs.declared.calls.DeviceCall.{DeviceCall}
-use Rattle.store_loops.specs.declared.calls.DeviceCall.TheVariants.{WriteGroup, SyncGroup, OpenGate, SyncGate, Begin, WriteChunk, SyncChunks, OpenHalf, SyncHalf, CloseHalf, SyncClose}
+use Rattle.store_loops.specs.declared.calls.DeviceCall.TheVariants.{WriteGroup, SyncGroup, OpenGate, SyncGate, Begin, WriteChunk, SyncChunks, OpenHalf, SyncHalf, CloseHalf, SyncClose, WriteFollowing, SyncFollowed}
 use Rattle.status_page.specs.declared.counts.CallTime.{CallTime}
 use Rattle.status_page.specs.Lines.{heading, time_labelled}
 
@@ -22,6 +22,8 @@ call_number OpenHalf = 8
 call_number SyncHalf = 9
 call_number CloseHalf = 10
 call_number SyncClose = 11
+call_number WriteFollowing = 12
+call_number SyncFollowed = 13
 
 -- The line of a call: its time where it is under way, and 0 elsewhere.
 unfoldable pub call_line : List ℕ → ℕ → ℕ → ℕ → List ℕ
@@ -47,11 +49,16 @@ half_calls now microseconds =
     ++ (call_line (codes "call=\"sync_half\"") 9 now microseconds
     ++ (call_line (codes "call=\"close_half\"") 10 now microseconds ++ call_line (codes "call=\"sync_close\"") 11 now microseconds))
 
+-- The lines of the flusher's calls for a group that follows.
+unfoldable pub follow_calls : ℕ → ℕ → List ℕ
+follow_calls now microseconds =
+    call_line (codes "call=\"write_following\"") 12 now microseconds ++ call_line (codes "call=\"sync_followed\"") 13 now microseconds
+
 -- The lines of all calls, of which the one of this number is under way.
 unfoldable pub call_lines : ℕ → ℕ → List ℕ
 call_lines now microseconds =
     heading calls (codes "Time that the call of the device has taken so far, where it is under way.") (codes "gauge")
-    ++ (group_calls now microseconds ++ (chunk_calls now microseconds ++ half_calls now microseconds))
+    ++ (group_calls now microseconds ++ (chunk_calls now microseconds ++ (half_calls now microseconds ++ follow_calls now microseconds)))
 
 -- The lines of all calls, of which one or none is under way.
 abbrev pub call_text : Option CallTime → List ℕ

@@ -1,7 +1,7 @@
 //! The call of the device that is under way, as lines of a page.
 
 ghost use Rattle.std.specs.Prelude.{◌≡◌, IfOk, string_bytes};
-ghost use Rattle.status_page.specs.Calls.{call_number, call_line, group_calls, chunk_calls, half_calls, call_lines, call_text};
+ghost use Rattle.status_page.specs.Calls.{call_number, call_line, group_calls, chunk_calls, half_calls, follow_calls, call_lines, call_text};
 
 use crate::counts::CallTime;
 use crate::lines::{heading, time_labelled};
@@ -35,7 +35,8 @@ fn call_lines(alloc: Global, now: u64, microseconds: u64) -> Result<String, Allo
     let group = group_calls(alloc, now, microseconds)?;
     let chunks = chunk_calls(alloc, now, microseconds)?;
     let half = half_calls(alloc, now, microseconds)?;
-    format!(in alloc; "{heading}{group}{chunks}{half}")
+    let follow = follow_calls(alloc, now, microseconds)?;
+    format!(in alloc; "{heading}{group}{chunks}{half}{follow}")
 }
 
 /// The line of a call: its time where it is under way, and 0 elsewhere.
@@ -92,6 +93,16 @@ fn half_calls(alloc: Global, now: u64, microseconds: u64) -> Result<String, Allo
     format!(in alloc; "{open}{opened}{close}{closed}")
 }
 
+/// The lines of the flusher's calls for a group that follows.
+#[tactic(auto, unfolding(crate::specs::Calls::follow_calls))]
+fn follow_calls(alloc: Global, now: u64, microseconds: u64) -> Result<String, AllocError>
+    ensures { IfOk result (λ lines. string_bytes lines ≡ follow_calls now microseconds) }
+{
+    let write = call_line(alloc, "call=\"write_following\"", 12, now, microseconds)?;
+    let sync = call_line(alloc, "call=\"sync_followed\"", 13, now, microseconds)?;
+    format!(in alloc; "{write}{sync}")
+}
+
 /// The number of a call, in the order of the lines.
 fn call_number(call: DeviceCall) -> u64
     ensures { result ≡ call_number call }
@@ -108,5 +119,7 @@ fn call_number(call: DeviceCall) -> u64
         DeviceCall::SyncHalf => 9,
         DeviceCall::CloseHalf => 10,
         DeviceCall::SyncClose => 11,
+        DeviceCall::WriteFollowing => 12,
+        DeviceCall::SyncFollowed => 13,
     }
 }

@@ -10,7 +10,14 @@ use Rattle.group_core.specs.declared.error.StepError.{StepError}
 use Rattle.group_core.specs.declared.error.StepError.TheVariants.{Fault, Stopped, Stranger, NoMemory, Damaged}
 use Rattle.group_core.specs.declared.error.PublishError.{PublishError}
 use Rattle.group_core.specs.declared.error.PublishError.TheVariants as refused
+use Rattle.group_core.specs.declared.error.PublishFollowedError.{PublishFollowedError}
+use Rattle.group_core.specs.declared.error.PublishFollowedError.TheVariants as publish_refused
+use Rattle.group_core.specs.declared.following.FollowError.{FollowError}
 use Rattle.group_core.specs.declared.phases.AtDurable.{AtDurable}
+use Rattle.group_core.specs.declared.phases.AtDurableFollowed.{AtDurableFollowed}
+use Rattle.group_core.specs.declared.phases.AtFollowing.{AtFollowing}
+use Rattle.group_core.specs.declared.phases.AtOpened.{AtOpened}
+use Rattle.group_core.specs.declared.phases.AtStable.{AtStable}
 use Rattle.group_core.specs.declared.submit_error.SubmitError.{SubmitError}
 use Rattle.group_core.specs.declared.ticket.Ticket.{Ticket}
 use Rattle.group_core.specs.declared.ticket.Redeemed.{Redeemed}
@@ -23,7 +30,8 @@ use Rattle.group_core.specs.Steps.{FlushStep, CheckStep, WritesChunk, SyncsChunk
 use Rattle.group_core.specs.Submitting.{Submits}
 use Rattle.group_core.specs.Redeeming.{Redeems}
 use Rattle.group_core.specs.Publishing.{PublishStep}
-use Rattle.store_loops.specs.Receipts.{IsTicketOrCommand, IsShownAbove, IsReceiptOf, IsRedeemed, LeadsOn, LeadsOut, IsHandedIn}
+use Rattle.group_core.specs.Following.{Follows, PublishFollowedStep}
+use Rattle.store_loops.specs.Receipts.{IsTicketOrCommand, IsShownAbove, IsReceiptOf, IsRedeemed, LeadsOn, LeadsOut, IsHandedIn, IsFollowedOrBack, IsPassedOn}
 
 pub taken : (command : Command) (result : Result Ticket (Command × SubmitError)) (old new : StateView) → Submits command result old new → IsTicketOrCommand command result
 taken command (Ok ticket) old new step = step.2.shows
@@ -92,3 +100,14 @@ pub handed_in : (value : Commit AtDurable) (result : Result (Unit {0}) PublishEr
 handed_in value (Ok done) old new step = tt
 handed_in value (Err (refused.NoMemory back)) old new step = step.2
 handed_in value (Err (refused.Stranger back)) old new step = step.1
+
+pub followed_or_back : (value : Commit AtOpened) (result : Result (Commit AtFollowing) (Commit AtOpened × FollowError)) (old new : StateView)
+    → Follows value result old new → IsFollowedOrBack value result
+followed_or_back value (Ok next) old new step = step.2.1
+followed_or_back value (Err (back, refusal)) old new step = step.2.0
+
+pub passed_on : (value : Commit AtDurableFollowed) (result : Result (Commit AtStable) PublishFollowedError) (old new : StateView)
+    → PublishFollowedStep value result old new → IsPassedOn value result
+passed_on value (Ok next) old new step = step.2.2.0
+passed_on value (Err (publish_refused.NoMemory back)) old new step = step.2.2.0
+passed_on value (Err (publish_refused.Stranger back)) old new step = step.2.0

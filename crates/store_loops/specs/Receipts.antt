@@ -8,7 +8,14 @@ use Rattle.group_core.specs.declared.error.StepError.{StepError}
 use Rattle.group_core.specs.declared.error.StepError.TheVariants.{Fault, Stopped, Stranger, NoMemory, Damaged}
 use Rattle.group_core.specs.declared.error.PublishError.{PublishError}
 use Rattle.group_core.specs.declared.error.PublishError.TheVariants as refused
+use Rattle.group_core.specs.declared.error.PublishFollowedError.{PublishFollowedError}
+use Rattle.group_core.specs.declared.error.PublishFollowedError.TheVariants as publish_refused
+use Rattle.group_core.specs.declared.following.FollowError.{FollowError}
 use Rattle.group_core.specs.declared.phases.AtDurable.{AtDurable}
+use Rattle.group_core.specs.declared.phases.AtDurableFollowed.{AtDurableFollowed}
+use Rattle.group_core.specs.declared.phases.AtFollowing.{AtFollowing}
+use Rattle.group_core.specs.declared.phases.AtOpened.{AtOpened}
+use Rattle.group_core.specs.declared.phases.AtStable.{AtStable}
 use Rattle.group_core.specs.declared.submit_error.SubmitError.{SubmitError}
 use Rattle.group_core.specs.declared.ticket.Ticket.{Ticket}
 use Rattle.group_core.specs.declared.ticket.Receipt.{Receipt}
@@ -66,3 +73,16 @@ abbrev pub IsHandedIn : Commit AtDurable → Result (Unit {0}) PublishError → 
 IsHandedIn value (Ok done) = Unit {0}
 IsHandedIn value (Err (refused.NoMemory back)) = back ≡ value
 IsHandedIn value (Err (refused.Stranger back)) = back ≡ value
+
+-- Staging a group to follow leads on to the next value of the same group, or returns the value that
+-- was passed.
+abbrev pub IsFollowedOrBack : Commit AtOpened → Result (Commit AtFollowing) (Commit AtOpened × FollowError) → Type 0
+IsFollowedOrBack value (Ok next) = IsSame value next
+IsFollowedOrBack value (Err (back, refusal)) = back ≡ value
+
+-- Publishing a group that is followed leads on to the value of the group that follows, or returns
+-- the value that was passed.
+abbrev pub IsPassedOn : Commit AtDurableFollowed → Result (Commit AtStable) PublishFollowedError → Type 0
+IsPassedOn value (Ok next) = IsSame value next
+IsPassedOn value (Err (publish_refused.NoMemory back)) = back ≡ value
+IsPassedOn value (Err (publish_refused.Stranger back)) = back ≡ value

@@ -11,6 +11,10 @@ pub enum DeviceCall {
     OpenGate,
     /// The flusher syncs that gate.
     SyncGate,
+    /// The flusher writes the payload of the group that follows, and the next gate.
+    WriteFollowing,
+    /// The flusher syncs them, and the gate of the group in flight.
+    SyncFollowed,
     /// The checkpointer reads the sealed half, and plans the new checkpoint.
     Begin,
     /// The checkpointer writes a chunk of the new checkpoint.

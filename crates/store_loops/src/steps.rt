@@ -1,12 +1,13 @@
 //! The guarded calls of a state, one at a time, from any thread.
 
 ghost use Rattle.std.specs.Prelude.{◌≡◌, true, false};
-ghost use Rattle.store_loops.specs.Receipts.{IsTicketOrCommand, IsRedeemed, LeadsOn, LeadsOut, IsHandedIn};
+ghost use Rattle.store_loops.specs.Receipts.{IsTicketOrCommand, IsRedeemed, LeadsOn, LeadsOut, IsHandedIn, IsFollowedOrBack, IsPassedOn};
 
 use group_core::{
-    AtClosing, AtLaid, AtLive, AtOpened, AtPlan, AtStable, AtStaged, AtSwitched, AtWritten,
-    BeginError, Closing, Commit, Durable, Laid, Live, Opened, Plan, PublishError, Redeemed, Stable,
-    StageError, Staged, StepError, SubmitError, Switched, Ticket, Written,
+    AtClosing, AtFollowed, AtFollowing, AtLaid, AtLive, AtOpened, AtPlan, AtStable, AtStaged,
+    AtSwitched, AtWritten, BeginError, Closing, Commit, Durable, DurableFollowed, FollowError,
+    Followed, Following, Laid, Live, Opened, Plan, PublishError, PublishFollowedError, Redeemed,
+    Stable, StageError, Staged, StepError, SubmitError, Switched, Ticket, Written,
 };
 use path_db::Command;
 
@@ -74,6 +75,25 @@ pub trait Steps {
     /// after a durable seal.
     fn publish(&self, value: Durable) -> Result<(), PublishError>
         ensures { IsHandedIn value result };
+
+    /// Stages a group to follow the group in flight, whose gate was written open. A value that no
+    /// group follows is returned, and `sync_gate` is next.
+    fn follow(&self, value: Opened) -> Result<Following, (Opened, FollowError)>
+        ensures { IsFollowedOrBack value result };
+
+    /// Writes the following group after the gate that ends the group in flight.
+    fn write_following(&self, value: Following) -> Result<Followed, StepError<AtFollowing>>
+        ensures { LeadsOn value result };
+
+    /// Syncs the tail's gate and the following group: from then on every stop keeps the group in
+    /// flight.
+    fn sync_followed(&self, value: Followed) -> Result<DurableFollowed, StepError<AtFollowed>>
+        ensures { LeadsOn value result };
+
+    /// Publishes the group in flight, which is committed then. The following group is in flight
+    /// after that, written and synced.
+    fn publish_followed(&self, value: DurableFollowed) -> Result<Stable, PublishFollowedError>
+        ensures { IsPassedOn value result };
 
     /// Begins a checkpoint of the sealed half.
     fn begin(&self) -> Result<Plan, BeginError>;

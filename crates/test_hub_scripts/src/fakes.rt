@@ -2,8 +2,9 @@
 
 use crate::stores::opened;
 use group_core::{
-    AtClosing, AtLaid, AtLive, AtOpened, AtPlan, AtStable, AtStaged, AtSwitched, AtWritten,
-    BeginError, Closing, Commit, Durable, Laid, Live, Opened, PlainShow, Plan, PublishError,
+    AtClosing, AtFollowed, AtFollowing, AtLaid, AtLive, AtOpened, AtPlan, AtStable, AtStaged,
+    AtSwitched, AtWritten, BeginError, Closing, Commit, Durable, DurableFollowed, FollowError,
+    Followed, Following, Laid, Live, Opened, PlainShow, Plan, PublishError, PublishFollowedError,
     Redeemed, Stable, StageError, Staged, State, StepError, SubmitError, Switched, Ticket, Written,
 };
 use path_db::Command;
@@ -226,6 +227,38 @@ impl<R: Wait + TestHost> Steps for Fake<R> {
     fn publish(&self, value: Durable) -> Result<(), PublishError> {
         let mut state = self.turn();
         let published = state.publish(value);
+        MutexGuard::unlock(state);
+        published
+    }
+
+    #[tactic(auto, using(store_loops::proofs::Through::followed_or_back))]
+    fn follow(&self, value: Opened) -> Result<Following, (Opened, FollowError)> {
+        let mut state = self.turn();
+        let next = state.follow(value);
+        MutexGuard::unlock(state);
+        next
+    }
+
+    #[tactic(auto, using(store_loops::proofs::Through::flush_leads))]
+    fn write_following(&self, value: Following) -> Result<Followed, StepError<AtFollowing>> {
+        let mut state = self.turn();
+        let next = state.write_following(value);
+        MutexGuard::unlock(state);
+        next
+    }
+
+    #[tactic(auto, using(store_loops::proofs::Through::flush_leads))]
+    fn sync_followed(&self, value: Followed) -> Result<DurableFollowed, StepError<AtFollowed>> {
+        let mut state = self.turn();
+        let next = state.sync_followed(value);
+        MutexGuard::unlock(state);
+        next
+    }
+
+    #[tactic(auto, using(store_loops::proofs::Through::passed_on))]
+    fn publish_followed(&self, value: DurableFollowed) -> Result<Stable, PublishFollowedError> {
+        let mut state = self.turn();
+        let published = state.publish_followed(value);
         MutexGuard::unlock(state);
         published
     }

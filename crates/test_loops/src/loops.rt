@@ -89,13 +89,21 @@ fn stopped_at<R: Wait + Abort + Copy + Drop>(
     (fake.into_device(), (committed, unknown, late))
 }
 
-/// Six calls commit the first group, and six more the second one. The sixth, which publishes, goes
-/// on where the state has stopped. The loop ends with the next staging: with the call of this
-/// number, where that is one.
+/// Eight calls commit the first group: the fifth stages the second group to follow it, the next two
+/// write and sync that group, and the eighth publishes the first one. Four more commit the second
+/// group, which no group follows. Publishing goes on where the state has stopped. The loop ends with
+/// the next staging: with the call of this number, where that is one.
 fn counts_at(number: u64) -> Counts {
-    let is_staging = number == 1 || number == 7 || 13 <= number;
-    let calls = if is_staging { 1 } else { 2 };
-    if number <= 5 {
+    let calls = if number == 1 || 13 <= number {
+        1
+    } else if number == 5 || number == 8 || number == 10 {
+        // A refusal to follow is passed on to the sync of the gate, and the group that followed a
+        // published one to the write of its gate.
+        3
+    } else {
+        2
+    };
+    if number <= 7 {
         (0, 40, calls)
     } else if number <= 11 {
         (32, 8, calls)

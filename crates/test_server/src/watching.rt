@@ -171,6 +171,8 @@ pathd_call_seconds{call=\"open_half\"} 0.000000
 pathd_call_seconds{call=\"sync_half\"} 0.000000
 pathd_call_seconds{call=\"close_half\"} 0.000000
 pathd_call_seconds{call=\"sync_close\"} 0.000000
+pathd_call_seconds{call=\"write_following\"} 0.000000
+pathd_call_seconds{call=\"sync_followed\"} 0.000000
 # HELP pathd_groups_total Groups of commands that were committed.
 # TYPE pathd_groups_total counter
 pathd_groups_total 4
