@@ -10,7 +10,7 @@ use crate::waiting::Line;
 use path_server::{Report, Reports};
 use std::alloc::{AllocError, Global};
 use std::io::Read;
-use std::sync::Arc;
+use std::sync::{Arc, Wait};
 use std::thread;
 
 /// What the threads of the program and those of its server share.
@@ -76,13 +76,6 @@ impl<R: Host> Notices<R> {
         self.push(Report::Overfull);
     }
 
-    /// Has a report printed, unless the program should be quiet.
-    fn push(&self, report: Report) {
-        if !self.is_quiet {
-            self.shared.lines.push(&self.rt, Line::Report(report));
-        }
-    }
-
     /// Waits until the server is ready or has ended. Returns whether it was ever ready.
     pub(crate) fn wait_until_ready(&self) -> bool {
         self.shared.signals.wait_until_ready(&self.rt)
@@ -128,7 +121,16 @@ impl<R: Host> Notices<R> {
     }
 }
 
-impl<R: Host> Reports for Notices<R> {
+impl<R: Wait> Notices<R> {
+    /// Has a report printed, unless the program should be quiet.
+    fn push(&self, report: Report) {
+        if !self.is_quiet {
+            self.shared.lines.push(&self.rt, Line::Report(report));
+        }
+    }
+}
+
+impl<R: Wait> Reports for Notices<R> {
     fn report(&self, report: Report) {
         match report {
             Report::Ready => self.shared.signals.note_ready(&self.rt),
