@@ -114,6 +114,7 @@ fn print<R: Eprint>(rt: &R, taken: &Taken) {
     }
     let _ = match &taken.line {
         Line::Report(report) => eprintln!(rt; "pathd: {}", *report),
+        Line::Fault(fault) => eprintln!(rt; "pathd: {}", *fault),
         Line::Text(text) => eprintln!(rt; "pathd: {}", text.as_str()),
     };
 }

@@ -8,6 +8,7 @@ use crate::signals::Signals;
 use crate::system::Host;
 use crate::waiting::Line;
 use path_server::{Report, Reports};
+use sector_dev::LastFault;
 use std::alloc::{AllocError, Global};
 use std::io::Read;
 use std::sync::{Arc, Wait};
@@ -18,6 +19,8 @@ use std::thread;
 struct Shared {
     lines: Lines,
     signals: Signals,
+    /// What failed last in the store's file.
+    last_fault: Arc<LastFault>,
 }
 
 /// Takes the reports of a server, and has a thread of its own print them on standard error, a line
@@ -31,14 +34,19 @@ pub(crate) struct Notices<R> {
 
 impl<R: Host> Notices<R> {
     /// Starts the thread that prints, unless the program should be quiet. Memory is refused where
-    /// no thread is given.
-    pub(crate) fn new(rt: &R, is_quiet: bool) -> Result<Notices<R>, AllocError> {
+    /// no thread is given. `last_fault` is that of the store's file.
+    pub(crate) fn new(
+        rt: &R,
+        is_quiet: bool,
+        last_fault: &Arc<LastFault>,
+    ) -> Result<Notices<R>, AllocError> {
         let alloc: Global = rt.alloc();
         let shared = Arc::new(
             alloc,
             Shared {
                 lines: Lines::new(alloc)?,
                 signals: Signals::new(),
+                last_fault: Arc::try_clone(last_fault)?,
             },
         )?;
         if !is_quiet {
@@ -122,6 +130,16 @@ impl<R: Host> Notices<R> {
 }
 
 impl<R: Wait> Notices<R> {
+    /// Has what failed last in the store's file printed, unless nothing did, or the program should
+    /// be quiet.
+    fn push_fault(&self) {
+        if let Some(fault) = self.shared.last_fault.get()
+            && !self.is_quiet
+        {
+            self.shared.lines.push(&self.rt, Line::Fault(fault));
+        }
+    }
+
     /// Has a report printed, unless the program should be quiet.
     fn push(&self, report: Report) {
         if !self.is_quiet {
@@ -136,6 +154,10 @@ impl<R: Wait> Reports for Notices<R> {
             Report::Ready => self.shared.signals.note_ready(&self.rt),
             // It is no fault of the device, and was said when the store was opened.
             Report::Stopped if self.shared.signals.is_overfull() => {}
+            Report::Stopped => {
+                self.push_fault();
+                self.push(report);
+            }
             _ => self.push(report),
         }
     }

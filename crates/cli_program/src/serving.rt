@@ -10,10 +10,11 @@ use crate::system::{Host, System};
 use clap::ArgMatches;
 use cli_words::{CORES, QUIET, STOP_ON_END_OF_INPUT};
 use path_server::{Listeners, Options, run_on};
-use sector_dev::{Device, FileDevice, SystemFile};
+use sector_dev::{Device, FileDevice, LastFault, SystemFile};
 use std::alloc::Global;
 use std::io::{Read, Write};
 use std::net::TcpListener;
+use std::sync::Arc;
 use std::time::Instant;
 use std::{io, thread};
 use store_open::{Store, open};
@@ -24,6 +25,8 @@ struct Site<'a> {
     /// The path of the device's file.
     path: &'a str,
     device: FileDevice<SystemFile>,
+    /// What failed last in that file.
+    last_fault: Arc<LastFault>,
     listeners: Listeners<TcpListener>,
 }
 
@@ -51,7 +54,7 @@ fn serve_noted<'a, R: System, I: Read + Drop + Send + 'static, O: Write>(
     input: I,
     output: &mut O,
 ) -> Result<u64, Failure<'a>> {
-    let Ok(notices) = Notices::new(rt, words.get_flag(QUIET)) else {
+    let Ok(notices) = Notices::new(rt, words.get_flag(QUIET), &site.last_fault) else {
         return Err(Failure::Memory);
     };
     if words.get_str(CORES).is_none() {
@@ -67,11 +70,16 @@ fn serve_noted<'a, R: System, I: Read + Drop + Send + 'static, O: Write>(
 fn site_of<'a, R: System>(rt: &R, words: &ArgMatches<'a>) -> Result<Site<'a>, Failure<'a>> {
     let addresses = addresses_of(words)?;
     let path = path_of(words);
-    let device = device_over(path, device_files::open(rt, path))?;
+    let file = device_files::open(rt, path).map_err(|error| Failure::File(path, error))?;
+    let Ok(last_fault) = file.last_fault() else {
+        return Err(Failure::Memory);
+    };
+    let device = device_over(path, Ok(file))?;
     let listeners = listen(rt, &addresses)?;
     Ok(Site {
         path,
         device,
+        last_fault,
         listeners,
     })
 }
@@ -114,6 +122,7 @@ fn serve_site<'a, R: Host>(
     let Site {
         path,
         device,
+        last_fault: _last_fault,
         listeners,
     } = site;
     let rt = notices.host();

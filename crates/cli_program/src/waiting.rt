@@ -5,6 +5,7 @@ ghost use Rattle.cli_program.specs.declared.waiting.TheConstants.{MOST_LINES};
 ghost use Rattle.std.specs.Prelude.{◌≡◌, ◌+◌, ◌-◌, ◌^◌, ◌≤◌, ◌<◌, [], ◌∷◌, ◌++◌, ◌↔◌, length, min, option_map, option_to_list, IfOk, MatchOption, IsTrue};
 
 use path_server::Report;
+use sector_dev::FileFault;
 use std::alloc::{AllocError, Global};
 use std::collections::VecDeque;
 
@@ -16,6 +17,8 @@ pub(crate) const MOST_LINES: usize = 64;
 pub(crate) enum Line {
     /// What a server reported.
     Report(Report),
+    /// What failed in the store's file.
+    Fault(FileFault),
     /// A line of the program's own.
     Text(String),
 }
