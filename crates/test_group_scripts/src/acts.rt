@@ -1,7 +1,7 @@
 //! Events of a run and what they are answered, in a form that tables can hold.
 
 use crate::stores::{large, register};
-use group_core::{BeginError, StageError, SubmitError};
+use group_core::{BeginError, FollowError, StageError, SubmitError};
 use group_recovery::{Event, PublishRefusal, Reply, StepRefusal};
 use isd_as::IsdAs;
 use path_db::{Command, Outcome};
@@ -36,6 +36,10 @@ pub enum Act {
     OpenGate,
     SyncGate,
     Publish,
+    Follow,
+    WriteFollowing,
+    SyncFollowed,
+    PublishFollowed,
     Redeem(usize),
     Begin,
     WriteChunk,
@@ -56,6 +60,7 @@ pub enum Said {
     Refused(SubmitError),
     Done,
     Stage(StageError),
+    Follow(FollowError),
     Begin(BeginError),
     Step(StepRefusal),
     Publish(PublishRefusal),
@@ -187,6 +192,10 @@ pub fn event_of(rt: &impl TestHost, alloc: Global, act: Act) -> Event {
         Act::OpenGate => Event::OpenGate,
         Act::SyncGate => Event::SyncGate,
         Act::Publish => Event::Publish,
+        Act::Follow => Event::Follow,
+        Act::WriteFollowing => Event::WriteFollowing,
+        Act::SyncFollowed => Event::SyncFollowed,
+        Act::PublishFollowed => Event::PublishFollowed,
         Act::Redeem(k) => Event::Redeem(k),
         Act::Begin => Event::Begin,
         Act::WriteChunk => Event::WriteChunk,
@@ -256,6 +265,7 @@ pub fn heard(reply: &Reply) -> Said {
         Reply::Refused(refusal) => Said::Refused(*refusal),
         Reply::Done => Said::Done,
         Reply::StageRefused(refusal) => Said::Stage(*refusal),
+        Reply::FollowRefused(refusal) => Said::Follow(*refusal),
         Reply::BeginRefused(refusal) => Said::Begin(*refusal),
         Reply::StepRefused(refusal) => Said::Step(*refusal),
         Reply::PublishRefused(refusal) => Said::Publish(*refusal),

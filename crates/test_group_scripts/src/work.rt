@@ -2,8 +2,9 @@
 
 use crate::stores::{Pair, assert_pair, pair_of};
 use group_core::{
-    BeginError, Closing, Durable, Laid, Live, Opened, PlainShow, Plan, PublishError, Redeemed,
-    Stable, StageError, Staged, State, StepError, SubmitError, Switched, Ticket, Written,
+    BeginError, Closing, Durable, DurableFollowed, FollowError, Followed, Following, Laid, Live,
+    Opened, PlainShow, Plan, PublishError, PublishFollowedError, Redeemed, Stable, StageError,
+    Staged, State, StepError, SubmitError, Switched, Ticket, Written,
 };
 use path_db::{Command, Outcome};
 use sector_dev::Device;
@@ -22,6 +23,9 @@ pub enum Group {
     Stable(Stable),
     Opened(Opened),
     Durable(Durable),
+    Following(Following),
+    Followed(Followed),
+    DurableFollowed(DurableFollowed),
 }
 
 /// What the checkpointer holds.
@@ -41,8 +45,9 @@ pub enum Told {
     Done,
     /// It was the last one of its group or checkpoint.
     Ended,
-    /// Nothing was staged, or begun.
+    /// Nothing was staged, followed, or begun.
     Stage(StageError),
+    Follow(FollowError),
     Begin(BeginError),
     /// It was refused.
     Fault,
@@ -214,6 +219,38 @@ impl<D: Device> Work<D> {
             round,
         };
         (work, told)
+    }
+
+    /// Stages a group to follow the group in flight, whose gate was written. Where no group follows,
+    /// the value is held as before.
+    pub fn follow(self, rt: &impl TestHost) -> (Work<D>, Told) {
+        let Work {
+            mut state,
+            tickets,
+            group: Group::Opened(value),
+            round,
+        } = self
+        else {
+            rt.fail("no gate was written");
+        };
+        let (group, told) = match state.follow(value) {
+            Ok(value) => (Group::Following(value), Told::Done),
+            Err((value, refused)) => (Group::Opened(value), Told::Follow(refused)),
+        };
+        let work = Work {
+            state,
+            tickets,
+            group,
+            round,
+        };
+        (work, told)
+    }
+
+    /// Stages a group to follow the group in flight, which is answered so.
+    pub fn follows(self, rt: &impl TestHost, wanted: Told) -> Work<D> {
+        let (work, told) = self.follow(rt);
+        assert_told(rt, told, wanted);
+        work
     }
 
     /// The checkpointer's next step.
@@ -392,6 +429,21 @@ fn flush_step<D: Device>(
             Ok(()) => Err(Told::Ended),
             Err(PublishError::NoMemory(value)) => return (Group::Durable(value), Told::NoMemory),
             Err(PublishError::Stranger(_value)) => rt.fail("a stranger"),
+        },
+        Group::Following(value) => match state.write_following(value) {
+            Ok(value) => Ok(Group::Followed(value)),
+            Err(e) => Err(refused(rt, e)),
+        },
+        Group::Followed(value) => match state.sync_followed(value) {
+            Ok(value) => Ok(Group::DurableFollowed(value)),
+            Err(e) => Err(refused(rt, e)),
+        },
+        Group::DurableFollowed(value) => match state.publish_followed(value) {
+            Ok(value) => Ok(Group::Stable(value)),
+            Err(PublishFollowedError::NoMemory(value)) => {
+                return (Group::DurableFollowed(value), Told::NoMemory);
+            }
+            Err(PublishFollowedError::Stranger(_value)) => rt.fail("a stranger"),
         },
     };
     match next {

@@ -2,7 +2,8 @@
 
 use crate::host::Host;
 use group_core::{
-    BeginError, PlainShow, PublishError, Redeemed, StageError, State, StepError, Ticket,
+    BeginError, FollowError, PlainShow, PublishError, PublishFollowedError, Redeemed, StageError,
+    State, StepError, Ticket,
 };
 use path_db::Command;
 use sector_dev::{Device, MemDevice};
@@ -49,12 +50,29 @@ fn strange_group(
             Err(StepError::Stranger(value)) => Group::Stable(value),
             _other => panic!(rt.0; "no stranger"),
         },
-        Group::Opened(value) => match state.sync_gate(value) {
-            Err(StepError::Stranger(value)) => Group::Opened(value),
-            _other => panic!(rt.0; "no stranger"),
-        },
+        Group::Opened(value) => {
+            let Err((value, FollowError::Stranger)) = state.follow(value) else {
+                panic!(rt.0; "no stranger");
+            };
+            match state.sync_gate(value) {
+                Err(StepError::Stranger(value)) => Group::Opened(value),
+                _other => panic!(rt.0; "no stranger"),
+            }
+        }
         Group::Durable(value) => match state.publish(value) {
             Err(PublishError::Stranger(value)) => Group::Durable(value),
+            _other => panic!(rt.0; "no stranger"),
+        },
+        Group::Following(value) => match state.write_following(value) {
+            Err(StepError::Stranger(value)) => Group::Following(value),
+            _other => panic!(rt.0; "no stranger"),
+        },
+        Group::Followed(value) => match state.sync_followed(value) {
+            Err(StepError::Stranger(value)) => Group::Followed(value),
+            _other => panic!(rt.0; "no stranger"),
+        },
+        Group::DurableFollowed(value) => match state.publish_followed(value) {
+            Err(PublishFollowedError::Stranger(value)) => Group::DurableFollowed(value),
             _other => panic!(rt.0; "no stranger"),
         },
     }

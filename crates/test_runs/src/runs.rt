@@ -1,7 +1,9 @@
 //! Runs of lists of events: each event's reply, lists that are cut in two, and the ends of runs.
 
 use crate::host::Host;
-use group_core::{BeginError, PlainShow, Redeemed, StageError, State, StepError, SubmitError};
+use group_core::{
+    BeginError, FollowError, PlainShow, Redeemed, StageError, State, StepError, SubmitError,
+};
 use group_recovery::{Event, Reply, Run, StepRefusal};
 use path_db::{Command, PathDb};
 use sector_dev::{Device, MemDevice};
@@ -28,6 +30,10 @@ const TOLD: [&[Line]; 8] = [
         (Act::OpenGate, Said::NoValue),
         (Act::SyncGate, Said::NoValue),
         (Act::Publish, Said::NoValue),
+        (Act::Follow, Said::NoValue),
+        (Act::WriteFollowing, Said::NoValue),
+        (Act::SyncFollowed, Said::NoValue),
+        (Act::PublishFollowed, Said::NoValue),
         (Act::WriteChunk, Said::NoValue),
         (Act::SyncChunks, Said::NoValue),
         (Act::OpenHalf, Said::NoValue),
@@ -68,6 +74,7 @@ const TOLD: [&[Line]; 8] = [
     // one.
     &[
         (Act::OpenGate, Said::Done),
+        (Act::Follow, Said::Follow(FollowError::Empty)),
         (Act::SyncGate, Said::Done),
         (Act::Publish, Said::Done),
         (Act::Redeem(2), Said::Committed(3, GONE)),
@@ -146,11 +153,11 @@ const TOLD: [&[Line]; 8] = [
 /// For each number of events, and those above the one before it: the place to which the device
 /// opens after them, and the interfaces by which the segments of its rows are left, a bit for each.
 const PLACES: [(usize, u64, u64); 5] = [
-    (24, 1, 0b10),
-    (38, 2, 0b110),
-    (50, 4, 0b1100),
-    (82, 6, 0b1110),
-    (105, 7, 0b1110),
+    (28, 1, 0b10),
+    (42, 2, 0b110),
+    (55, 4, 0b1100),
+    (87, 6, 0b1110),
+    (110, 7, 0b1110),
 ];
 
 /// What the device opens to after this number of events.

@@ -4,6 +4,8 @@
 #![tactic(auto)]
 
 #[cfg(test)]
+mod following;
+#[cfg(test)]
 mod groups;
 #[cfg(test)]
 mod host;
