@@ -294,7 +294,7 @@ fn runs_end_anywhere(rt: HostRuntime) -> Result<(), Fail> {
     let host = Host(&rt);
     let lines = told_lines(&host, rt.alloc());
     let events = events_of(&host, rt.alloc(), &lines);
-    assert_eq!(rt; events.len(), 105);
+    assert_eq!(rt; events.len(), 110);
     for count in 0..=events.len() {
         let (front, _rest) = events.split_at(count);
         assert_end(&host, rt.alloc(), front)?;
