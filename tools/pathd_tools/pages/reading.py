@@ -21,6 +21,8 @@ from pathd_tools.toolbox import parser
 
 PROOFS = TOP / "docs" / "PROOFS.md"
 BEGIN, END = "<!-- tools/pathd-tools reading --write -->", "<!-- end -->"
+# What a file of code uses of a crate: the crate, and the names, whose list may take several lines.
+USE = re.compile(r"^use (\w+)::(?:\w+::)*(\{[^}]*\}|\w+);", re.M)
 
 # The contracts that carry each promise.
 PROMISES = [
@@ -75,12 +77,11 @@ def types_in(path: Path, text: str) -> list[Definition]:
     """The types of this repository that a text of code names: of its own crate, or of one that the file uses."""
     crate = path.relative_to(CRATES).parts[0]
     found = [it for name, it in source.types(crate).items() if re.search(rf"\b{name}\b", text)]
-    for line in source.lines_of(path):
-        used = re.match(r"^use (\w+)::(?:\w+::)*(?:\{([^}]*)\}|(\w+));", line)
-        if used and (CRATES / used[1]).is_dir():
-            for name in re.findall(r"\w+", used[2] or used[3] or ""):
+    for used, names in USE.findall("\n".join(source.lines_of(path))):
+        if (CRATES / used).is_dir():
+            for name in re.findall(r"\w+", names):
                 if re.search(rf"\b{name}\b", text):
-                    found += [it for made in [used[1], *exported(used[1])] for it in [source.types(made).get(name)] if it]
+                    found += [it for made in [used, *exported(used)] for it in [source.types(made).get(name)] if it]
     return found
 
 
