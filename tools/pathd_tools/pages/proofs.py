@@ -1,9 +1,11 @@
 """Checks the tables of claims: that each function or definition is in its file, that it has each
 clause that is named, and that each edit exists. It prints what is missing, and nothing else.
 
-In docs/PROOFS.md a contract is `name` or `name`: `clause`, `clause`, and several names are joined
-by commas; the file is a column of its own. On the page of a crate it is [`name`](src/FILE.rt):
-`clause`, `clause`, and several are joined by semicolons; there may be a third column with edits.
+In docs/PROOFS.md a contract is `CRATE MODULE::FUNCTION CLAUSE ..`, as `reading` takes it; a type or
+a trait may be in place of the function, and a definition is `CRATE specs::MODULE::NAME`. An edit is
+of the same crate, or `CRATE/EDIT`. On the page of a crate a contract is [`name`](src/FILE.rt):
+`clause`, `clause`. Several contracts of docs/PROOFS.md are joined by commas, and those of a crate's
+page by semicolons.
 """
 from __future__ import annotations
 
@@ -14,8 +16,8 @@ from pathd_tools.pages import source
 from pathd_tools.pages.source import CRATES, TOP
 from pathd_tools.toolbox import parser
 
-HEADER = "| claim | contract | file | edit |"
-CRATE_HEADERS = ["| claim | contract |", "| claim | contract | edit that it refuses |"]
+HEADER = "| claim | contract | edit |"
+CRATE_HEADER = "| claim | contract |"
 
 
 def rows(path: Path, header: str) -> list[tuple[int, list[str]]]:
@@ -30,15 +32,11 @@ def rows(path: Path, header: str) -> list[tuple[int, list[str]]]:
     return found
 
 
-def contracts(text: str) -> list[tuple[str, list[str]]]:
-    """The names of a contract, each with its clauses: a word after a colon, and all after that up to the end, are clauses."""
-    found: list[tuple[str, list[str]]] = []
-    names, _, clauses = text.partition(":")
-    for name in re.findall(r"`([^`]+)`", names):
-        found.append((name, []))
-    if clauses:
-        found[-1] = (found[-1][0], re.findall(r"`([^`]+)`", clauses))
-    return found
+def file_of(crate: str, names: list[str]) -> Path:
+    """The file of a module's path, which begins with `specs` where it is of definitions."""
+    if names[0] == "specs":
+        return (CRATES / crate).joinpath(*names).with_suffix(".antt")
+    return (CRATES / crate / "src").joinpath(*names).with_suffix(".rt")
 
 
 def known_in(path: Path) -> dict[str, set[str]]:
@@ -67,14 +65,20 @@ def lacks(path: Path, name: str, clauses: list[str], may_lack: bool = False) -> 
 
 def problems(cells: list[str]) -> list[str]:
     """What is wrong with a row of docs/PROOFS.md."""
-    if len(cells) != 4:
+    if len(cells) != 3:
         return [f"{len(cells)} columns"]
-    _, contract, file, edit = cells
-    found = [it for name, clauses in contracts(contract) for it in lacks(TOP / file.strip("`"), name, clauses)]
-    for name in re.findall(r"`([^`]+)`", edit):
-        crate, _, word = name.partition("/")
-        if not (CRATES / crate / "must-fail" / f"{word}.edit").is_file():
-            found.append(f"no edit {name}")
+    _, contract, edit = cells
+    found, crate = [], ""
+    for text in re.findall(r"`([^`]+)`", contract):
+        crate, path, *clauses = text.split()
+        *names, name = path.split("::")
+        found += lacks(file_of(crate, names), name, clauses)
+    for text in re.findall(r"`([^`]+)`", edit):
+        where, _, word = text.rpartition("/")
+        if not (CRATES / (where or crate) / "must-fail" / f"{word}.edit").is_file():
+            found.append(f"no edit {text}")
+    if not re.fullmatch(r"`[^`]+`(?:, `[^`]+`)*", contract):
+        found.append(f"the column of contracts has another form: {contract}")
     if not re.fullmatch(r"-|`[^`]+`(?:, `[^`]+`)*", edit):
         found.append(f"the column of edits has another form: {edit}")
     return found
@@ -82,16 +86,13 @@ def problems(cells: list[str]) -> list[str]:
 
 def crate_problems(crate: Path, cells: list[str]) -> list[str]:
     """What is wrong with a row of a crate's page."""
-    if len(cells) not in (2, 3):
+    if len(cells) != 2:
         return [f"{len(cells)} columns"]
     found = []
     for part in re.split(r"; ", cells[1]):
         it = re.match(r"\[`([^`]+)`\]\(([^)]+)\)(?::(.*))?", part)
         if it:
             found += lacks((crate / it[2]).resolve(), it[1].split("::")[-1], re.findall(r"`([^`]+)`", it[3] or ""), may_lack=True)
-    for link in re.findall(r"\]\(([^)]+\.edit)\)", "".join(cells[2:])):
-        if not (crate / link).is_file():
-            found.append(f"no edit {link}")
     return found
 
 
@@ -100,7 +101,7 @@ def main(words: list[str]) -> int:
     proofs = TOP / "docs" / "PROOFS.md"
     found = [(proofs, at, it) for at, cells in rows(proofs, HEADER) for it in problems(cells)]
     for page in sorted(CRATES.glob("*/README.md")):
-        found += [(page, at, it) for header in CRATE_HEADERS for at, cells in rows(page, header) for it in crate_problems(page.parent, cells)]
+        found += [(page, at, it) for at, cells in rows(page, CRATE_HEADER) for it in crate_problems(page.parent, cells)]
     for path, at, it in found:
         print(f"{path.relative_to(TOP)}:{at}: {it}")
     return 1 if found else 0
