@@ -17,7 +17,7 @@ from pathlib import Path
 
 from pathd_tools import TOP, need, runs, toolbox
 
-PAGES = ["proofs", "reading --check", "complete", "links", "uses", "apart", "help-texts", "metric-names"]
+PAGES = ["proofs", "reading --check", "complete", "links", "widths", "uses", "apart", "help-texts", "metric-names"]
 GRPC = """protoc python3-protobuf python3-grpcio grpc_python_plugin grpc-proto go protoc-gen-go protoc-gen-go-grpc
 golang-google-protobuf-dev golang-github-golang-protobuf-1-5-dev golang-google-grpc-dev"""
 # What each check of the program needs, and its words, in which PROGRAM is the program's path.
