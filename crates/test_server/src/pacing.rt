@@ -62,9 +62,9 @@ const MOST_FLOODS: u64 = 10_000;
 /// also on a busy machine.
 const MOST_ASKED: u64 = 20_000;
 
-/// The longest time in milliseconds after which a seat is free on a busy machine. It is shorter than
-/// a peer's patience.
-const LONGEST: u128 = 20_000;
+/// The longest time in milliseconds after which a seat is free on a busy machine: the server first
+/// answers what the sockets hold, and then waits for the idle time.
+const LONGEST: u128 = 40_000;
 
 /// A peer sends requests until no more are taken, as it reads no reply, while others of its address
 /// are turned away. The result is what the first of these received, and the time in milliseconds
