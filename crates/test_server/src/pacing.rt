@@ -58,8 +58,13 @@ const FLOOD: usize = 4_096;
 /// How often a peer sends so many requests, if they are taken.
 const MOST_FLOODS: u64 = 10_000;
 
-/// How often a peer asks for a seat.
-const MOST_ASKED: u64 = 2_000;
+/// How often a peer asks for a seat, a millisecond or more apart: for far longer than the idle time,
+/// also on a busy machine.
+const MOST_ASKED: u64 = 20_000;
+
+/// The longest time in milliseconds after which a seat is free on a busy machine: the server first
+/// answers what the sockets hold, and then waits for the idle time.
+const LONGEST: u128 = 40_000;
 
 /// A peer sends requests until no more are taken, as it reads no reply, while others of its address
 /// are turned away. The result is what the first of these received, and the time in milliseconds
@@ -127,7 +132,7 @@ fn a_peer_that_reads_nothing_leaves_its_seat(rt: HostRuntime) -> Result<(), Fail
     assert_eq!(rt; refused.as_str(), NO_SEAT);
     assert!(rt; counts.address_full() >= 1);
     assert_eq!(rt; counts.turned_away(), 0);
-    assert!(rt; waited < 4_000);
+    assert!(rt; waited < LONGEST);
     let _device = opens_to(&rt, alloc, device, (0, 0, 0));
     Ok(())
 }
