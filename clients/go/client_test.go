@@ -213,10 +213,10 @@ func TestRefusals(t *testing.T) {
 	}
 }
 
-func TestTheCodesAreThoseOfTheFormats(t *testing.T) {
-	page, err := os.ReadFile(os.Getenv("FORMATS"))
+func TestTheCodesAreThoseOfTheProtocol(t *testing.T) {
+	page, err := os.ReadFile(os.Getenv("PROTOCOL"))
 	if err != nil {
-		t.Skip("FORMATS is the path of docs/FORMATS.md")
+		t.Skip("PROTOCOL is the path of docs/PROTOCOL.md")
 	}
 	table, _, _ := strings.Cut(strings.SplitAfter(string(page), "| code | refusal |\n")[1], "\n\n")
 	count := 0

@@ -1,4 +1,4 @@
-"""What `pathd` has to answer, written from docs/FORMATS.md alone: rows, the fold of commands, what
+"""What `pathd` has to answer, written from docs/PROTOCOL.md and docs/STORE.md alone: rows, the fold of commands, what
 a lookup finds, what `show` prints, and how an image opens. The tools that attack the program
 compare it with this module.
 
@@ -23,7 +23,7 @@ MOST_FOUND = 64
 
 SECTOR = 512
 OPEN = 0xA7
-# The codes of replies that docs/FORMATS.md names.
+# The codes of replies that docs/PROTOCOL.md names.
 CODES = {0x01, *range(0x11, 0x16), *range(0x22, 0x2B), 0x31, 0x32, *range(0x41, 0x44), *range(0x51, 0x56), 0x57, 0x61, 0x62}
 
 

@@ -1,4 +1,4 @@
-"""The names of codes, beside the table of docs/FORMATS.md."""
+"""The names of codes, beside the table of docs/PROTOCOL.md."""
 from __future__ import annotations
 
 import re
@@ -8,7 +8,7 @@ from pathlib import Path
 from pathd_client import PASSING_CODES, Code, Refused
 
 RANGE = re.compile(r"^\| (0x[0-9a-f]+)(?: to (0x[0-9a-f]+))? \|", re.MULTILINE)
-FORMATS = Path(__file__).resolve().parents[3] / "docs" / "FORMATS.md"
+PROTOCOL = Path(__file__).resolve().parents[3] / "docs" / "PROTOCOL.md"
 
 
 def numbers_of(text: str) -> set[int]:
@@ -23,14 +23,14 @@ def numbers_of(text: str) -> set[int]:
 class Codes(unittest.TestCase):
     """Each code has a name and a meaning."""
 
-    @unittest.skipUnless(FORMATS.exists(), "docs/FORMATS.md is not here")
-    def test_codes_are_those_of_the_formats(self) -> None:
-        text = FORMATS.read_text(encoding="utf-8")
+    @unittest.skipUnless(PROTOCOL.exists(), "docs/PROTOCOL.md is not here")
+    def test_codes_are_those_of_the_protocol(self) -> None:
+        text = PROTOCOL.read_text(encoding="utf-8")
         self.assertEqual({code.value for code in Code}, numbers_of(text))
 
-    @unittest.skipUnless(FORMATS.exists(), "docs/FORMATS.md is not here")
-    def test_names_are_those_of_the_formats(self) -> None:
-        text = FORMATS.read_text(encoding="utf-8")
+    @unittest.skipUnless(PROTOCOL.exists(), "docs/PROTOCOL.md is not here")
+    def test_names_are_those_of_the_protocol(self) -> None:
+        text = PROTOCOL.read_text(encoding="utf-8")
         for number, name in re.findall(r"^\| (0x[0-9a-f]+) \| ([A-Z]\w+): ", text, re.MULTILINE):
             words = re.sub(r"(?<=[a-z])(?=[A-Z])", "_", name).upper()
             self.assertTrue(Code(int(number, 16)).name.endswith(words), name)
