@@ -218,7 +218,7 @@ func TestTheCodesAreThoseOfTheProtocol(t *testing.T) {
 	if err != nil {
 		t.Skip("PROTOCOL is the path of docs/PROTOCOL.md")
 	}
-	table, _, _ := strings.Cut(strings.SplitAfter(string(page), "| code | refusal |\n")[1], "\n\n")
+	table, _, _ := strings.Cut(strings.SplitAfter(string(page), "| code | refusal | send it again |\n")[1], "\n\n")
 	count := 0
 	for _, row := range regexp.MustCompile(`(?m)^\| 0x(..)(?: to 0x(..))? \|`).FindAllStringSubmatch(table, -1) {
 		first, _ := strconv.ParseUint(row[1], 16, 8)

@@ -61,7 +61,7 @@ class Statuses(BridgeCase):
         self.assertEqual(self.refusal(channel, SEGMENTS, b"\x7e").code(), StatusCode.INTERNAL)
 
     def test_the_codes_are_those_of_the_protocol(self) -> None:
-        table = PROTOCOL.read_text().partition("| code | refusal |\n")[2].partition("\n\n")[0]
+        table = PROTOCOL.read_text().partition("| code | refusal | send it again |\n")[2].partition("\n\n")[0]
         self.assertEqual(set(REFUSALS), codes_of("".join(re.findall(r"^\| (0x.*?) \|", table, re.M))))
 
     def test_the_page_has_the_same_statuses(self) -> None:

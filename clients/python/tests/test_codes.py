@@ -14,7 +14,7 @@ PROTOCOL = Path(__file__).resolve().parents[3] / "docs" / "PROTOCOL.md"
 def numbers_of(text: str) -> set[int]:
     """The codes of the table of refusals."""
     numbers: set[int] = set()
-    table = text.split("| code | refusal |", 1)[1].split("\n\n", 1)[0]
+    table = text.split("| code | refusal | send it again |", 1)[1].split("\n\n", 1)[0]
     for first, last in RANGE.findall(table):
         numbers |= set(range(int(first, 16), int(last or first, 16) + 1))
     return numbers
