@@ -17,7 +17,7 @@ use std::sync::Wait;
 use std::thread;
 use std::thread::Threads;
 use std::time::Clock;
-use store_loops::{checkpointer_loop, flusher_loop};
+use store_loops::{Notice, Watch, checkpointer_loop, flusher_loop};
 use store_open::Store;
 
 /// The work of threads with a hub: guests arrive one by one, and each is attended to in a thread of
@@ -39,6 +39,10 @@ pub trait Crew<D: Device, R: Wait + Clock> {
     /// No thread was given for this guest, to whom nobody attends.
     fn miss<N: HubName>(&self, hub: &Hub<D, N, R>, guest: Self::Guest);
 
+    /// Takes a notice of the flusher or of the checkpointer. Their threads call this, between two
+    /// calls of the state.
+    fn note<N: HubName>(&self, _hub: &Hub<D, N, R>, _notice: Notice) {}
+
     /// The flusher has ended, as the state has stopped: because a device failed, or because `stop`
     /// was called, as it is once all guests have been attended to. The flusher's thread calls this,
     /// where both actors were given their threads.
@@ -48,6 +52,19 @@ pub trait Crew<D: Device, R: Wait + Clock> {
     /// a stranger. Only a defect of the program leads there. The flusher's thread calls this in
     /// place of `stopped`.
     fn met_stranger(&self) {}
+}
+
+/// A crew that takes the notices of a hub's actors.
+#[derive_where(Clone, Copy)]
+struct Watching<'a, D: Device, N: HubName, R: Wait + Clock, C> {
+    hub: &'a Hub<D, N, R>,
+    crew: &'a C,
+}
+
+impl<D: Device, N: HubName, R: Wait + Clock, C: Crew<D, R>> Watch for Watching<'_, D, N, R, C> {
+    fn note(&self, notice: Notice) {
+        self.crew.note::<N>(self.hub, notice);
+    }
 }
 
 /// Makes a hub over a store, starts the flusher, the checkpointer and a thread for each guest, and
@@ -103,7 +120,7 @@ fn act<
         |actors| -> Result<u64, HubError>
             ensures { IfErr result (λ e. e ≡ NoMemory) }
         {
-            if actors.spawn(move || checkpointer_loop(rt, hub)).is_err() {
+            if actors.spawn(move || fold(rt, hub, crew)).is_err() {
                 return Err(HubError::NoMemory);
             }
             if actors.spawn(move || flush(rt, hub, crew)).is_err() {
@@ -117,13 +134,22 @@ fn act<
     )
 }
 
+/// Runs the checkpointer until the state stops.
+fn fold<N: HubName, D: Device, C: Crew<D, R>, R: Wait + Clock>(
+    rt: &R,
+    hub: &Hub<D, N, R>,
+    crew: &C,
+) {
+    checkpointer_loop(rt, hub, &Watching { hub, crew });
+}
+
 /// Runs the flusher until the state stops, and reports to the crew why it did.
 fn flush<N: HubName, D: Device, C: Crew<D, R>, R: Wait + Clock>(
     rt: &R,
     hub: &Hub<D, N, R>,
     crew: &C,
 ) {
-    flusher_loop(rt, hub);
+    flusher_loop(rt, hub, &Watching { hub, crew });
     if hub.has_stranger() {
         crew.met_stranger();
     } else {

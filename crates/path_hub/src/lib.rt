@@ -35,6 +35,7 @@ pub use reader::HubReader;
 pub use rule::{ReaderRule, SeenGroups, SeesAll};
 pub use show::{HubNote, HubShow};
 pub use store_loops::{
-    Awaited, BUCKETS, Bucket, CommitTimes, DeviceCall, Steps, checkpointer_loop, flusher_loop,
+    Awaited, BUCKETS, Bucket, CommitTimes, DeviceCall, Notice, Silent, Steps, Watch,
+    checkpointer_loop, flusher_loop,
 };
 pub use tally::Completed;

@@ -28,6 +28,7 @@ mod seldom;
 mod server;
 mod sessions;
 mod status_listener;
+mod stopwatch;
 mod tracker;
 mod turning_away;
 mod watching;

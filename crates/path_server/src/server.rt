@@ -10,7 +10,8 @@ use crate::reports::{Report, Reports};
 use crate::seats::Seats;
 use crate::seldom::Seldom;
 use crate::status_listener::StatusListener;
-use path_hub::{Crew, Hub, HubName};
+use crate::stopwatch::Stopwatch;
+use path_hub::{Crew, Hub, HubName, Notice};
 use sector_dev::Device;
 use seg_check::Verifier;
 use status_server::Replies;
@@ -42,6 +43,8 @@ pub(crate) struct Server<'a, L, V, O> {
     /// Sessions that ended by a fault.
     pub(crate) faulted: Seldom,
     pub(crate) ends: Ends,
+    /// The checkpoint that is being made.
+    checkpoint: Stopwatch,
     pub(crate) replies: Replies,
     /// When the server began, or `None` where the clock could not be read.
     pub(crate) begun: Option<Instant>,
@@ -82,6 +85,7 @@ impl<'a, L: OpenListener<Stream = TcpStream> + Drop, V: Verifier, O: Reports> Se
             not_accepted: Seldom::new(),
             faulted: Seldom::new(),
             ends: Ends::new(),
+            checkpoint: Stopwatch::new(),
             replies: Replies::new(),
             begun,
             drains: AtomicU64::new(0),
@@ -180,6 +184,21 @@ impl<
             Guest::Session(number) => self.miss_session(hub.handle(), number),
             Guest::Status => self.status.miss(),
         }
+    }
+
+    fn note<N: HubName>(&self, hub: &Hub<D, N, R>, notice: Notice) {
+        let report = match notice {
+            Notice::NoMemory => Report::NoMemory,
+            Notice::MemoryGiven => Report::MemoryGiven,
+            Notice::CheckpointBegun => {
+                self.checkpoint.begin(hub.handle());
+                Report::CheckpointBegun
+            }
+            Notice::CheckpointDone => Report::CheckpointDone {
+                milliseconds: self.checkpoint.milliseconds(hub.handle()),
+            },
+        };
+        self.reports.report(report);
     }
 
     fn stopped(&self) {

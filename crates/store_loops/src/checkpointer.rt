@@ -2,16 +2,23 @@
 
 use crate::retrying::{after_refusal, retry};
 use crate::steps::{Awaited, Steps};
+use crate::watch::{Notice, Watch};
 use group_core::{BeginError, Closing, Laid, Plan};
 use std::sync::Wait;
 
-/// Folds each sealed journal into the other half. It ends once the state has stopped; where another
-/// refusal is met, the call is made again after a rest.
-pub fn checkpointer_loop<R: Wait, S: Steps>(rt: &R, steps: &S) {
+/// Folds each sealed journal into the other half, and says when a checkpoint begins and when it is
+/// made. The loop ends once the state has stopped; where another refusal is met, the call is made
+/// again after a rest.
+pub fn checkpointer_loop<R: Wait, S: Steps, W: Watch>(rt: &R, steps: &S, watch: &W) {
     for _ in rt.forever() {
         let seen = steps.changes(Awaited::Seal);
         match steps.begin() {
-            Ok(plan) => fold(rt, steps, plan),
+            Ok(plan) => {
+                watch.note(Notice::CheckpointBegun);
+                if fold(rt, steps, plan).is_some() {
+                    watch.note(Notice::CheckpointDone);
+                }
+            }
             Err(BeginError::Stopped) => return,
             Err(_) => steps.rest(Awaited::Seal, seen),
         }
@@ -19,11 +26,11 @@ pub fn checkpointer_loop<R: Wait, S: Steps>(rt: &R, steps: &S) {
     unreachable!()
 }
 
-/// Takes a plan through all its steps; a state that stops in between spends the value.
-fn fold<R: Wait, S: Steps>(rt: &R, steps: &S, plan: Plan) {
-    if let Some(closing) = make_closing(rt, steps, plan) {
-        retry(rt, steps, closing, |value| steps.sync_close(value));
-    }
+/// Takes a plan through all its steps. Returns `None` where the state has stopped in between, and the
+/// value is spent.
+fn fold<R: Wait, S: Steps>(rt: &R, steps: &S, plan: Plan) -> Option<()> {
+    let closing = make_closing(rt, steps, plan)?;
+    retry(rt, steps, closing, |value| steps.sync_close(value))
 }
 
 fn make_closing<R: Wait, S: Steps>(rt: &R, steps: &S, plan: Plan) -> Option<Closing> {

@@ -2,6 +2,7 @@
 
 use crate::retrying::retry;
 use crate::steps::{Awaited, Steps};
+use crate::watch::{Notice, Watch};
 use group_core::{
     Durable, DurableFollowed, Following, Opened, PublishError, PublishFollowedError, Stable,
     StageError, Staged,
@@ -11,28 +12,50 @@ use std::sync::Wait;
 /// Commits what is accepted, a group or a seal at a time. Where commands wait as the gate of a group
 /// was written, their group is written before that gate is synced, so that groups that follow each
 /// other take one sync each. The loop ends once the state has stopped; where another refusal is met,
-/// the call is made again after a rest.
-pub fn flusher_loop<R: Wait, S: Steps>(rt: &R, steps: &S) {
+/// the call is made again after a rest. The first refusal of memory in a row is said, and the end of
+/// that row.
+pub fn flusher_loop<R: Wait, S: Steps, W: Watch>(rt: &R, steps: &S, watch: &W) {
+    let mut is_short = false;
     for _ in rt.forever() {
         let seen = steps.changes(Awaited::Work);
         match steps.stage() {
-            Ok(staged) => flush(rt, steps, staged),
+            Ok(staged) => {
+                is_short = note_memory(watch, is_short, false);
+                flush(rt, steps, watch, staged);
+            }
             Err(StageError::Stopped) => return,
+            Err(StageError::NoMemory) => {
+                is_short = note_memory(watch, is_short, true);
+                steps.rest(Awaited::Work, seen);
+            }
             Err(_) => steps.rest(Awaited::Work, seen),
         }
     }
     unreachable!()
 }
 
+/// Says that memory is refused where it was not before, or is given where it was refused before.
+/// Returns whether it is refused.
+fn note_memory<W: Watch>(watch: &W, was_short: bool, is_short: bool) -> bool
+    ensures { result ≡ is_short }
+{
+    if is_short && !was_short {
+        watch.note(Notice::NoMemory);
+    } else if was_short && !is_short {
+        watch.note(Notice::MemoryGiven);
+    }
+    is_short
+}
+
 /// Takes what is staged through all its steps, and after it each group that follows. A state that
 /// stops in between spends the value.
-fn flush<R: Wait, S: Steps>(rt: &R, steps: &S, staged: Staged) {
+fn flush<R: Wait, S: Steps, W: Watch>(rt: &R, steps: &S, watch: &W, staged: Staged) {
     let mut next = make_stable(rt, steps, staged);
     for _ in rt.forever() {
         let Some(stable) = next else {
             return;
         };
-        next = commit(rt, steps, stable);
+        next = commit(rt, steps, watch, stable);
     }
     unreachable!()
 }
@@ -45,63 +68,87 @@ fn make_stable<R: Wait, S: Steps>(rt: &R, steps: &S, staged: Staged) -> Option<S
 
 /// Opens the gate of what is in flight, and commits it. Returns the group that followed it, which is
 /// in flight then, where one did and the state goes on.
-fn commit<R: Wait, S: Steps>(rt: &R, steps: &S, stable: Stable) -> Option<Stable> {
+fn commit<R: Wait, S: Steps, W: Watch>(
+    rt: &R,
+    steps: &S,
+    watch: &W,
+    stable: Stable,
+) -> Option<Stable> {
     let opened = retry(rt, steps, stable, |value| steps.open_gate(value))?;
     match steps.follow(opened) {
-        Ok(following) => commit_followed(rt, steps, following),
+        Ok(following) => commit_followed(rt, steps, watch, following),
         Err((opened, _refused)) => {
-            commit_alone(rt, steps, opened);
+            commit_alone(rt, steps, watch, opened);
             None
         }
     }
 }
 
 /// Syncs the gate of what is in flight, and publishes it.
-fn commit_alone<R: Wait, S: Steps>(rt: &R, steps: &S, opened: Opened) {
+fn commit_alone<R: Wait, S: Steps, W: Watch>(rt: &R, steps: &S, watch: &W, opened: Opened) {
     if let Some(durable) = retry(rt, steps, opened, |value| steps.sync_gate(value)) {
-        publish(rt, steps, durable);
+        publish(rt, steps, watch, durable);
     }
 }
 
 /// Writes the following group, syncs it with the gate of the group in flight, and publishes the
 /// group in flight.
-fn commit_followed<R: Wait, S: Steps>(rt: &R, steps: &S, following: Following) -> Option<Stable> {
+fn commit_followed<R: Wait, S: Steps, W: Watch>(
+    rt: &R,
+    steps: &S,
+    watch: &W,
+    following: Following,
+) -> Option<Stable> {
     let followed = retry(rt, steps, following, |value| steps.write_following(value))?;
     let durable = retry(rt, steps, followed, |value| steps.sync_followed(value))?;
-    publish_followed(rt, steps, durable)
+    publish_followed(rt, steps, watch, durable)
 }
 
-fn publish<R: Wait, S: Steps>(rt: &R, steps: &S, value: Durable) {
+/// Publishes what is durable, again after each refusal of memory.
+fn publish<R: Wait, S: Steps, W: Watch>(rt: &R, steps: &S, watch: &W, value: Durable) {
     let mut value = value;
+    let mut is_short = false;
     for _ in rt.forever() {
         match steps.publish(value) {
-            Ok(()) => return,
+            Ok(()) => {
+                note_memory(watch, is_short, false);
+                return;
+            }
             Err(PublishError::NoMemory(back)) => value = back,
             Err(PublishError::Stranger(back)) => {
                 steps.give_up(back);
                 return;
             }
         }
+        is_short = note_memory(watch, is_short, true);
         steps.rest(Awaited::Work, steps.changes(Awaited::Work));
     }
     unreachable!()
 }
 
-fn publish_followed<R: Wait, S: Steps>(
+/// Publishes a durable group that is followed, again after each refusal of memory, and returns the
+/// group that followed it. Returns `None` where the value was a stranger, and is given up.
+fn publish_followed<R: Wait, S: Steps, W: Watch>(
     rt: &R,
     steps: &S,
+    watch: &W,
     value: DurableFollowed,
 ) -> Option<Stable> {
     let mut value = value;
+    let mut is_short = false;
     for _ in rt.forever() {
         match steps.publish_followed(value) {
-            Ok(stable) => return Some(stable),
+            Ok(stable) => {
+                note_memory(watch, is_short, false);
+                return Some(stable);
+            }
             Err(PublishFollowedError::NoMemory(back)) => value = back,
             Err(PublishFollowedError::Stranger(back)) => {
                 steps.give_up(back);
                 return None;
             }
         }
+        is_short = note_memory(watch, is_short, true);
         steps.rest(Awaited::Work, steps.changes(Awaited::Work));
     }
     unreachable!()

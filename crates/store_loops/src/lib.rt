@@ -3,7 +3,7 @@
 //!
 //! To the layer above: the trait `Steps` has the guarded calls of a state that several threads work
 //! on, and what each of them answers; `flusher_loop` and `checkpointer_loop` make these calls until
-//! the state has stopped. `DeviceCall` names the calls that use the device, and `CommitTimes` has how
+//! the state has stopped, and say what an operator should know to a `Watch`. `DeviceCall` names the calls that use the device, and `CommitTimes` has how
 //! long commits took.
 #![tactic(auto)]
 
@@ -13,9 +13,11 @@ mod commits;
 mod flusher;
 mod retrying;
 mod steps;
+mod watch;
 
 pub use calls::DeviceCall;
 pub use checkpointer::checkpointer_loop;
 pub use commits::{BUCKETS, Bucket, CommitTimes};
 pub use flusher::flusher_loop;
 pub use steps::{Awaited, Steps};
+pub use watch::{Notice, Silent, Watch};

@@ -3,7 +3,7 @@
 use crate::host::Host;
 use group_core::{Redeemed, Ticket};
 use path_db::Command;
-use path_hub::{Steps, checkpointer_loop, flusher_loop};
+use path_hub::{Silent, Steps, checkpointer_loop, flusher_loop};
 use sector_dev::MemDevice;
 use std::alloc::Global;
 use std::process::Abort;
@@ -81,9 +81,9 @@ fn stopped_at<R: Wait + Abort + Copy + Drop>(
     let fake = Fake::new(Host(rt), alloc, device);
     let tickets = submit_all(&rt, alloc, &fake);
     fake.stop_before(number);
-    flusher_loop(&rt, &fake);
+    flusher_loop(&rt, &fake, &Silent);
     let calls = fake.calls();
-    checkpointer_loop(&rt, &fake);
+    checkpointer_loop(&rt, &fake, &Silent);
     let (committed, unknown) = redeem_all(&rt, &fake, tickets);
     let late = calls.wrapping_sub(number).wrapping_add(1);
     (fake.into_device(), (committed, unknown, late))
@@ -163,7 +163,7 @@ fn folded_at<R: Wait + Abort + Copy + Drop>(
         flush(&host, &fake, &mut Unwatched);
     }
     fake.stop_before(number);
-    checkpointer_loop(&rt, &fake);
+    checkpointer_loop(&rt, &fake, &Silent);
     spend(&host, &fake, &mut Unwatched, ticket);
     found_on(&host, alloc, fake.into_device())
 }

@@ -1,7 +1,7 @@
 //! What both actors do with a value that a state refuses as a stranger.
 
 use crate::host::Host;
-use path_hub::{Steps, checkpointer_loop, flusher_loop};
+use path_hub::{Silent, Steps, checkpointer_loop, flusher_loop};
 use std::process::Abort;
 use std::sync::Wait;
 use std::test::Fail;
@@ -34,7 +34,7 @@ fn flusher_gives_up_strangers(rt: HostRuntime) -> Result<(), Fail> {
         let fake = Fake::with_other(host, alloc, device, formatted(&host, alloc, LEAST));
         let ticket = submit(&host, &fake, &mut Unwatched);
         fake.exchange_before(number);
-        flusher_loop(&&rt, &fake);
+        flusher_loop(&&rt, &fake, &Silent);
         assert_given_up(&&rt, &fake, given_up);
         // The first state has the ticket's outcome.
         fake.exchange_before(1);
@@ -53,7 +53,7 @@ fn checkpointer_gives_up_strangers(rt: HostRuntime) -> Result<(), Fail> {
         let device = sealed_row(&host, alloc);
         let fake = Fake::with_other(host, alloc, device, sealed_row(&host, alloc));
         fake.exchange_before(number);
-        checkpointer_loop(&&rt, &fake);
+        checkpointer_loop(&&rt, &fake, &Silent);
         assert_given_up(&&rt, &fake, number.wrapping_add(1));
         fake.end();
     }

@@ -50,15 +50,13 @@ fn strange_group(
             Err(StepError::Stranger(value)) => Group::Stable(value),
             _other => panic!(rt.0; "no stranger"),
         },
-        Group::Opened(value) => {
-            let Err((value, FollowError::Stranger)) = state.follow(value) else {
-                panic!(rt.0; "no stranger");
-            };
-            match state.sync_gate(value) {
+        Group::Opened(value) => match state.follow(value) {
+            Err((value, FollowError::Stranger)) => match state.sync_gate(value) {
                 Err(StepError::Stranger(value)) => Group::Opened(value),
                 _other => panic!(rt.0; "no stranger"),
-            }
-        }
+            },
+            _other => panic!(rt.0; "no stranger"),
+        },
         Group::Durable(value) => match state.publish(value) {
             Err(PublishError::Stranger(value)) => Group::Durable(value),
             _other => panic!(rt.0; "no stranger"),
