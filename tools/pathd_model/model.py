@@ -1,6 +1,6 @@
-"""What `pathd` has to answer, written from docs/PROTOCOL.md and docs/STORE.md alone: rows, the fold of commands, what
-a lookup finds, what `show` prints, and how an image opens. The tools that attack the program
-compare it with this module.
+"""What `pathd` has to answer, written from docs/PROTOCOL.md, docs/STORE.md and
+docs/CLI.md alone: rows, the fold of commands, what a lookup finds, what `show` prints, and how an
+image opens. The tools that attack the program compare it with this module.
 
 ISD-ASes are numbers, the ISD in their upper 16 bits. Moments are in half seconds since 1970. A
 database is a dictionary from keys, which are a type and an id, to rows. Commands are tuples:

@@ -6,8 +6,8 @@ page cites; the codes of refusals are those of docs/PROTOCOL.md. It prints nothi
 - deploy/pathd.rules.yml and deploy/grafana-dashboard.json use no other name, no other value of a
   label, and `rate` and `increase` of counters alone,
 - each name is on the dashboard, or is listed here as left out,
-- the table of docs/operating/numbers.md has each name with its type, and no other, and docs/WATCHING.md has
-  a heading for each alert, and no other.
+- the table of docs/operating/numbers.md has each name with its type, and no other, and
+  docs/WATCHING.md has a heading for each alert, and no other.
 """
 from __future__ import annotations
 
