@@ -18,8 +18,9 @@ BASH_COMPLETIONS = $(DESTDIR)$(PREFIX)/share/bash-completion/completions
 ZSH_COMPLETIONS = $(DESTDIR)$(PREFIX)/share/zsh/site-functions
 SETTINGS = $(DESTDIR)/etc/default/pathd
 
-PAGES = README.md CHANGELOG.md docs/OPERATING.md docs/WATCHING.md docs/CAPACITY.md docs/FORMATS.md \
-  docs/LIMITS.md docs/segments.proto
+PAGES = README.md CHANGELOG.md docs/CLI.md docs/PROTOCOL.md docs/STORE.md docs/POWER-CUT.md \
+  docs/WATCHING.md docs/NETWORK.md docs/CAPACITY.md docs/LIMITS.md docs/segments.proto
+TASKS = $(wildcard docs/operating/*.md)
 EXAMPLES = deploy/pathd.nft deploy/pathd.rules.yml deploy/grafana-dashboard.json \
   deploy/pathd-purge.service deploy/pathd-purge.timer deploy/pathd.service.d/status.conf
 # The units and the pages name the paths of the default prefix.
@@ -34,7 +35,7 @@ $(PROGRAM):
 	@exit 1
 
 install: $(PROGRAM)
-	install -d $(BIN) $(LIB) $(MAN) $(DOC)/examples $(UNITS) $(BASH_COMPLETIONS) \
+	install -d $(BIN) $(LIB) $(MAN) $(DOC)/examples $(DOC)/operating $(UNITS) $(BASH_COMPLETIONS) \
 	  $(ZSH_COMPLETIONS) $(dir $(SETTINGS))
 	install -m 755 $(PROGRAM) $(BIN)/pathd
 	install -m 755 deploy/pathd-probe $(LIB)/pathd-probe
@@ -45,6 +46,7 @@ install: $(PROGRAM)
 	install -m 644 deploy/pathd.bash $(BASH_COMPLETIONS)/pathd
 	install -m 644 deploy/pathd.zsh $(ZSH_COMPLETIONS)/_pathd
 	install -m 644 $(PAGES) $(DOC)
+	install -m 644 $(TASKS) $(DOC)/operating
 	install -m 644 $(EXAMPLES) $(DOC)/examples
 	test -e $(SETTINGS) || install -m 644 deploy/pathd.default $(SETTINGS)
 

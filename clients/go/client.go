@@ -1,4 +1,4 @@
-// Package pathd is a client of a pathd server: sessions over TCP, by the frames of docs/FORMATS.md.
+// Package pathd is a client of a pathd server: sessions over TCP, by the frames of docs/PROTOCOL.md.
 // The messages are those that protoc generates from docs/segments.proto. An ISD-AS is a number, the
 // ISD in its upper 16 bits and the AS in its lower 48.
 package pathd

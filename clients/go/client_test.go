@@ -213,12 +213,12 @@ func TestRefusals(t *testing.T) {
 	}
 }
 
-func TestTheCodesAreThoseOfTheFormats(t *testing.T) {
-	page, err := os.ReadFile(os.Getenv("FORMATS"))
+func TestTheCodesAreThoseOfTheProtocol(t *testing.T) {
+	page, err := os.ReadFile(os.Getenv("PROTOCOL"))
 	if err != nil {
-		t.Skip("FORMATS is the path of docs/FORMATS.md")
+		t.Skip("PROTOCOL is the path of docs/PROTOCOL.md")
 	}
-	table, _, _ := strings.Cut(strings.SplitAfter(string(page), "| code | refusal |\n")[1], "\n\n")
+	table, _, _ := strings.Cut(strings.SplitAfter(string(page), "| code | refusal | send it again |\n")[1], "\n\n")
 	count := 0
 	for _, row := range regexp.MustCompile(`(?m)^\| 0x(..)(?: to 0x(..))? \|`).FindAllStringSubmatch(table, -1) {
 		first, _ := strconv.ParseUint(row[1], 16, 8)

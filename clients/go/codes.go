@@ -6,7 +6,7 @@ import "fmt"
 // Unsettled. errors.Is(err, pathd.Busy) says whether an error is a certain one.
 type Code byte
 
-// The codes of docs/FORMATS.md.
+// The codes of docs/PROTOCOL.md.
 const (
 	NoMemory        Code = 0x01
 	Truncated       Code = 0x11

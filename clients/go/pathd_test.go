@@ -17,7 +17,7 @@ import (
 )
 
 const (
-	// Of the worked segment of docs/FORMATS.md: its bytes, what its id is of, and its two ASes.
+	// Of the worked segment of docs/PROTOCOL.md: its bytes, what its id is of, and its two ASes.
 	worked = "0a080880e2cfaa06100712290a270a2512230890" + "82808080e07f109182808080e07f1a0e0a0c1001183f220601020304050628c00b" +
 		"12210a1f0a1d121b089182808080e07f1a0e0a0c0802183f22060a0b0c0d0e0f28c00b"
 	workedHops        = "0001ff0000000110000000010001ff000000011100020000"

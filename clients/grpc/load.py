@@ -25,7 +25,7 @@ from pathd_grpc.services import LOOKUP_SERVICE
 from pathd_grpc.sessions import LOOKUP, REGISTER, Address, Session
 
 LIMIT = 30.0
-# The worked segment of docs/FORMATS.md, made in 2096: its registration as down, and its lookup.
+# The worked segment of docs/PROTOCOL.md, made in 2096: its registration as down, and its lookup.
 REGISTRATION = bytes.fromhex(
     "0a5e0802125a0a580a080880d0acf30e1007"
     "12290a270a251223089082808080e07f109182808080e07f1a0e0a0c1001183f220601020304050628c00b"

@@ -1,2 +1,3 @@
-"""The independent model of `pathd`, written from docs/FORMATS.md alone. It imports nothing of the
-tools that compare the program with it."""
+"""The independent model of `pathd`, written from docs/PROTOCOL.md,
+docs/STORE.md and docs/CLI.md alone. It imports nothing of the tools that compare the program with
+it."""

@@ -1,6 +1,6 @@
-"""What `pathd` has to answer, written from docs/FORMATS.md alone: rows, the fold of commands, what
-a lookup finds, what `show` prints, and how an image opens. The tools that attack the program
-compare it with this module.
+"""What `pathd` has to answer, written from docs/PROTOCOL.md, docs/STORE.md and
+docs/CLI.md alone: rows, the fold of commands, what a lookup finds, what `show` prints, and how an
+image opens. The tools that attack the program compare it with this module.
 
 ISD-ASes are numbers, the ISD in their upper 16 bits. Moments are in half seconds since 1970. A
 database is a dictionary from keys, which are a type and an id, to rows. Commands are tuples:
@@ -23,7 +23,7 @@ MOST_FOUND = 64
 
 SECTOR = 512
 OPEN = 0xA7
-# The codes of replies that docs/FORMATS.md names.
+# The codes of replies that docs/PROTOCOL.md names.
 CODES = {0x01, *range(0x11, 0x16), *range(0x22, 0x2B), 0x31, 0x32, *range(0x41, 0x44), *range(0x51, 0x56), 0x57, 0x61, 0x62}
 
 

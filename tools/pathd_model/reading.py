@@ -1,4 +1,4 @@
-"""How `pathd` reads messages that anyone may have made, written from docs/FORMATS.md ('Wire',
+"""How `pathd` reads messages that anyone may have made, written from docs/PROTOCOL.md ('Wire',
 'Messages') alone: a value, or the code of the first fault."""
 from __future__ import annotations
 

@@ -23,7 +23,7 @@ CHECKS = [
     Tool("go-client", "go_client.sh", "the tests of the Go client"),
     Tool("grpc", "grpc.sh", "the tests of the bridge for gRPC, with clients in Python and in Go"),
     Tool("protobuf", "checks.protobuf", "docs/segments.proto and the worked example, with Google's protobuf"),
-    Tool("syscalls", "syscalls.sh", "the calls on a store's file, in the order that docs/FORMATS.md draws"),
+    Tool("syscalls", "syscalls.sh", "the calls on a store's file, in the order that docs/STORE.md has"),
     Tool("server-calls", "checks.server_calls", "the reads and writes of a session"),
     Tool("locks", "locks.sh", "the commands beside another process's lock"),
     Tool("closed-handles", "checks.closed_handles", "the commands with closed standard handles: nothing but the store is in its file"),
@@ -32,7 +32,7 @@ CHECKS = [
     Tool("network", "network.sh", "the tunnel and the proxies of docs/NETWORK.md, in two network namespaces; as root"),
     Tool("alert-rules", "checks.alert_rules", "the alert rules and their tests, and the dashboard's expressions, by promtool"),
     Tool("package", "package.sh", "makes the Debian package, and installs and removes it in a new system; as root"),
-    Tool("units", "units.sh", "the steps of docs/OPERATING.md and the units of deploy/ in a container; as root"),
+    Tool("units", "units.sh", "the steps of docs/operating and the units of deploy/ in a container; as root"),
     Tool("units-inside", "checks.units_inside", "the steps alone, on a system that is thrown away; as root"),
 ]
 

@@ -1,6 +1,6 @@
 #!/usr/bin/env bash
 # Compares the calls that the built program makes of the system, on the file of a store, with the
-# order that docs/FORMATS.md draws for C = 2 and J = 516: which sectors are written, and where the
+# order that docs/STORE.md has, for C = 2 and J = 516: which sectors are written, and where the
 # syncs are between them. It needs Debian's strace, and is no part of the gate.
 #
 #     tools/pathd-tools syscalls [PROGRAM [GROUPS]]

@@ -1,9 +1,9 @@
 #!/usr/bin/env bash
-# Tries the steps of docs/OPERATING.md and the units of deploy/ in a container of this machine's own
+# Tries the steps of docs/operating and the units of deploy/ in a container of this machine's own
 # system, whose first process is systemd: installing, the unit's walls, purges by the timer, stops
 # and signals, statuses, a backup, a volume as DEV, a fault of that device, the firewall, and a
 # restart of the container. `tools/pathd-tools units-inside` has the list, and runs the blocks of
-# that page as they are written.
+# those pages as they are written.
 #
 #     tools/pathd-tools units [--short] [PROGRAM]
 #

@@ -1,4 +1,4 @@
-"""Sessions with `pathd`, by the frames of docs/FORMATS.md: one connection for each worker."""
+"""Sessions with `pathd`, by the frames of docs/PROTOCOL.md: one connection for each worker."""
 from __future__ import annotations
 
 import queue

@@ -18,7 +18,7 @@ from grpc import StatusCode
 
 @dataclass(frozen=True)
 class Refusal:
-    """What a code means: its name in docs/FORMATS.md with a text, and the status of the call."""
+    """What a code means: its name in docs/PROTOCOL.md with a text, and the status of the call."""
 
     status: StatusCode
     text: str
@@ -71,5 +71,5 @@ REFUSALS = {
 
 
 def refusal_of(code: int) -> Refusal:
-    """What a code means; INTERNAL for a code that is none of docs/FORMATS.md."""
+    """What a code means; INTERNAL for a code that is none of docs/PROTOCOL.md."""
     return REFUSALS.get(code) or Refusal(StatusCode.INTERNAL, "an unknown code")

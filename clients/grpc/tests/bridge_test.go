@@ -23,7 +23,7 @@ import (
 const (
 	limit             = 60 * time.Second
 	core, leaf uint64 = 0x0001_ff00_0000_0110, 0x0001_ff00_0000_0111
-	// The entries of the worked segment of docs/FORMATS.md.
+	// The entries of the worked segment of docs/PROTOCOL.md.
 	entries = "12290a270a251223089082808080e07f109182808080e07f1a0e0a0c1001183f220601020304050628c00b" +
 		"12210a1f0a1d121b089182808080e07f1a0e0a0c0802183f22060a0b0c0d0e0f28c00b"
 	lookupService       = "proto.control_plane.v1.SegmentLookupService"

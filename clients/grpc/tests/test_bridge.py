@@ -16,7 +16,7 @@ from pathd_grpc.sessions import MOST_REPLY, MOST_REQUEST
 from pathd_grpc.statuses import REFUSALS
 
 FOLDER = Path(__file__).resolve().parents[1]
-FORMATS = FOLDER.parents[1] / "docs" / "FORMATS.md"
+PROTOCOL = FOLDER.parents[1] / "docs" / "PROTOCOL.md"
 # A request with a field that no message has, and with a long varint: nothing of it may change.
 ODD = bytes.fromhex("0880808000 fa0103616263 10ff01")
 
@@ -60,8 +60,8 @@ class Statuses(BridgeCase):
                     self.assertEqual(dict(refused.trailing_metadata())["pathd-code"], f"{code:#04x}")
         self.assertEqual(self.refusal(channel, SEGMENTS, b"\x7e").code(), StatusCode.INTERNAL)
 
-    def test_the_codes_are_those_of_the_formats(self) -> None:
-        table = FORMATS.read_text().partition("| code | refusal |\n")[2].partition("\n\n")[0]
+    def test_the_codes_are_those_of_the_protocol(self) -> None:
+        table = PROTOCOL.read_text().partition("| code | refusal | send it again |\n")[2].partition("\n\n")[0]
         self.assertEqual(set(REFUSALS), codes_of("".join(re.findall(r"^\| (0x.*?) \|", table, re.M))))
 
     def test_the_page_has_the_same_statuses(self) -> None:

@@ -1,7 +1,7 @@
 """A client of `pathd`: the messages, the frames around them, a session with a server over TCP, one
 with a child process, and several servers that get the same commands.
 
-Each byte is in docs/FORMATS.md. An ISD-AS is a number here, with the ISD in its upper 16 bits and
+Each byte is in docs/PROTOCOL.md. An ISD-AS is a number here, with the ISD in its upper 16 bits and
 the AS in its lower 48. protoc generates `segments_pb2`, the messages, from docs/segments.proto.
 `python -m pathd_client --help` lists the commands.
 """

@@ -5,7 +5,7 @@ from enum import IntEnum
 
 
 class Code(IntEnum):
-    """The code of a refusal, with its meaning in words. docs/FORMATS.md says when each comes."""
+    """The code of a refusal, with its meaning in words. docs/PROTOCOL.md says when each comes."""
 
     meaning: str
 

@@ -1,4 +1,4 @@
-"""Segments: their hops, their ids, and how one is made and signed, as docs/FORMATS.md says."""
+"""Segments: their hops, their ids, and how one is made and signed, as docs/PROTOCOL.md says."""
 from __future__ import annotations
 
 import hashlib

@@ -1,4 +1,4 @@
-"""The names of codes, beside the table of docs/FORMATS.md."""
+"""The names of codes, beside the table of docs/PROTOCOL.md."""
 from __future__ import annotations
 
 import re
@@ -8,13 +8,13 @@ from pathlib import Path
 from pathd_client import PASSING_CODES, Code, Refused
 
 RANGE = re.compile(r"^\| (0x[0-9a-f]+)(?: to (0x[0-9a-f]+))? \|", re.MULTILINE)
-FORMATS = Path(__file__).resolve().parents[3] / "docs" / "FORMATS.md"
+PROTOCOL = Path(__file__).resolve().parents[3] / "docs" / "PROTOCOL.md"
 
 
 def numbers_of(text: str) -> set[int]:
     """The codes of the table of refusals."""
     numbers: set[int] = set()
-    table = text.split("| code | refusal |", 1)[1].split("\n\n", 1)[0]
+    table = text.split("| code | refusal | send it again |", 1)[1].split("\n\n", 1)[0]
     for first, last in RANGE.findall(table):
         numbers |= set(range(int(first, 16), int(last or first, 16) + 1))
     return numbers
@@ -23,14 +23,14 @@ def numbers_of(text: str) -> set[int]:
 class Codes(unittest.TestCase):
     """Each code has a name and a meaning."""
 
-    @unittest.skipUnless(FORMATS.exists(), "docs/FORMATS.md is not here")
-    def test_codes_are_those_of_the_formats(self) -> None:
-        text = FORMATS.read_text(encoding="utf-8")
+    @unittest.skipUnless(PROTOCOL.exists(), "docs/PROTOCOL.md is not here")
+    def test_codes_are_those_of_the_protocol(self) -> None:
+        text = PROTOCOL.read_text(encoding="utf-8")
         self.assertEqual({code.value for code in Code}, numbers_of(text))
 
-    @unittest.skipUnless(FORMATS.exists(), "docs/FORMATS.md is not here")
-    def test_names_are_those_of_the_formats(self) -> None:
-        text = FORMATS.read_text(encoding="utf-8")
+    @unittest.skipUnless(PROTOCOL.exists(), "docs/PROTOCOL.md is not here")
+    def test_names_are_those_of_the_protocol(self) -> None:
+        text = PROTOCOL.read_text(encoding="utf-8")
         for number, name in re.findall(r"^\| (0x[0-9a-f]+) \| ([A-Z]\w+): ", text, re.MULTILINE):
             words = re.sub(r"(?<=[a-z])(?=[A-Z])", "_", name).upper()
             self.assertTrue(Code(int(number, 16)).name.endswith(words), name)

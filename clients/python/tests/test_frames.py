@@ -1,4 +1,4 @@
-"""Frames, beside the worked bytes of docs/FORMATS.md."""
+"""Frames, beside the worked bytes of docs/PROTOCOL.md."""
 from __future__ import annotations
 
 import io

@@ -1,4 +1,4 @@
-"""ISD-AS texts and segments, beside the worked ones of docs/FORMATS.md."""
+"""ISD-AS texts and segments, beside the worked ones of docs/PROTOCOL.md."""
 from __future__ import annotations
 
 import unittest

@@ -1,4 +1,4 @@
-//! The last lines of ways in which the program ends, as docs/OPERATING.md has them, and their
+//! The last lines of ways in which the program ends, as docs/CLI.md has them, and their
 //! status: those that no whole command line of `test_program` comes to, since memory or a device
 //! has to fail for them.
 

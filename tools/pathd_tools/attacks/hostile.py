@@ -1,5 +1,5 @@
 """Sends mutated frames to `pathd once` and opens mutated images by `pathd show`, and compares each
-answer with the one that docs/FORMATS.md gives.
+answer with the one that docs/PROTOCOL.md and docs/STORE.md give.
 
     tools/pathd-tools hostile [--program PROGRAM] [--seed N] [--frames N] [--images N] [--jobs N]
 

@@ -1,4 +1,4 @@
-"""Checks docs/segments.proto and the worked example of docs/FORMATS.md with Google's protobuf.
+"""Checks docs/segments.proto and the worked example of docs/PROTOCOL.md with Google's protobuf.
 
     tools/pathd-tools protobuf
 

@@ -1,4 +1,4 @@
-"""Tries the steps of docs/OPERATING.md on a system whose first process is systemd;
+"""Tries the steps of docs/operating on a system whose first process is systemd;
 tools/pathd-tools units starts it in a container.
 
     tools/pathd-tools units-inside --loop DEVICE [--short]
@@ -26,7 +26,7 @@ from pathlib import Path
 from pathd_model import model
 from pathd_tools import TOP, messages, toolbox
 
-PAGE = (TOP / "docs/OPERATING.md").read_text(encoding="utf-8")
+PAGES = TOP / "docs/operating"
 STORE = Path("/var/lib/pathd/store")
 STATE = Path("/var/lib/pathd-units.state")
 DROP_IN = Path("/etc/systemd/system/pathd.service.d")
@@ -78,15 +78,20 @@ def must(*words: object) -> str:
     return done.stdout
 
 
-def block(heading: str, number: int = 0) -> str:
-    """One of the blocks of commands below a heading of the page."""
-    section = PAGE.split(f"\n## {heading}\n")[1].split("\n## ")[0]
+def text_of(page: str) -> str:
+    """The text of a page of docs/operating."""
+    return (PAGES / f"{page}.md").read_text(encoding="utf-8")
+
+
+def block(page: str, heading: str, number: int = 0) -> str:
+    """One of the blocks of commands below a heading of a page."""
+    section = text_of(page).split(f"\n## {heading}\n")[1].split("\n## ")[0]
     return section.split("```")[1 + 2 * number].split("\n", 1)[1]
 
 
-def run_block(heading: str, number: int = 0) -> subprocess.CompletedProcess:
-    """Runs a block of the page as it is written, at the top of the repository."""
-    return run("bash", "-euo", "pipefail", "-c", block(heading, number), cwd=TOP)
+def run_block(page: str, heading: str, number: int = 0) -> subprocess.CompletedProcess:
+    """Runs a block of a page as it is written, at the top of the repository."""
+    return run("bash", "-euo", "pipefail", "-c", block(page, heading, number), cwd=TOP)
 
 
 def until(is_so: Callable[[], bool], seconds: float = 60) -> bool:
@@ -243,7 +248,7 @@ def shown(store: Path = STORE) -> str:
 def install() -> None:
     """'Installing', as it is written."""
     begun = time.time()
-    done = run_block("Installing")
+    done = run_block("install", "Steps")
     STEPS.expect("the block of 'Installing' runs", done.returncode == 0, done.stdout + done.stderr)
     STEPS.expect("the unit is active, and the server listens", until(is_up), run("systemctl", "status", "pathd").stdout)
     text = journal("pathd", begun)
@@ -251,7 +256,7 @@ def install() -> None:
     STEPS.expect("the file has its room on the disk", STORE.stat().st_blocks * 512 >= STORE.stat().st_size)
     made = STORE.stat().st_ino
     ROWS.register_many(3)
-    done = run_block("Installing")
+    done = run_block("install", "Steps")
     STEPS.expect("the block runs again, and leaves the store and its server", done.returncode == 0 and STORE.stat().st_ino == made and until(is_up), done.stdout + done.stderr)
     text = SETTINGS.read_text()
     STEPS.expect("the settings have the core ASes", "\nCORES=1-ff00:0:110\n" in text, text)
@@ -294,7 +299,7 @@ def look_at_walls() -> None:
         lines = [line for line in done.stderr.splitlines() if "pathd" in line and "pathd-client is not executable" not in line]
         STEPS.expect(f"systemd-analyze verify prints nothing of {unit}", not lines, lines)
     rated = re.search(r"exposure level for pathd.service: (\S+)", must("systemd-analyze", "security", "--no-pager", "pathd.service"))
-    said = re.search(r"rates its exposure as ([0-9]+\.[0-9]+)", PAGE.replace("\n", " "))
+    said = re.search(r"rates its exposure as ([0-9]+\.[0-9]+)", text_of("install").replace("\n", " "))
     STEPS.expect("its exposure is rated as the page says", bool(rated and said) and rated.group(1) == said.group(1), (rated and rated.group(1), said and said.group(1)))
 
 
@@ -315,7 +320,7 @@ def restarted(count: int) -> bool:
 
 
 def stop_and_kill() -> None:
-    """'Stopping' and 'Statuses and errors': what the unit does after each end."""
+    """'Stopping', and 'Statuses' of docs/CLI.md: what the unit does after each end."""
     ROWS.register_many(40)
     must("systemctl", "stop", "pathd")
     STEPS.expect("systemctl stop: the unit is inactive, with success", (property_of("ActiveState"), property_of("Result")) == ("inactive", "success"))
@@ -401,7 +406,7 @@ def purge(is_short: bool) -> None:
         TIMER_DROP_IN.mkdir(exist_ok=True)
         (TIMER_DROP_IN / "short.conf").write_text("[Timer]\nOnActiveSec=\nOnUnitActiveSec=\nOnActiveSec=2s\nOnUnitActiveSec=6s\nAccuracySec=100ms\n")
     begun = time.time()
-    done = run_block("Purging")
+    done = run_block("run", "Purging")
     STEPS.expect("the block of 'Purging' runs, and its purge prints the counts", done.returncode == 0 and re.search(r"^place \d+: 0 inserted, 0 updated, 0 kept, 0 purged$", done.stdout, re.M) is not None, done.stdout + done.stderr)
     STEPS.expect("the timer purges for the first time", until(lambda: "0 purged" in journal("pathd-purge", begun), first), journal("pathd-purge", begun))
     done = run("systemctl", "show", "-p", "Result", "-p", "ExecMainStatus", "pathd-purge.service").stdout
@@ -425,7 +430,7 @@ def purge(is_short: bool) -> None:
 
 
 def back_up() -> None:
-    """'Backup and restore', at rest."""
+    """The page 'Back up and restore', at rest."""
     copy = Path("/var/tmp/copy")
     words = ["flock", "--shared", "--nonblock", STORE, "cp", STORE, copy]
     done = run(*words)
@@ -457,7 +462,7 @@ def numbers(host: str = "127.0.0.1", timeout: float = 10) -> dict[str, float]:
 
 
 def watch() -> None:
-    """'Watching a server': its numbers under the unit."""
+    """The page of numbers: its numbers under the unit."""
     watched = drop_in("status", (TOP / "deploy/pathd.service.d/status.conf").read_text())
     must("systemctl", "stop", "pathd")
     begun = time.time()
@@ -528,7 +533,7 @@ def serve_volume(device: str) -> None:
 
 
 def fail_device(device: str, by_hand: bool) -> None:
-    """'After a device fault': a disk without room, the same after it was mended, and the store opened again."""
+    """The page 'After a device fault': a disk without room, the same after it was mended, and the store opened again."""
     volume = Volume(device)
     rows = Rows()
     serve_volume(device)
@@ -640,7 +645,7 @@ def limit_access() -> None:
         STEPS.expect("with IPAddressAllow=192.0.2.0/24 these addresses do, too", seen == (True, True, False), seen)
     seen = allow("IPAddressAllow=any\n")
     STEPS.expect("with IPAddressAllow=any all do", seen == (True, True, True), seen)
-    done = run_block("Access")
+    done = run_block("run", "Access")
     STEPS.expect("the block of 'Access' runs", done.returncode == 0, done.stdout + done.stderr)
     seen = all_reach()
     STEPS.expect("by the firewall's rules 192.0.2.0/24 and the loopback reach it, and no other address", seen == (True, True, False), seen)

@@ -1,13 +1,13 @@
 """Compares what watches a server with the page of its numbers. The names and types of the numbers
 and the values of their labels are those of crates/status_page/specs/, which the contract of the
-page cites; the codes of refusals are those of docs/FORMATS.md. It prints nothing where
+page cites; the codes of refusals are those of docs/PROTOCOL.md. It prints nothing where
 
 - src/ of that crate has the same names,
 - deploy/pathd.rules.yml and deploy/grafana-dashboard.json use no other name, no other value of a
   label, and `rate` and `increase` of counters alone,
 - each name is on the dashboard, or is listed here as left out,
-- the table of docs/OPERATING.md has each name with its type, and no other, and docs/WATCHING.md has
-  a heading for each alert, and no other.
+- the table of docs/operating/numbers.md has each name with its type, and no other, and
+  docs/WATCHING.md has a heading for each alert, and no other.
 """
 from __future__ import annotations
 
@@ -21,7 +21,7 @@ from pathd_tools.toolbox import parser
 PAGE = CRATES / "status_page"
 RULES = TOP / "deploy/pathd.rules.yml"
 DASHBOARD = TOP / "deploy/grafana-dashboard.json"
-OPERATING = TOP / "docs/OPERATING.md"
+NUMBERS = TOP / "docs/operating/numbers.md"
 WATCHING = TOP / "docs/WATCHING.md"
 # The names that are on no panel, and why.
 NOT_DRAWN = {"pathd_format_version": "it changes once in a store's life"}
@@ -60,7 +60,7 @@ def labels(specs: str) -> dict[str, set[str]]:
 
 def codes() -> str:
     """The first column of the table of codes, with each code of its ranges."""
-    rows = re.findall(r"^\| (0x[0-9a-f]{2})(?: to 0x([0-9a-f]{2}))? \|", (TOP / "docs/FORMATS.md").read_text(), re.M)
+    rows = re.findall(r"^\| (0x[0-9a-f]{2})(?: to 0x([0-9a-f]{2}))? \|", (TOP / "docs/PROTOCOL.md").read_text(), re.M)
     return " ".join(f"0x{it:02x}" for first, last in rows for it in range(int(first, 16), int(last or first[2:], 16) + 1))
 
 
@@ -93,9 +93,9 @@ def problems() -> list[str]:
     drawn = names(used[DASHBOARD], known)
     found += [f"{DASHBOARD.relative_to(TOP)}: {it} is not drawn" for it in sorted(known.keys() - drawn - NOT_DRAWN.keys())]
     found += [f"{it} is drawn, and listed as left out" for it in sorted(NOT_DRAWN.keys() & drawn)]
-    table = dict(re.findall(r"^\| `(pathd_\w+)(?:\{[^}]*\})?` \| (\w+) \|", OPERATING.read_text(), re.M))
-    found += [f"{OPERATING.relative_to(TOP)}: the row of {it} is missing or has another type" for it in sorted(known) if table.get(it) != known[it]]
-    found += [f"{OPERATING.relative_to(TOP)}: {it} is no number of the page" for it in sorted(table.keys() - known.keys())]
+    table = dict(re.findall(r"^\| `(pathd_\w+)(?:\{[^}]*\})?` \| (\w+) \|", NUMBERS.read_text(), re.M))
+    found += [f"{NUMBERS.relative_to(TOP)}: the row of {it} is missing or has another type" for it in sorted(known) if table.get(it) != known[it]]
+    found += [f"{NUMBERS.relative_to(TOP)}: {it} is no number of the page" for it in sorted(table.keys() - known.keys())]
     alerts = set(re.findall(r"^ *- alert: (\w+)", RULES.read_text(), re.M))
     headed = set(re.findall(r"^### (Pathd\w+)", WATCHING.read_text(), re.M))
     return found + [f"one of {RULES.relative_to(TOP)} and {WATCHING.relative_to(TOP)} alone has {it}" for it in sorted(alerts ^ headed)]

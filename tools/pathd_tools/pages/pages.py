@@ -10,7 +10,7 @@ from pathd_tools.pages.source import CRATES, TOP
 
 def pages() -> list[Path]:
     """README.md and what is beside it, docs/, the crates' pages, and those of clients and tools."""
-    found = [*TOP.glob("*.md"), *(TOP / "docs").glob("*.md"), *CRATES.glob("*/README.md")]
+    found = [*TOP.glob("*.md"), *(TOP / "docs").glob("**/*.md"), *CRATES.glob("*/README.md")]
     found += [*TOP.glob("clients/**/*.md"), *TOP.glob("tools/**/*.md"), *TOP.glob("bench/*.md"), *TOP.glob("deploy/*.md")]
     return sorted(found)
 
