@@ -103,11 +103,11 @@ handed_in value (Err (refused.Stranger back)) old new step = step.1
 
 pub followed_or_back : (value : Commit AtOpened) (result : Result (Commit AtFollowing) (Commit AtOpened × FollowError)) (old new : StateView)
     → Follows value result old new → IsFollowedOrBack value result
-followed_or_back value (Ok next) old new step = step.2.1
-followed_or_back value (Err (back, refusal)) old new step = step.2.0
+followed_or_back value (Ok next) old new step = step.2
+followed_or_back value (Err (back, refusal)) old new step = step.1
 
 pub passed_on : (value : Commit AtDurableFollowed) (result : Result (Commit AtStable) PublishFollowedError) (old new : StateView)
     → PublishFollowedStep value result old new → IsPassedOn value result
-passed_on value (Ok next) old new step = step.2.2.0
-passed_on value (Err (publish_refused.NoMemory back)) old new step = step.2.2.0
-passed_on value (Err (publish_refused.Stranger back)) old new step = step.2.0
+passed_on value (Ok next) old new step = step.2
+passed_on value (Err (publish_refused.NoMemory back)) old new step = step.2
+passed_on value (Err (publish_refused.Stranger back)) old new step = step.1

@@ -1,5 +1,7 @@
 //! What the flusher does until the state has stopped.
 
+ghost use Rattle.std.specs.Prelude.{◌≡◌};
+
 use crate::retrying::retry;
 use crate::steps::{Awaited, Steps};
 use crate::watch::{Notice, Watch};
