@@ -227,16 +227,10 @@ impl<D: Device> Work<D> {
         let Work {
             mut state,
             tickets,
-            group: Group::Opened(value),
+            group,
             round,
-        } = self
-        else {
-            rt.fail("no gate was written");
-        };
-        let (group, told) = match state.follow(value) {
-            Ok(value) => (Group::Following(value), Told::Done),
-            Err((value, refused)) => (Group::Opened(value), Told::Follow(refused)),
-        };
+        } = self;
+        let (group, told) = follow_step(rt, &mut state, group);
         let work = Work {
             state,
             tickets,
@@ -396,6 +390,21 @@ pub fn assert_stopped<D: Device>(rt: &impl TestHost, work: Work<D>) -> D {
     work.flushes(rt, Told::Stage(StageError::Stopped))
         .checks(rt, Told::Begin(BeginError::Stopped))
         .device(rt)
+}
+
+/// Stages a group to follow the group in flight, whose gate was written.
+fn follow_step<D: Device>(
+    rt: &impl TestHost,
+    state: &mut State<D, PlainShow>,
+    group: Group,
+) -> (Group, Told) {
+    match group {
+        Group::Opened(value) => match state.follow(value) {
+            Ok(value) => (Group::Following(value), Told::Done),
+            Err((value, refused)) => (Group::Opened(value), Told::Follow(refused)),
+        },
+        _other => rt.fail("no gate was written"),
+    }
 }
 
 /// A step of the flusher with what it holds.
