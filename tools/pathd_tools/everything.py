@@ -30,6 +30,7 @@ PROGRAMS = [
     ("strace perl", "syscalls PROGRAM"),
     ("strace", "faults PROGRAM"),
     ("python3", "closed-handles PROGRAM"),
+    ("python3", "going-on PROGRAM"),
     ("strace python3", "server-calls PROGRAM"),
     ("python3-protobuf", "client PROGRAM"),
     ("protoc go protoc-gen-go golang-google-protobuf-dev", "go-client PROGRAM"),
