@@ -7,7 +7,6 @@ SERVING = [
     Tool("hub", "hub.sh", "lookups and registrations by several threads; `stress` checks each lookup"),
     Tool("run", "run.sh", "`pathd once`, beside Google's protobuf"),
     Tool("lookups", "lookups.sh", "lookups that show 1, 8 and 64 segments"),
-    Tool("rows", "rows.sh", "registrations into 1,000, 20,000 and 200,000 rows"),
     Tool("profile", "profile.sh", "where the program's instructions go"),
 ]
 
@@ -16,6 +15,7 @@ LIBRARIES = [
     Tool("checkpoints", "checkpoints.sh", "a checkpoint while the store is in use"),
     Tool("store", "store.sh", "opening a store and its checkpoint at rest, beside LevelDB and SQLite"),
     Tool("journal", "journal.sh", "a journal written and scanned, beside LevelDB's log"),
+    Tool("rows", "rows.sh", "registrations into 1,000, 100,000 and 1,000,000 rows, and purges of them"),
     Tool("walks", "walks.sh", "a lookup among 1,000, 20,000 and 200,000 rows, beside LMDB"),
     Tool("segments", "segments.sh", "copies of segments, and their memory"),
     Tool("device-memory", "device_memory.sh", "memory of a device in memory"),

@@ -34,9 +34,9 @@ def hops_of(which: int, entries: int, leaf: int | None = None) -> list[Hop]:
     return [Hop(isd_as, 0 if at == 0 else 2, 0 if at + 1 == entries else own, MAC) for at, isd_as in enumerate(path)]
 
 
-def segment(which: int, entries: int, leaf: int | None = None) -> bytes:
+def segment(which: int, entries: int, leaf: int | None = None, made: int = MADE) -> bytes:
     """The segment of a number."""
-    return messages.make_segment(hops_of(which, entries, leaf), MADE, segment_id=which % NUMBERS + 1, signature=SIGNATURE)
+    return messages.make_segment(hops_of(which, entries, leaf), made, segment_id=which % NUMBERS + 1, signature=SIGNATURE)
 
 
 def segment_id(which: int, entries: int, leaf: int | None = None) -> bytes:

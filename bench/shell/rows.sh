@@ -1,25 +1,43 @@
 #!/usr/bin/env bash
-# What a registration costs in a larger database, from its frame to the reply: 1,000 segments of 8
-# entries, one in a frame, into 1,000, 20,000 and 200,000 rows. It prints the processor seconds of
-# each, and their ratios to the first: medians of nine rounds. It needs Python 3 and the program
-# built, and leaves no file behind.
+# What a registration of one segment of 4 entries and a purge take in a database of 1,000, 100,000
+# and 1,000,000 rows, in process: microseconds of the processor's time of a registration and of a
+# purge that drops nothing, and milliseconds of a purge that drops the 1,000 segments that were
+# registered last. Medians of nine rounds. It needs Python 3 and bc, about 3 GB of memory, and 1 GB
+# for files. It proves and builds a program in a temporary folder, and leaves no file behind; with a
+# number as its argument a round makes so many purges of nothing, and not 1,000.
 #
-#     bench/pathd-bench rows [PROGRAM]
+#     bench/pathd-bench rows [PURGES]
 source "$(dirname "${BASH_SOURCE[0]}")/common.sh"
-need python3
-program=$(built "${1:-}")
+need rt python3 bc
+purges=${1:-1000}
 scratch
-frames() { "$bench" frames "$@"; }
-sizes="1000 20000 200000"
-
+crate rows 'path_db seg_core'
+sizes="1000 100000 1000000"
+# When the new rows expire, an hour before the others, in half seconds since 1970.
+expiry=$((2 * (1700000000 - 3600) + 675 * 64))
 for rows in $sizes; do
-  frames rows "$rows" 0 16 >"$work/$rows"
+  mkdir "$work/$rows"
+  "$bench" walks-rows "$work/$rows/rows" "$rows" 0 $((rows / 40))
+  "$bench" walks-rows --earlier 3600 "$work/$rows/new" 1000 "$rows" $((rows / 40))
+  rm "$work/$rows"/*.keyed
+  echo "$purges" >"$work/$rows/purges"
+  echo $((expiry - 1)) >"$work/$rows/before"
+  echo "$expiry" >"$work/$rows/expiry"
 done
-frames rows 1000 500000 1 >"$work/new"
+cd "$work/crates/rows"
+cp "$work/1000"/* .
+quietly rt run
+
 for _ in 1 2 3 4 5 6 7 8 9; do
   for rows in $sizes; do
-    "$bench" session "$program" "$work/$rows" "$work/new" | tail -1 | cut -d' ' -f1
-  done | tr '\n' ' ' | awk '{ print $1, $2, $3, $2 / $1, $3 / $1 }'
-done >"$work/rounds"
-echo "1,000 registrations: seconds into 1,000 rows, into 20,000 and into 200,000; ratios of these to the first"
-"$bench" median <"$work/rounds"
+    cd "$work/$rows"
+    read -r count more after putting idle dropping < <("$work/crates/rows/out/rows")
+    [ "$count $more $after" = "$rows $((rows + 1000)) $rows" ]
+    echo "$(echo "$putting * 1000" | bc -l) $(echo "$idle * 1000000 / $purges" | bc -l) $(echo "$dropping * 1000" | bc -l)" >>rounds
+  done
+done
+uptime
+for rows in $sizes; do
+  echo "among $rows rows: microseconds of a registration, of a purge of nothing; milliseconds of a purge of 1,000 rows"
+  "$bench" median <"$work/$rows/rounds"
+done
