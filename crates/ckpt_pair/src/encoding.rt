@@ -8,11 +8,12 @@ ghost use Rattle.ckpt_pair.specs.Rows.{rows_format};
 ghost use Rattle.ckpt_pair.specs.Checkpoint.{written_checkpoint};
 
 use crate::format::{
-    BEFORE_ROWS, CHECKPOINT_MAGIC, COUNT_AT, EPOCH_AT, LATEST, PLACE_AT, SIZE_AT, VERSION_AT,
+    BEFORE_ROWS, CHECKPOINT_MAGIC, COUNT_AT, EPOCH_AT, PLACE_AT, SIZE_AT, VERSION_AT,
 };
 use byte_lists::{SECTOR, pad, put, sector_count};
 use path_db::{PathDb, write_rows};
 use std::alloc::{AllocError, Global};
+use store_layout::LATEST;
 
 /// A database as the checkpoint of an epoch and a place, in version `LATEST`, padded with zeros to
 /// whole sectors. Its records have to have less than 4 GiB; such a database can be a checkpoint.

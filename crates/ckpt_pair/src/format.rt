@@ -7,8 +7,6 @@ use byte_lists::SECTOR;
 
 /// The four letters PCKP as one big-endian number: the first four bytes of a checkpoint.
 pub const CHECKPOINT_MAGIC: u32 = 0x50434b50;
-/// The greatest version of the format that is known. Checkpoints are written in this version.
-pub const LATEST: u32 = 2;
 /// The length of a checkpoint before its rows, in bytes: the head (24), the length of the rows'
 /// records (4), and their number (4).
 pub const BEFORE_ROWS: usize = 32;

@@ -9,8 +9,9 @@ ghost use Rattle.ckpt_pair.specs.Heads.{head_view, head_seen};
 ghost use Rattle.ckpt_pair.specs.Versions.{latest};
 
 use crate::error::PairError;
-use crate::format::{CHECKPOINT_MAGIC, EPOCH_AT, LATEST, PLACE_AT, VERSION_AT};
+use crate::format::{CHECKPOINT_MAGIC, EPOCH_AT, PLACE_AT, VERSION_AT};
 use byte_lists::{is_open, read_u32, read_u64};
+use store_layout::LATEST;
 
 /// The head of a checkpoint: the version of its format, the epoch, which is greater in the newer
 /// half, and the place, which is the number of commands that are folded into its rows.

@@ -18,7 +18,7 @@ mod rows_laws;
 pub use choice::{choose, openings_go_on_there, tail_half};
 pub use encoding::{checkpoint_front, checkpoint_head, encode_checkpoint};
 pub use error::PairError;
-pub use format::{BEFORE_ROWS, CHECKPOINT_MAGIC, COUNT_AT, LATEST, SIZE_AT, area_room};
+pub use format::{BEFORE_ROWS, CHECKPOINT_MAGIC, COUNT_AT, SIZE_AT, area_room};
 pub use head::{Head, Heads, read_head};
 pub use path_db::RowsReader;
 pub use pieces::{feed_rows, finish_rows};

@@ -1,5 +1,5 @@
 -- Records, one after the other: for `records`.
-use Rattle.std.proofs.Common.{◌≡◌, ◌≢◌, ℕ, zero, suc, ◌+◌, ◌<◌, ◌≤◌, Bool, false, cond, leb, List, [], ◌∷◌, ◌++◌, length, drop, Some, None, Option, Ok, Err, Result, refl, sym, ◌∙◌, ap, subst, arith, append_assoc, le-leb}
+use Rattle.std.proofs.Common.{◌≡◌, ◌≢◌, ℕ, zero, suc, ◌+◌, ◌<◌, ◌≤◌, Bool, cond, leb, List, [], ◌∷◌, ◌++◌, length, drop, Some, None, Option, Ok, Err, Result, refl, sym, ◌∙◌, ap, subst, arith, append_assoc, le-leb}
 use Rattle.byte_lists.specs.Content.{part}
 use Rattle.std.proofs.lemmas.Bool.{lt-leb}
 use Rattle.std.proofs.lemmas.List.{append-nil}
@@ -7,7 +7,7 @@ use Rattle.std.specs.Result.{result_ok}
 use Rattle.path_rows.specs.declared.command.Command.{Command}
 use Rattle.path_db.specs.declared.error.DbError.{DbError}
 use Rattle.path_db.specs.declared.error.DbError.TheVariants.{NoMemory as RecordWantsMemory, BadRecord as RecordIsBad, Order}
-use Rattle.path_db.specs.CommandRecord.{allows_removals, command_decoding}
+use Rattle.path_db.specs.CommandRecord.{command_decoding}
 use Rattle.store_layout.specs.Limits.{Limits, limits_of}
 use Rattle.store_layout.specs.GroupReading.{JournalRefusal, record_size, first_command, with_first, commands_in}
 use Rattle.store_layout.specs.GroupReading.{BadRecord as IsBadRecord}
@@ -17,42 +17,31 @@ use Rattle.gate_journal.specs.Commands.{command_format}
 use Rattle.gate_journal.specs.Reading.{Refuses, found_in_records}
 use Rattle.gate_journal.specs.RecordError.{error_of_record}
 
--- both words say from which version on removals are allowed
-removals_of : (version : ℕ) → (limits_of version).removals ≡ allows_removals version
-removals_of zero = refl
-removals_of (suc zero) = refl
-removals_of (suc (suc version)) =
-    ap (λ (b : Bool). (cond b (limits_of 1) (limits_of 2)).removals) (ltb-leb version) ∙ sym (le-leb 2 (suc (suc version)) (omega arith))
-  where
-    ltb-leb : (n : ℕ) → leb (suc (suc n)) 1 ≡ false
-    ltb-leb n = lt-leb (suc (suc n)) 1 (omega arith)
-
 -- the record at the front, by its command's bytes
 module _ (version : ℕ) (bytes : List ℕ) (size : ℕ) (sized : size ≡ record_size bytes) (inside : 4 + size ≤ length bytes) where
-  first_is : first_command command_format (limits_of version) bytes ≡ result_ok (command_decoding (allows_removals version) (part 4 size bytes))
+  first_is : first_command command_format (limits_of version) bytes ≡ result_ok (command_decoding (limits_of version).removals (part 4 size bytes))
   first_is =
       ap (λ (n : ℕ). cond (leb (4 + n) (length bytes)) (result_ok (command_decoding (limits_of version).removals (part 4 n bytes))) None) (sym sized)
       ∙ ap (λ (b : Bool). cond b (result_ok (command_decoding (limits_of version).removals (part 4 size bytes))) None) (le-leb (4 + size) (length bytes) inside)
-      ∙ ap (λ (b : Bool). result_ok (command_decoding b (part 4 size bytes))) (removals_of version)
 
   told : (e : DbError) (reading : Result Command DbError) → (e ≢ RecordWantsMemory → reading ≡ Err e) → Refuses (error_of_record e) (found_in_records (result_ok reading))
   told RecordWantsMemory reading so = tt
   told RecordIsBad reading so = ap (λ (r : Result Command DbError). found_in_records (result_ok r)) (so (λ is. cc))
   told Order reading so = ap (λ (r : Result Command DbError). found_in_records (result_ok r)) (so (λ is. cc))
 
-  pub first_refused : (taken : List ℕ) (e : DbError) → taken ≡ part 4 size bytes → (e ≢ RecordWantsMemory → command_decoding (allows_removals version) taken ≡ Err e)
+  pub first_refused : (taken : List ℕ) (e : DbError) → taken ≡ part 4 size bytes → (e ≢ RecordWantsMemory → command_decoding (limits_of version).removals taken ≡ Err e)
       → Refuses (error_of_record e) (found_in_records (first_command command_format (limits_of version) bytes))
   first_refused taken e same so =
-      subst (λ (first : Option Command). Refuses (error_of_record e) (found_in_records first)) (sym (first_is ∙ ap (λ (t : List ℕ). result_ok (command_decoding (allows_removals version) t)) (sym same)))
-      (told e (command_decoding (allows_removals version) taken) so)
+      subst (λ (first : Option Command). Refuses (error_of_record e) (found_in_records first)) (sym (first_is ∙ ap (λ (t : List ℕ). result_ok (command_decoding (limits_of version).removals t)) (sym same)))
+      (told e (command_decoding (limits_of version).removals taken) so)
 
-  pub first_read : (taken : List ℕ) (command : Command) → taken ≡ part 4 size bytes → command_decoding (allows_removals version) taken ≡ Ok command
+  pub first_read : (taken : List ℕ) (command : Command) → taken ≡ part 4 size bytes → command_decoding (limits_of version).removals taken ≡ Ok command
       → found_in_records (first_command command_format (limits_of version) bytes) ≡ Ok command
   first_read taken command same is =
-      ap found_in_records (first_is ∙ ap (λ (t : List ℕ). result_ok (command_decoding (allows_removals version) t)) (sym same))
+      ap found_in_records (first_is ∙ ap (λ (t : List ℕ). result_ok (command_decoding (limits_of version).removals t)) (sym same))
       ∙ ap (λ (r : Result Command DbError). found_in_records (result_ok r)) is
 
--- a record that doesn't end within the bytes
+-- a record that does not end within the bytes
 pub first_short : (limits : Limits) (bytes : List ℕ) → length bytes < 4 + record_size bytes → found_in_records (first_command command_format limits bytes) ≡ Err IsBadRecord
 first_short limits bytes short =
     ap (λ (b : Bool). found_in_records (cond b (result_ok (command_decoding limits.removals (part 4 (record_size bytes) bytes))) None)) (lt-leb (4 + record_size bytes) (length bytes) short)

@@ -1,4 +1,4 @@
--- A scanner wants no sector that doesn't count for the reading: for `scanner`.
+-- A scanner wants no sector that does not count for the reading: for `scanner`.
 use Rattle.std.proofs.Common.{◌≡◌, ℕ, zero, suc, ◌+◌, ◌-◌, ◌*◌, ◌≤◌, Bool, true, false, List, [], ◌++◌, length, drop, Ok, Err, Result, refl, sym, ◌∙◌, ap, subst, arith}
 use Rattle.byte_lists.specs.Sectors.{whole_sectors, sector_at, is_open_gate}
 use Rattle.byte_lists.proofs.Padding.{open_true}

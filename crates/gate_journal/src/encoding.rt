@@ -7,11 +7,12 @@ ghost use Rattle.store_layout.specs.Group.{record_encoding, records_of, with_hea
 ghost use Rattle.gate_journal.specs.Commands.{command_format};
 ghost use Rattle.gate_journal.specs.Payload.{IsWithinGroupLimits};
 
-use crate::format::{GROUP, HEADER, MOST_COMMANDS, MOST_RECORD_BYTES, PLACE_AT, PREFIX, SEAL};
+use crate::format::{GROUP, HEADER, MOST_RECORD_BYTES, PLACE_AT, PREFIX, SEAL};
 use crate::sizes::{is_within_limits, record_len};
 use byte_lists::{SECTOR, pad};
 use path_db::{Command, write_command};
 use std::alloc::{AllocError, Global};
+use store_layout::MOST_COMMANDS;
 
 /// Whether these commands may be written as one group, whose first command has this place: there
 /// are 1 to 32, each within its limits, their records have at most 262,144 bytes, and no place is

@@ -1,8 +1,5 @@
 //! The numbers of a group's format.
 
-ghost use Rattle.std.specs.Prelude.{◌≡◌, ◌≤◌};
-ghost use Rattle.store_layout.specs.Limits.{limits_of};
-
 /// The kind of a group's header.
 pub const GROUP: u8 = 1;
 /// The kind of a seal's header.
@@ -22,16 +19,5 @@ pub(crate) const PREFIX: usize = 4;
 pub(crate) const COMMAND_HEAD: usize = 2;
 /// The bytes of a purge's own record.
 pub(crate) const PURGE_RECORD: usize = 9;
-/// The most commands of a group in any version.
-pub(crate) const MOST_COMMANDS: usize = 32;
 /// The most bytes that the records of a group have together.
 pub const MOST_RECORD_BYTES: usize = 262_144;
-
-/// The most commands of a group in a version.
-pub fn most_commands(version: u32) -> usize
-    ensures exact { result ≡ (limits_of version).most }
-    ensures some { 1 ≤ result }
-    ensures few { result ≤ 32 }
-{
-    if version <= 1 { 8 } else { MOST_COMMANDS }
-}

@@ -8,11 +8,10 @@ ghost use Rattle.gate_journal.specs.declared.error.JournalError.TheVariants.{NoM
 ghost use Rattle.gate_journal.specs.Reading.{header_reading, GivesJournal};
 
 use crate::error::JournalError;
-use crate::format::{
-    COUNT_AT, GROUP, HEADER, MOST_RECORD_BYTES, PLACE_AT, SEAL, SIZE_AT, most_commands,
-};
+use crate::format::{COUNT_AT, GROUP, HEADER, MOST_RECORD_BYTES, PLACE_AT, SEAL, SIZE_AT};
 use crate::sizes::{fits, payload_sectors};
 use byte_lists::{read_u32, read_u64};
+use store_layout::most_commands;
 
 /// The header of a payload: that of a group of this number of commands, whose records have this
 /// number of bytes, or that of a seal.

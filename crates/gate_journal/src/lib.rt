@@ -18,9 +18,7 @@ mod whole;
 pub use command_laws::commands_are_allowed;
 pub use encoding::{can_be_group, encode_group, encode_seal};
 pub use error::JournalError;
-pub use format::{
-    COUNT_AT, GROUP, HEADER, MOST_RECORD_BYTES, PLACE_AT, SEAL, SIZE_AT, most_commands,
-};
+pub use format::{COUNT_AT, GROUP, HEADER, MOST_RECORD_BYTES, PLACE_AT, SEAL, SIZE_AT};
 pub use scanner::{Piece, Progress, Scan, Scanner, Stage};
 pub use sizes::{fits, is_within_limits, payload_sectors, record_len};
 pub use whole::scan;

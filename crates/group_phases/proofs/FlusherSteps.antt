@@ -41,7 +41,7 @@ length-load format place Seal = length-seal place
 pub length-open_gate : length open_gate ≡ 512
 length-open_gate = omega (arith, length-replicate {A = ℕ} 511 0)
 
--- a closed gate isn't open
+-- a closed gate is not open
 pub closed_gate_closed : IsOpenGate closed_gate → ⊥
 closed_gate_closed opened = omega (arith, get_or-replicate {A = ℕ} 512 0 0 0 (omega arith), opened)
 

@@ -1,4 +1,5 @@
--- What stays of a group that follows: where the tail's journal is untouched, under larger limits, and where more commands come.
+-- What stays of a group that follows: where the tail's journal is untouched, under larger limits,
+-- and where more commands come.
 use Rattle.std.proofs.Common.{◌≡◌, ℕ, zero, suc, ◌≤◌, List, [], ◌∷◌, ◌++◌, length, take, drop, refl, sym, ◌∙◌, ap, subst, arith, length-append, length-drop}
 use Rattle.sector_dev.specs.Disk.{Moment}
 use Rattle.store_layout.specs.Limits.{Limits, AreAsLarge}

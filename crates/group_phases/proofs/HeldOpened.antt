@@ -65,7 +65,7 @@ module _ {Db C : Type 0} (format : StoreFormat Db C) (latest : ℕ) (opening : O
     small : start ≤ last_place → start + length (all_of journal.groups) ≤ last_place
     small = chain_places format.commands (limits_of opening.checkpoint.head.version) (journal_of opening.geometry half moment.reads) 0 start journal.groups reading.tail journal.chain
 
-    -- it isn't sealed
+    -- it is not sealed
     resting_there : start ≤ last_place → reading.sealed ≡ false
         → FlusherPart Resting format.commands (limits_of opening.checkpoint.head.version) opening.geometry tail Seal moment
     resting_there low unsealed = record {

@@ -46,10 +46,10 @@ pub fn turns_are_held<Db, C>()
     ensures version { HeldUnderTheNewVersion Db C }
 {}
 
-/// A group that follows the group in flight is staged after the tail's gate was written open, and is
-/// written before that gate is synced. One sync then makes the gate durable and the following group
-/// stable, and publishing leaves the following group in flight. After each, the device holds what
-/// the state then represents, in whatever phase the checkpointer is.
+/// A group that follows the group in flight is staged after the tail's gate was written open, and
+/// is written before that gate is synced. One sync then makes the gate durable and the following
+/// group stable, and publishing leaves the following group in flight. After each, the device holds
+/// what the state then represents, in whatever phase the checkpointer is.
 pub fn followers_are_held<T, E, Db, C>()
     ensures staged { HeldWhenFollowerIsStaged Db C }
     ensures write { HeldWhileFollowerIsWritten T E Db C }

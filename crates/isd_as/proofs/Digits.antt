@@ -37,7 +37,7 @@ number_read k radix text n low h p =
     let value : digits_value radix text ≡ n = ap (digits_value radix) (sym same) ∙ sym p.1 in
     (value, subst (λ v. v < 2 ^ k) (sym p.1) p.0.1)
 
--- digits alone that were refused are a number that doesn't fit
+-- digits alone that were refused are a number that does not fit
 pub number_refused : (k radix : ℕ) (text : List ℕ) → radix ≤ 36 → IsNumeral radix text → ParsesUnsigned {E = ℕ} k radix text (Err 0) → 2 ^ k ≤ digits_value radix text
 number_refused k radix text low h p =
     let same = no_plus radix text low h in

@@ -58,15 +58,15 @@ bad_row bytes x read =
 
 -- ---- the bytes at which a reading ends with an error
 
--- a row whose key isn't above the key of the row before
+-- a row whose key is not above the key of the row before
 record Lower (before : Option RowView) (bytes : List ℕ) (e : DbError) : Type 0 where
   row : RowView
   read : row_decoding bytes ≡ Ok row
   lower : is_row_above before row ≡ false
   reason : e ≡ Order
 
--- after rows in order there are bytes that are refused as a row, or a row whose key isn't above the
--- last one's
+-- after rows in order there are bytes that are refused as a row, or a row whose key is not above
+-- the last one's
 record Stops (before : Option RowView) (bytes : List ℕ) (e : DbError) : Type 0 where
   rows : List RowView
   rest : List ℕ

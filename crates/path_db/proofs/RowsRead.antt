@@ -89,7 +89,7 @@ row_refused whole so_far e (b ∷ tail) some read so =
     let behind = drop (row_size (b ∷ tail)) (b ∷ tail) in
     so ∙ ap (λ r. (r >>= λ first. demand (is_row_above (last_of so_far) first) Order >>= λ _. rows_within (length tail) (Some first) behind >>= λ rows. Ok (first ∷ rows)) >>= λ others. Ok (so_far ++ others)) read
 
--- the next row was read, and its key isn't above the last one's
+-- the next row was read, and its key is not above the last one's
 pub row_falls : (whole : Result (List RowView) DbError) (so_far : List RowView) (row : RowView) (bytes : List ℕ) → 0 < length bytes → row_decoding bytes ≡ Ok row
     → is_row_above (last_of so_far) row ≡ false → whole ≡ rows_behind so_far bytes → whole ≡ Err Order
 unfolding rows_within

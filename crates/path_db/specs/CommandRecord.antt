@@ -87,7 +87,3 @@ pub record WantsItems (body : List ℕ) : Type 0 where
 -- Reading a command takes memory: it is a registration of which `WantsItems` holds.
 abbrev pub CommandWantsMemory : List ℕ → Type 0
 CommandWantsMemory bytes = (slice_index bytes 0 ≡ 1) × WantsItems (drop 1 bytes)
-
--- A format version allows removals: version 2 and later ones do.
-abbrev pub allows_removals : ℕ → Bool
-allows_removals version = nat_le 2 version

@@ -4,20 +4,22 @@ ghost use Rattle.std.specs.Prelude.{◌≡◌, ◌≤◌, ◌++◌, ◌∷◌, l
 ghost use Rattle.std.specs.Int.{w64, to_be_bytes};
 ghost use Rattle.seg_core.specs.Encoding.{IsSegment};
 ghost use Rattle.seg_core.specs.Registration.{type_number};
+ghost use Rattle.store_layout.specs.Limits.{limits_of};
 ghost use Rattle.path_db.specs.declared.error.DbError.TheVariants.{NoMemory};
 ghost use Rattle.path_db.specs.RecordSteps.{GivesRecord, ReadsRecord};
 ghost use Rattle.path_rows.specs.Database.{AreWhole};
 ghost use Rattle.path_rows.specs.Command.{HasWholeSegments};
 ghost use Rattle.path_db.specs.RowRecord.{rows_encoding, HasOutline};
-ghost use Rattle.path_db.specs.CommandRecord.{IsWithinLimits, command_encoding, items_decoding, registration_record_decoding, purge_decoding, removal_decoding, command_decoding, allows_removals, WantsItems, CommandWantsMemory};
+ghost use Rattle.path_db.specs.CommandRecord.{IsWithinLimits, command_encoding, items_decoding, registration_record_decoding, purge_decoding, removal_decoding, command_decoding, WantsItems, CommandWantsMemory};
 
 use crate::error::DbError;
-use crate::format::{PURGE_RECORD, REGISTER_RECORD, REMOVE_RECORD, allows_removals};
+use crate::format::{PURGE_RECORD, REGISTER_RECORD, REMOVE_RECORD};
 use crate::row_records::{put_row, read_row, type_from};
 use byte_lists::read_u64;
 use path_rows::{Command, ROW_HEAD, Registration, type_byte};
 use seg_core::{MOST_REGISTERED, MOST_REGISTERED_BYTES, SegType, Segment};
 use std::alloc::{AllocError, Global};
+use store_layout::{CommandKind, allows};
 
 /// Appends the record of a command. It begins with the kind (1 byte). A registration has the count
 /// of its segments (1) after it and the record of a row for each, a purge a moment (8), and a
@@ -57,11 +59,11 @@ fn put_registration(rows: &[(SegType, Segment)], out: &mut Vec<u8>) -> Result<()
     ensures kept { take (length out.old.items) out.new.items ≡ out.old.items }
 {
     out.extend_from_slice(&[REGISTER_RECORD, rows.len() as u8])?;
-    put_items(rows, out)
+    put_rows(rows, out)
 }
 
 /// Appends segments as the records of rows.
-fn put_items(rows: &[(SegType, Segment)], out: &mut Vec<u8>) -> Result<(), AllocError>
+fn put_rows(rows: &[(SegType, Segment)], out: &mut Vec<u8>) -> Result<(), AllocError>
     ensures ok { OnOk result (out.new.items ≡ out.old.items ++ rows_encoding rows.now) }
     ensures kept { take (length out.old.items) out.new.items ≡ out.old.items }
 {
@@ -94,7 +96,7 @@ fn put_removal(kind: SegType, id: &[u8; 32], out: &mut Vec<u8>) -> Result<(), Al
 /// that is read can be written.
 #[tactic(auto, unfolding(crate::specs::CommandRecord::command_decoding))]
 pub fn read_command(alloc: Global, bytes: &[u8], version: u32) -> Result<Command, DbError>
-    ensures decoding { GivesRecord (λ command. command) result (command_decoding (allows_removals version) bytes.now) }
+    ensures decoding { GivesRecord (λ command. command) result (command_decoding (limits_of version).removals bytes.now) }
     ensures whole { IfOk result HasWholeSegments }
     ensures limits { IfOk result IsWithinLimits }
     ensures memory { IfErr result (λ e. e ≡ NoMemory → CommandWantsMemory bytes.now) }
@@ -105,7 +107,7 @@ pub fn read_command(alloc: Global, bytes: &[u8], version: u32) -> Result<Command
     match *kind {
         REGISTER_RECORD => read_registration(alloc, body),
         PURGE_RECORD => read_purge(body),
-        REMOVE_RECORD if allows_removals(version) => read_removal(body),
+        REMOVE_RECORD if allows(version, CommandKind::Removal) => read_removal(body),
         _ => Err(DbError::BadRecord),
     }
 }

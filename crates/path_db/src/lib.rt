@@ -17,7 +17,6 @@ mod rows_reader;
 
 pub use command_records::{read_command, write_command};
 pub use error::DbError;
-pub use format::allows_removals;
 pub use key::Key;
 pub use one_key::row_after;
 pub use path_rows::{

@@ -38,8 +38,8 @@ impl PurgeWalk {
         }
     }
 
-    /// The next row that expires at the moment or before. The rows before it are passed. `None` means
-    /// that all rows were passed. This takes no memory.
+    /// The next row that expires at the moment or before. The rows before it are passed. `None`
+    /// means that all rows were passed. This takes no memory.
     pub(crate) fn next_expired<'a>(&mut self, rows: &'a RowMap) -> Option<&'a Row>
         requires { HasPassed self.old rows.now }
         ensures expired { IfSome result (λ row. IsExpiredUnder self.old.moment (key row.now.kind row.now.id) rows.now) }

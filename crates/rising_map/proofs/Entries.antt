@@ -95,7 +95,7 @@ module _ {V : Type 0} (n : ℕ) where
   found_here m None entries same none = none
   found_here m (Some v) entries same none = ap (λ o. cond (is_eq o) (Some v) (found entries)) (equal n m same)
 
-  -- what isn't there can't be taken out
+  -- what is not there cannot be taken out
   taken_by : (b : Bool) (e : ℕ × V) (entries : List (ℕ × V)) → cond b (Some e.1) (found entries) ≡ None → (found entries ≡ None → taken entries ≡ entries) → cond b entries (e ∷ taken entries) ≡ e ∷ entries
   taken_by true e entries none rest = absurd (cc (none))
   taken_by false e entries none rest = ap (λ l. e ∷ l) (rest none)

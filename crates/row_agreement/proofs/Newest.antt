@@ -42,7 +42,7 @@ first_parts P first newest rows (b ∷ before) after split older one two =
 pub first_or_older : (P : Type 0) (first newest : RowView) (rows : List RowView) → IsNewest (first ∷ rows) newest → (first ≡ newest → P) → (first.1.timestamp < newest.1.timestamp → P) → P
 first_or_older P first newest rows is one two = first_parts P first newest rows is.before is.after is.split is.older one two
 
--- a list with a member isn't empty
+-- a list with a member is not empty
 not_empty : (rows : List RowView) (row : RowView) → rows ≡ [] → Contains rows row → ⊥
 not_empty rows row none found = contains_none row (subst (λ list. Contains list row) none found)
 

@@ -46,7 +46,7 @@ row_first q p row rows rest true false under passes above is =
     ∙ ap (λ (b : Bool). if b then Some row else None) (sym passes)
 row_first q p row rows rest false false under passes above is = is
 
--- and one that isn't under the key
+-- and one that is not under the key
 row_passed : (q : List ℕ) (row : RowView) (rest : List RowView) (c : Bool) → is_under q row ≡ false → row_under q ((if c then row ∷ [] else []) ++ rest) ≡ row_under q rest
 row_passed q row rest true under = ap (λ (b : Bool). if b then Some row else row_under q rest) under
 row_passed q row rest false under = refl

@@ -79,7 +79,7 @@ risen_rise None [] = (tt, tt)
 risen_rise (Some last) [] = (tt, tt)
 risen_rise last (k ∷ ks) = rise_step (is_key_above last k) last k ks refl (risen_rise (Some k) ks) (risen_rise last ks)
 
--- no key is lost that isn't the last one
+-- no key is lost that is not the last one
 twice : (b r : Bool) → (if b then true else r) ≡ (if b then true else (if b then true else r))
 twice true r = refl
 twice false r = refl

@@ -1,4 +1,4 @@
--- What commands leave under a key that they don't name, and under one that they do.
+-- What commands leave under a key that they do not name, and under one that they do.
 use Rattle.std.proofs.Common.{◌≡◌, ℕ, Bool, true, false, not, List, [], ◌∷◌, ◌++◌, if◌then◌else◌, Some, None, refl, sym, ap, ◌∙◌}
 use Rattle.std.specs.Prelude.{Option, map}
 use Rattle.std.specs.Ordering.{is_eq}
@@ -12,7 +12,7 @@ use Rattle.path_rows.specs.CommandLaws.{winner, left_by_put, left_by_puts, kept_
 use Rattle.row_edits.specs.Merging.{order_of, keys_named_by, has_key, outlives}
 use Rattle.row_edits.proofs.Keys.{itself, IsOf, its_key}
 
--- ---- a key that isn't named
+-- ---- a key that is not named
 
 -- none of both lists
 neither : (b : Bool) (rest : Bool) → (if b then true else rest) ≡ false → (b ≡ false) × (rest ≡ false)
@@ -42,7 +42,7 @@ purge_leaves_it : (moment : ℕ) (commands : List Command) (found : Option RowVi
 purge_leaves_it moment commands None = refl
 purge_leaves_it moment commands (Some row) = kept_twice (is_valid_beyond moment row) moment commands row refl
 
--- a row that isn't under the key of a removal stays
+-- a row that is not under the key of a removal stays
 another : (k l : List ℕ) (row : RowView) (b : Bool) → is_eq (order_of k l) ≡ false → is_under k row ≡ true → is_under l row ≡ b → b ≡ false
 another k l row true other under e =
     absurd (false≢true (sym other ∙ ap (λ (m : List ℕ). is_eq (order_of k m)) (its_key l row e ∙ sym (its_key k row under)) ∙ itself k))

@@ -19,7 +19,7 @@ clean_none i = All-nil (IsBeside i)
 pub clean_part_none : (at n : ℕ) → IsCleanPart [] at n
 clean_part_none at n i from to = clean_none i
 
--- one more range leaves clean the bytes that it doesn't contain
+-- one more range leaves clean the bytes that it does not contain
 pub clean_beside : (start len : ℕ) (dirty : List ByteRange) (i : ℕ) → (start ≤ i → start + len ≤ i) → IsClean dirty i → IsClean (record { start = start; len = len } ∷ dirty) i
 clean_beside start len dirty i beside clean = All-cons (IsBeside i) (record { start = start; len = len }) dirty beside clean
 

@@ -1,7 +1,9 @@
 -- A file over its calls, with a count of its failures, as contracts see it.
 use Rattle.std.specs.Prelude.{ℕ, ◌≤◌}
 use Rattle.sector_dev.specs.PositionedFile.{FileState}
+use Rattle.std.specs.Arc.{arc_value}
 use Rattle.sector_dev.specs.declared.counted_file.CountedFile.{CountedFile}
+use Rattle.sector_dev.specs.declared.last_fault.LastFault.{LastFault}
 
 -- The file whose calls are counted.
 abbrev pub calls_of : {F : Type 0} → CountedFile F → F
@@ -14,6 +16,10 @@ failures_of counted = counted.failures
 -- The length that the file had when it was opened, in bytes.
 abbrev pub opened_len : {F : Type 0} → CountedFile F → ℕ
 opened_len counted = counted.opened
+
+-- The note of the last failure, which the file shares with those that ask for it.
+abbrev pub last_fault_of : {F : Type 0} → CountedFile F → LastFault
+last_fault_of counted = arc_value counted.last
 
 -- The file as contracts see it, where they see the file of its calls by `state`: with the count of
 -- failures.

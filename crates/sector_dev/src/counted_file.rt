@@ -32,7 +32,8 @@ pub type SystemFile = CountedFile<File>;
 impl<F: FileCalls> CountedFile<F> {
     ghost use Rattle.sector_dev.specs.Calls.{one_more};
     ghost use Rattle.sector_dev.specs.PositionedFile.{failures_after_transfer};
-    ghost use Rattle.sector_dev.specs.CountedFile.{calls_of, failures_of, opened_len, IsInPlace};
+    ghost use Rattle.sector_dev.specs.CountedFile.{calls_of, failures_of, opened_len, last_fault_of, IsInPlace};
+    ghost use Rattle.std.specs.Arc.{arc_value};
 
     /// A file whose count of failures is 0. The error is that of the call for the file's length, or
     /// `OutOfMemory` where memory was refused.
@@ -60,9 +61,11 @@ impl<F: FileCalls> CountedFile<F> {
         self.failures
     }
 
-    /// The note of the last failure, which the file goes on to write. No contract can state what is
-    /// in it. An error means that memory was refused.
-    pub fn last_fault(&self) -> Result<Arc<LastFault>, AllocError> {
+    /// The note of the last failure, shared with the file, which goes on to write it. No contract
+    /// can state what is in it. An error means that memory was refused.
+    pub fn last_fault(&self) -> Result<Arc<LastFault>, AllocError>
+        ensures shared { IfOk result (λ last. arc_value last ≡ last_fault_of self.now) }
+    {
         Arc::try_clone(&self.last)
     }
 
@@ -95,8 +98,8 @@ impl<F: FileCalls> CountedFile<F> {
         self.failures = self.failures.saturating_add(1);
     }
 
-    // Counts a transfer of this kind in which `asked` bytes were asked for, where it failed or moved
-    // none of them.
+    // Counts a transfer of this kind in which `asked` bytes were asked for, where it failed or
+    // moved none of them.
     fn count_transfer(&mut self, kind: FaultKind, asked: usize, moved: &io::Result<usize>)
         ensures { self.new ≡ record self.old { failures = failures_after_transfer asked moved.now (failures_of self.old) } }
     {

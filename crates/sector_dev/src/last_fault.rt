@@ -1,5 +1,5 @@
 //! What failed last in a file.
-ghost use Rattle.std.specs.Prelude.{◌≡◌, IfSome};
+ghost use Rattle.std.specs.Prelude.{◌≡◌, ◌≢◌, IfSome, Some, pos};
 ghost use Rattle.sector_dev.specs.LastFault.{fault_number};
 
 use std::fmt;
@@ -65,7 +65,7 @@ pub struct LastFault {
 }
 
 impl LastFault {
-    /// No failure yet.
+    /// No failure yet. No contract can state what an atomic number holds.
     pub fn new() -> LastFault {
         LastFault {
             kind: AtomicU32::new(0),
@@ -74,8 +74,11 @@ impl LastFault {
     }
 
     /// The last failure, or `None` where there was none. Where another one comes in the middle of
-    /// the call, its number may be returned with the kind of the one before.
-    pub fn get(&self) -> Option<FileFault> {
+    /// the call, its number may be returned with the kind of the one before. A failure for which
+    /// the system returned no error has no number, and none has the number 0.
+    pub fn get(&self) -> Option<FileFault>
+        ensures numbered { IfSome result (λ fault. fault.errno ≢ Some (pos 0)) }
+    {
         let kind = kind_of(self.kind.load(Ordering::SeqCst))?;
         let errno = self.errno.load(Ordering::SeqCst);
         Some(FileFault {

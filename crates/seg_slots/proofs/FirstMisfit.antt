@@ -1,4 +1,4 @@
--- The test finds the first field that doesn't fit, as the relation defines it. For the law
+-- The test finds the first field that does not fit, as the relation defines it. For the law
 -- `first_misfit_is_exact`.
 use Rattle.std.proofs.Common.{◌≡◌, ◌⊎◌, ⊎_elim, inl, inr, List, [], ◌∷◌, ◌++◌, Option, Some, None, refl, sym, ap, subst, ◌∙◌, append_assoc, append-nil}
 use Rattle.std.specs.Prelude.{◌↔◌}
@@ -50,7 +50,7 @@ misfit_after-append shape before (g ∷ p) q =
     ap (option_or (misfit_at shape before g)) (later ∙ ap (λ xs. option_or (misfit_after shape (before ++ g ∷ []) p) (misfit_after shape xs q)) (shifted before p g))
     ∙ or_assoc (misfit_at shape before g) (misfit_after shape (before ++ g ∷ []) p) (misfit_after shape (before ++ g ∷ p) q)
 
--- a field that doesn't fit, after fields that fit
+-- a field that does not fit, after fields that fit
 record IsFound (shape : List FieldKind) (before fs : List FieldView) (refusal : SegError) : Type 0 where
   passed : List FieldView
   field : FieldView

@@ -1,4 +1,4 @@
--- An opening depends on its regions alone; the area of a closed half isn't one of them.
+-- An opening depends on its regions alone; the area of a closed half is not one of them.
 use Rattle.std.proofs.Common.{◌≡◌, ℕ, ◌+◌, ◌*◌, ◌≤◌, List, length, take, Some, None, Option, sym, ◌∙◌, ap, subst, arith}
 use Rattle.byte_lists.specs.Content.{overwrite}
 use Rattle.byte_lists.specs.Sectors.{IsOpenGate}

@@ -19,7 +19,7 @@ use Rattle.store_layout.proofs.Heads.{head_read}
 use Rattle.store_layout.proofs.Checkpoints.{checkpoint_read, begins_with_its_head}
 use Rattle.store_layout.proofs.Places.{store_journal}
 
--- the head of the half that isn't chosen has an earlier epoch, if this half is open
+-- the head of the half that is not chosen has an earlier epoch, if this half is open
 abbrev pub IsBehind : ℕ → Option Head → Type 0
 IsBehind epoch None = Unit {0}
 IsBehind epoch (Some head) = head.epoch < epoch

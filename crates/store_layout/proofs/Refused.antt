@@ -104,7 +104,7 @@ module _ {C : Type 0} (format : CommandFormat C) (limits : Limits) (bytes : List
       p : List ℕ
       p = payload_behind bytes gate
 
--- a test that can't be passed is false
+-- a test that cannot be passed is false
 false_if : (b : Bool) → (b ≡ true → ⊥) → b ≡ false
 false_if true not_so = absurd (not_so refl)
 false_if false not_so = refl

@@ -1,5 +1,12 @@
--- The limits of a journal's groups, by the version of the format that counts for the journal.
+-- The versions of the format, and the limits of a journal's groups by the version that counts for
+-- the journal.
 use Rattle.std.specs.Prelude.{◌≡◌, ℕ, ◌≤◌, Bool, true, false, if◌then◌else◌, nat_le}
+use Rattle.store_layout.specs.declared.versions.CommandKind.{CommandKind}
+use Rattle.store_layout.specs.declared.versions.CommandKind.TheVariants.{Registration, Purge, Removal}
+
+-- The greatest version that is known. Checkpoints are written in this version.
+abbrev pub latest : ℕ
+latest = 2
 
 -- The limits of groups.
 pub record Limits : Type 0 where
@@ -12,6 +19,12 @@ pub record Limits : Type 0 where
 -- commands, removals among them.
 abbrev pub limits_of : ℕ → Limits
 limits_of version = if nat_le version 1 then record { most = 8; removals = false } else record { most = 32; removals = true }
+
+-- Limits allow commands of a kind: removals where they say so, and the other kinds always.
+abbrev pub allows : Limits → CommandKind → Bool
+allows limits Registration = true
+allows limits Purge = true
+allows limits Removal = limits.removals
 
 -- The second limits allow what the first allow.
 pub record AreAsLarge (small large : Limits) : Type 0 where

@@ -40,7 +40,7 @@ left_alone old whole view view_is =
 pub settled_before : (old : StoreView) → IsStoreWhole old → (view : StoreView) → old ≡ view → MayCheckpoint view → IsHonest old.disk → old.disk.history.now.dirty ≡ []
 settled_before old whole view view_is may honest = ((whole.sound honest).rest (subst MayCheckpoint (sym view_is) may).whole).settled
 
--- an opening whose journal isn't sealed has no tail
+-- an opening whose journal is not sealed has no tail
 no_tail : (opening : Opening (List RowView) Command) (image : List ℕ) → IsOpening store_format latest image opening → opening.journal.sealed ≡ false → opening.tail ≡ None
 no_tail opening image is unsealed = by_tail opening.tail is.tail
   where

@@ -1,4 +1,4 @@
--- A device that isn't opened comes back.
+-- A device that is not opened comes back.
 use Rattle.std.proofs.Common.{◌≡◌, inr, ℕ, List, Result, Ok, Err, IfOk, refl, sym, ◌∙◌, ap, subst}
 use Rattle.std.specs.Result.{IfErr}
 use Rattle.sector_dev.specs.Disk.{Disk, IsHonest, reads_of, after_sync}

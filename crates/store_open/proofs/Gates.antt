@@ -155,7 +155,7 @@ module _ (geometry : Geometry) (half : Half) (start : Disk) (allowed : IsGeometr
           journal = λ opened. false_open (sector_at (gate_at geometry half + 1) (reads_of start)) (first honest) (subst IsOpenGate (first_gate geometry half (reads_of start) (omega (arith, allowed))) opened);
         })
 
-  -- a gate that reads open isn't one of two that are closed
+  -- a gate that reads open is not one of two that are closed
   pub gate_isnt_closed : (IsHonest start → is_open_gate (gate_of geometry half (reads_of start)) ≡ true) → IsHonest start → HasClosedGates geometry half (reads_of start) → ⊥
   gate_isnt_closed opened honest closed = closed.gate (true_open (gate_of geometry half (reads_of start)) (opened honest))
 

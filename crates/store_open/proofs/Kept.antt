@@ -1,4 +1,5 @@
--- An opening without a tail is kept while the gates of the half that isn't chosen are being closed.
+-- An opening without a tail is kept while the gates of the half that is not chosen are being
+-- closed.
 use Rattle.std.proofs.Common.{◌≡◌, ◌⊎◌, inl, inr, ℕ, ◌+◌, ◌*◌, ◌≤◌, List, get_or, None, sym, ◌∙◌, subst, arith}
 use Rattle.std.proofs.lemmas.Bool.{cases_eq}
 use Rattle.byte_lists.specs.Sectors.{IsOpenGate}

@@ -15,7 +15,7 @@ use Rattle.path_rows.specs.Database.{RowView}
 use Rattle.path_rows.specs.declared.command.Command.{Command}
 use Rattle.store_open.specs.PathStores.{store_format}
 
--- a closed gate isn't open
+-- a closed gate is not open
 closed : (sector : List ℕ) → sector ≡ closed_gate → IsOpenGate sector → ⊥
 closed sector is opened = omega (arith, ap (λ (list : List ℕ). get_or list 0 0) is, opened)
 

@@ -43,11 +43,11 @@ stretch_looked P start mid keeps same clean holds = record {
       (leaves_here P start.history (λ content image. subst P (sym (image_is_reads start.history.now content (clean honest) image)) (holds honest)));
 }
 
--- an image that isn't changed opens alike
+-- an image that is not changed opens alike
 pub alike_itself : (content : List ℕ) → OpensAlike content content
 alike_itself content = inl refl
 
--- ---- closing the half that isn't used
+-- ---- closing the half that is not used
 
 module _ (geometry : Geometry) (chosen : Half) (sealed : Bool) (start : Disk) where
   abbrev Unused : List ℕ → Type 0
@@ -110,7 +110,7 @@ sealed_by_sync (Ok u) sealed geometry unused start two is = λ honest unsealed. 
 
 -- ---- an opening in between
 
--- a journal that isn't sealed has no tail
+-- a journal that is not sealed has no tail
 no_tail_behind : (limits : Limits) (geometry : Geometry) (half : Half) (image : List ℕ) (journal : Reading Command) (tail : Option (Reading Command)) → journal.sealed ≡ false
     → IsTail command_format limits geometry half image journal tail → tail ≡ None
 no_tail_behind limits geometry half image journal None unsealed is = refl

@@ -18,7 +18,7 @@ use Rattle.store_open.specs.TakingOver.{laid, switched, taken, IsTakingOver}
 use Rattle.store_open.proofs.Gates.{gates_inside, first_gate, zero_there, closing_both}
 use Rattle.store_open.proofs.Kept.{kept_by_closing}
 
--- A store at rest: its image has this opening, no journal is sealed, and the half that isn't used
+-- A store at rest: its image has this opening, no journal is sealed, and the half that is not used
 -- is closed; and a checkpoint for that half.
 pub record MayTakeOver {Db C : Type 0} (format : StoreFormat Db C) (latest : ℕ) (image : List ℕ) (opening : Opening Db C) (next : Checkpoint Db) (bytes : List ℕ) : Type 0 where
   pub is : IsOpening format latest image opening

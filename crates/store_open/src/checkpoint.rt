@@ -10,9 +10,10 @@ use crate::laying::BUFFER;
 use crate::store::Store;
 use crate::store_error::StoreError;
 use crate::taking_over::take_over;
-use ckpt_pair::{Head, LATEST, area_room, checkpoint_head};
+use ckpt_pair::{Head, area_room, checkpoint_head};
 use path_db::written_rows_are_counted;
 use sector_dev::Device;
+use store_layout::LATEST;
 
 impl<D: Device> Store<D> {
     /// Writes all rows to the other half, with the next epoch, in version `LATEST`, piece by piece,

@@ -8,10 +8,10 @@ ghost use Rattle.store_open.specs.StoreShape.{IsSealWithin};
 
 use crate::folding::fold;
 use crate::opening::Found;
-use ckpt_pair::{Checkpoint, Head, LATEST};
+use ckpt_pair::{Checkpoint, Head};
 use path_db::PathDb;
 use std::alloc::AllocError;
-use store_layout::{Geometry, Half};
+use store_layout::{Geometry, Half, LATEST};
 
 /// A store without its device: the sizes, the half that is chosen and its head, whether its journal
 /// is sealed, the gate at which the last journal ends, the place reached, all rows, and the bytes

@@ -13,7 +13,7 @@ fn make_file(rt: &HostRuntime, folder: &str, path: &str, bytes: &[u8]) -> Result
     Ok(fs::write(rt, path, bytes)?)
 }
 
-// Checks that a file isn't opened, with this kind of error.
+// Checks that a file is not opened, with this kind of error.
 fn assert_not_opened(rt: &impl Abort, opened: io::Result<SystemFile>, wanted: ErrorKind) {
     let kind = opened.err().map(|error| error.kind());
     assert_eq!(rt; kind, Some(wanted));

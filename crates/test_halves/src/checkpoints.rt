@@ -57,7 +57,7 @@ fn rows_are_read_and_written(rt: HostRuntime) -> Result<(), Fail> {
 }
 
 // One byte of the head, the length, the count or the rows is changed. The bytes after the rows
-// aren't read.
+// are not read.
 #[test]
 fn changed_areas(rt: HostRuntime) -> Result<(), Fail> {
     for (at, byte, expected) in [

@@ -15,7 +15,7 @@ type Places = (u64, usize, usize, &'static [Answer]);
 /// It opens to the same rows and place.
 const SAME: Answer = Ok(PAIR);
 
-/// It is no store, it has no open half, a checkpoint is none, or its version isn't known.
+/// It is no store, it has no open half, a checkpoint is none, or its version is not known.
 const NO_STORE: Answer = Err((1, 0));
 
 const NO_HALF: Answer = Err((3, 1));
@@ -41,7 +41,7 @@ const PURGED: Answer = Ok((1, 93, 260));
 
 /// Five hundred bytes, which are changed four times each.
 const CHANGES: [Places; 51] = [
-    // Sector 0: the name and number of the layout and the sizes; what isn't read.
+    // Sector 0: the name and number of the layout and the sizes; what is not read.
     (0, 0, 20, &[NO_STORE]),
     (0, 20, 24, &[SAME]),
     // The first half's checkpoint: the magic, the version, the epoch, the place, the length and the

@@ -17,7 +17,7 @@ const MANY: u64 = 200;
 /// What the worked store represents: three rows in 279 bytes, at place 259.
 const PAIR: (usize, u64, u64) = (3, 279, 259);
 
-/// How the sectors of a new store that aren't zero begin after its first checkpoint.
+/// How the sectors of a new store that are not zero begin after its first checkpoint.
 const BEGINNINGS: [(u64, &[u8]); 4] = [
     (
         0,

@@ -7,7 +7,7 @@ use store_open::{FormatError, Geometry, format, read_geometry};
 // How many calls of the device it takes to make a store.
 const CALLS: u64 = 7;
 
-// How the sectors of a new store that aren't zero begin; all after these bytes is zero.
+// How the sectors of a new store that are not zero begin; all after these bytes is zero.
 const BEGINNINGS: [(u64, &[u8]); 3] = [
     (
         0,

@@ -140,7 +140,7 @@ const IMAGES: [Hostile; 18] = [
     },
 ];
 
-/// Two things are wrong, or one that doesn't count.
+/// Two things are wrong, or one that does not count.
 const ORDERS: [Hostile; 12] = [
     Hostile {
         name: "the sizes before the halves",

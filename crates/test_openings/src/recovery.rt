@@ -112,7 +112,7 @@ fn assert_opens(
 }
 
 /// Stops the first opening after this number of calls, and the second one at every call; the third
-/// one isn't stopped.
+/// one is not stopped.
 fn assert_opens_after_two(
     rt: &impl Abort,
     alloc: Global,

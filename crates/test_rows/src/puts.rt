@@ -111,7 +111,7 @@ fn assert_purged(rt: &impl Abort, database: &mut PathDb, len: u64) -> Result<(),
     Ok(())
 }
 
-// A registration may reach the limit, and isn't applied one byte above it. A purge is applied with
+// A registration may reach the limit, and is not applied one byte above it. A purge is applied with
 // any limit.
 #[test]
 fn rows_stay_within_the_limit(rt: HostRuntime) -> Result<(), Fail> {

@@ -231,7 +231,7 @@ fn told(command: &Command) -> (u8, u64) {
     }
 }
 
-/// The kind and the number of the command that is read; kind 0 where it isn't written as it was
+/// The kind and the number of the command that is read; kind 0 where it is not written as it was
 /// read. Where memory is refused, the bytes are read again.
 fn command_of(alloc: Global, bytes: &[u8], version: u32) -> Result<(u8, u64), DbError> {
     let command = match read_command(alloc, bytes, version) {

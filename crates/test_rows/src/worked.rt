@@ -35,8 +35,8 @@ pub(crate) fn register(alloc: Global, kind: SegType, segment: Segment) -> Result
     Ok(Command::Register(Registration::new(rows)))
 }
 
-/// The worked segment as a down segment with the timestamps 10, 11, 11 and 9, each time with another
-/// segment id, in one registration.
+/// The worked segment as a down segment with the timestamps 10, 11, 11 and 9, each time with
+/// another segment id, in one registration.
 pub(crate) fn four(alloc: Global) -> Result<Registration, Fail> {
     let mut rows = Vec::new(alloc);
     for (timestamp, segment_id) in [(10, 1), (11, 2), (11, 3), (9, 4)] {

@@ -1,4 +1,4 @@
-//! What a library of scripts calls where something isn't as a test expects it. A library may not
+//! What a library of scripts calls where something is not as a test expects it. A library may not
 //! end a process, so the crate of tests says how a test is ended.
 ghost use Rattle.std.specs.Prelude.{◌≡◌, true};
 
@@ -8,7 +8,7 @@ use std::fmt::{Debug, Display};
 /// its own with this trait, over a runtime that may end the process: a library may not name the
 /// bound `Abort`, so one `Host` for all of them has no crate to be in.
 pub trait TestHost {
-    /// Ends the test, and says why. It doesn't return.
+    /// Ends the test, and says why. It does not return.
     fn fail<D: Display + Drop>(&self, why: D) -> !;
 }
 

@@ -1,6 +1,6 @@
 use Rattle.std.proofs.Common.{◌≡◌, ◌++◌, length, take, drop}
 use Rattle.path_db.specs.RowRecord.{rows_encoding}
-use Rattle.path_db.proofs.command_records.put_items.Given as goal
+use Rattle.path_db.proofs.command_records.put_rows.Given as goal
 
 -- The records that were put and the rows that are left are all rows, after the bytes that were
 -- there.
