@@ -7,7 +7,7 @@ use Rattle.std.proofs.KnownBytes.{Appends-nil}
 use Rattle.session_core.specs.declared.error.FrameError.TheVariants as error
 use Rattle.session_core.specs.declared.reply.Form.{Form}
 use Rattle.session_core.specs.Frames.{AreWholeFrames}
-use Rattle.session_core.specs.Session.{TellsAllBefore, IsPrompt}
+use Rattle.session_core.specs.Session.{TellsAllBefore, IsPrompt, AreAhead}
 use Rattle.session_core.specs.Source.{AreReads}
 use Rattle.cli_once.specs.Memory.{Served}
 use Rattle.cli_once.specs.Session.{IsSession}
@@ -19,6 +19,9 @@ no_frames bytes = record { joined = refl; sized = tt }
 
 tells_nothing : (form : Form) → TellsAllBefore form [] []
 tells_nothing form = record { before = []; last = []; parts = refl; one = omega arith; written_is = refl }
+
+none_ahead : (bytes : List ℕ) → AreAhead [] bytes
+none_ahead bytes = record { commands = tt; few = omega arith; behind = bytes; framed = no_frames bytes }
 
 prompt : IsPrompt [] [] []
 prompt = record {
@@ -42,6 +45,8 @@ unserved gives turns start source input_left output = record {
     pieces = [];
     exchanges = [];
     rest = [];
+    handed = [];
+    ahead = none_ahead [];
     written = [];
     read = record { made = refl; few = omega arith; short = tt };
     framed = no_frames [];
@@ -60,6 +65,8 @@ unanswered start bytes output = record {
   served = record {
     exchanges = [];
     rest = bytes;
+    handed = [];
+    ahead = none_ahead bytes;
     written = [];
     framed = no_frames bytes;
     answered = refl;

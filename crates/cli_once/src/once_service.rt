@@ -19,7 +19,7 @@ use reply_codes::{Refusal, check_all};
 use seg_check::Verifier;
 use seg_core::{SegType, Segment, read_registration, read_registrations_are_whole, read_request};
 use seg_lookup::{Roster, classify};
-use session_core::{Ack, Code, Service};
+use session_core::{Ack, Code, Message, Service};
 use std::alloc::{AllocError, Global};
 
 /// The core ASes, the verifier of signatures, the moment, and a store in memory. The service cannot
@@ -129,9 +129,18 @@ fn refusal_of(error: TakeError) -> Refusal
 
 impl<V: Verifier> Service for OnceService<'_, V> {
     ghost use Rattle.cli_once.specs.Kept.{served_by};
-    ghost use Rattle.cli_once.specs.Memory.{Answers};
+    ghost use Rattle.cli_once.specs.Memory.{Served, Answers};
 
-    ghost answers = { λ old message reply new. Answers (served_by V.verifies old) message reply (served_by V.verifies new) };
+    /// Nothing, as no message is taken ahead of its reply.
+    type UnderWay = ();
+
+    ghost State = { Served };
+
+    ghost state = { served_by V.verifies };
+
+    ghost answers = { Answers };
+
+    ghost is_for = { λ _ _ _. ⊥ };
 
     fn register(&mut self, alloc: Global, message: &[u8]) -> Result<Ack, Code> {
         Ok(self.accept(alloc, message)?)
@@ -147,5 +156,14 @@ impl<V: Verifier> Service for OnceService<'_, V> {
 
     fn remove(&mut self, kind: u8, id: &[u8; 32]) -> Result<Ack, Code> {
         Ok(self.drop_one(kind, id)?)
+    }
+
+    fn hand_in(&mut self, _alloc: Global, _message: Message<&[u8]>) -> Option<()> {
+        None
+    }
+
+    /// Refuses, as nothing is ever under way.
+    fn settle(&mut self, _under_way: ()) -> Result<Ack, Code> {
+        Err(Code::from(Refusal::Stopped))
     }
 }

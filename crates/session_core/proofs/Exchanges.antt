@@ -12,7 +12,9 @@ use Rattle.session_core.specs.Frames.{MessageView, message_frame, AreWholeFrames
 use Rattle.session_core.specs.Reply.{ReplyView, HasReplySize, told_as}
 use Rattle.session_core.specs.Service.{Exchange, messages_of, replies_of, all_told, AreAnswered}
 use Rattle.session_core.specs.declared.reply.Form.{Form}
-use Rattle.session_core.specs.Answered.{IsFirstAnswered, AreFrontsAnswered, FailsToWrite}
+use Rattle.session_core.specs.Answered.{IsFirstAnswered, IsUnanswered, AreFrontsAnswered, FailsToWrite}
+use Rattle.session_core.specs.Front.{IsFaultAt}
+use Rattle.session_core.specs.Session.{AreAhead}
 use Rattle.session_core.proofs.Streams.{AreWholeFrames-none, AreWholeFrames-append}
 
 -- ---- lists of exchanges
@@ -58,6 +60,40 @@ module _ {S : Type 0} (form : Form) (answers : S → MessageView → ReplyView �
     counted = omega arith;
   }
 
+  -- the next frame is faulty
+  pub stops_at_fault : (a b c : S) (bytes mid rest left : List ℕ) (o p : Option (List ℕ)) (n m : ℕ) (e : FrameError) → HasAnswered form answers a bytes b mid o p n m
+      → IsFaultAt mid e × IsUnanswered b mid c rest → AreFrontsAnswered form answers a bytes c left o p n (Err e)
+  stops_at_fault a b c bytes mid rest left o p n m error.Length h f = record {
+    exchanges = h.exchanges;
+    rest = mid;
+    handed = [];
+    ahead = refl;
+    written = all_told form h.exchanges;
+    framed = h.framed;
+    answered = subst (λ (s : S). AreAnswered answers a h.exchanges s) (sym f.1.same) h.answered;
+    sized = h.sized;
+    appended = h.appended;
+    told = refl;
+    stops = f.0;
+  }
+  stops_at_fault a b c bytes mid rest left o p n m error.Kind h f = record {
+    exchanges = h.exchanges;
+    rest = mid;
+    handed = [];
+    ahead = refl;
+    written = all_told form h.exchanges;
+    framed = h.framed;
+    answered = subst (λ (s : S). AreAnswered answers a h.exchanges s) (sym f.1.same) h.answered;
+    sized = h.sized;
+    appended = h.appended;
+    told = refl;
+    stops = f.0;
+  }
+  stops_at_fault a b c bytes mid rest left o p n m error.NoMemory h f = absurd f.0
+  stops_at_fault a b c bytes mid rest left o p n m error.Read h f = absurd f.0
+  stops_at_fault a b c bytes mid rest left o p n m error.Write h f = absurd f.0
+  stops_at_fault a b c bytes mid rest left o p n m error.Turns h f = absurd f.0
+
   -- the exchange of the first message
   abbrev pub first_of : (a b : S) (bytes rest : List ℕ) (reply : ReplyView) → IsFirstAnswered answers a bytes reply b rest → Exchange
   first_of a b bytes rest reply x = record { message = x.message; reply = reply }
@@ -98,10 +134,12 @@ module _ {S : Type 0} (form : Form) (answers : S → MessageView → ReplyView �
     }
 
     -- the reply was not written, or only a front of it
-    pub stops_at_write : (left : List ℕ) (q : Option (List ℕ)) (e : FrameError) → FailsToWrite p q (told_as form reply) e → AreFrontsAnswered form answers a bytes c left o q n (Err e)
-    stops_at_write left q error.Write f = record {
+    pub stops_at_write : (left : List ℕ) (q : Option (List ℕ)) (e : FrameError) (handed : List MessageView) → AreAhead handed rest → FailsToWrite p q (told_as form reply) e → AreFrontsAnswered form answers a bytes c left o q n (Err e)
+    stops_at_write left q error.Write handed after f = record {
       exchanges = more;
       rest = rest;
+      handed = handed;
+      ahead = after;
       written = all_told form h.exchanges ++ f.front;
       framed = more_framed;
       answered = more_answered;
@@ -118,9 +156,11 @@ module _ {S : Type 0} (form : Form) (answers : S → MessageView → ReplyView �
       };
       stops = tt;
     }
-    stops_at_write left q error.NoMemory f = record {
+    stops_at_write left q error.NoMemory handed after f = record {
       exchanges = more;
       rest = rest;
+      handed = handed;
+      ahead = after;
       written = all_told form h.exchanges;
       framed = more_framed;
       answered = more_answered;
@@ -129,7 +169,7 @@ module _ {S : Type 0} (form : Form) (answers : S → MessageView → ReplyView �
       told = record { before = h.exchanges; last = first_of b c mid rest reply x ∷ []; parts = refl; one = omega arith; written_is = refl };
       stops = tt;
     }
-    stops_at_write left q error.Length f = absurd f
-    stops_at_write left q error.Kind f = absurd f
-    stops_at_write left q error.Read f = absurd f
-    stops_at_write left q error.Turns f = absurd f
+    stops_at_write left q error.Length handed after f = absurd f
+    stops_at_write left q error.Kind handed after f = absurd f
+    stops_at_write left q error.Read handed after f = absurd f
+    stops_at_write left q error.Turns handed after f = absurd f

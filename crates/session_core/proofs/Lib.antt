@@ -5,6 +5,7 @@ pub mod OneDecoding
 pub mod SomeDecoding
 mod ResponseLengths
 mod WriteLemmas
+mod AheadLemmas
 mod Exchanges
 mod SessionLemmas
 mod Behind

@@ -16,8 +16,10 @@ use Rattle.session_core.specs.Service.{Exchange, messages_of, replies_of, all_to
 use Rattle.session_core.specs.declared.reply.Form.{Form}
 use Rattle.session_core.specs.declared.reply.Form.TheVariants.{Frames}
 use Rattle.session_core.specs.Source.{AreReads}
-use Rattle.session_core.specs.Session.{WritesReplies, TellsFrontOfLast, IsPrompt, EndsFor, IsServed}
+use Rattle.session_core.specs.Session.{WritesReplies, LeavesAhead, TellsFrontOfLast, IsPrompt, EndsFor, IsServed}
 use Rattle.session_core.specs.Answered.{AreFrontsAnswered}
+use Rattle.session_core.specs.Lines.{IsServedInLines}
+use Rattle.session_core.proofs.AheadLemmas.{none_ahead, all_ahead}
 use Rattle.session_core.proofs.Streams.{AreWholeFrames-none, AreWholeFrames-append, AreWholeFrames-more}
 use Rattle.session_core.proofs.Exchanges.{HasAnswered, answered_none, sized-append, folds-append, messages-append, replies-append, told-append}
 
@@ -59,6 +61,8 @@ module _ {S : Type 0} (form : Form) (answers : S → MessageView → ReplyView �
   stops_at_once s bytes left o n = record {
     exchanges = [];
     rest = bytes;
+    handed = [];
+    ahead = none_ahead bytes;
     written = [];
     framed = AreWholeFrames-none bytes;
     answered = refl;
@@ -74,6 +78,8 @@ module _ {S : Type 0} (form : Form) (answers : S → MessageView → ReplyView �
   not_flushed a b bytes left o p q n r x k = record {
     exchanges = x.exchanges;
     rest = x.rest;
+    handed = x.handed;
+    ahead = all_ahead r x.handed x.rest x.ahead;
     written = x.written;
     framed = x.framed;
     answered = x.answered;
@@ -82,6 +88,22 @@ module _ {S : Type 0} (form : Form) (answers : S → MessageView → ReplyView �
     told = front_of form r x.written x.exchanges x.told;
     stops = tt;
   }
+
+-- no memory for a session over bytes in memory
+pub ends_in_lines_at_once : {S : Type 0} (answers : S → MessageView → ReplyView → S → Type 0) (bytes : List ℕ) (s : S) (o : Option (List ℕ)) (e : FrameError) → e ≡ error.NoMemory → IsServedInLines answers bytes s s o o (Err e)
+ends_in_lines_at_once answers bytes s o e is = subst (λ (x : FrameError). IsServedInLines answers bytes s s o o (Err x)) (sym is) (record {
+  exchanges = [];
+  rest = bytes;
+  handed = [];
+  ahead = none_ahead bytes;
+  written = [];
+  framed = AreWholeFrames-none bytes;
+  answered = refl;
+  sized = tt;
+  appended = Appends-nil o;
+  told = record { before = []; last = []; parts = refl; one = omega arith; written_is = refl };
+  ended = tt;
+})
 
 -- ---- all pieces
 
@@ -120,6 +142,8 @@ module _ {S R : Type 0} (answers : S → MessageView → ReplyView → S → Typ
     pieces = [];
     exchanges = [];
     rest = [];
+    handed = [];
+    ahead = none_ahead [];
     written = [];
     read = record { made = refl; few = omega arith; short = tt };
     framed = AreWholeFrames-none [];
@@ -184,12 +208,14 @@ module _ {S R : Type 0} (answers : S → MessageView → ReplyView → S → Typ
       closed_framed : AreWholeFrames (concat (h.pieces ++ last)) (messages_of h.done.exchanges) inbox
       closed_framed = subst (λ (bytes : List ℕ). AreWholeFrames bytes (messages_of h.done.exchanges) inbox) (sym nothing) h.done.framed
 
-      ends_here : (result : Result ℕ FrameError) → WritesReplies Frames result (reply_frames h.done.exchanges) h.done.exchanges → EndsFor i turns (h.pieces ++ last) h.done.exchanges inbox result
+      ends_here : (result : Result ℕ FrameError) → WritesReplies Frames result (reply_frames h.done.exchanges) h.done.exchanges → LeavesAhead result [] inbox → EndsFor i turns (h.pieces ++ last) h.done.exchanges inbox result
           → IsServed answers gives turns a b r t i o p result
-      ends_here result told ended = record {
+      ends_here result told none ended = record {
         pieces = h.pieces ++ last;
         exchanges = h.done.exchanges;
         rest = inbox;
+        handed = [];
+        ahead = none;
         written = reply_frames h.done.exchanges;
         read = read;
         framed = closed_framed;
@@ -202,13 +228,13 @@ module _ {S R : Type 0} (answers : S → MessageView → ReplyView → S → Typ
       }
 
       ends_well : IsAtEnd i → inbox ≡ [] → IsServed answers gives turns a b r t i o p (Ok count)
-      ends_well end none = ends_here (Ok count) refl (record { at_end = end; whole = none; counted = omega (arith, h.done.counted) })
+      ends_well end none = ends_here (Ok count) refl refl (record { at_end = end; whole = none; counted = omega (arith, h.done.counted) })
 
       ends_at_read : IsServed answers gives turns a b r t i o p (Err error.Read)
-      ends_at_read = ends_here (Err error.Read) refl h.partial
+      ends_at_read = ends_here (Err error.Read) refl refl h.partial
 
       ends_in_time : length (h.pieces ++ last) ≡ turns → IsServed answers gives turns a b r t i o p (Err error.Turns)
-      ends_in_time all = ends_here (Err error.Turns) refl (h.partial, all)
+      ends_in_time all = ends_here (Err error.Turns) refl refl (h.partial, all)
 
     nothing_more : concat (h.pieces ++ [] ∷ []) ≡ concat h.pieces
     nothing_more = all_joined [] ∙ append-nil (concat h.pieces)
@@ -306,6 +332,8 @@ module _ {S R : Type 0} (answers : S → MessageView → ReplyView → S → Typ
       pieces = h.pieces ++ piece ∷ [];
       exchanges = h.done.exchanges ++ x.exchanges;
       rest = x.rest;
+      handed = x.handed;
+      ahead = x.ahead;
       written = reply_frames h.done.exchanges ++ x.written;
       read = read_more turns t piece lt one short;
       framed = both_framed c t piece left q result x;

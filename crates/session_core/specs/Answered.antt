@@ -1,8 +1,9 @@
 -- The effect of answering the whole frames of some bytes.
-use Rattle.std.specs.Prelude.{◌≡◌, ℕ, ◌+◌, ◌-◌, ◌^◌, min, List, [], ◌++◌, length, Option, Some, None, Result, Ok, Err}
+use Rattle.std.specs.Prelude.{◌≡◌, ℕ, ◌+◌, ◌-◌, ◌^◌, ◌<◌, min, List, [], ◌++◌, length, Option, Some, None, Result, Ok, Err}
 use Rattle.std.specs.List.{AllByRecursion}
 use Rattle.std.specs.Io.KnownBytes.{Appends}
 use Rattle.whole_writes.specs.Written.{IsWrittenInPart}
+use Rattle.session_core.specs.declared.ahead.TheConstants.{MOST_AHEAD}
 use Rattle.session_core.specs.declared.error.FrameError.{FrameError}
 use Rattle.session_core.specs.declared.error.FrameError.TheVariants as error
 use Rattle.session_core.specs.declared.reply.Reply.{Reply}
@@ -12,7 +13,7 @@ use Rattle.session_core.specs.Reply.{ReplyView, HasReplySize}
 use Rattle.session_core.specs.ReplyViews.{reply_view}
 use Rattle.session_core.specs.Service.{Exchange, messages_of, replies_of, AreAnswered}
 use Rattle.session_core.specs.declared.reply.Form.{Form}
-use Rattle.session_core.specs.Session.{WritesReplies, SessionEndsEarly}
+use Rattle.session_core.specs.Session.{WritesReplies, LeavesAhead, SessionEndsEarly}
 
 -- The message at the front was answered, and its frame was removed.
 pub record IsFirstAnswered {S : Type 0} (answers : S → MessageView → ReplyView → S → Type 0) (old : S) (bytes : List ℕ) (reply : ReplyView) (new : S) (rest : List ℕ) : Type 0 where
@@ -39,6 +40,12 @@ IsNextReply answers old bytes new rest (Ok (Some reply)) = IsFirstAnswered answe
 IsNextReply answers old bytes new rest (Ok None) = IsPartial bytes × IsUnanswered old bytes new rest
 IsNextReply answers old bytes new rest (Err e) = IsFaultAt bytes e × IsUnanswered old bytes new rest
 
+-- After a reply, fewer than `MOST_AHEAD` commands are under way. Otherwise none is.
+abbrev pub LeavesFewAhead : {A : Type 0} → Result (Option Reply) FrameError → List A → Type 0
+LeavesFewAhead (Ok (Some reply)) ahead = length ahead < MOST_AHEAD
+LeavesFewAhead (Ok None) ahead = ahead ≡ []
+LeavesFewAhead (Err e) ahead = ahead ≡ []
+
 -- Less than a frame is left over.
 pub record LeavesPartialFrame (count : ℕ) (exchanges : List Exchange) (rest left : List ℕ) (sum : ℕ) : Type 0 where
   pub partial : IsPartial rest
@@ -58,12 +65,16 @@ pub record AreFrontsAnswered {S : Type 0} (form : Form) (answers : S → Message
   pub exchanges : List Exchange
   -- The bytes after the frames of those messages, which are what is left, unless there is an error.
   pub rest : List ℕ
+  -- The messages that were handed in and not answered.
+  pub handed : List MessageView
   -- The bytes that were written.
   pub written : List ℕ
   -- The bytes are the frames of the messages, and the rest.
   pub framed : AreWholeFrames bytes (messages_of exchanges) rest
   -- The service answered the messages in order.
   pub answered : AreAnswered answers old exchanges new
+  -- The messages that were handed in and not answered are the next ones.
+  pub ahead : LeavesAhead result handed rest
   -- Each reply fits into a frame.
   pub sized : AllByRecursion HasReplySize (replies_of exchanges)
   -- The output has the written bytes.

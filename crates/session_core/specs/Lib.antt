@@ -3,6 +3,8 @@ pub mod Front
 pub mod Reply
 pub mod ReplyViews
 pub mod Service
+pub mod Commands
+pub mod Ahead
 pub mod Source
 pub mod Session
 pub mod Answered

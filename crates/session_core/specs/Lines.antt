@@ -7,7 +7,7 @@ use Rattle.session_core.specs.declared.reply.Form.TheVariants.{Lines}
 use Rattle.session_core.specs.Frames.{MessageView, IsPartial, AreWholeFrames}
 use Rattle.session_core.specs.Reply.{ReplyView, HasReplySize}
 use Rattle.session_core.specs.Service.{Exchange, messages_of, replies_of, AreAnswered}
-use Rattle.session_core.specs.Session.{WritesReplies, SessionEndsEarly}
+use Rattle.session_core.specs.Session.{WritesReplies, LeavesAhead, SessionEndsEarly}
 
 -- Nothing is left over, and the count is that of the replies, at most 2^64 - 1.
 pub record IsWholeCount (exchanges : List Exchange) (rest : List ℕ) (count : ℕ) : Type 0 where
@@ -26,12 +26,16 @@ pub record IsServedInLines {S : Type 0} (answers : S → MessageView → ReplyVi
   pub exchanges : List Exchange
   -- The bytes after the frames of those messages.
   pub rest : List ℕ
+  -- The messages that were handed in and not answered.
+  pub handed : List MessageView
   -- The bytes that were written.
   pub written : List ℕ
   -- The bytes are the frames of the messages, and the rest.
   pub framed : AreWholeFrames bytes (messages_of exchanges) rest
   -- The service answered the messages in order.
   pub answered : AreAnswered answers service exchanges service_left
+  -- The messages that were handed in and not answered are the next ones.
+  pub ahead : LeavesAhead result handed rest
   -- Each reply fits into a frame.
   pub sized : AllByRecursion HasReplySize (replies_of exchanges)
   -- The output has the written bytes.

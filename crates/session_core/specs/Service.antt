@@ -1,6 +1,6 @@
 -- The messages that a service answers, and its replies.
 use Rattle.std.specs.Prelude.{◌≡◌, ℕ, List, map, Result, Ok, Err, Vec}
-use Rattle.std.specs.Borrow.{MutBor}
+use Rattle.std.specs.Borrow.{GName}
 use Rattle.std.specs.List.{FoldsTo, flat_map}
 use Rattle.seg_core.specs.declared.seg_type.SegType.{SegType}
 use Rattle.seg_core.specs.SegmentView.{SegmentView}
@@ -52,11 +52,12 @@ all_told form exchanges = flat_map (λ e. told_as form e.reply) exchanges
 abbrev pub reply_frames : List Exchange → List ℕ
 reply_frames exchanges = all_told Frames exchanges
 
--- The service answered these messages with these replies, one after the other, each from the state
+-- A service answered these messages with these replies, one after the other, each from the state
 -- after the one before.
 abbrev pub AreAnswered : {S : Type 0} → (S → MessageView → ReplyView → S → Type 0) → S → List Exchange → S → Type 0
 AreAnswered answers old exchanges new = FoldsTo (λ before e after. answers before e.message e.reply after) old exchanges new
 
--- The borrowed service answered, and the borrow itself did not change.
-abbrev pub AnswersBehind : {S : Type 0} → (S → MessageView → ReplyView → S → Type 0) → MutBor S → MessageView → ReplyView → MutBor S → Type 0
-AnswersBehind answers old message reply new = answers old.now message reply new.now × (new.ghost_name ≡ old.ghost_name)
+-- The borrowed service answered, and the borrow itself did not change. A borrowed service is in the
+-- state of the service, under the name of the borrow.
+abbrev pub AnswersBehind : {S : Type 0} → (S → MessageView → ReplyView → S → Type 0) → S × GName → MessageView → ReplyView → S × GName → Type 0
+AnswersBehind answers old message reply new = answers old.0 message reply new.0 × (new.1 ≡ old.1)

@@ -1,9 +1,11 @@
 -- What a session over any service has read, answered and written when it ends.
-use Rattle.std.specs.Prelude.{◌≡◌, ℕ, ◌-◌, ◌^◌, ◌≤◌, min, List, [], ◌++◌, length, Option, Result, Ok, Err}
+use Rattle.std.specs.Prelude.{◌≡◌, ℕ, ◌-◌, ◌^◌, ◌<◌, ◌≤◌, min, List, [], ◌++◌, length, Option, Result, Ok, Err, IsSome}
 use Rattle.std.specs.List.{AllByRecursion, concat}
 use Rattle.std.specs.Io.KnownBytes.{Appends, IsAtEnd}
 use Rattle.session_core.specs.declared.error.FrameError.{FrameError}
 use Rattle.session_core.specs.declared.error.FrameError.TheVariants as error
+use Rattle.session_core.specs.declared.ahead.TheConstants.{MOST_AHEAD}
+use Rattle.session_core.specs.Commands.{command_kind}
 use Rattle.session_core.specs.Frames.{MessageView, IsPartial, HasBadLength, HasBadKind, Rest, AreWholeFrames, AreFrames}
 use Rattle.session_core.specs.Reply.{ReplyView, HasReplySize}
 use Rattle.session_core.specs.Service.{Exchange, messages_of, replies_of, all_told, reply_frames, AreAnswered}
@@ -84,6 +86,30 @@ pub record IsPrompt (pieces : List (List ℕ)) (exchanges : List Exchange) (writ
   -- The replies to those messages were written.
   pub kept : IsBeginningOf (reply_frames told) written
 
+-- ---- what was handed in
+
+-- These are commands at the front of the bytes, fewer than `MOST_AHEAD` of them.
+pub record AreAhead (messages : List MessageView) (bytes : List ℕ) : Type 0 where
+  -- Each is a command.
+  pub commands : AllByRecursion (λ message. IsSome (command_kind message)) messages
+  -- At least one of those that were handed in with them was answered.
+  pub few : length messages < MOST_AHEAD
+  -- The bytes after their frames.
+  pub behind : List ℕ
+  -- The bytes are their frames, and those bytes.
+  pub framed : AreWholeFrames bytes messages behind
+
+-- The messages that are handed in and not answered when a session ends, where these bytes are not
+-- answered: none, unless a write failed or memory was refused.
+abbrev pub LeavesAhead : Result ℕ FrameError → List MessageView → List ℕ → Type 0
+LeavesAhead (Ok count) messages rest = messages ≡ []
+LeavesAhead (Err error.NoMemory) messages rest = AreAhead messages rest
+LeavesAhead (Err error.Length) messages rest = messages ≡ []
+LeavesAhead (Err error.Kind) messages rest = messages ≡ []
+LeavesAhead (Err error.Read) messages rest = messages ≡ []
+LeavesAhead (Err error.Write) messages rest = AreAhead messages rest
+LeavesAhead (Err error.Turns) messages rest = messages ≡ []
+
 -- ---- why a session ends
 
 -- The reader is at its end, nothing is left over, and the count is that of the replies, at most
@@ -120,6 +146,8 @@ pub record IsServed {S R : Type 0} (answers : S → MessageView → ReplyView �
   pub exchanges : List Exchange
   -- The bytes after the frames of those messages.
   pub rest : List ℕ
+  -- The messages that were handed in and not answered.
+  pub handed : List MessageView
   -- The bytes that were written.
   pub written : List ℕ
   -- The source was read for the pieces.
@@ -128,6 +156,8 @@ pub record IsServed {S R : Type 0} (answers : S → MessageView → ReplyView �
   pub framed : AreWholeFrames (concat pieces) (messages_of exchanges) rest
   -- The service answered the messages in order, from its first state to its last.
   pub answered : AreAnswered answers service exchanges service_left
+  -- The messages that were handed in and not answered are the next ones.
+  pub ahead : LeavesAhead result handed rest
   -- Each reply fits into a frame.
   pub sized : AllByRecursion HasReplySize (replies_of exchanges)
   -- The output has the written bytes.

@@ -3,7 +3,7 @@
 use seg_core::MOST_REGISTERED_BYTES;
 
 /// The number of bytes of a frame's length.
-pub(crate) const LENGTH_SIZE: usize = 4;
+pub const LENGTH_SIZE: usize = 4;
 /// The number of bytes of a frame's kind.
 const KIND_SIZE: usize = 1;
 

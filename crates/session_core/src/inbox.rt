@@ -1,6 +1,6 @@
 //! The bytes that were read but are not answered yet.
 
-ghost use Rattle.std.specs.Prelude.{◌≡◌, ◌≤◌, ◌++◌, [], length, drop, OnOk, OnErr, IsTrue, ◌↔◌};
+ghost use Rattle.std.specs.Prelude.{◌≡◌, ◌+◌, ◌^◌, ◌<◌, ◌≤◌, ◌++◌, [], length, drop, IfOk, IfSome, OnOk, OnErr, IsTrue, ◌↔◌};
 ghost use Rattle.session_core.specs.Front.{IsFrontReading};
 
 use crate::error::FrameError;
@@ -69,6 +69,19 @@ impl Inbox {
         ensures { IsFrontReading self.now result }
     {
         next_frame(self.bytes.split_at(self.used).1)
+    }
+
+    /// The message whose frame begins after this number of bytes, and how many bytes the frame has.
+    /// `None` means that the bytes from there on are less than a frame.
+    pub(crate) fn front_after(
+        &self,
+        at: usize,
+    ) -> Result<Option<(Message<&[u8]>, usize)>, FrameError>
+        requires { at ≤ length self.now }
+        ensures front { IsFrontReading (drop at self.now) result }
+        ensures fits { IfOk result (λ front. IfSome front (λ next. at + next.1 < 2 ^ 64)) }
+    {
+        next_frame(self.bytes.split_at(self.used + at).1)
     }
 
     /// Removes this number of bytes from the front.

@@ -6,6 +6,8 @@
 //! however the stream is cut.
 #![tactic(auto)]
 
+mod ahead;
+mod command_kind;
 mod error;
 mod format;
 mod framer;
@@ -22,8 +24,10 @@ mod session;
 mod source;
 mod writing;
 
+pub use ahead::MOST_AHEAD;
+pub use command_kind::CommandKind;
 pub use error::FrameError;
-pub use format::{MOST_LENGTH, MOST_REPLY};
+pub use format::{LENGTH_SIZE, MOST_LENGTH, MOST_REPLY};
 pub use framer::{Fed, Framer};
 pub use lines::serve_in_lines;
 pub use message::Message;

@@ -1,8 +1,11 @@
 //! Sessions over bytes in memory, whose replies are written as lines.
 
+ghost use Rattle.std.specs.Prelude.{◌≡◌, []};
 ghost use Rattle.session_core.specs.Lines.{IsServedInLines};
 
+use crate::ahead::Ahead;
 use crate::error::FrameError;
+use crate::inbox::Inbox;
 use crate::reply::Form;
 use crate::service::Service;
 use crate::serving::{answer_and_flush, end};
@@ -12,16 +15,18 @@ use std::io::Write;
 
 /// Answers the messages whose frames are these bytes, and writes each reply as a line: the
 /// hexadecimal digits of its frame in lower case. The result is the number of replies that were
-/// written, capped at 2^64 - 1. Bytes that end within a frame are `Read`.
+/// written, capped at 2^64 - 1. Bytes that end within a frame are `Read`. Commands are handed in
+/// ahead as by `serve`.
 pub fn serve_in_lines<W: Write, S: Service>(
     alloc: Global,
     bytes: Vec<u8>,
     writer: &mut W,
     service: &mut S,
 ) -> Result<u64, FrameError>
-    ensures { IsServedInLines S.answers bytes.items service.old service.new (W.contents writer.old) (W.contents writer.new) result }
+    ensures { IsServedInLines S.answers bytes.items (S.state service.old) (S.state service.new) (W.contents writer.old) (W.contents writer.new) result }
 {
-    let mut session = Session::holding(service, bytes);
+    let ahead = Ahead::new(alloc)?;
+    let mut session = Session::new(service, Inbox::holding(bytes), ahead);
     let served = serve_whole(alloc, writer, &mut session);
     let _service = session.into_service();
     served
@@ -33,7 +38,8 @@ fn serve_whole<W: Write, S: Service>(
     writer: &mut W,
     session: &mut Session<S>,
 ) -> Result<u64, FrameError>
-    ensures { IsServedInLines S.answers session.old.inbox session.old.service session.new.service
+    requires { session.old.ahead.queue.items ≡ [] }
+    ensures { IsServedInLines S.answers session.old.inbox (S.state session.old.service) (S.state session.new.service)
         (W.contents writer.old) (W.contents writer.new) result }
 {
     let count = answer_and_flush(alloc, writer, session, Form::Lines, 0)?;

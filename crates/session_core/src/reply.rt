@@ -3,10 +3,12 @@
 ghost use Rattle.std.specs.Prelude.{◌≡◌, ◌≤◌, ◌<◌, ◌++◌, ◌∷◌, ℕ, List, length, IfOk};
 ghost use Rattle.seg_core.specs.Registration.{typed_segments};
 ghost use Rattle.seg_core.specs.Encoding.{response_encoding};
+ghost use Rattle.session_core.specs.Commands.{reply_to_kind};
 ghost use Rattle.session_core.specs.Frames.{frame_encoding};
 ghost use Rattle.session_core.specs.Reply.{ack_encoding, reply_frame, HasReplySize, Found, Refused};
 ghost use Rattle.session_core.specs.ReplyViews.{reply_view};
 
+use crate::command_kind::CommandKind;
 use crate::format::{
     ACK_FRAME, ACK_LENGTH, FOUND, MOST_REPLY, PURGED, REFUSAL_FRAME, REFUSAL_LENGTH, REFUSED,
     REGISTERED, REMOVED,
@@ -38,6 +40,21 @@ pub enum Reply {
     Removed(Ack),
     /// A message was refused.
     Refused(Code),
+}
+
+/// The reply to a command of this kind.
+pub(crate) fn reply_to(kind: CommandKind, answered: Result<Ack, Code>) -> Reply
+    ensures reply { reply_view result ≡ reply_to_kind kind answered }
+    ensures sized { HasReplySize (reply_view result) }
+{
+    match answered {
+        Ok(ack) => match kind {
+            CommandKind::Register => Reply::Registered(ack),
+            CommandKind::Purge => Reply::Purged(ack),
+            CommandKind::Remove => Reply::Removed(ack),
+        },
+        Err(code) => Reply::Refused(code),
+    }
 }
 
 /// The frame of an acknowledgement, under the kind of its command.

@@ -1,13 +1,18 @@
 //! Services, which answer the messages of a session.
 
-ghost use Rattle.std.specs.Prelude.{◌≤◌, length, IfOk};
+ghost use Rattle.std.specs.Prelude.{◌≡◌, ◌≤◌, length, IfOk, IfSome, IsSome, Some};
 ghost use Rattle.std.specs.List.{AllByRecursion};
+ghost use Rattle.std.specs.Borrow.{GName};
 ghost use Rattle.seg_core.specs.Encoding.{IsSegment};
+ghost use Rattle.session_core.specs.Commands.{command_kind, reply_to_kind};
 ghost use Rattle.session_core.specs.Frames.{MessageView};
+ghost use Rattle.session_core.specs.Front.{message_at};
 ghost use Rattle.session_core.specs.Reply.{ReplyView};
 ghost use Rattle.session_core.specs.Service.{reply_to_register, reply_to_lookup, reply_to_purge, reply_to_remove, AnswersBehind};
+ghost use Rattle.session_core.specs.declared.command_kind.CommandKind.{CommandKind as KindOfCommand};
 ghost use Rattle.session_core.specs.declared.message.Message.TheVariants.{Register, Lookup, Purge, Remove};
 
+use crate::message::Message;
 use path_rows::Outcome;
 use seg_core::{SegType, Segment};
 use std::alloc::Global;
@@ -28,34 +33,72 @@ pub struct Ack {
 pub struct Code(pub u8);
 
 /// Answers messages. Each message may change the state of the service.
+///
+/// A command can be answered in two steps: `hand_in` takes it, and `settle` answers it. Commands
+/// that were handed in are answered in the order in which they were handed in, and no other message
+/// is answered before them.
 pub trait Service {
+    /// A command that was handed in and is not answered yet.
+    type UnderWay: Drop;
+
+    /// What contracts see of the messages that were answered.
+    ghost State: { Type 0 };
+
+    /// The state of a service. A command that is handed in does not change it.
+    ghost state: { Self → State };
+
     /// The service may answer the message with the reply in the first state, and is in the second
     /// state afterwards.
-    ghost answers: { Self → MessageView → ReplyView → Self → Type 0 };
+    ghost answers: { State → MessageView → ReplyView → State → Type 0 };
+
+    /// In this state it is known that this is under way for the message.
+    ghost is_for: { State → Self.UnderWay → MessageView → Type 0 };
 
     /// Answers the body of a registration.
     fn register(&mut self, alloc: Global, message: &[u8]) -> Result<Ack, Code>
-        ensures { answers self.old (Register message.now) (reply_to_register result) self.new };
+        ensures { answers (state self.old) (Register message.now) (reply_to_register result) (state self.new) };
 
     /// Answers the body of a lookup: segments of one type.
     fn lookup(&mut self, alloc: Global, message: &[u8]) -> Result<(SegType, Vec<Segment>), Code>
-        ensures answers { answers self.old (Lookup message.now) (reply_to_lookup result) self.new }
+        ensures answers { answers (state self.old) (Lookup message.now) (reply_to_lookup result) (state self.new) }
         ensures few { IfOk result (λ found. length found.1.items ≤ MOST_SEGMENTS) }
         ensures whole { IfOk result (λ found. AllByRecursion IsSegment found.1.items) };
 
     /// Answers a purge of the rows that expire at this moment or before, in half seconds since
     /// 1970.
     fn purge(&mut self, moment: u64) -> Result<Ack, Code>
-        ensures { answers self.old (Purge moment) (reply_to_purge result) self.new };
+        ensures { answers (state self.old) (Purge moment) (reply_to_purge result) (state self.new) };
 
     /// Answers the removal of a segment by the byte of its type, which can be any byte, and its id.
     fn remove(&mut self, kind: u8, id: &[u8; 32]) -> Result<Ack, Code>
-        ensures { answers self.old (Remove kind id.now) (reply_to_remove result) self.new };
+        ensures { answers (state self.old) (Remove kind id.now) (reply_to_remove result) (state self.new) };
+
+    /// Takes a command ahead of its reply. `None` means that the service takes the message only
+    /// when all messages before it are answered, as each lookup. A refusal is no `None`: it is the
+    /// answer of `settle`.
+    fn hand_in(&mut self, alloc: Global, message: Message<&[u8]>) -> Option<Self::UnderWay>
+        ensures command { IfSome result (λ _. IsSome (command_kind (message_at message.entry))) }
+        ensures known { IfSome result (λ under_way. is_for (state self.new) under_way (message_at message.entry)) }
+        ensures same { state self.new ≡ state self.old };
+
+    /// Answers a command that was handed in. It is known of the others what was known before.
+    fn settle(&mut self, under_way: Self::UnderWay) -> Result<Ack, Code>
+        ensures answers { (message : MessageView) (kind : KindOfCommand) → is_for (state self.old) under_way message → command_kind message ≡ Some kind
+            → answers (state self.old) message (reply_to_kind kind result) (state self.new) }
+        ensures others { (other : Self.UnderWay) (message : MessageView) → is_for (state self.old) other message → is_for (state self.new) other message };
 }
 
 /// A borrowed service answers as the service itself does.
 impl<S: Service> Service for &mut S {
+    type UnderWay = S::UnderWay;
+
+    ghost State = { S.State × GName };
+
+    ghost state = { λ service. (S.state service.now, service.ghost_name) };
+
     ghost answers = { AnswersBehind S.answers };
+
+    ghost is_for = { λ behind. S.is_for behind.0 };
 
     fn register(&mut self, alloc: Global, message: &[u8]) -> Result<Ack, Code> {
         (**self).register(alloc, message)
@@ -71,5 +114,13 @@ impl<S: Service> Service for &mut S {
 
     fn remove(&mut self, kind: u8, id: &[u8; 32]) -> Result<Ack, Code> {
         (**self).remove(kind, id)
+    }
+
+    fn hand_in(&mut self, alloc: Global, message: Message<&[u8]>) -> Option<S::UnderWay> {
+        (**self).hand_in(alloc, message)
+    }
+
+    fn settle(&mut self, under_way: S::UnderWay) -> Result<Ack, Code> {
+        (**self).settle(under_way)
     }
 }

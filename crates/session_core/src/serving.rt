@@ -1,10 +1,12 @@
 //! The loop of a session, which alone uses a reader and a writer.
 
-ghost use Rattle.std.specs.Prelude.{◌≡◌, ◌++◌, [], length, IfOk, IfErr};
+ghost use Rattle.std.specs.Prelude.{◌≡◌, ◌++◌, [], length, IfOk, IfErr, OnOk};
 ghost use Rattle.session_core.specs.Answered.{AreFrontsAnswered};
 ghost use Rattle.session_core.specs.Session.{IsServed};
 
+use crate::ahead::Ahead;
 use crate::error::FrameError;
+use crate::inbox::Inbox;
 use crate::reply::Form;
 use crate::service::Service;
 use crate::session::Session;
@@ -16,10 +18,15 @@ use std::io::Write;
 /// Answers the messages of a reader, in at most `turns` reads. The result is the number of replies
 /// that were written, capped at 2^64 - 1.
 ///
+/// The commands whose frames are whole in the input, up to `MOST_AHEAD` in a row, are handed in
+/// before the first of them is answered. A message that the service does not take ahead is answered
+/// once all before it are.
+///
 /// At any time memory has one piece of the input, less than a frame before it, and one reply. The
-/// writer is flushed before each further read, and after a failed write no message is answered. The
-/// contract leaves open why a read or a write failed and when memory is refused, since no call of a
-/// reader, a writer or the allocator reports that.
+/// writer is flushed before each further read, and after a failed write no message is answered: of
+/// the commands that are handed in then, it is not known whether they take effect. The contract
+/// leaves open why a read or a write failed and when memory is refused, since no call of a reader,
+/// a writer or the allocator reports that.
 pub fn serve<R: Source, W: Write, S: Service>(
     alloc: Global,
     reader: &mut R,
@@ -27,11 +34,12 @@ pub fn serve<R: Source, W: Write, S: Service>(
     service: &mut S,
     turns: u64,
 ) -> Result<u64, FrameError>
-    ensures { IsServed S.answers R.gives turns service.old service.new reader.old reader.new
+    ensures { IsServed S.answers R.gives turns (S.state service.old) (S.state service.new) reader.old reader.new
         (R.remaining reader.new) (W.contents writer.old) (W.contents writer.new) result }
 {
     let mut piece = new_piece(alloc)?;
-    let mut session = Session::new(alloc, service);
+    let ahead = Ahead::new(alloc)?;
+    let mut session = Session::new(service, Inbox::new(alloc), ahead);
     let served = serve_session(
         alloc,
         reader,
@@ -54,8 +62,9 @@ fn serve_session<R: Source, W: Write, S: Service>(
     turns: u64,
 ) -> Result<u64, FrameError>
     requires fresh { session.old.inbox ≡ [] }
+    requires none { session.old.ahead.queue.items ≡ [] }
     requires room { length piece.old ≡ MOST_PIECE }
-    ensures { IsServed S.answers R.gives turns session.old.service session.new.service reader.old reader.new
+    ensures { IsServed S.answers R.gives turns (S.state session.old.service) (S.state session.new.service) reader.old reader.new
         (R.remaining reader.new) (W.contents writer.old) (W.contents writer.new) result }
 {
     let mut count = 0;
@@ -98,8 +107,10 @@ fn serve_piece<W: Write, S: Service>(
     piece: &[u8],
     count: u64,
 ) -> Result<u64, FrameError>
-    ensures { AreFrontsAnswered Form.Frames S.answers session.old.service (session.old.inbox ++ piece.now)
-        session.new.service session.new.inbox (W.contents writer.old) (W.contents writer.new) count result }
+    requires { session.old.ahead.queue.items ≡ [] }
+    ensures fronts { AreFrontsAnswered Form.Frames S.answers (S.state session.old.service) (session.old.inbox ++ piece.now)
+        (S.state session.new.service) session.new.inbox (W.contents writer.old) (W.contents writer.new) count result }
+    ensures none { OnOk result (session.new.ahead.queue.items ≡ []) }
 {
     if session.feed(piece).is_err() {
         return Err(FrameError::NoMemory);
@@ -115,8 +126,10 @@ pub(crate) fn answer_and_flush<W: Write, S: Service>(
     form: Form,
     count: u64,
 ) -> Result<u64, FrameError>
-    ensures { AreFrontsAnswered form S.answers session.old.service session.old.inbox session.new.service session.new.inbox
-        (W.contents writer.old) (W.contents writer.new) count result }
+    requires { session.old.ahead.queue.items ≡ [] }
+    ensures fronts { AreFrontsAnswered form S.answers (S.state session.old.service) session.old.inbox (S.state session.new.service)
+        session.new.inbox (W.contents writer.old) (W.contents writer.new) count result }
+    ensures none { OnOk result (session.new.ahead.queue.items ≡ []) }
 {
     match answer_all(alloc, writer, session, form, count) {
         Err(FrameError::Write) => Err(FrameError::Write),
@@ -138,8 +151,10 @@ fn answer_all<W: Write, S: Service>(
     form: Form,
     count: u64,
 ) -> Result<u64, FrameError>
-    ensures { AreFrontsAnswered form S.answers session.old.service session.old.inbox session.new.service session.new.inbox
-        (W.contents writer.old) (W.contents writer.new) count result }
+    requires { session.old.ahead.queue.items ≡ [] }
+    ensures fronts { AreFrontsAnswered form S.answers (S.state session.old.service) session.old.inbox (S.state session.new.service)
+        session.new.inbox (W.contents writer.old) (W.contents writer.new) count result }
+    ensures none { OnOk result (session.new.ahead.queue.items ≡ []) }
 {
     let mut sum = count;
     while let Some(reply) = session.next_reply(alloc)? {

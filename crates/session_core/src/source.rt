@@ -18,15 +18,15 @@ pub const MOST_READS: u64 = u64::MAX;
 /// A reader whose contract counts its reads: `piece` makes one read, and no other call is known to
 /// make one.
 ///
-/// Every `Read` is a `Source`. A caller that is generic over `Source` can read by `piece` alone,
-/// since its contract could not describe the effect of any other call on the reader.
+/// Every `Read` is a `Source`. A caller that is generic over `Source` can read by `read_piece`
+/// alone, since its contract could not describe the effect of any other call on the reader.
 pub trait Source: Read {
     /// One read may give these bytes, and change the first state into the second. A read that fails
     /// gives no bytes.
     ghost gives: { Self → List ℕ → Self → Type 0 };
 
     /// Reads once, into `buf`, and returns the number of bytes that were read.
-    fn piece(&mut self, buf: &mut [u8]) -> io::Result<usize>
+    fn read_piece(&mut self, buf: &mut [u8]) -> io::Result<usize>
         ensures bytes { ReadConsumes (Self.remaining self.old) (Self.remaining self.new) result buf.new }
         ensures ok { IfOk result (λ n. n ≤ length buf.new) }
         ensures one { MatchResult result (λ n. gives self.old (take n buf.new) self.new) (λ _. gives self.old [] self.new) };
@@ -35,7 +35,7 @@ pub trait Source: Read {
 impl<R: Read> Source for R {
     ghost gives = { λ old bytes new. Consumes (R.remaining old) (R.remaining new) bytes };
 
-    fn piece(&mut self, buf: &mut [u8]) -> io::Result<usize> {
+    fn read_piece(&mut self, buf: &mut [u8]) -> io::Result<usize> {
         self.read(buf)
     }
 }
@@ -50,5 +50,5 @@ pub(crate) fn read_once<R: Source>(reader: &mut R, piece: &mut [u8]) -> Result<u
     ensures fails { IfErr result (λ e. e ≡ FrameError.Read) }
     ensures nothing { IfErr result (λ _. R.gives reader.old [] reader.new) }
 {
-    reader.piece(piece).map_err(|_| FrameError::Read)
+    reader.read_piece(piece).map_err(|_| FrameError::Read)
 }

@@ -63,8 +63,8 @@ fn take_piece(head: &mut Vec<u8>, piece: &[u8]) -> Result<Option<Asked>, AllocEr
     }
 }
 
-/// Reads once, and returns the number of bytes, of which 0 is the end. A read that is interrupted is
-/// made again for the time that is left. The result is `None` where the time is over, or the
+/// Reads once, and returns the number of bytes, of which 0 is the end. A read that is interrupted
+/// is made again for the time that is left. The result is `None` where the time is over, or the
 /// connection or the clock failed.
 fn read_by(
     clock: &impl Clock,
@@ -93,9 +93,9 @@ pub fn send(clock: &impl Clock, stream: &TcpStream, deadline: &Deadline, text: &
     }
 }
 
-/// Writes once, and returns the number of bytes that were taken. A write that is interrupted is made
-/// again for the time that is left. The result is `None` where the time is over, or the connection
-/// or the clock failed.
+/// Writes once, and returns the number of bytes that were taken. A write that is interrupted is
+/// made again for the time that is left. The result is `None` where the time is over, or the
+/// connection or the clock failed.
 fn write_by(
     clock: &impl Clock,
     mut stream: &TcpStream,

@@ -1,9 +1,9 @@
 //! A service whose replies are counted.
 
 use crate::replies::Replies;
-use crate::reply_kind::{kind_to_lookup, kind_to_purge, kind_to_register, kind_to_remove};
+use crate::reply_kind::{kind_to_command, kind_to_lookup};
 use seg_core::{SegType, Segment};
-use session_core::{Ack, Code, Service};
+use session_core::{Ack, Code, CommandKind, Message, Service};
 use std::alloc::Global;
 
 /// Answers as another service does, and counts each reply.
@@ -34,12 +34,29 @@ impl<'a, S: Service> Counted<'a, S> {
     }
 }
 
+/// A command that the service has taken and not answered yet, and its kind.
+#[derive(Drop)]
+pub struct CountedCommand<U> {
+    kind: CommandKind,
+    under_way: U,
+}
+
+/// A command that is handed in is counted with its reply.
 impl<S: Service> Service for Counted<'_, S> {
-    ghost answers = { λ old message reply new. S.answers old.service message reply new.service };
+    type UnderWay = CountedCommand<S::UnderWay>;
+
+    ghost State = { S.State };
+
+    ghost state = { λ counted. S.state counted.service };
+
+    ghost answers = { S.answers };
+
+    ghost is_for = { λ state counted message. S.is_for state counted.under_way message };
 
     fn register(&mut self, alloc: Global, message: &[u8]) -> Result<Ack, Code> {
         let answered = self.service.register(alloc, message);
-        self.replies.count(kind_to_register(&answered));
+        self.replies
+            .count(kind_to_command(CommandKind::Register, &answered));
         answered
     }
 
@@ -51,13 +68,32 @@ impl<S: Service> Service for Counted<'_, S> {
 
     fn purge(&mut self, moment: u64) -> Result<Ack, Code> {
         let answered = self.service.purge(moment);
-        self.replies.count(kind_to_purge(&answered));
+        self.replies
+            .count(kind_to_command(CommandKind::Purge, &answered));
         answered
     }
 
     fn remove(&mut self, kind: u8, id: &[u8; 32]) -> Result<Ack, Code> {
         let answered = self.service.remove(kind, id);
-        self.replies.count(kind_to_remove(&answered));
+        self.replies
+            .count(kind_to_command(CommandKind::Remove, &answered));
+        answered
+    }
+
+    fn hand_in(
+        &mut self,
+        alloc: Global,
+        message: Message<&[u8]>,
+    ) -> Option<CountedCommand<S::UnderWay>> {
+        let kind = CommandKind::of(&message)?;
+        let under_way = self.service.hand_in(alloc, message)?;
+        Some(CountedCommand { kind, under_way })
+    }
+
+    fn settle(&mut self, counted: CountedCommand<S::UnderWay>) -> Result<Ack, Code> {
+        let CountedCommand { kind, under_way } = counted;
+        let answered = self.service.settle(under_way);
+        self.replies.count(kind_to_command(kind, &answered));
         answered
     }
 }

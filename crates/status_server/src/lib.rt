@@ -15,7 +15,7 @@ mod reply_kind;
 
 pub use answers::answer;
 pub use connection::{MOST_HEAD, part, read_request, send};
-pub use counted::Counted;
+pub use counted::{Counted, CountedCommand};
 pub use deadline::Deadline;
 pub use replies::Replies;
 pub use reply_kind::ReplyKind;

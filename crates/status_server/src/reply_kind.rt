@@ -1,11 +1,12 @@
 //! The kinds of replies.
 
 ghost use Rattle.std.specs.Prelude.{◌≡◌};
-ghost use Rattle.session_core.specs.Service.{reply_to_register, reply_to_lookup, reply_to_purge, reply_to_remove};
+ghost use Rattle.session_core.specs.Commands.{reply_to_kind};
+ghost use Rattle.session_core.specs.Service.{reply_to_lookup};
 ghost use Rattle.status_server.specs.Kinds.{kind_of_reply};
 
 use seg_core::{SegType, Segment};
-use session_core::{Ack, Code};
+use session_core::{Ack, Code, CommandKind};
 
 /// The kind of a reply, by which it is counted.
 #[derive(Clone, Copy, Debug, PartialEq, Eq)]
@@ -22,12 +23,16 @@ pub enum ReplyKind {
     Refused(u8),
 }
 
-/// The kind of the reply to a registration.
-pub(crate) fn kind_to_register(answered: &Result<Ack, Code>) -> ReplyKind
-    ensures { result ≡ kind_of_reply (reply_to_register answered.now) }
+/// The kind of the reply to a command.
+pub(crate) fn kind_to_command(kind: CommandKind, answered: &Result<Ack, Code>) -> ReplyKind
+    ensures { result ≡ kind_of_reply (reply_to_kind kind answered.now) }
 {
     match answered {
-        Ok(_) => ReplyKind::Registered,
+        Ok(_) => match kind {
+            CommandKind::Register => ReplyKind::Registered,
+            CommandKind::Purge => ReplyKind::Purged,
+            CommandKind::Remove => ReplyKind::Removed,
+        },
         Err(code) => ReplyKind::Refused(code.0),
     }
 }
@@ -38,26 +43,6 @@ pub(crate) fn kind_to_lookup(answered: &Result<(SegType, Vec<Segment>), Code>) -
 {
     match answered {
         Ok(_) => ReplyKind::Found,
-        Err(code) => ReplyKind::Refused(code.0),
-    }
-}
-
-/// The kind of the reply to a purge.
-pub(crate) fn kind_to_purge(answered: &Result<Ack, Code>) -> ReplyKind
-    ensures { result ≡ kind_of_reply (reply_to_purge answered.now) }
-{
-    match answered {
-        Ok(_) => ReplyKind::Purged,
-        Err(code) => ReplyKind::Refused(code.0),
-    }
-}
-
-/// The kind of the reply to a removal.
-pub(crate) fn kind_to_remove(answered: &Result<Ack, Code>) -> ReplyKind
-    ensures { result ≡ kind_of_reply (reply_to_remove answered.now) }
-{
-    match answered {
-        Ok(_) => ReplyKind::Removed,
         Err(code) => ReplyKind::Refused(code.0),
     }
 }

@@ -2,8 +2,9 @@
 
 use crate::same::assert_same;
 use seg_core::{SegType, Segment};
-use session_core::{Ack, Code, FrameError, Outcome, Service, serve};
+use session_core::{Ack, Code, FrameError, Message, Outcome, Service, serve};
 use std::alloc::{AllocError, Global};
+use std::convert::Infallible;
 use std::io::Read;
 use std::process::Abort;
 use std::test::Fail;
@@ -32,7 +33,16 @@ impl Counter {
 }
 
 impl Service for Counter {
+    /// No message is taken ahead of its reply.
+    type UnderWay = Infallible;
+
+    ghost State = { Unit {0} };
+
+    ghost state = { λ _. tt };
+
     ghost answers = { λ _ _ _ _. Unit {0} };
+
+    ghost is_for = { λ _ _ _. ⊥ };
 
     fn register(&mut self, _alloc: Global, _message: &[u8]) -> Result<Ack, Code> {
         Ok(self.ack(0, 0))
@@ -54,6 +64,14 @@ impl Service for Counter {
             return Err(Code(0x29));
         }
         Ok(self.ack(u32::from(id[31]), 0))
+    }
+
+    fn hand_in(&mut self, _alloc: Global, _message: Message<&[u8]>) -> Option<Infallible> {
+        None
+    }
+
+    fn settle(&mut self, under_way: Infallible) -> Result<Ack, Code> {
+        match under_way {}
     }
 }
 

@@ -1,19 +1,45 @@
+use Rattle.std.proofs.Common.{length, ap, arith}
 use Rattle.std.proofs.lemmas.Result.{err_from_is_err_and}
-use Rattle.session_core.proofs.Exchanges.{answered_next, stops_at_write}
+use Rattle.session_core.proofs.AheadLemmas.{nothing_handed_in, are_ahead}
+use Rattle.session_core.proofs.Exchanges.{answered_none, answered_next, stops_at_fault, stops_at_write}
 use Rattle.session_core.proofs.serving.answer_all.Goals as goal
 
-pub returns-in_err-write_reply : goal.returns-in_err-write_reply
-returns-in_err-write_reply g c =
-    let first = rw c.in-Some.is at c.in_ok-reply.ensures in
+pub loop-reply-init : goal.loop-reply-init
+loop-reply-init g c = record {
+  answered = answered_none _ _ _ _ _ _ (omega arith);
+  ahead = nothing_handed_in g.S.Service.is_for _ _ _ c.requires;
+  few = omega (arith, ap length c.requires);
+}
+
+pub returns-in_err-write_reply-clause-fronts : goal.returns-in_err-write_reply-clause-fronts
+returns-in_err-write_reply-clause-fronts g c =
+    let first = rw c.in-Some.is at c.in_ok-reply.ensures.next in
+    let few = rw c.in-Some.is at c.in_ok-reply.ensures.few in
+    let ahead = are_ahead g.S.Service.is_for _ _ _ c.in_ok-reply.ensures.ahead few in
     let p = err_from_is_err_and c.from_residual-in_err-write_reply.result c.from_residual-in_err-write_reply.ensures.1 in
-    rw (p.1, p.2) (stops_at_write _ _ _ _ _ _ _ _ _ _ _ _ _ c.loop-reply.invariant first _ _ _ c.in_err-write_reply.ensures.err)
+    rw (p.1, p.2) (stops_at_write _ _ _ _ _ _ _ _ _ _ _ _ _ c.loop-reply.invariant.answered first _ _ _ _ ahead c.in_err-write_reply.ensures.err)
+
+pub returns-in_err-reply-clause-fronts : goal.returns-in_err-reply-clause-fronts
+returns-in_err-reply-clause-fronts g c =
+    let p = err_from_is_err_and c.from_residual.result c.from_residual.ensures.1 in
+    rw (p.1, p.2) (stops_at_fault _ _ _ _ _ _ _ _ _ _ _ _ _ _ c.loop-reply.invariant.answered c.in_err-reply.ensures.next)
 
 pub loop-reply-preserved-in_ok-write_reply : goal.loop-reply-preserved-in_ok-write_reply
 loop-reply-preserved-in_ok-write_reply g c =
-    let first = rw c.in-Some.is at c.in_ok-reply.ensures in
-    answered_next _ _ _ _ _ _ _ _ _ _ _ _ _ c.loop-reply.invariant first _ _ c.in_ok-write_reply.ensures.ok c.saturating_add-sum.ensures
+    let first = rw c.in-Some.is at c.in_ok-reply.ensures.next in
+    let few = rw c.in-Some.is at c.in_ok-reply.ensures.few in
+    record {
+      answered = answered_next _ _ _ _ _ _ _ _ _ _ _ _ _ c.loop-reply.invariant.answered first _ _ c.in_ok-write_reply.ensures.ok c.saturating_add-sum.ensures;
+      ahead = c.in_ok-reply.ensures.ahead;
+      few = omega (arith, few);
+    }
 
 pub loop-reply-preserved : goal.loop-reply-preserved
 loop-reply-preserved g c =
-    let first = rw c.in-Some.is at c.in_ok-reply.ensures in
-    answered_next _ _ _ _ _ _ _ _ _ _ _ _ _ c.loop-reply.invariant first _ _ c.in_ok-write_reply.ensures.ok c.saturating_add-sum.ensures
+    let first = rw c.in-Some.is at c.in_ok-reply.ensures.next in
+    let few = rw c.in-Some.is at c.in_ok-reply.ensures.few in
+    record {
+      answered = answered_next _ _ _ _ _ _ _ _ _ _ _ _ _ c.loop-reply.invariant.answered first _ _ c.in_ok-write_reply.ensures.ok c.saturating_add-sum.ensures;
+      ahead = c.in_ok-reply.ensures.ahead;
+      few = omega (arith, few);
+    }

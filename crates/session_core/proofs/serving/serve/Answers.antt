@@ -1,4 +1,4 @@
-use Rattle.std.proofs.Common.{rules}
+use Rattle.std.proofs.Common.{rules, ap}
 use Rattle.std.proofs.lemmas.Result.{err_from_is_err_and}
 use Rattle.session_core.proofs.SessionLemmas.{ends_at_once}
 use Rattle.session_core.proofs.Behind.{served_behind}
@@ -9,7 +9,12 @@ returns-in_err-piece g c =
     let p = err_from_is_err_and c.from_residual.result c.from_residual.ensures.1 in
     rw (p.1, p.2) (ends_at_once _ _ _ _ _ _ _ _ c.in_err-piece.ensures.err)
 
+pub returns-in_err-ahead : goal.returns-in_err-ahead
+returns-in_err-ahead g c =
+    let p = err_from_is_err_and c.from_residual-in_err-ahead.result c.from_residual-in_err-ahead.ensures.1 in
+    rw (p.1, p.2) (ends_at_once _ _ _ _ _ _ _ _ c.in_err-ahead.ensures.err)
+
 pub returns : goal.returns
 returns g c =
     let served = rw (c.new-session.ensures.service, ← c.into_service-service.ensures) at c.serve_session-served.ensures in
-    served_behind _ _ _ _ _ _ _ _ _ _ _ _ (search rules) served
+    served_behind _ _ _ _ _ _ _ _ _ _ _ _ (λ same. ap g.S.Service.state (search rules)) served

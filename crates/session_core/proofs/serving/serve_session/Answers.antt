@@ -8,6 +8,7 @@ use Rattle.session_core.proofs.serving.serve_session.Goals as goal
 pub loop-turn-init : goal.loop-turn-init
 loop-turn-init g c = record {
   piece = c.requires.room;
+  none = c.requires.none;
   so_far = so_far_none _ _ _ _ _ _ c.requires.fresh;
 }
 
@@ -25,19 +26,20 @@ pub returns-in_err-count : goal.returns-in_err-count
 returns-in_err-count g c =
     let p = err_from_is_err_and c.from_residual-in_err-count.result c.from_residual-in_err-count.ensures.1 in
     let gave = subst (λ (bytes : List ℕ). g.R.Source.gives c.loop-turn.reader bytes c.read_once.new.reader) (sym c.split_at.ensures.front) c.in_ok-len.ensures.gives in
-    rw (p.1, p.2) (ends_at_piece _ _ _ _ _ _ _ _ _ _ _ c.loop-turn.invariant.so_far _ _ _ _ _ _ _ _ c.loop-turn-test.true gave (omega arith) c.in_err-count.ensures)
+    rw (p.1, p.2) (ends_at_piece _ _ _ _ _ _ _ _ _ _ _ c.loop-turn.invariant.so_far _ _ _ _ _ _ _ _ c.loop-turn-test.true gave (omega arith) c.in_err-count.ensures.fronts)
 
 pub loop-turn-preserved : goal.loop-turn-preserved
 loop-turn-preserved g c =
     let gave = subst (λ (bytes : List ℕ). g.R.Source.gives c.loop-turn.reader bytes c.read_once.new.reader) (sym c.split_at.ensures.front) c.in_ok-len.ensures.gives in
     record {
       piece = omega arith;
-      so_far = so_far_more _ _ _ _ _ _ _ _ _ _ _ c.loop-turn.invariant.so_far _ _ _ _ _ _ _ gave (omega arith) refl c.in_ok-count.ensures;
+      none = c.in_ok-count.ensures.none;
+      so_far = so_far_more _ _ _ _ _ _ _ _ _ _ _ c.loop-turn.invariant.so_far _ _ _ _ _ _ _ gave (omega arith) refl c.in_ok-count.ensures.fronts;
     }
 
 pub returns : goal.returns
 returns g c =
     let all : c.loop-turn._turn ≡ c.args.turns = omega arith in
-    subst (λ (turns : ℕ). IsServed g.S.Service.answers g.R.Source.gives turns c.args.session.now.service c.loop-turn.session.service c.args.reader.now c.loop-turn.reader (g.R.Read.remaining c.loop-turn.reader)
+    subst (λ (turns : ℕ). IsServed g.S.Service.answers g.R.Source.gives turns (g.S.Service.state c.args.session.now.service) (g.S.Service.state c.loop-turn.session.service) c.args.reader.now c.loop-turn.reader (g.R.Read.remaining c.loop-turn.reader)
     (g.W.Write.contents c.args.writer.now) (g.W.Write.contents c.loop-turn.writer) (Err error.Turns)) all
     (ends_at_turns _ _ _ _ _ _ _ _ _ _ _ c.loop-turn.invariant.so_far _)

@@ -1,0 +1,12 @@
+use Rattle.std.proofs.Common.{refl}
+use Rattle.session_core.specs.ReplyViews.{reply_view}
+use Rattle.session_core.proofs.AheadLemmas.{first_settled, still_handed_in}
+use Rattle.session_core.proofs.session.Session.settle.Goals as goal
+
+pub returns : goal.returns
+returns g c = record {
+  answered = rw c.advance.ensures (first_settled g.S.Service.is_for g.S.Service.answers _ _ c.args.first c.args.self.now.inbox c.settle-answered.result (reply_view c.reply_to.result)
+      c.requires.first c.reply_to.ensures.reply c.reply_to.ensures.sized c.settle-answered.ensures.answers);
+  others = rw c.advance.ensures (still_handed_in g.S.Service.is_for _ _ _ _ c.settle-answered.ensures.others c.requires.others);
+  same = refl;
+}

@@ -1,0 +1,23 @@
+-- Commands: the messages whose replies are acknowledgements.
+use Rattle.std.specs.Prelude.{Option, Some, None, Result}
+use Rattle.session_core.specs.declared.message.Message.TheVariants as message
+use Rattle.session_core.specs.declared.service.Ack.{Ack}
+use Rattle.session_core.specs.declared.service.Code.{Code}
+use Rattle.session_core.specs.declared.command_kind.CommandKind.{CommandKind}
+use Rattle.session_core.specs.declared.command_kind.CommandKind.TheVariants.{Register, Purge, Remove}
+use Rattle.session_core.specs.Frames.{MessageView}
+use Rattle.session_core.specs.Reply.{ReplyView}
+use Rattle.session_core.specs.Service.{reply_to_register, reply_to_purge, reply_to_remove}
+
+-- The kind of a command. A lookup is none.
+abbrev pub command_kind : MessageView → Option CommandKind
+command_kind (message.Register body) = Some Register
+command_kind (message.Lookup body) = None
+command_kind (message.Purge moment) = Some Purge
+command_kind (message.Remove kind id) = Some Remove
+
+-- The reply to a command of this kind.
+abbrev pub reply_to_kind : CommandKind → Result Ack Code → ReplyView
+reply_to_kind Register result = reply_to_register result
+reply_to_kind Purge result = reply_to_purge result
+reply_to_kind Remove result = reply_to_remove result
