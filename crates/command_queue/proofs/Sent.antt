@@ -1,0 +1,31 @@
+-- What goes from one thread to another: a claim, and a queue of what may go there.
+use denote.RattleType.{RattleType}
+use denote.Builtin.{u64}
+use denote.Param.Send.{IsSend, IsSync, sendable, recorded_send, struct_send}
+use denote.Struct.Declared.{shape}
+use Rattle.std.proofs.Crossing.{crosses, Deque-send}
+use Rattle.logbook.proofs.tokens.Seen.TheSendSync as seen
+use Rattle.logbook.proofs.word.Word.TheSendSync as word
+use Rattle.path_rows.specs.contracts.command.Command as Command
+use Rattle.command_queue.specs.declared.history.QueueName.{Ghosts}
+use Rattle.command_queue.specs.contracts.claim.Claim as Claim
+use Rattle.command_queue.specs.contracts.history.History as History
+use Rattle.command_queue.specs.contracts.history.HistoryRuleCommandU64.TheImpl as rule
+use Rattle.command_queue.specs.contracts.queue.HandedIn as HandedIn
+use Rattle.command_queue.specs.contracts.queue.CommandQueue as CommandQueue
+
+command_send : IsSend (Command.the_field).row
+command_send = search (sendable, crosses) depth 60 fits 20000
+
+pub claim_send : (N : RattleType) (g : Ghosts N.Denot) → IsSend N → IsSend (Claim.the_field N g).row
+claim_send N g n = search (sendable, crosses, seen.the_send) depth 20
+
+module _ (N T : RattleType) (g : Ghosts N.Denot) (n : IsSend N) (t : IsSend T) where
+  handed_send : IsSend (HandedIn.the_field N T g).row
+  handed_send = struct_send (shape (HandedIn.the_type N T g)) (claim_send N g n, (command_send, (t, tt)))
+
+  whole_send : IsSend (HandedIn.the_row N T g)
+  whole_send = recorded_send _ _ _ (HandedIn.the_type N T g).to_one handed_send
+
+  pub queue_send : IsSend (CommandQueue.the_field N T g).row
+  queue_send = struct_send (shape (CommandQueue.the_type N T g)) (search sendable, (search sendable, (Deque-send (HandedIn.the_row N T g) whole_send, (seen.the_send Command.the_row u64 History.the_row rule.ghosts, (word.the_send Command.the_row u64 History.the_row rule.ghosts, (search (sendable, crosses), tt))))))

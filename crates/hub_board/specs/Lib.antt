@@ -1,0 +1,3 @@
+pub mod Completed
+pub mod Moments
+pub mod Numbers
