@@ -164,7 +164,7 @@ module _ (old : StateView) (hidden : PrivateState) (has : IsState old hidden) wh
           });
     }
 
-    -- the checkpoint isn't written on
+    -- the checkpoint is not written on
     checked_state : (stopped ≡ false → check ≡ Planned → ⊥)
         → (phase : Check) → old.check ≡ phase → phase ≢ Ready → Keeps old.disk disk → HasPlan old.geometry (record { bytes = old.checkpoint; written = written }) → HasNextEpoch check old.epoch
         → ((sound : DeviceInvariant old) → CountsAt check old.epoch old.checkpoint sound.behind.old sound.behind.new)

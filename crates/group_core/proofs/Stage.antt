@@ -57,7 +57,7 @@ module _ (limits : Limits) (commands : List Command) where
     short = omega (arith, front_short commands n m few, fit.short);
   }
 
-  -- the front where one command more doesn't fit
+  -- the front where one command more does not fit
   pub longest_before : (n : ℕ) → n < length commands → FitOneGroup limits (take n commands) → ¬ FitOneGroup limits (take (n + 1) commands)
       → IsLongestFront limits commands n
   longest_before n inside fit over = record {

@@ -33,7 +33,7 @@ use Rattle.group_core.specs.Starting.{value_of_store, CanContinue, check_in, sta
 use Rattle.group_core.proofs.States.{may_open}
 use Rattle.group_core.proofs.KeptOutcomes.{none_kept}
 
--- what doesn't hold is false
+-- what does not hold is false
 pub not_false : {P : Type 0} (b : Bool) → b ≡ true ↔ P → not b ≡ false ↔ P
 not_false true holds = ((λ _. holds.0 refl), λ _. refl)
 not_false false holds = ((λ (is : true ≡ false). absurd (cc)), λ p. let both : false ≡ true = holds.1 p in absurd (cc))
@@ -128,7 +128,7 @@ module _ (store : StoreView) (whole : IsStoreWhole store) (device : IsHonest sto
         → IsTail command_format (limits_in opening.checkpoint) opening.geometry (other opening.chosen) (reads_of store.disk) opening.journal tail
     tail_is tail is = subst (IsTail command_format (limits_in opening.checkpoint) opening.geometry (other opening.chosen) (reads_of store.disk) opening.journal) is opens.tail
 
-    -- its journal isn't sealed
+    -- its journal is not sealed
     sound_unsealed : opening.tail ≡ None → DeviceInvariant view
     sound_unsealed alone = record {
       behind = held.behind;

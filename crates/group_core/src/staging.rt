@@ -19,12 +19,13 @@ use crate::state::State;
 use crate::values::{Commit, Staged};
 use byte_lists::closed_gate;
 use gate_journal::{
-    MOST_RECORD_BYTES, encode_group, encode_seal, fits, most_commands, payload_sectors, record_len,
+    MOST_RECORD_BYTES, encode_group, encode_seal, fits, payload_sectors, record_len,
 };
 use group_phases::{Check, Flush};
 use path_db::Command;
 use sector_dev::Device;
 use std::alloc::{AllocError, Global};
+use store_layout::most_commands;
 use thiserror::Error;
 
 /// Why nothing was staged. The first that holds is returned, in this order: `Stopped`, `InFlight`,

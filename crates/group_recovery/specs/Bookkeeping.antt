@@ -72,8 +72,8 @@ stopped_by _ books = books
 -- The effect of an event on the bookkeeping, for this machine before the event. A command is
 -- accepted at the next place, and its outcome is kept until its ticket is redeemed. A group or a
 -- seal is staged, and published. A group follows: the longest front of the commands after those in
--- flight that fits a group. The following group is in flight after the group before it is published.
--- A new half counts, in the version that is written.
+-- flight that fits a group. The following group is in flight after the group before it is
+-- published. A new half counts, in the version that is written.
 abbrev pub KeepsBooks : Event → Reply → Machine → Bookkeeping → Bookkeeping → Type 0
 KeepsBooks (event.Submit command) (reply.Accepted place) machine old new =
     (place ≡ next_in machine) × (new ≡ with_outcome place (outcome_of (rows_before_next machine) command) old)

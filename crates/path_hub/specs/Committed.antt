@@ -1,5 +1,5 @@
 -- What a hub returns for a command that was handed in.
-use Rattle.std.specs.Prelude.{◌≡◌, ℕ, ◌<◌, MatchOption}
+use Rattle.std.specs.Prelude.{◌≡◌, ℕ, ◌<◌, nat_lt, Bool, false, Option, Some, None, MatchOption}
 use Rattle.path_rows.specs.declared.command.Command.{Command}
 use Rattle.group_core.specs.declared.ticket.Receipt.{Receipt}
 use Rattle.path_hub.specs.declared.error.HubError.{HubError}
@@ -17,3 +17,8 @@ RefusesCommand hub.NoMemory = ⊥
 RefusesCommand hub.NoReader = ⊥
 RefusesCommand (hub.Stopped place) = Unit {0}
 RefusesCommand (hub.Submit e) = Unit {0}
+
+-- Whether there is a note, which is a place above this one.
+abbrev pub is_above : ℕ → Option ℕ → Bool
+is_above place None = false
+is_above place (Some shown) = nat_lt place shown

@@ -1,9 +1,6 @@
 pub mod Committed
-pub mod Completed
 pub mod Learnt
 pub mod Left
-pub mod Moments
-pub mod Numbers
 pub mod Showcase
 pub mod Showing
 pub mod Shown

@@ -10,6 +10,7 @@ ghost use Rattle.path_hub.specs.Left.{OpensAfter};
 use crate::error::HubError;
 use crate::hub::Hub;
 use crate::name::HubName;
+use command_queue::NewHistory;
 use sector_dev::Device;
 use std::alloc::Global;
 use std::marker::Brand;
@@ -82,7 +83,7 @@ pub fn with_crew<
     // A device that is honest opens to the store's rows and place after some commands.
     ensures left { OnOk result.1 (IsHonest (D.disk result.0) → EveryImage (D.disk result.0).history.now (OpensAfter (value_of_store store))) }
 {
-    named_crew::<Brand, D, C, R>(rt, alloc, store, home, crew)
+    named_crew::<Brand, D, C, R>(rt, alloc, NewHistory::new(), store, home, crew)
 }
 
 /// `with_crew` for one brand `N`, which ties readers to this hub.
@@ -91,12 +92,20 @@ fn named_crew<
     D: Device + Send,
     C: Crew<D, R> + Sync,
     R: Wait + Clock + Threads + Copy + Drop + Send + Sync,
->(rt: R, alloc: Global, store: Store<D>, home: u64, crew: &C) -> (D, Result<u64, HubError>)
-    requires { value_of_store store ≡ N.opening }
+>(
+    rt: R,
+    alloc: Global,
+    history: NewHistory,
+    store: Store<D>,
+    home: u64,
+    crew: &C,
+) -> (D, Result<u64, HubError>)
+    requires opening { value_of_store store ≡ N.opening }
+    requires history { history.seen.book ≡ N.history }
     ensures why { IfErr result.1 (λ e. (e ≡ NoMemory) ⊎ (e ≡ NoReader)) }
     ensures left { OnOk result.1 (IsHonest (D.disk result.0) → EveryImage (D.disk result.0).history.now (OpensAfter N.opening)) }
 {
-    let hub = match Hub::<D, N, R>::open(rt, alloc, store, home) {
+    let hub = match Hub::<D, N, R>::open(rt, alloc, history, store, home) {
         Ok(hub) => hub,
         Err((store, refused)) => return (store.into_device(), Err(refused)),
     };
@@ -104,9 +113,35 @@ fn named_crew<
     (hub.close(), attended)
 }
 
+/// Runs the thread that wakes others while the actors run and guests are attended to, and then stops
+/// the state.
+fn act<
+    N: HubName + Send + Sync,
+    D: Device + Send,
+    C: Crew<D, R> + Sync,
+    R: Wait + Clock + Threads + Drop + Send + Sync,
+>(rt: &R, hub: &Hub<D, N, R>, crew: &C) -> Result<u64, HubError>
+    ensures { IfErr result (λ e. e ≡ NoMemory) }
+{
+    thread::scope(
+        thread::scope_env(),
+        rt,
+        |ringer| -> Result<u64, HubError>
+            ensures { IfErr result (λ e. e ≡ NoMemory) }
+        {
+            if ringer.spawn(move || ring(rt, hub)).is_err() {
+                return Err(HubError::NoMemory);
+            }
+            let attended = run_actors(rt, hub, crew);
+            hub.stop();
+            attended
+        },
+    )
+}
+
 /// Runs both actors while guests are attended to, and then stops them. The flusher starts last, so
 /// that the crew is not called where the thread of an actor is not given.
-fn act<
+fn run_actors<
     N: HubName + Send + Sync,
     D: Device + Send,
     C: Crew<D, R> + Sync,
@@ -123,6 +158,7 @@ fn act<
             if actors.spawn(move || fold(rt, hub, crew)).is_err() {
                 return Err(HubError::NoMemory);
             }
+            hub.expect_threads();
             if actors.spawn(move || flush(rt, hub, crew)).is_err() {
                 hub.stop();
                 return Err(HubError::NoMemory);
@@ -141,6 +177,11 @@ fn fold<N: HubName, D: Device, C: Crew<D, R>, R: Wait + Clock>(
     crew: &C,
 ) {
     checkpointer_loop(rt, hub, &Watching { hub, crew });
+}
+
+/// Wakes the threads whose commands are answered, until the state stops.
+fn ring<N: HubName, D: Device, R: Wait + Clock>(rt: &R, hub: &Hub<D, N, R>) {
+    hub.changes.ringer.run(rt);
 }
 
 /// Runs the flusher until the state stops, and reports to the crew why it did.

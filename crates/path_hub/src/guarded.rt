@@ -1,19 +1,20 @@
-//! The guarded calls over a hub's state: each takes the lock for one call, shows the state's numbers
-//! on the board, and then wakes the threads that wait for what it changed.
+//! The guarded calls over a hub's state: each takes the lock for one call, shows the state's
+//! numbers on the board, and then wakes the threads that wait for what it changed.
 
 ghost use Rattle.std.specs.Prelude.{◌≡◌, true, false};
 ghost use Rattle.store_loops.specs.Receipts.{IsTicketOrCommand, IsRedeemed, LeadsOn, LeadsOut, IsHandedIn, IsFollowedOrBack, IsPassedOn};
 
+use crate::handing::MOST_TAKEN;
 use crate::hub::Hub;
 use crate::name::HubName;
 use crate::show::{HubNote, HubShow};
-use crate::tally::Done;
 use group_core::{
     AtClosing, AtFollowed, AtFollowing, AtLaid, AtLive, AtOpened, AtPlan, AtStable, AtStaged,
     AtSwitched, AtWritten, BeginError, Closing, Commit, Durable, DurableFollowed, FollowError,
     Followed, Following, Laid, Live, Opened, Plan, PublishError, PublishFollowedError, Redeemed,
     Stable, StageError, Staged, State, StepError, SubmitError, Switched, Ticket, Written,
 };
+use hub_board::Done;
 use path_db::Command;
 use sector_dev::Device;
 use std::sync::atomic::Ordering;
@@ -22,7 +23,7 @@ use std::time::Clock;
 use store_loops::{Awaited, DeviceCall, Steps};
 
 /// The state of a hub under its lock.
-type Guarded<'a, D, N, R> = MutexGuard<'a, State<D, HubShow<N, R>>>;
+pub(crate) type Guarded<'a, D, N, R> = MutexGuard<'a, State<D, HubShow<N, R>>>;
 
 impl<D: Device, N: HubName, R: Wait + Clock> Hub<D, N, R> {
     /// Takes the state's lock for a call that uses the device, and notes on the board that the call
@@ -34,11 +35,14 @@ impl<D: Device, N: HubName, R: Wait + Clock> Hub<D, N, R> {
     }
 
     /// Shows the state's numbers on the board at the end of a guarded call, with what the call has
-    /// completed, and gives the lock up.
-    #[tactic(auto, using(crate::proofs::Numbers::are_of_a_state))]
-    fn end_call(&self, state: Guarded<'_, D, N, R>, done: Done) {
+    /// completed, and gives the lock up. Commands of the queue are answered as far as their outcome
+    /// is known then.
+    #[tactic(auto, using(hub_board::proofs::Numbers::are_of_a_state))]
+    pub(crate) fn end_call(&self, mut state: Guarded<'_, D, N, R>, done: Done) {
+        self.answer_known(&mut state);
         self.board.end(&self.rt, state.numbers(), done);
         MutexGuard::unlock(state);
+        self.changes.ringer.call(&self.rt);
     }
 
     /// Wakes all that wait, where a step found that the state must stop.
@@ -55,6 +59,9 @@ impl<D: Device, N: HubName, R: Wait + Clock> Steps for Hub<D, N, R> {
     type Note = HubNote<N>;
 
     ghost tells = { λ value note. note ≡ value.place };
+
+    // Nothing is known of a hub's state between two calls, so also not that it has stopped.
+    ghost has_stopped = { λ _. Unit {0} };
 
     #[tactic(auto, using(store_loops::proofs::Through::taken))]
     fn submit(&self, command: Command) -> Result<Ticket, (Command, SubmitError)> {
@@ -92,6 +99,7 @@ impl<D: Device, N: HubName, R: Wait + Clock> Steps for Hub<D, N, R> {
 
     fn stage(&self) -> Result<Staged, StageError> {
         let mut state = self.state.lock(&self.rt);
+        self.take_commands(&mut state, MOST_TAKEN);
         let staged = state.stage();
         self.end_call(state, Done::Staged.unless_refused(staged.is_ok()));
         staged
@@ -152,6 +160,7 @@ impl<D: Device, N: HubName, R: Wait + Clock> Steps for Hub<D, N, R> {
     #[tactic(auto, using(store_loops::proofs::Through::followed_or_back))]
     fn follow(&self, value: Opened) -> Result<Following, (Opened, FollowError)> {
         let mut state = self.state.lock(&self.rt);
+        self.take_commands(&mut state, 2 * MOST_TAKEN);
         let next = state.follow(value);
         self.end_call(state, Done::Followed.unless_refused(next.is_ok()));
         next

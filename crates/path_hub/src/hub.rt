@@ -3,33 +3,43 @@
 ghost use Rattle.std.specs.Prelude.{◌≡◌, IfOk, IfErr};
 ghost use Rattle.path_hub.specs.declared.error.HubError.TheVariants.{NoReader};
 ghost use Rattle.path_hub.specs.Committed.{ReceiptShows, RefusesCommand};
-ghost use Rattle.path_hub.specs.Numbers.{AreNumbers};
+ghost use Rattle.hub_board.specs.Numbers.{AreNumbers};
 
-use crate::board::Board;
-use crate::changes::Changes;
+use crate::answer::{HubReceipt, Slot};
+use crate::claim::HubClaim;
 use crate::error::HubError;
+use crate::handing::AllUnderWay;
 use crate::name::HubName;
 use crate::reader::HubReader;
-use crate::show::{HubNote, HubShow};
-use crate::tally::Completed;
-use group_core::{Numbers, Receipt, Redeemed, State};
+use crate::show::HubShow;
+use command_queue::{CommandQueue, NotQueued};
+use group_core::{Numbers, State, SubmitError};
+use hub_board::{Board, Changes, Completed, LONGEST_REST};
 use path_db::Command;
 use sector_dev::Device;
+use std::alloc::Global;
 use std::sync::atomic::{AtomicBool, Ordering};
-use std::sync::{Mutex, Wait};
-use std::time::Clock;
+use std::sync::{Arc, Mutex, Wait};
+use std::time::{Clock, Duration};
 use store_loops::{Awaited, DeviceCall, Steps};
 
 /// The number of readers of a hub.
 pub const READERS: usize = 64;
 
-/// A store's state under one lock, and the readers of what it shows, under one name.
+/// A store's state under one lock, a queue of commands for it under another, and the readers of what
+/// it shows, under one name.
 ///
 /// The lock's value is a `State`, so what that type says of a state holds whenever the lock is
 /// free: a stop at that moment leaves an image that opens to the committed rows with a front of the
 /// pending commands.
 pub struct Hub<D: Device, N: HubName, R: Wait + Clock> {
     pub(crate) rt: R,
+    pub(crate) alloc: Global,
+    pub(crate) queue: Mutex<CommandQueue<N, Arc<Slot<N>, Global>>>,
+    /// Whether a flusher's thread takes the commands of the queue.
+    pub(crate) has_flusher: AtomicBool,
+    /// What is under way of the queue. Its lock is taken by who has the state's lock, alone.
+    pub(crate) under_way: Mutex<AllUnderWay<N>>,
     pub(crate) state: Mutex<State<D, HubShow<N, R>>>,
     pub(crate) changes: Changes,
     pub(crate) board: Board,
@@ -66,34 +76,78 @@ impl<D: Device, N: HubName, R: Wait + Clock> Hub<D, N, R> {
     /// note a place above the command's own. A command that is not accepted is refused at once.
     /// Where the state stops before the command is committed, the error has the command's place,
     /// and it is not known whether the store keeps the command.
-    #[tactic(auto, using(crate::proofs::Committed::is_committed))]
-    pub fn register(&self, command: Command) -> Result<Receipt<HubNote<N>>, HubError>
+    pub fn register(&self, command: Command) -> Result<HubReceipt<N>, HubError>
         ensures committed { IfOk result (ReceiptShows command) }
         ensures why { IfErr result RefusesCommand }
     {
-        let mut ticket = match self.submit(command) {
-            Ok(ticket) => ticket,
-            Err((_, refusal)) => return Err(HubError::Submit(refusal)),
-        };
-        for _ in self.rt.forever() {
-            self.await_outcome(ticket.place());
-            match self.redeem(ticket) {
-                Redeemed::Committed(receipt) => return Ok(receipt),
-                Redeemed::Unknown(place) => return Err(HubError::Stopped(place)),
-                Redeemed::Waiting(back) => ticket = back,
-                Redeemed::Stranger(back) => ticket = back,
+        let claim = self.hand_in(command)?;
+        self.settle(claim)
+    }
+
+    /// Hands a command in, and returns a claim on its answer. The state's lock is not taken, unless
+    /// the command is refused or the hub has no thread for its flusher. A command is refused as the
+    /// state would refuse it. It is also refused as busy where 2,304 commands wait, and for want of
+    /// memory where no room is given for the command and its answer. Commands are submitted in the
+    /// order in which they were handed in.
+    pub fn hand_in(&self, command: Command) -> Result<HubClaim<N>, HubError>
+        ensures claim { IfOk result (λ claim. claim ≡ command) }
+        ensures why { IfErr result RefusesCommand }
+    {
+        match self.queue_up(command) {
+            Ok(claim) => {
+                self.changes.announce(Awaited::Work);
+                if !self.has_flusher.load(Ordering::SeqCst) {
+                    self.take_at_once();
+                }
+                Ok(claim)
             }
+            Err((command, why)) => Err(HubError::Submit(self.refusal(&command, why))),
+        }
+    }
+
+    /// Waits for the answer to a command that was handed in. The receipt shows the command, and its
+    /// note a place above the command's own. A command that is not accepted is refused. Where the
+    /// state stops before the command is committed, the error has the command's place, and it is not
+    /// known whether the store keeps the command. The state's lock is not taken.
+    pub fn settle(&self, claim: HubClaim<N>) -> Result<HubReceipt<N>, HubError>
+        ensures committed { IfOk result (ReceiptShows claim) }
+        ensures why { IfErr result RefusesCommand }
+    {
+        let bell = self.changes.ringer.bell(claim.number());
+        for _ in self.rt.forever() {
+            let seen = bell.notifications();
+            if let Some(outcome) = claim.take_answer(&self.rt) {
+                return Ok(outcome?);
+            }
+            bell.sleep(&self.rt, seen, Duration::from_millis(LONGEST_REST));
         }
         unreachable!()
     }
 
-    /// Waits until the command of a place is committed or the state has stopped, at most 10
-    /// milliseconds.
-    fn await_outcome(&self, place: u64) {
-        let awaited = Awaited::Outcome(place);
-        let seen = self.changes(awaited);
-        if !self.changes.has_reached(place) {
-            self.rest(awaited, seen);
+    /// Puts a command into the queue, with room for its answer.
+    fn queue_up(&self, command: Command) -> Result<HubClaim<N>, (Command, NotQueued)>
+        ensures { IfOk result (λ claim. claim ≡ command) }
+    {
+        let Ok(slot) = Arc::new(self.alloc, Slot::new()) else {
+            return Err((command, NotQueued::NoMemory));
+        };
+        let Ok(reply_to) = Arc::try_clone(&slot) else {
+            return Err((command, NotQueued::NoMemory));
+        };
+        let queued = self.queue.lock(&self.rt).hand_in(command, reply_to);
+        Ok(HubClaim::on(queued?, slot))
+    }
+
+    /// Why a command is refused that was not queued. What the state itself would refuse comes
+    /// first.
+    fn refusal(&self, command: &Command, why: NotQueued) -> SubmitError {
+        if let Err(refusal) = self.judge(command) {
+            return refusal;
+        }
+        match why {
+            NotQueued::Closed => SubmitError::Stopped,
+            NotQueued::Full => SubmitError::Busy,
+            NotQueued::NoMemory => SubmitError::NoMemory,
         }
     }
 
@@ -112,6 +166,12 @@ impl<D: Device, N: HubName, R: Wait + Clock> Hub<D, N, R> {
     /// call, or the clock cannot be read. No clause can say which call is under way.
     pub fn under_way(&self) -> Option<(DeviceCall, u64)> {
         self.board.under_way(&self.rt)
+    }
+
+    /// Says that threads of the flusher and of the ringer work for the hub from now on.
+    pub(crate) fn expect_threads(&self) {
+        self.has_flusher.store(true, Ordering::SeqCst);
+        self.changes.ringer.expect_thread();
     }
 
     /// Whether an actor has given up a value that a step refused as a stranger.

@@ -5,17 +5,22 @@
 //! a sealed journal into the other half, any number of threads that register commands, and 64
 //! readers, which look up what is published without a lock.
 //!
-//! To the layer above: `Hub::register` returns a receipt of the command that was passed, once the
-//! command is committed. `HubReader::lookup` answers from what is published, which is never older
+//! A thread that registers a command does not take the state's lock. It hands the command in to a
+//! queue, which has a lock of its own; the flusher submits the commands of the queue before it
+//! stages a group, and lays the answers out once the group is published.
+//!
+//! To the layer above: `Hub::hand_in` returns a claim of the command that was passed, and
+//! `Hub::settle` returns a receipt of the command of a claim, once the command is committed;
+//! `Hub::register` does both. `HubReader::lookup` answers from what is published, which is never older
 //! than what this reader was shown or has learnt.
 #![tactic(auto)]
 
-mod bells;
-mod board;
-mod changes;
+mod answer;
+mod claim;
 mod crew;
 mod error;
 mod guarded;
+mod handing;
 mod hub;
 mod making;
 mod name;
@@ -23,11 +28,13 @@ mod published;
 mod reader;
 mod rule;
 mod show;
-mod tally;
 
+pub use answer::HubReceipt;
+pub use claim::HubClaim;
 pub use crew::{Crew, with_crew};
 pub use error::HubError;
 pub use hub::{Hub, READERS};
+pub use hub_board::Completed;
 pub use making::{HubJob, with_hub};
 pub use name::HubName;
 pub use published::Published;
@@ -38,4 +45,3 @@ pub use store_loops::{
     Awaited, BUCKETS, Bucket, CommitTimes, DeviceCall, Notice, Silent, Steps, Watch,
     checkpointer_loop, flusher_loop,
 };
-pub use tally::Completed;

@@ -9,15 +9,16 @@ ghost use Rattle.path_hub.specs.declared.error.HubError.TheVariants.{NoMemory, N
 ghost use Rattle.path_hub.specs.Shown.{IsShownAfter};
 ghost use Rattle.path_hub.specs.Left.{OpensAfter};
 
-use crate::board::Board;
-use crate::changes::Changes;
 use crate::error::HubError;
+use crate::handing::{AllUnderWay, MOST_UNDER_WAY, give_up_all};
 use crate::hub::{Hub, READERS};
 use crate::name::HubName;
 use crate::published::Published;
 use crate::reader::HubReader;
 use crate::show::{HubShow, HubWriter};
+use command_queue::{CommandQueue, NewHistory};
 use group_core::State;
+use hub_board::{Board, Changes};
 use left_right::writer::Writer;
 use path_db::PathDb;
 use sector_dev::Device;
@@ -56,23 +57,25 @@ pub fn with_hub<D: Device + Drop, J: HubJob<D, R>, R: Wait + Clock + Copy>(
     ensures back { IfErr result (λ back. (back.0 ≡ store) × (back.1 ≡ job)) }
     ensures why { IfErr result (λ back. (back.2 ≡ NoMemory) ⊎ (back.2 ≡ NoReader)) }
 {
-    do_with::<Brand, D, J, R>(rt, alloc, store, home, job)
+    do_with::<Brand, D, J, R>(rt, alloc, NewHistory::new(), store, home, job)
 }
 
 /// `with_hub` for one brand `N`, which ties readers to this hub.
 fn do_with<N: HubName, D: Device + Drop, J: HubJob<D, R>, R: Wait + Clock + Copy>(
     rt: R,
     alloc: Global,
+    history: NewHistory,
     store: Store<D>,
     home: u64,
     job: J,
 ) -> Result<J::Out, (Store<D>, J, HubError)>
-    requires { value_of_store store ≡ N.opening }
+    requires opening { value_of_store store ≡ N.opening }
+    requires history { history.seen.book ≡ N.history }
     ensures done { IfOk result (J.does job) }
     ensures back { IfErr result (λ back. (back.0 ≡ store) × (back.1 ≡ job)) }
     ensures why { IfErr result (λ back. (back.2 ≡ NoMemory) ⊎ (back.2 ≡ NoReader)) }
 {
-    let hub = match Hub::<D, N, R>::open(rt, alloc, store, home) {
+    let hub = match Hub::<D, N, R>::open(rt, alloc, history, store, home) {
         Ok(hub) => hub,
         Err((store, refused)) => return Err((store, job, refused)),
     };
@@ -83,16 +86,18 @@ fn do_with<N: HubName, D: Device + Drop, J: HubJob<D, R>, R: Wait + Clock + Copy
 
 impl<D: Device, N: HubName, R: Wait + Clock> Hub<D, N, R> {
     /// A hub of this name over a store, or the store again.
-    #[tactic(auto, using(crate::proofs::Numbers::are_of_a_state))]
+    #[tactic(auto, using(hub_board::proofs::Numbers::are_of_a_state))]
     pub(crate) fn open(
         rt: R,
         alloc: Global,
+        history: NewHistory,
         store: Store<D>,
         home: u64,
     ) -> Result<Hub<D, N, R>, (Store<D>, HubError)>
     where
         R: Copy,
-        requires { value_of_store store ≡ N.opening }
+        requires opening { value_of_store store ≡ N.opening }
+        requires history { history.seen.book ≡ N.history }
         ensures back { IfErr result (λ back. back.0 ≡ store) }
         ensures why { IfErr result (λ back. (back.1 ≡ NoMemory) ⊎ (back.1 ≡ NoReader)) }
     {
@@ -106,11 +111,19 @@ impl<D: Device, N: HubName, R: Wait + Clock> Hub<D, N, R> {
                 return Err((store, refused));
             }
         };
+        let Ok(under_way) = AllUnderWay::with_capacity(alloc, MOST_UNDER_WAY) else {
+            writer.take(&rt);
+            return Err((store, HubError::NoMemory));
+        };
         let show = HubShow::over(rt, alloc, writer);
         let state = State::new(alloc, store, show, home);
         let board = Board::new(state.numbers());
         Ok(Hub {
             rt,
+            alloc,
+            queue: Mutex::new(CommandQueue::new(alloc, history)),
+            has_flusher: AtomicBool::new(false),
+            under_way: Mutex::new(under_way),
             state: Mutex::new(state),
             changes: Changes::new(),
             board,
@@ -129,13 +142,18 @@ impl<D: Device, N: HubName, R: Wait + Clock> Hub<D, N, R> {
     {
         let Hub {
             rt: _rt,
+            alloc: _alloc,
+            queue: _queue,
+            has_flusher: _has_flusher,
+            under_way,
             state,
             changes: _changes,
             board: _board,
             has_stranger: _has_stranger,
             readers: _readers,
         } = self;
-        let state = state.into_inner();
+        let mut state = state.into_inner();
+        give_up_all(&mut state, under_way.into_inner());
         state.stops_leave_fronts();
         let (device, show) = state.into_parts();
         show.close();

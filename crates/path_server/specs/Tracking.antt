@@ -1,4 +1,5 @@
--- Where a stream of frames is. A frame is a length of four bytes, big-endian, and as many bytes as the length says.
+-- Where a stream of frames is. A frame is a length of four bytes, big-endian, and as many bytes as
+-- the length says.
 use Rattle.std.specs.Prelude.{ℕ, ◌+◌, ◌*◌, ◌%◌, ◌^◌, ◌<◌, List, [], ◌∷◌, if◌then◌else◌, nat_lt}
 
 -- How many bytes of the frame under way have gone by, which are none between two frames, and the

@@ -36,7 +36,7 @@ mod watching;
 pub use accepting::{Failure, after_failure};
 pub use descriptors::raised_listener;
 pub use error::RunError;
-pub use listeners::{Listeners, bound_accepts};
+pub use listeners::{Listeners, set_accept_timeout};
 pub use options::Options;
 pub use reports::{Report, Reports, Silent};
 pub use running::{System, run_on, serve_store};

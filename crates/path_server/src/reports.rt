@@ -73,7 +73,7 @@ impl Display for Report {
             }
             Report::AddressFull(count) => write!(
                 f,
-                "sessions refused, as their address has its number of them open: {count}"
+                "sessions refused, as their address has reached its limit of sessions: {count}"
             ),
             Report::NoThread(count) => {
                 write!(f, "sessions refused, as no thread was given: {count}")

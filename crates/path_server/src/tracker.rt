@@ -3,10 +3,11 @@
 ghost use Rattle.std.specs.Prelude.{◌≡◌, ◌<◌, ◌≤◌, ◌+◌, length, take};
 ghost use Rattle.path_server.specs.Tracking.{between, settled, after_byte, after_bytes};
 
+use session_core::LENGTH_SIZE;
 use std::marker::Model;
 
-/// The number of bytes of a frame's length.
-const LENGTH_SIZE: u64 = 4;
+/// The number of bytes of a frame's length, as a number of the stream's bytes.
+const LENGTH_BYTES: u64 = LENGTH_SIZE as u64;
 
 /// The number of values of a byte.
 const BYTES: u64 = 256;
@@ -73,11 +74,11 @@ impl Tracker {
         ensures within { result ≤ length bytes.now }
         ensures spot { self.new ≡ after_bytes self.old (take result bytes.now) }
     {
-        if self.gone < LENGTH_SIZE {
+        if self.gone < LENGTH_BYTES {
             *self = self.after_length_byte(bytes[0]);
             return 1;
         }
-        let left = LENGTH_SIZE + u64::from(self.counted) - self.gone;
+        let left = LENGTH_BYTES + u64::from(self.counted) - self.gone;
         let count = left.min(bytes.len() as u64);
         *self = settled(self.gone + count, self.counted);
         count as usize
@@ -97,7 +98,7 @@ impl Tracker {
 fn settled(gone: u64, counted: u32) -> Tracker
     ensures { result ≡ settled gone counted }
 {
-    if gone < LENGTH_SIZE + u64::from(counted) {
+    if gone < LENGTH_BYTES + u64::from(counted) {
         Tracker { gone, counted }
     } else {
         Tracker::new()

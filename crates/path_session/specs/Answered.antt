@@ -75,7 +75,7 @@ AnswersChecked old rows None reply new = AnswersCommand Registered old (command.
 AnswersChecked old rows (Some e) reply new = IsRefusedWithCode (check_code e) old reply new
 
 -- The clock is asked for a registration that was read, and its segments are checked at the moment
--- that the clock gave.
+-- that the clock gave then.
 abbrev pub AnswersRegistration : Serving → Result (List RowView) SegError → ReplyView → Serving → Type 0
 AnswersRegistration old (Ok rows) reply new =
     AnswersChecked (at_moment old new.moment) rows (first_refusal old.verifies new.moment rows) reply new

@@ -3,4 +3,5 @@ pub mod Refused
 pub mod Serving
 pub mod Answered
 pub mod Taking
+pub mod UnderWay
 pub mod Kept

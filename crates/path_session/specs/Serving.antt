@@ -16,16 +16,17 @@ pub record Serving : Type 0 where
   pub groups : List (List Command)
   -- The greatest place that the reader has seen.
   pub seen : ℕ
-  -- The moment that its clock gave last, in half seconds since 1970.
+  -- The moment at which the last message was answered for which the clock was asked, in half
+  -- seconds since 1970. A registration is answered at the moment at which it was checked.
   pub moment : ℕ
   -- The receipt of the last of its commands that was committed.
   pub last : Option (Receipt ℕ)
 
--- The service after its clock gave a moment.
+-- The service where a message is answered at a moment.
 abbrev pub at_moment : Serving → ℕ → Serving
 at_moment serving moment = record serving { moment = moment }
 
--- A service that has had no command committed, by a reader and the last moment of a clock.
-abbrev pub beginning : RosterView → Verdicts → Sight → ℕ → Serving
-beginning roster verifies reader moment =
-    record { roster = roster; verifies = verifies; groups = reader.groups; seen = reader.seen; moment = moment; last = None }
+-- A service that has answered no message, by a reader.
+abbrev pub beginning : RosterView → Verdicts → Sight → Serving
+beginning roster verifies reader =
+    record { roster = roster; verifies = verifies; groups = reader.groups; seen = reader.seen; moment = 0; last = None }

@@ -18,3 +18,13 @@ IsCommandAnswered old c (Err (Message e)) new = ⊥
 IsCommandAnswered old c (Err (Check e)) new = ⊥
 IsCommandAnswered old c (Err (Lookup e)) new = ⊥
 IsCommandAnswered old c (Err NoReader) new = ⊥
+
+-- Why the hub does not take a command.
+abbrev pub RefusesTaking : Refusal → Type 0
+RefusesTaking (Submit e) = Unit {0}
+RefusesTaking Stopped = Unit {0}
+RefusesTaking NoMemory = ⊥
+RefusesTaking (Message e) = ⊥
+RefusesTaking (Check e) = ⊥
+RefusesTaking (Lookup e) = ⊥
+RefusesTaking NoReader = ⊥

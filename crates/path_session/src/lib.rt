@@ -2,17 +2,20 @@
 //!
 //! To the layer above, `HubService` answers each message by the first refusal in its order, or else
 //! by the hub: a lookup by what is published, at the moment that the service's clock gave, and a
-//! command by the receipt that the service then keeps. The crate exports `session_core`, whose
-//! `serve` runs a session.
+//! command by the receipt that the service then keeps. A command can be taken ahead of its answer.
+//! The crate exports `session_core`, whose `serve` runs a session.
 #![tactic(auto)]
 
 mod clock;
 mod refused;
 mod service;
+mod under_way;
 
 pub use clock::{Now, SystemNow};
 pub use service::HubService;
 pub use session_core::{
-    Ack, Code, Fed, Form, FrameError, Framer, MOST_LENGTH, MOST_PIECE, MOST_REPLY, MOST_SEGMENTS,
-    Message, Outcome, Reply, Service, Source, laws, read_all, serve, serve_in_lines,
+    Ack, Code, CommandKind, Fed, Form, FrameError, Framer, MOST_AHEAD, MOST_LENGTH, MOST_PIECE,
+    MOST_REPLY, MOST_SEGMENTS, Message, Outcome, Reply, Service, Source, laws, read_all, serve,
+    serve_in_lines,
 };
+pub use under_way::HubUnderWay;

@@ -1,10 +1,15 @@
 //! The refusal of a message, where a hub refused its call.
 
 ghost use Rattle.std.specs.Prelude.{◌≡◌};
+ghost use Rattle.reply_codes.specs.Replies.{reply_to_command};
+ghost use Rattle.session_core.specs.Commands.{reply_to_kind};
+ghost use Rattle.session_core.specs.declared.command_kind.CommandKind.{CommandKind};
 ghost use Rattle.path_session.specs.Refused.{hub_refusal};
+ghost use Rattle.path_session.specs.UnderWay.{reply_with};
 
 use path_hub::HubError;
 use reply_codes::Refusal;
+use session_core::{Ack, Code};
 
 /// The refusal of a message whose call of the hub was refused.
 pub(crate) fn refusal_of(error: HubError) -> Refusal
@@ -16,4 +21,11 @@ pub(crate) fn refusal_of(error: HubError) -> Refusal
         HubError::Stopped(_) => Refusal::Stopped,
         HubError::Submit(error) => Refusal::Submit(error),
     }
+}
+
+/// The answer to a command, with the code of a refusal.
+pub(crate) fn coded(answered: Result<Ack, Refusal>) -> Result<Ack, Code>
+    ensures { (kind : CommandKind) → reply_to_kind kind result ≡ reply_to_command (reply_with kind) answered }
+{
+    Ok(answered?)
 }

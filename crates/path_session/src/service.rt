@@ -1,28 +1,30 @@
 //! A session's service over a hub.
 
-ghost use Rattle.std.specs.Prelude.{◌≡◌, ◌≤◌, length, IfOk};
+ghost use Rattle.std.specs.Prelude.{◌≡◌, ◌≤◌, length, IfOk, IfErr, IfSome, IsSome, OnOk};
 ghost use Rattle.std.specs.List.{AllByRecursion};
 ghost use Rattle.seg_core.specs.Encoding.{IsSegment};
-ghost use Rattle.session_core.specs.declared.message.Message.TheVariants.{Register, Lookup, Purge, Remove};
+ghost use Rattle.session_core.specs.declared.message.Message.TheVariants.{Lookup};
 ghost use Rattle.session_core.specs.declared.service.TheConstants.{MOST_SEGMENTS};
-ghost use Rattle.session_core.specs.Reply.{Registered, Purged, Removed};
-ghost use Rattle.reply_codes.specs.Replies.{reply_to_command, reply_to_query};
+ghost use Rattle.session_core.specs.Commands.{command_kind};
+ghost use Rattle.session_core.specs.Front.{message_at};
+ghost use Rattle.reply_codes.specs.Replies.{reply_to_query};
 ghost use Rattle.path_session.specs.Serving.{beginning};
 ghost use Rattle.path_session.specs.Answered.{HubAnswers};
-ghost use Rattle.path_session.specs.Taking.{IsCommandAnswered};
+ghost use Rattle.path_session.specs.Taking.{IsCommandAnswered, RefusesTaking};
+ghost use Rattle.path_session.specs.UnderWay.{IsForRegistration, IsForRows, IsForPurge, IsForRemoval, IsFor, after_check, AnswersTaken};
 ghost use Rattle.path_session.specs.Kept.{serving};
 
 use crate::clock::Now;
-use crate::refused::refusal_of;
-use group_core::Receipt;
+use crate::refused::{coded, refusal_of};
+use crate::under_way::HubUnderWay;
 use path_db::{Command, Registration};
-use path_hub::{Hub, HubName, HubNote, HubReader};
+use path_hub::{Hub, HubClaim, HubName, HubReader, HubReceipt};
 use reply_codes::{Refusal, check_all};
 use sector_dev::Device;
 use seg_check::Verifier;
 use seg_core::{SegType, Segment, read_registration, read_request};
 use seg_lookup::{Roster, classify};
-use session_core::{Ack, Code, Service};
+use session_core::{Ack, Code, Message, Service};
 use std::alloc::Global;
 use std::sync::Wait;
 use std::time::Clock;
@@ -30,17 +32,20 @@ use std::time::Clock;
 /// Answers the messages of one session from a hub, by a reader of its own. A service cannot be
 /// dropped. End it by `into_reader`, and give the reader back.
 ///
-/// The clock is asked once for each registration that was read, and once for each lookup that was
-/// classified. Signatures are checked before the hub is called, so under no lock. Lookups wait for
-/// nobody.
+/// The clock is asked once for each registration that was read, when the service takes it, and once
+/// for each lookup that was classified. Signatures are checked before the hub is called, so under
+/// no lock. Lookups wait for nobody.
 pub struct HubService<'a, D: Device, N: HubName, R: Wait + Clock, V: Verifier, C: Now> {
     hub: &'a Hub<D, N, R>,
     reader: HubReader<N>,
     verifier: &'a V,
     clock: C,
     roster: &'a Roster,
+    /// The moment of the last message that was answered of those for which the clock was asked, in
+    /// half seconds since 1970; 0 at first.
+    moment: u64,
     /// The receipt of the last command that was committed. Its note is taken.
-    last: Option<Receipt<HubNote<N>>>,
+    last: Option<HubReceipt<N>>,
 }
 
 impl<'a, D: Device, N: HubName, R: Wait + Clock, V: Verifier, C: Now> HubService<
@@ -51,7 +56,7 @@ impl<'a, D: Device, N: HubName, R: Wait + Clock, V: Verifier, C: Now> HubService
     V,
     C,
 > {
-    /// A service that has had no command committed.
+    /// A service that has answered no message.
     pub fn new(
         hub: &'a Hub<D, N, R>,
         reader: HubReader<N>,
@@ -59,7 +64,7 @@ impl<'a, D: Device, N: HubName, R: Wait + Clock, V: Verifier, C: Now> HubService
         clock: C,
         roster: &'a Roster,
     ) -> HubService<'a, D, N, R, V, C>
-        ensures { serving V.verifies C.moment result ≡ beginning roster.now (V.verifies verifier.now) reader (C.moment clock) }
+        ensures { serving V.verifies result ≡ beginning roster.now (V.verifies verifier.now) reader }
     {
         HubService {
             hub,
@@ -67,6 +72,7 @@ impl<'a, D: Device, N: HubName, R: Wait + Clock, V: Verifier, C: Now> HubService
             verifier,
             clock,
             roster,
+            moment: 0,
             last: None,
         }
     }
@@ -75,8 +81,8 @@ impl<'a, D: Device, N: HubName, R: Wait + Clock, V: Verifier, C: Now> HubService
     pub fn into_reader(self) -> HubReader<N>
     where
         C: Drop,
-        ensures groups { result.groups ≡ (serving V.verifies C.moment self.entry).groups }
-        ensures seen { result.seen ≡ (serving V.verifies C.moment self.entry).seen }
+        ensures groups { result.groups ≡ (serving V.verifies self.entry).groups }
+        ensures seen { result.seen ≡ (serving V.verifies self.entry).seen }
     {
         let HubService {
             hub: _,
@@ -84,16 +90,110 @@ impl<'a, D: Device, N: HubName, R: Wait + Clock, V: Verifier, C: Now> HubService
             verifier: _,
             clock: _clock,
             roster: _,
+            moment: _,
             last: _last,
         } = self;
         reader
     }
 
-    /// Commits a command, learns its receipt and keeps it.
-    fn take(&mut self, command: Command) -> Result<Ack, Refusal>
-        ensures { IsCommandAnswered (serving V.verifies C.moment self.old) command result (serving V.verifies C.moment self.new) }
+    // ---- taking messages
+
+    /// Reads and checks a registration, and hands its command in.
+    fn take_registration(&mut self, alloc: Global, body: &[u8]) -> HubUnderWay<N>
+        ensures known { IsForRegistration (V.verifies self.new.verifier.now) body.now result.moment result.handed }
+        ensures clock { IfSome result.moment (λ moment. moment ≡ C.moment self.new.clock) }
+        ensures same { serving V.verifies self.new ≡ serving V.verifies self.old }
     {
-        let mut receipt = self.hub.register(command).map_err(refusal_of)?;
+        match read_registration(alloc, body) {
+            Ok(segments) => {
+                let now = self.clock.now();
+                HubUnderWay {
+                    moment: Some(now),
+                    handed: self.hand_in_checked(segments, now),
+                }
+            }
+            Err(error) => HubUnderWay {
+                moment: None,
+                handed: Err(Refusal::from(error)),
+            },
+        }
+    }
+
+    /// Checks segments at a moment, and hands their registration in.
+    fn hand_in_checked(
+        &self,
+        segments: Vec<(SegType, Segment)>,
+        now: u64,
+    ) -> Result<HubClaim<N>, Refusal>
+        ensures { IsForRows (V.verifies self.now.verifier.now) segments.items now result }
+    {
+        check_all(&segments, self.verifier, now)?;
+        self.hand_in_command(Command::Register(Registration::new(segments)))
+    }
+
+    /// Hands a purge in.
+    fn take_purge(&self, until: u64) -> HubUnderWay<N>
+        ensures moment { result.moment ≡ None }
+        ensures known { IsForPurge until result.handed }
+    {
+        HubUnderWay {
+            moment: None,
+            handed: self.hand_in_command(Command::Purge(until)),
+        }
+    }
+
+    /// Hands the removal of the segment of a type's number and an id in.
+    fn take_removal(&self, kind: u8, id: &[u8; 32]) -> HubUnderWay<N>
+        ensures moment { result.moment ≡ None }
+        ensures known { IsForRemoval kind id.now result.handed }
+    {
+        HubUnderWay {
+            moment: None,
+            handed: self.hand_in_removal(kind, id),
+        }
+    }
+
+    /// Reads the type of a removal, and hands its command in.
+    fn hand_in_removal(&self, kind: u8, id: &[u8; 32]) -> Result<HubClaim<N>, Refusal>
+        ensures { IsForRemoval kind id.now result }
+    {
+        let kind = SegType::from_number(u64::from(kind))?;
+        self.hand_in_command(Command::Remove(kind, *id))
+    }
+
+    /// Hands a command in to the hub.
+    fn hand_in_command(&self, command: Command) -> Result<HubClaim<N>, Refusal>
+        ensures taken { IfOk result (λ taken. taken ≡ command) }
+        ensures refused { IfErr result RefusesTaking }
+    {
+        self.hub.hand_in(command).map_err(refusal_of)
+    }
+
+    // ---- answering messages
+
+    /// Answers a message that was taken.
+    fn answer(&mut self, under_way: HubUnderWay<N>) -> Result<Ack, Refusal>
+        ensures { AnswersTaken (after_check (serving V.verifies self.old) under_way.moment) under_way.handed result (serving V.verifies self.new) }
+    {
+        let HubUnderWay { moment, handed } = under_way;
+        self.note_moment(moment);
+        self.commit(handed?)
+    }
+
+    /// Notes the moment at which a message was checked, if it has one.
+    fn note_moment(&mut self, moment: Option<u64>)
+        ensures { serving V.verifies self.new ≡ after_check (serving V.verifies self.old) moment }
+    {
+        if let Some(moment) = moment {
+            self.moment = moment;
+        }
+    }
+
+    /// Waits until a command is committed, learns its receipt and keeps it.
+    fn commit(&mut self, claim: HubClaim<N>) -> Result<Ack, Refusal>
+        ensures { IsCommandAnswered (serving V.verifies self.old) claim result (serving V.verifies self.new) }
+    {
+        let mut receipt = self.hub.settle(claim).map_err(refusal_of)?;
         self.reader.learn(&mut receipt);
         let ack = Ack {
             place: receipt.place(),
@@ -103,48 +203,18 @@ impl<'a, D: Device, N: HubName, R: Wait + Clock, V: Verifier, C: Now> HubService
         Ok(ack)
     }
 
-    /// Registers the segments of a registration, once they are accepted.
-    #[tactic(auto, unfolding(crate::specs::Answered::IsAnswered))]
-    fn accept(&mut self, alloc: Global, message: &[u8]) -> Result<Ack, Refusal>
-        ensures { HubAnswers N.opening (serving V.verifies C.moment self.old) (Register message.now) (reply_to_command Registered result)
-            (serving V.verifies C.moment self.new) }
-    {
-        let segments = read_registration(alloc, message)?;
-        let now = self.clock.now();
-        check_all(&segments, self.verifier, now)?;
-        self.take(Command::Register(Registration::new(segments)))
-    }
-
-    /// Drops the rows that have expired by a moment.
-    #[tactic(auto, unfolding(crate::specs::Answered::IsAnswered))]
-    fn drop_expired(&mut self, moment: u64) -> Result<Ack, Refusal>
-        ensures { HubAnswers N.opening (serving V.verifies C.moment self.old) (Purge moment) (reply_to_command Purged result)
-            (serving V.verifies C.moment self.new) }
-    {
-        self.take(Command::Purge(moment))
-    }
-
-    /// Drops the segment of a type's number and an id.
-    #[tactic(auto, unfolding(crate::specs::Answered::IsAnswered))]
-    fn drop_one(&mut self, kind: u8, id: &[u8; 32]) -> Result<Ack, Refusal>
-        ensures { HubAnswers N.opening (serving V.verifies C.moment self.old) (Remove kind id.now) (reply_to_command Removed result)
-            (serving V.verifies C.moment self.new) }
-    {
-        let kind = SegType::from_number(u64::from(kind))?;
-        self.take(Command::Remove(kind, *id))
-    }
-
     /// The segments that a request asks for, of one type.
     #[tactic(auto, unfolding(crate::specs::Answered::IsAnswered))]
     fn find(&mut self, message: &[u8]) -> Result<(SegType, Vec<Segment>), Refusal>
-        ensures answers { HubAnswers N.opening (serving V.verifies C.moment self.old) (Lookup message.now) (reply_to_query result)
-            (serving V.verifies C.moment self.new) }
+        ensures answers { HubAnswers N.opening (serving V.verifies self.old) (Lookup message.now) (reply_to_query result) (serving V.verifies self.new) }
         ensures few { IfOk result (λ found. length found.1.items ≤ MOST_SEGMENTS) }
         ensures whole { IfOk result (λ found. AllByRecursion IsSegment found.1.items) }
+        ensures clock { OnOk result (self.new.moment ≡ C.moment self.new.clock) }
     {
         let (source, destination) = read_request(message)?;
         let query = classify(self.roster, source, destination)?;
         let now = self.clock.now();
+        self.moment = now;
         let found = self.reader.lookup(&query, now).map_err(refusal_of)?;
         Ok((query.kind, found))
     }
@@ -152,14 +222,24 @@ impl<'a, D: Device, N: HubName, R: Wait + Clock, V: Verifier, C: Now> HubService
 
 impl<D: Device, N: HubName, R: Wait + Clock, V: Verifier, C: Now> Service
     for HubService<'_, D, N, R, V, C> {
+    ghost use Rattle.path_session.specs.Serving.{Serving};
     ghost use Rattle.path_session.specs.Answered.{HubAnswers};
     ghost use Rattle.path_session.specs.Kept.{serving};
+    ghost use Rattle.path_session.specs.UnderWay.{IsFor};
 
-    ghost answers = { λ old message reply new.
-        HubAnswers N.opening (serving V.verifies C.moment old) message reply (serving V.verifies C.moment new) };
+    type UnderWay = HubUnderWay<N>;
+
+    ghost State = { Serving };
+
+    ghost state = { serving V.verifies };
+
+    ghost answers = { HubAnswers N.opening };
+
+    ghost is_for = { λ service under_way message. IsFor service.verifies under_way message };
 
     fn register(&mut self, alloc: Global, message: &[u8]) -> Result<Ack, Code> {
-        Ok(self.accept(alloc, message)?)
+        let under_way = self.take_registration(alloc, message);
+        self.settle(under_way)
     }
 
     fn lookup(&mut self, _alloc: Global, message: &[u8]) -> Result<(SegType, Vec<Segment>), Code> {
@@ -167,10 +247,31 @@ impl<D: Device, N: HubName, R: Wait + Clock, V: Verifier, C: Now> Service
     }
 
     fn purge(&mut self, moment: u64) -> Result<Ack, Code> {
-        Ok(self.drop_expired(moment)?)
+        let under_way = self.take_purge(moment);
+        self.settle(under_way)
     }
 
     fn remove(&mut self, kind: u8, id: &[u8; 32]) -> Result<Ack, Code> {
-        Ok(self.drop_one(kind, id)?)
+        let under_way = self.take_removal(kind, id);
+        self.settle(under_way)
+    }
+
+    /// Where a registration is taken that was read, its moment is the one that the clock gave last.
+    fn hand_in(&mut self, alloc: Global, message: Message<&[u8]>) -> Option<HubUnderWay<N>>
+        ensures command { IfSome result (λ _. IsSome (command_kind (message_at message.entry))) }
+        ensures known { IfSome result (λ under_way. IsFor (serving V.verifies self.new).verifies under_way (message_at message.entry)) }
+        ensures same { serving V.verifies self.new ≡ serving V.verifies self.old }
+        ensures clock { IfSome result (λ under_way. IfSome under_way.moment (λ moment. moment ≡ C.moment self.new.clock)) }
+    {
+        match message {
+            Message::Register(body) => Some(self.take_registration(alloc, body)),
+            Message::Lookup(_) => None,
+            Message::Purge(moment) => Some(self.take_purge(moment)),
+            Message::Remove(kind, id) => Some(self.take_removal(kind, &id)),
+        }
+    }
+
+    fn settle(&mut self, under_way: HubUnderWay<N>) -> Result<Ack, Code> {
+        coded(self.answer(under_way))
     }
 }

@@ -27,8 +27,8 @@ pub(crate) trait Errand {
     fn run<D: Device, N: HubName, R: Wait + Clock + Abort>(&self, hub: &Hub<D, N, R>, guest: u64);
 }
 
-/// Guests who run an errand, each with its number, counted from 0. Where they don't come to an end,
-/// the test does.
+/// Guests who run an errand, each with its number, counted from 0. Where they do not come to an
+/// end, the test does.
 #[derive(Drop)]
 pub(crate) struct Guests<E> {
     pub(crate) errand: E,

@@ -108,7 +108,7 @@ fn assert_shown<N: HubName>(rt: &impl Abort, reader: &mut HubReader<N>, wanted: 
     assert_eq!(rt; count, wanted);
 }
 
-/// Publishes a group that a reader doesn't show before, and once more where memory is refused.
+/// Publishes a group that a reader does not show before, and once more where memory is refused.
 fn publish_again<D: Device, N: HubName, R: Wait + Clock + Abort>(
     hub: &Hub<D, N, R>,
     reader: &mut HubReader<N>,

@@ -82,7 +82,7 @@ struct Fills {
     alloc: Global,
 }
 
-/// Sees that a command isn't accepted, whether it is waited for or not.
+/// Sees that a command is not accepted, whether it is waited for or not.
 fn assert_refused<D: Device, N: HubName, R: Wait + Clock + Abort>(
     hub: &Hub<D, N, R>,
     wanted: SubmitError,

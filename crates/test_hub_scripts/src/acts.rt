@@ -19,7 +19,7 @@ pub enum Answer {
     NotStaged(StageError),
     /// The command of this place is committed, and did this.
     Committed(u64, Outcome),
-    /// It isn't yet.
+    /// It is not yet.
     Waiting(u64),
     /// The state has stopped before it was.
     Unknown(u64),
@@ -73,7 +73,7 @@ pub fn redeem<S: Steps>(steps: &S, watch: &mut impl Watch, ticket: Ticket) -> Op
     }
 }
 
-/// Redeems a ticket, which doesn't come back.
+/// Redeems a ticket, which does not come back.
 pub fn spend<S: Steps>(rt: &impl TestHost, steps: &S, watch: &mut impl Watch, ticket: Ticket) {
     if let Some(_back) = redeem(steps, watch, ticket) {
         rt.fail("a ticket came back");

@@ -35,7 +35,7 @@ pub struct Fake<R: Wait + TestHost> {
 }
 
 impl<R: Wait + TestHost> Fake<R> {
-    /// One over a device, which doesn't stop yet.
+    /// One over a device, which does not stop yet.
     pub fn new(rt: R, alloc: Global, device: MemDevice) -> Fake<R> {
         let state = state_of(&rt, alloc, opened(&rt, alloc, device), 1);
         Fake::over(rt, state, None)
@@ -154,6 +154,8 @@ impl<R: Wait + TestHost> Steps for Fake<R> {
     type Note = ();
 
     ghost tells = { λ _ _. Unit {0} };
+
+    ghost has_stopped = { λ _. Unit {0} };
 
     #[tactic(auto, using(store_loops::proofs::Through::taken))]
     fn submit(&self, command: Command) -> Result<Ticket, (Command, SubmitError)> {

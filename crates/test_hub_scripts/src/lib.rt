@@ -1,6 +1,6 @@
 //! What the tests of `path_hub` share: stores on devices in memory, commands, queries, the calls of
 //! a state, and a state that stops before one of its calls. A function here that is given a runtime
-//! ends the test by it where something isn't as it should be.
+//! ends the test by it where something is not as it should be.
 #![tactic(auto)]
 
 pub mod acts;

@@ -58,8 +58,8 @@ const FLOOD: usize = 4_096;
 /// How often a peer sends so many requests, if they are taken.
 const MOST_FLOODS: u64 = 10_000;
 
-/// How often a peer asks for a seat, a millisecond or more apart: for far longer than the idle time,
-/// also on a busy machine.
+/// How often a peer asks for a seat, a millisecond or more apart: for far longer than the idle
+/// time, also on a busy machine.
 const MOST_ASKED: u64 = 20_000;
 
 /// The longest time in milliseconds after which a seat is free on a busy machine: the server first

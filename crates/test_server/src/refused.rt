@@ -1,5 +1,5 @@
 //! Want of memory for the threads of a server. Each test is run with each of its allocations
-//! refused in turn: a server whose actors aren't given, or the thread of its second listener, ends
+//! refused in turn: a server whose actors are not given, or the thread of its second listener, ends
 //! by that, and reports no fault of its device.
 
 use crate::stores::{LEAST, formatted, opened, opens_to};

@@ -16,7 +16,7 @@ pub(crate) const REGISTERED: &str = "0000001981000000000000000000000001000000000
 /// No segments.
 pub(crate) const NOTHING: &str = "0000000182";
 
-/// The refusal of a segment whose signature isn't good.
+/// The refusal of a segment whose signature is not good.
 const NO_SIGNATURE: &str = "00000002ff31";
 
 /// A purge of what expired by 1970.

@@ -5,7 +5,7 @@ use crate::peers::{EMPTY_LOOKUP, NO_DESTINATION, Peer};
 use crate::rows::{FOUND, LOOKUP, PURGE, REGISTERED, REGISTRATION};
 use crate::stores::{LEAST, failing, formatted, opens_to};
 use crate::worlds::{Clients, Counts, Outside, World, listen, options, serve_watched};
-use path_server::bound_accepts;
+use path_server::set_accept_timeout;
 use sector_dev::HeldDevice;
 use std::alloc::Global;
 use std::io;
@@ -27,7 +27,7 @@ const GET_HEALTH: &str = "GET /healthz HTTP/1.1\r\nHost: localhost\r\n\r\n";
 /// A listener for requests of the numbers, and its address.
 fn listen_for_status<R: World>(rt: R) -> (Option<TcpListener>, SocketAddr) {
     let (listener, at) = listen(rt);
-    assert!(&rt; bound_accepts(&listener).is_ok());
+    assert!(&rt; set_accept_timeout(&listener).is_ok());
     (Some(listener), at)
 }
 

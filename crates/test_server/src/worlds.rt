@@ -2,7 +2,7 @@
 
 use crate::stores::opened;
 use isd_as::IsdAs;
-use path_server::{Listeners, Options, Report, Reports, RunError, bound_accepts, serve_store};
+use path_server::{Listeners, Options, Report, Reports, RunError, serve_store, set_accept_timeout};
 use sector_dev::Device;
 use seg_lookup::Roster;
 use std::alloc::Global;
@@ -139,7 +139,7 @@ pub(crate) fn listen<R: World>(rt: R) -> (TcpListener, SocketAddr) {
     let Ok(listener) = TcpListener::bind(&rt, "127.0.0.1:0") else {
         panic!(rt; "no port is free");
     };
-    assert!(&rt; bound_accepts(&listener).is_ok());
+    assert!(&rt; set_accept_timeout(&listener).is_ok());
     let Ok(to) = listener.local_addr() else {
         panic!(rt; "no address");
     };

@@ -40,7 +40,7 @@ pub(crate) trait Talk {
     ) -> Option<Vec<u8>>;
 }
 
-/// The guest. Where the talk doesn't come to an end, the test does.
+/// The guest. Where the talk does not come to an end, the test does.
 #[derive(Drop)]
 struct Guest<T> {
     talk: T,
@@ -110,7 +110,7 @@ pub(crate) fn talked<
 }
 
 /// Serves the frames of an input, and adds what is written to `replies`. `None` is a session that
-/// doesn't end well.
+/// does not end well.
 pub(crate) fn session<D: Device, N: HubName, R: Wait + Clock, I: Read>(
     hub: &Hub<D, N, R>,
     alloc: Global,

@@ -13,8 +13,8 @@ use std::time::Clock;
 use test_support::EXPIRY;
 
 /// A session whose segment expires between two lookups. The clock gives a moment for the
-/// registration and for each lookup, and none for a purge, a removal, a registration that can't be
-/// read, or a lookup that can't be read or asks for nothing.
+/// registration and for each lookup, and none for a purge, a removal, a registration that cannot be
+/// read, or a lookup that cannot be read or asks for nothing.
 const FRAMES: [&str; 8] = [
     REGISTER,
     PURGE,

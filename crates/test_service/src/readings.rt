@@ -6,7 +6,7 @@ use std::io::ErrorKind;
 use std::sync::atomic::{AtomicU64, Ordering};
 use std::time::{Clock, Duration};
 
-/// What a clock reads, one after the other, in seconds and nanoseconds, or that it can't be read;
+/// What a clock reads, one after the other, in seconds and nanoseconds, or that it cannot be read;
 /// and the moment then.
 const READINGS: [(Option<(u64, u32)>, u64); 7] = [
     (None, 0),

@@ -163,7 +163,7 @@ struct Upgrades {
     alloc: Global,
 }
 
-/// What a removal is replied, once it isn't refused because the store is old.
+/// What a removal is replied, once it is not refused because the store is old.
 fn removed<D: Device, N: HubName, R: Wait + Clock + Abort>(
     hub: &Hub<D, N, R>,
     alloc: Global,

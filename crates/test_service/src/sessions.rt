@@ -123,7 +123,7 @@ fn three_equal_purges(rt: HostRuntime) {
     assert_session(&rt, rt.alloc(), &[PURGE, PURGE, PURGE], 0, &replies, 0, 3);
 }
 
-// A registration with more segments than a command may have can't be read, so the hub's refusal of
+// A registration with more segments than a command may have cannot be read, so the hub's refusal of
 // such a command is never replied.
 #[test]
 fn seventeen_segments(rt: HostRuntime) {

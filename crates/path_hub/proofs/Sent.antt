@@ -1,0 +1,126 @@
+-- What a hub shares between threads.
+use denote.RattleType.{RattleType}
+use denote.Param.Send.{IsSend, IsSync, sendable, recorded_send, recorded_sync, struct_send, struct_sync}
+use denote.Struct.Declared.{shape}
+use Rattle.std.proofs.Crossing.{crosses, Deque-send, Arc-send}
+use Rattle.std.proofs.MapsCrossing.{crosses as maps_cross}
+use Rattle.std.proofs.MapsCrossingOver.{crosses as sets_cross}
+use Rattle.std.specs.contracts.sync.Mutex as Mutex
+use Rattle.std.specs.contracts.sync.Arc as Arc
+use Rattle.std.specs.contracts.collections.VecDeque as VecDeque
+use Rattle.std.specs.contracts.vec.Vec as Vec
+use Rattle.std.specs.contracts.alloc.Global as Global
+use Rattle.std.specs.contracts.impls.GlobalAllocator.TheImpl as heap
+use Rattle.command_queue.specs.declared.history.QueueName as queue
+use Rattle.command_queue.specs.contracts.queue.CommandQueue as CommandQueue
+use Rattle.command_queue.proofs.Sent.{claim_send, queue_send}
+use Rattle.std.specs.declared.sync.Wait as wait
+use Rattle.left_right.proofs.part.Part.TheSendSync as part
+use Rattle.left_right.proofs.part.Deed.TheSendSync as deed
+use Rattle.atomic_table.proofs.shared.Seat.TheSendSync as seat
+use Rattle.atomic_table.proofs.shared.Shared.TheSendSync as shared
+use Rattle.atomic_table.proofs.send_lease.SendLease.TheSendSync as lease
+use Rattle.hub_board.specs.contracts.board.Board as Board
+use Rattle.sector_dev.specs.declared.device.Device as device
+use Rattle.path_hub.specs.declared.name.HubName as hub
+use Rattle.path_hub.specs.contracts.answer.Answer as Answer
+use Rattle.path_hub.specs.contracts.answer.Slot as Slot
+use Rattle.path_hub.specs.contracts.handing.UnderWay as UnderWay
+use Rattle.seg_core.specs.contracts.segment.Segment as Segment
+use Rattle.end_index.specs.contracts.index.EndIndex as EndIndex
+use Rattle.path_rows.specs.contracts.row.Row as Row
+use Rattle.rising_map.specs.contracts.map.RisingMap as RisingMap
+use Rattle.row_edits.specs.contracts.pour.Pour as Pour
+use Rattle.ckpt_stream.specs.contracts.merge.Merge as Merge
+use Rattle.group_core.specs.declared.showcase.Showcase as show
+use Rattle.group_core.specs.contracts.state.State as State
+use Rattle.path_rows.specs.contracts.command.Command as Command
+use Rattle.path_rows.specs.contracts.database.PathDb as PathDb
+use Rattle.path_hub.specs.contracts.published.Published as Published
+use Rattle.path_hub.specs.contracts.hub.Hub as Hub
+use Rattle.path_hub.specs.contracts.show.HubShow as HubShow
+use Rattle.path_hub.specs.contracts.reader.HubReader as HubReader
+
+module _ (N : RattleType) (h : hub.Ghosts N.Denot) (q : queue.Ghosts N.Denot) (n : IsSend N) where
+  answer_send : IsSend (Answer.the_row N h q)
+  answer_send = recorded_send _ _ _ (Answer.the_type N h q).to_one (struct_send (shape (Answer.the_type N h q)) (claim_send N q n, (search (sendable, crosses) depth 30 fits 20000, tt)))
+
+  slot_send : IsSend (Slot.the_row N h q)
+  slot_send = recorded_send _ _ _ (Slot.the_type N h q).to_one (struct_send (shape (Slot.the_type N h q)) (search (sendable, crosses, answer_send) depth 12, tt))
+
+  slot_sync : IsSync (Slot.the_row N h q)
+  slot_sync = recorded_sync _ _ _ (Slot.the_type N h q).to_one (struct_sync (shape (Slot.the_type N h q)) (search (sendable, crosses, answer_send) depth 12, tt))
+
+  slots_send : IsSend (Arc.the_row (Slot.the_row N h q) Global.the_row heap.ghosts)
+  slots_send = Arc-send (Slot.the_row N h q) slot_send slot_sync
+
+  under_way_send : IsSend (UnderWay.the_row N h q)
+  under_way_send = recorded_send _ _ _ (UnderWay.the_type N h q).to_one (struct_send (shape (UnderWay.the_type N h q)) (search (sendable, crosses) depth 30 fits 20000, (claim_send N q n, (slots_send, tt))))
+
+  pub queue_sync : IsSync (Mutex.the_row (CommandQueue.the_row N (Arc.the_row (Slot.the_row N h q) Global.the_row heap.ghosts) q))
+  queue_sync =
+      let slots = Arc.the_row (Slot.the_row N h q) Global.the_row heap.ghosts in
+      let queue : IsSend (CommandQueue.the_row N slots q) = recorded_send _ _ _ (CommandQueue.the_type N slots q).to_one (queue_send N slots q n slots_send) in search crosses
+
+  pub under_way_sync : IsSync (Mutex.the_row (VecDeque.the_row (UnderWay.the_row N h q) Global.the_row heap.ghosts))
+  under_way_sync = let all = Deque-send (UnderWay.the_row N h q) under_way_send in search crosses
+
+segment_send : IsSend Segment.the_row
+segment_send = search (sendable, crosses) depth 60 fits 20000
+
+segment_sync : IsSync Segment.the_row
+segment_sync = search (sendable, crosses) depth 60 fits 20000
+
+row_send : IsSend Row.the_row
+row_send = search (sendable, crosses, segment_send) depth 60 fits 20000
+
+row_sync : IsSync Row.the_row
+row_sync = search (sendable, crosses, segment_sync) depth 60 fits 20000
+
+index_send : IsSend EndIndex.the_row
+index_send = search (sendable, crosses, sets_cross) depth 30 fits 20000
+
+index_sync : IsSync EndIndex.the_row
+index_sync = search (sendable, crosses, sets_cross) depth 30 fits 20000
+
+db_send : IsSend PathDb.the_row
+db_send = search (sendable, crosses, maps_cross, index_send, row_send) depth 30 fits 20000
+
+db_sync : IsSync PathDb.the_row
+db_sync = search (sendable, crosses, maps_cross, index_sync, row_sync) depth 30 fits 20000
+
+published_send : IsSend Published.the_row
+published_send = search (sendable, crosses, db_send) depth 20
+
+published_sync : IsSync Published.the_row
+published_sync = search (sendable, crosses, db_sync) depth 20
+
+command_send : IsSend Command.the_row
+command_send = search (sendable, crosses, segment_send) depth 30 fits 20000
+
+kept_send : (V : RattleType) → IsSend V → IsSend (RisingMap.the_row V)
+kept_send V v = search (sendable, crosses) depth 20
+
+pour_send : IsSend Pour.the_row
+pour_send = search (sendable, crosses, row_send) depth 60 fits 20000
+
+merge_send : IsSend Merge.the_row
+merge_send = search (sendable, crosses, pour_send) depth 60 fits 20000
+
+module _ (D S M : RattleType) (d : device.Ghosts D.Denot) (g : show.Ghosts S.Denot M.Denot) (e : IsSend D) (t : IsSend S) where
+  state_send : IsSend (State.the_row D S M d g)
+  state_send = search (sendable, crosses, kept_send, db_send, command_send, merge_send) depth 60 fits 20000
+
+module _ (N R : RattleType) (h : hub.Ghosts N.Denot) (q : queue.Ghosts N.Denot) (n : IsSend N) (m : IsSync N) (r : IsSend R) where
+  show_send : IsSend (HubShow.the_row N R h q)
+  show_send = search (sendable, crosses, published_send, published_sync, command_send, part.the_send, part.the_sync, deed.the_send, seat.the_send, shared.the_send, shared.the_sync, lease.the_send, lease.the_sync) depth 80 fits 50000
+
+  readers_sync : IsSync (Mutex.the_row (Vec.the_row (HubReader.the_row N h q) Global.the_row heap.ghosts))
+  readers_sync = search (sendable, crosses, published_send, published_sync, part.the_send, part.the_sync, deed.the_send, seat.the_send, shared.the_send, shared.the_sync, lease.the_send, lease.the_sync) depth 80 fits 50000
+
+board_sync : IsSync (Board.the_field).row
+board_sync = search (sendable, crosses) depth 80 fits 50000
+
+module _ (D N R : RattleType) (d : device.Ghosts D.Denot) (h : hub.Ghosts N.Denot) (q : queue.Ghosts N.Denot) (w : wait.Ghosts R.Denot) (e : IsSend D) (n : IsSend N) (m : IsSync N) (r : IsSend R) (s : IsSync R) where
+  pub hub_sync : IsSync (Hub.the_row D N R h q d w)
+  hub_sync = recorded_sync _ _ _ (Hub.the_type D N R h q d w).to_one (struct_sync (shape (Hub.the_type D N R h q d w)) (s, (search (sendable, crosses), (queue_sync N h q n, (search (sendable, crosses), (under_way_sync N h q n, (search (crosses, state_send, show_send) depth 12, (search (sendable, crosses) depth 20 fits 5000, (board_sync, (search (sendable, crosses), (readers_sync N R h q n m r, tt)))))))))))

@@ -1,0 +1,120 @@
+//! The answers to commands that were handed in.
+
+ghost use Rattle.std.specs.Prelude.{◌≡◌, true, IfSome, IfOk};
+ghost use Rattle.std.specs.Result.{ForOk};
+ghost use Rattle.path_hub.specs.Committed.{ReceiptShows, is_above};
+
+use crate::error::HubError;
+use crate::name::HubName;
+use crate::show::HubNote;
+use command_queue::Claim;
+use group_core::{Receipt, SubmitError};
+use std::sync::{Mutex, Wait};
+
+/// A receipt of a command that a hub has committed.
+pub type HubReceipt<N> = Receipt<HubNote<N>>;
+
+/// Why a command that was handed in has no receipt.
+#[derive(Clone, Copy, Debug, PartialEq, Eq)]
+pub(crate) enum NotCommitted {
+    /// The state stopped before the command of this place was committed.
+    Stopped(u64),
+    /// The command was not accepted.
+    Refused(SubmitError),
+}
+
+impl From<NotCommitted> for HubError {
+    ghost use Rattle.path_hub.specs.Committed.{RefusesCommand};
+
+    ghost from_gives = { λ _ e. RefusesCommand e };
+
+    fn from(why: NotCommitted) -> HubError {
+        match why {
+            NotCommitted::Stopped(place) => HubError::Stopped(place),
+            NotCommitted::Refused(refusal) => HubError::Submit(refusal),
+        }
+    }
+}
+
+/// What became of the command of a claim.
+#[derive(Drop)]
+pub(crate) struct Answer<N: HubName> {
+    claim: Claim<N>,
+    outcome: Result<HubReceipt<N>, NotCommitted>,
+    ghost shows: { ForOk outcome (λ receipt. receipt.command.value ≡ claim.command.value) },
+    ghost noted: { ForOk outcome (λ receipt. is_above receipt.place receipt.note ≡ true) },
+}
+
+impl<N: HubName> Answer<N> {
+    /// The command of the claim is committed.
+    #[tactic(auto, using(crate::proofs::Committed::tests))]
+    pub(crate) fn committed(claim: Claim<N>, receipt: HubReceipt<N>) -> Answer<N>
+        requires { ReceiptShows claim.command.value receipt }
+    {
+        Answer {
+            claim,
+            outcome: Ok(receipt),
+        }
+    }
+
+    /// The command of the claim has no receipt.
+    pub(crate) fn refused(claim: Claim<N>, why: NotCommitted) -> Answer<N> {
+        Answer {
+            claim,
+            outcome: Err(why),
+        }
+    }
+
+    /// The number of the claim.
+    pub(crate) fn number(&self) -> u64 {
+        self.claim.number()
+    }
+
+    /// The outcome, where the answer is to this claim.
+    #[tactic(auto, using(crate::proofs::Committed::answer_shows))]
+    fn outcome_of(self, claim: &Claim<N>) -> Option<Result<HubReceipt<N>, NotCommitted>>
+        ensures { IfSome result (λ outcome. IfOk outcome (ReceiptShows claim.now.command.value)) }
+    {
+        let Answer {
+            claim: answered,
+            outcome,
+        } = self;
+        if answered.number() != claim.number() {
+            return None;
+        }
+        answered.agrees(claim);
+        Some(outcome)
+    }
+}
+
+/// Where one answer goes: room for it is taken before the command is handed in.
+#[derive(Drop)]
+pub(crate) struct Slot<N: HubName> {
+    answer: Mutex<Option<Answer<N>>>,
+}
+
+impl<N: HubName> Slot<N> {
+    /// A slot without an answer.
+    pub(crate) fn new() -> Slot<N> {
+        Slot {
+            answer: Mutex::new(None),
+        }
+    }
+
+    /// Puts the answer there.
+    pub(crate) fn put(&self, rt: &impl Wait, answer: Answer<N>) {
+        *self.answer.lock(rt) = Some(answer);
+    }
+
+    /// Takes the answer to a claim, if the answer is there. A receipt is of the claim's command.
+    pub(crate) fn take(
+        &self,
+        rt: &impl Wait,
+        claim: &Claim<N>,
+    ) -> Option<Result<HubReceipt<N>, NotCommitted>>
+        ensures { IfSome result (λ outcome. IfOk outcome (ReceiptShows claim.now.command.value)) }
+    {
+        let answer = self.answer.lock(rt).take();
+        answer?.outcome_of(claim)
+    }
+}

@@ -1,0 +1,49 @@
+//! Claims on the answers to commands that were handed in.
+
+ghost use Rattle.std.specs.Prelude.{◌≡◌, IfSome, IfOk};
+ghost use Rattle.path_hub.specs.Committed.{ReceiptShows};
+
+use crate::answer::{HubReceipt, NotCommitted, Slot};
+use crate::name::HubName;
+use command_queue::Claim;
+use std::alloc::Global;
+use std::marker::Model;
+use std::sync::{Arc, Wait};
+
+/// A claim on the answer to a command that was handed in at the hub of this name. Contracts see a
+/// claim as that command. Only the hub makes one. Where a claim is dropped, its command is committed
+/// or refused as any other, and nobody has the answer.
+#[derive(Drop)]
+pub struct HubClaim<N: HubName> {
+    claim: Claim<N>,
+    slot: Arc<Slot<N>, Global>,
+}
+
+impl<N: HubName> Model for HubClaim<N> {
+    ghost use Rattle.path_rows.specs.declared.command.Command.{Command};
+
+    ghost Value = { Command };
+
+    ghost view = { λ c. c.claim.command.value };
+}
+
+impl<N: HubName> HubClaim<N> {
+    /// The claim on the answer that goes to a slot.
+    pub(crate) fn on(claim: Claim<N>, slot: Arc<Slot<N>, Global>) -> HubClaim<N>
+        ensures { result ≡ claim.command.value }
+    {
+        HubClaim { claim, slot }
+    }
+
+    /// The number of the command among all commands that were handed in at the hub, counted from 0.
+    pub fn number(&self) -> u64 {
+        self.claim.number()
+    }
+
+    /// Takes the answer, if it is there.
+    pub(crate) fn take_answer(&self, rt: &impl Wait) -> Option<Result<HubReceipt<N>, NotCommitted>>
+        ensures { IfSome result (λ outcome. IfOk outcome (ReceiptShows self.now)) }
+    {
+        self.slot.take(rt, &self.claim)
+    }
+}

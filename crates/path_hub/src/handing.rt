@@ -1,0 +1,198 @@
+//! What is done with a hub's state, under its lock, for the commands that were handed in: they are
+//! submitted, their tickets redeemed, and their answers put where they go.
+
+ghost use Rattle.std.specs.Prelude.{◌≡◌, ◌<◌};
+ghost use Rattle.std.specs.VecDeque.{deque_len, deque_capacity};
+
+use crate::answer::{Answer, NotCommitted, Slot};
+use crate::hub::Hub;
+use crate::name::HubName;
+use crate::show::HubShow;
+use command_queue::{Claim, HandedIn, MOST_WAITING};
+use group_core::{Redeemed, State, SubmitError, Ticket};
+use hub_board::Done;
+use path_db::Command;
+use sector_dev::Device;
+use std::alloc::Global;
+use std::collections::VecDeque;
+use std::sync::atomic::Ordering;
+use std::sync::{Arc, MutexGuard, Wait};
+use std::time::Clock;
+
+/// The most commands of a group, which is also the most that are taken from the queue at once.
+pub(crate) const MOST_TAKEN: u64 = 32;
+
+/// The most commands under way: as many as may be pending in a state. Room for their tickets is
+/// taken when the hub is made.
+pub(crate) const MOST_UNDER_WAY: usize = 256;
+
+/// A command that was submitted: its ticket and its claim, and where its answer goes.
+pub(crate) struct UnderWay<N: HubName> {
+    ticket: Ticket,
+    claim: Claim<N>,
+    slot: Arc<Slot<N>, Global>,
+    ghost same: { ticket.command.value ≡ claim.command.value },
+}
+
+/// The commands of the queue that were submitted and are not answered yet, in the order of their
+/// places.
+pub(crate) type AllUnderWay<N> = VecDeque<UnderWay<N>>;
+
+impl<D: Device, N: HubName, R: Wait + Clock> Hub<D, N, R> {
+    /// Submits commands of the queue, the longest waiting one first: at most 32, and only while
+    /// fewer than `most` are pending. Commands for whose tickets memory is refused keep waiting.
+    pub(crate) fn take_commands(&self, state: &mut State<D, HubShow<N, R>>, most: u64) {
+        let mut under_way = self.under_way.lock(&self.rt);
+        for _ in 0..MOST_TAKEN {
+            if state.numbers().pending >= most || under_way.reserve(1).is_err() {
+                break;
+            }
+            let Some(handed) = self.queue.lock(&self.rt).take() else {
+                break;
+            };
+            self.submit_one(state, &mut under_way, handed);
+        }
+    }
+
+    /// Submits a command of the queue. A refusal is its answer.
+    #[tactic(auto, using(store_loops::proofs::Through::taken))]
+    fn submit_one(
+        &self,
+        state: &mut State<D, HubShow<N, R>>,
+        under_way: &mut AllUnderWay<N>,
+        handed: HandedIn<N, Arc<Slot<N>, Global>>,
+    )
+        requires { deque_len under_way.old < deque_capacity under_way.old }
+    {
+        let HandedIn {
+            claim,
+            command,
+            reply_to: slot,
+        } = handed;
+        match state.submit(command) {
+            Ok(ticket) => under_way.push_back_reserved(UnderWay {
+                ticket,
+                claim,
+                slot,
+            }),
+            Err((_command, refusal)) => {
+                self.put(
+                    &slot,
+                    Answer::refused(claim, NotCommitted::Refused(refusal)),
+                );
+            }
+        }
+    }
+
+    /// Submits commands of the queue in this thread: the hub has no thread for its flusher.
+    pub(crate) fn take_at_once(&self) {
+        let mut state = self.state.lock(&self.rt);
+        self.take_commands(&mut state, u64::MAX);
+        self.end_call(state, Done::Nothing);
+    }
+
+    /// Judges a command by the state.
+    pub(crate) fn judge(&self, command: &Command) -> Result<(), SubmitError> {
+        let state = self.state.lock(&self.rt);
+        let judged = state.judge(command);
+        MutexGuard::unlock(state);
+        judged
+    }
+
+    /// Answers all commands whose outcome is known: those that are committed, and all others where
+    /// the state has stopped.
+    pub(crate) fn answer_known(&self, state: &mut State<D, HubShow<N, R>>) {
+        let numbers = state.numbers();
+        self.redeem_below(
+            state,
+            if numbers.stopped {
+                u64::MAX
+            } else {
+                numbers.place
+            },
+        );
+        if numbers.stopped {
+            self.close_queue();
+        }
+    }
+
+    /// Answers the commands under way whose places are below this one.
+    fn redeem_below(&self, state: &mut State<D, HubShow<N, R>>, end: u64) {
+        let mut under_way = self.under_way.lock(&self.rt);
+        for _ in 0..under_way.len() {
+            let Some(first) = under_way.pop_front_if(|first| first.ticket.place() < end) else {
+                break;
+            };
+            self.redeem_one(state, first);
+        }
+    }
+
+    /// Answers a command under way whose outcome is known.
+    #[tactic(auto, using(crate::proofs::Committed::receipt_shows))]
+    fn redeem_one(&self, state: &mut State<D, HubShow<N, R>>, first: UnderWay<N>) {
+        let UnderWay {
+            ticket,
+            claim,
+            slot,
+        } = first;
+        let answer = match state.redeem(ticket) {
+            Redeemed::Committed(receipt) => Answer::committed(claim, receipt),
+            Redeemed::Unknown(place) => Answer::refused(claim, NotCommitted::Stopped(place)),
+            // The state has given the ticket, and its outcome is known: only a defect of the
+            // program leads here.
+            Redeemed::Waiting(ticket) | Redeemed::Stranger(ticket) => {
+                let place = ticket.place();
+                self.has_stranger.store(true, Ordering::SeqCst);
+                state.give_up_ticket(ticket);
+                Answer::refused(claim, NotCommitted::Stopped(place))
+            }
+        };
+        self.put(&slot, answer);
+    }
+
+    /// Closes the queue, and answers all commands that wait there: the state has stopped.
+    fn close_queue(&self) {
+        let mut queue = self.queue.lock(&self.rt);
+        queue.close();
+        for _ in 0..MOST_WAITING {
+            let Some(handed) = queue.take() else {
+                break;
+            };
+            self.refuse(handed, SubmitError::Stopped);
+        }
+    }
+
+    /// Answers a command of the queue that is not submitted.
+    fn refuse(&self, handed: HandedIn<N, Arc<Slot<N>, Global>>, why: SubmitError) {
+        let HandedIn {
+            claim,
+            command: _command,
+            reply_to: slot,
+        } = handed;
+        self.put(&slot, Answer::refused(claim, NotCommitted::Refused(why)));
+    }
+
+    /// Puts an answer where it goes, and notes that its bell is to be rung.
+    fn put(&self, slot: &Slot<N>, answer: Answer<N>) {
+        let number = answer.number();
+        slot.put(&self.rt, answer);
+        self.changes.ringer.note(&self.rt, number);
+    }
+}
+
+/// Gives up the tickets of commands whose answers nobody awaits any more, as the hub ends.
+pub(crate) fn give_up_all<D: Device, N: HubName, R: Wait>(
+    state: &mut State<D, HubShow<N, R>>,
+    under_way: AllUnderWay<N>,
+) {
+    let mut under_way = under_way;
+    while let Some(first) = under_way.pop_front() {
+        let UnderWay {
+            ticket,
+            claim: _claim,
+            slot: _slot,
+        } = first;
+        state.give_up_ticket(ticket);
+    }
+    under_way.destroy_empty();
+}
