@@ -1,0 +1,5 @@
+use Rattle.command_log.proofs.KeeperSteps.{begins}
+use Rattle.command_log.proofs.unnamed.UnnamedLog.new.Goals as goal
+
+pub of_words-requires : goal.of_words-requires
+of_words-requires c = begins

@@ -1,0 +1,84 @@
+//! The keeper's steps. Each costs one or two loads.
+
+ghost use Rattle.std.specs.Prelude.{◌≡◌, ◌<◌, [], true, false};
+ghost use Rattle.command_log.specs.Log.{log_with, with_committed, next_claim};
+ghost use Rattle.command_log.specs.Passes.{keeper_view, claim_view, log_in, claim_in, IsKeeper, IsTrueOf};
+
+use crate::rule::{Appends, Checks, Chosen, Commits, Confirms, LogPass, LogTable, Takes};
+use path_rows::Command;
+use std::marker::Brand;
+use std::snapshot::Snapshot;
+
+/// The keeper appends a command, which the new pass claims.
+pub(crate) fn append(table: &LogTable, keeper: &mut LogPass, command: &Snapshot<Command>) -> LogPass
+    requires table { (keeper.old.table_id ≡ table.now.shared.table_id) × (table.now.shared.table_id.words ≡ 1) }
+    requires keeper { IsKeeper keeper.old.me.0 }
+    ensures table { keeper.new.table_id ≡ keeper.old.table_id }
+    ensures log { keeper.new.me.0 ≡ keeper_view (log_with command.now.value (log_in keeper.old.me.0)) }
+    ensures claim { (result.table_id ≡ keeper.old.table_id) × (result.me ≡ (claim_view false (next_claim command.now.value (log_in keeper.old.me.0)), [])) }
+{
+    append_chosen::<Brand>(table, keeper, command)
+}
+
+fn append_chosen<C: Chosen>(
+    table: &LogTable,
+    keeper: &mut LogPass,
+    command: &Snapshot<Command>,
+) -> LogPass
+    requires chosen { C.command ≡ command.now.value }
+    requires table { (keeper.old.table_id ≡ table.now.shared.table_id) × (table.now.shared.table_id.words ≡ 1) }
+    requires keeper { IsKeeper keeper.old.me.0 }
+    ensures table { keeper.new.table_id ≡ keeper.old.table_id }
+    ensures log { keeper.new.me.0 ≡ keeper_view (log_with command.now.value (log_in keeper.old.me.0)) }
+    ensures claim { (result.table_id ≡ keeper.old.table_id) × (result.me ≡ (claim_view false (next_claim command.now.value (log_in keeper.old.me.0)), [])) }
+{
+    let _ = command;
+    table.shared.split_seat::<Appends<C>>(keeper)
+}
+
+/// The keeper notes that this many more commands are committed.
+pub(crate) fn commit(table: &LogTable, keeper: &mut LogPass, more: u64)
+    requires table { (keeper.old.table_id ≡ table.now.shared.table_id) × (table.now.shared.table_id.words ≡ 1) }
+    requires keeper { IsKeeper keeper.old.me.0 }
+    ensures table { keeper.new.table_id ≡ keeper.old.table_id }
+    ensures log { keeper.new.me.0 ≡ keeper_view (with_committed more (log_in keeper.old.me.0)) }
+{
+    commit_chosen::<Brand>(table, keeper, more)
+}
+
+fn commit_chosen<C: Chosen>(table: &LogTable, keeper: &mut LogPass, more: u64)
+    requires chosen { C.count ≡ more }
+    requires table { (keeper.old.table_id ≡ table.now.shared.table_id) × (table.now.shared.table_id.words ≡ 1) }
+    requires keeper { IsKeeper keeper.old.me.0 }
+    ensures table { keeper.new.table_id ≡ keeper.old.table_id }
+    ensures log { keeper.new.me.0 ≡ keeper_view (with_committed more (log_in keeper.old.me.0)) }
+{
+    let _ = more;
+    drop(table.shared.split_seat::<Commits<C>>(keeper));
+}
+
+/// The keeper takes in the claim of a committed command, and gives one that also says that the
+/// command is committed.
+pub(crate) fn confirm(table: &LogTable, keeper: &mut LogPass, claim: LogPass) -> LogPass
+    requires table { (keeper.old.table_id ≡ table.now.shared.table_id) × (table.now.shared.table_id.words ≡ 1) }
+    requires keeper { IsKeeper keeper.old.me.0 }
+    requires claim { (claim.table_id ≡ keeper.old.table_id) × (claim.me.1 ≡ []) × (claim.me.0.claims ≡ true) }
+    requires committed { claim.me.0.index < keeper.old.me.0.committed }
+    ensures kept { (keeper.new.table_id ≡ keeper.old.table_id) × (keeper.new.me.0 ≡ keeper.old.me.0) }
+    ensures given { (result.table_id ≡ keeper.old.table_id) × (result.me ≡ (claim_view true (claim_in claim.me.0), [])) }
+{
+    table.shared.join_seat::<Takes>(keeper, claim);
+    table.shared.split_seat::<Confirms>(keeper)
+}
+
+/// The keeper takes in a claim, and compares it with the log.
+pub(crate) fn compare(table: &LogTable, keeper: &mut LogPass, claim: LogPass)
+    requires table { (keeper.old.table_id ≡ table.now.shared.table_id) × (table.now.shared.table_id.words ≡ 1) }
+    requires keeper { IsKeeper keeper.old.me.0 }
+    requires claim { (claim.table_id ≡ keeper.old.table_id) × (claim.me.1 ≡ []) }
+    ensures kept { (keeper.new.table_id ≡ keeper.old.table_id) × (keeper.new.me.0 ≡ keeper.old.me.0) }
+    ensures claim { IsTrueOf (log_in keeper.old.me.0) claim.me.0 }
+{
+    table.shared.join_seat::<Takes>(keeper, claim);
+    table.shared.load::<Checks>(keeper, 0);
+}

@@ -1,0 +1,3 @@
+pub mod LogCommits
+pub mod LogStops
+pub mod Receipts

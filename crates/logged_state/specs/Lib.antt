@@ -1,0 +1,4 @@
+pub mod ReceiptView
+pub mod LoggedView
+pub mod Claims
+pub mod Left

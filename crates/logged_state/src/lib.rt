@@ -1,0 +1,31 @@
+//! A state with the log of the commands that it accepted: which command has which place, and what
+//! of them a device keeps.
+//!
+//! To the layer above: `LoggedState` has the calls of `group_core::State`, with their contracts.
+//! `submit_logged` also returns the claim of the command, and `redeem_logged` gives a receipt that
+//! has a claim in place of a snapshot, so that it may cross threads. The state is what the opening value and the
+//! log lead to: the committed commands make its value, and the others are pending. So what a stop
+//! leaves of an honest device opens to the opening value after a front of the log that has all
+//! committed commands, and each receipt's command at its place.
+#![tactic(auto)]
+
+mod checkpointer;
+mod ending;
+mod flusher;
+mod following;
+mod halting;
+mod left;
+mod name;
+mod publishing;
+mod reading;
+mod receipt;
+mod redeeming;
+mod staging;
+mod state;
+mod submitting;
+
+pub use command_log::{Accepted, CommandLog, LogName, Logged, UnnamedClaim, UnnamedLog};
+pub use left::Left;
+pub use name::StateName;
+pub use receipt::{LoggedReceipt, LoggedRedeemed};
+pub use state::LoggedState;
