@@ -1,0 +1,6 @@
+mod Fronts
+mod Joined
+mod Runs
+mod Extended
+mod Recovered
+mod SoFar

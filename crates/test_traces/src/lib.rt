@@ -1,0 +1,5 @@
+//! Tests of `prefix_recovery`: a run that is traced, and the opening of its device.
+#![tactic(auto)]
+
+#[cfg(test)]
+mod traces;
