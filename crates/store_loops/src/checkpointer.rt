@@ -9,7 +9,9 @@ use std::sync::Wait;
 /// Folds each sealed journal into the other half, and says when a checkpoint begins and when it is
 /// made. The loop ends once the state has stopped; where another refusal is met, the call is made
 /// again after a rest.
-pub fn checkpointer_loop<R: Wait, S: Steps, W: Watch>(rt: &R, steps: &S, watch: &W) {
+pub fn checkpointer_loop<R: Wait, S: Steps, W: Watch>(rt: &R, steps: &S, watch: &W)
+    ensures stopped { S.has_stopped steps.now }
+{
     for _ in rt.forever() {
         let seen = steps.changes(Awaited::Seal);
         match steps.begin() {
@@ -26,8 +28,8 @@ pub fn checkpointer_loop<R: Wait, S: Steps, W: Watch>(rt: &R, steps: &S, watch: 
     unreachable!()
 }
 
-/// Takes a plan through all its steps. Returns `None` where the state has stopped in between, and the
-/// value is spent.
+/// Takes a plan through all its steps. Returns `None` where the state has stopped in between, and
+/// the value is spent.
 fn fold<R: Wait, S: Steps>(rt: &R, steps: &S, plan: Plan) -> Option<()> {
     let closing = make_closing(rt, steps, plan)?;
     retry(rt, steps, closing, |value| steps.sync_close(value))

@@ -3,6 +3,9 @@
 ghost use Rattle.std.specs.Prelude.{◌≡◌, map};
 ghost use Rattle.store_loops.specs.Commits.{bucket_after, times_after};
 
+/// The number of microseconds in a second.
+pub const SECOND: u64 = 1_000_000;
+
 /// The number of buckets of a `CommitTimes`.
 pub const BUCKETS: usize = 11;
 

@@ -11,12 +11,14 @@ use group_core::{
 };
 use std::sync::Wait;
 
-/// Commits what is accepted, a group or a seal at a time. Where commands wait as the gate of a group
-/// was written, their group is written before that gate is synced, so that groups that follow each
-/// other take one sync each. The loop ends once the state has stopped; where another refusal is met,
-/// the call is made again after a rest. The first refusal of memory in a row is said, and the end of
-/// that row.
-pub fn flusher_loop<R: Wait, S: Steps, W: Watch>(rt: &R, steps: &S, watch: &W) {
+/// Commits what is accepted, a group or a seal at a time. Where commands wait as the gate of a
+/// group was written, their group is written before that gate is synced, so that groups that follow
+/// each other take one sync each. The loop ends once the state has stopped; where another refusal
+/// is met, the call is made again after a rest. The first refusal of memory in a row is said, and
+/// the end of that row.
+pub fn flusher_loop<R: Wait, S: Steps, W: Watch>(rt: &R, steps: &S, watch: &W)
+    ensures stopped { S.has_stopped steps.now }
+{
     let mut is_short = false;
     for _ in rt.forever() {
         let seen = steps.changes(Awaited::Work);
@@ -68,8 +70,8 @@ fn make_stable<R: Wait, S: Steps>(rt: &R, steps: &S, staged: Staged) -> Option<S
     retry(rt, steps, written, |value| steps.sync_group(value))
 }
 
-/// Opens the gate of what is in flight, and commits it. Returns the group that followed it, which is
-/// in flight then, where one did and the state goes on.
+/// Opens the gate of what is in flight, and commits it. Returns the group that followed it, which
+/// is in flight then, where one did and the state goes on.
 fn commit<R: Wait, S: Steps, W: Watch>(
     rt: &R,
     steps: &S,

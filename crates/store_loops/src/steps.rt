@@ -1,6 +1,8 @@
 //! The guarded calls of a state, one at a time, from any thread.
 
-ghost use Rattle.std.specs.Prelude.{◌≡◌, true, false};
+ghost use Rattle.std.specs.Prelude.{◌≡◌, true, false, IfErr};
+ghost use Rattle.group_core.specs.declared.staging.StageError.TheVariants as stage_refused;
+ghost use Rattle.group_core.specs.declared.beginning.BeginError.TheVariants as begin_refused;
 ghost use Rattle.store_loops.specs.Receipts.{IsTicketOrCommand, IsRedeemed, LeadsOn, LeadsOut, IsHandedIn, IsFollowedOrBack, IsPassedOn};
 
 use group_core::{
@@ -36,6 +38,9 @@ pub trait Steps {
     /// A note may be given of a value.
     ghost tells: { StoreValue (List RowView) → Self.Note → Type 0 };
 
+    /// It is known that a call was refused because the state has stopped.
+    ghost has_stopped: { Self → Type 0 };
+
     /// Submits a command. A command that is refused is returned with the error.
     fn submit(&self, command: Command) -> Result<Ticket, (Command, SubmitError)>
         ensures { IsTicketOrCommand command result };
@@ -53,7 +58,8 @@ pub trait Steps {
     fn give_up<P: Copy>(&self, value: Commit<P>);
 
     /// Stages a group of the first pending commands, or a seal.
-    fn stage(&self) -> Result<Staged, StageError>;
+    fn stage(&self) -> Result<Staged, StageError>
+        ensures { IfErr result (λ e. e ≡ stage_refused.Stopped → has_stopped self.now) };
 
     /// Writes what is staged after the tail's gate.
     fn write_group(&self, value: Staged) -> Result<Written, StepError<AtStaged>>
@@ -96,7 +102,8 @@ pub trait Steps {
         ensures { IsPassedOn value result };
 
     /// Begins a checkpoint of the sealed half.
-    fn begin(&self) -> Result<Plan, BeginError>;
+    fn begin(&self) -> Result<Plan, BeginError>
+        ensures { IfErr result (λ e. e ≡ begin_refused.Stopped → has_stopped self.now) };
 
     /// Writes the next sectors of the checkpoint, at most 256. The plan's `done` says whether the
     /// checkpoint is then whole.

@@ -13,8 +13,8 @@ pub enum Notice {
     CheckpointDone,
 }
 
-/// Takes the notices of both loops. The loops' threads call it between two calls of the state, so it
-/// must not wait for long.
+/// Takes the notices of both loops. The loops' threads call it between two calls of the state, so
+/// it must not wait for long.
 pub trait Watch {
     /// Takes a notice.
     fn note(&self, notice: Notice);

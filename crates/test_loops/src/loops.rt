@@ -22,7 +22,11 @@ const COMMANDS: usize = 40;
 const STOPS: u64 = 40;
 
 /// Submits the commands.
-fn submit_all<R: Wait + TestHost>(rt: &impl Abort, alloc: Global, fake: &Fake<R>) -> Vec<Ticket> {
+pub fn submit_all<R: Wait + TestHost>(
+    rt: &impl Abort,
+    alloc: Global,
+    fake: &Fake<R>,
+) -> Vec<Ticket> {
     let Ok(mut tickets) = Vec::with_capacity(alloc, COMMANDS) else {
         panic!(rt; "out of memory");
     };
@@ -39,8 +43,9 @@ fn submit_all<R: Wait + TestHost>(rt: &impl Abort, alloc: Global, fake: &Fake<R>
     tickets
 }
 
-/// Redeems all tickets: how many of their commands are committed, and of how many that isn't known.
-fn redeem_all<R: Wait + TestHost>(
+/// Redeems all tickets: how many of their commands are committed, and of how many that is not
+/// known.
+pub fn redeem_all<R: Wait + TestHost>(
     rt: &impl Abort,
     fake: &Fake<R>,
     tickets: Vec<Ticket>,
@@ -68,7 +73,7 @@ fn redeem_all<R: Wait + TestHost>(
 type Counts = (u64, u64, u64);
 
 /// Runs both loops over a state that stops before a call: how many commands are committed, and of
-/// how many that isn't known, once all tickets are redeemed; and how many calls there were from
+/// how many that is not known, once all tickets are redeemed; and how many calls there were from
 /// that one on.
 fn stopped_at<R: Wait + Abort + Copy + Drop>(
     rt: R,
@@ -91,8 +96,8 @@ fn stopped_at<R: Wait + Abort + Copy + Drop>(
 
 /// Eight calls commit the first group: the fifth stages the second group to follow it, the next two
 /// write and sync that group, and the eighth publishes the first one. Four more commit the second
-/// group, which no group follows. Publishing goes on where the state has stopped. The loop ends with
-/// the next staging: with the call of this number, where that is one.
+/// group, which no group follows. Publishing goes on where the state has stopped. The loop ends
+/// with the next staging: with the call of this number, where that is one.
 fn counts_at(number: u64) -> Counts {
     let calls = if number == 1 || 13 <= number {
         1

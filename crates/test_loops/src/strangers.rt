@@ -9,9 +9,9 @@ use test_hub_scripts::acts::{Unwatched, spend, submit};
 use test_hub_scripts::fakes::Fake;
 use test_hub_scripts::stores::{LEAST, formatted, sealed_row};
 
-/// The calls of the flusher that take a value, from the write of the group to its publishing, and the
-/// number of the call that gives the value up. The fifth call stages a group to follow: its refusal
-/// hands the value to the sixth, which is refused as well.
+/// The calls of the flusher that take a value, from the write of the group to its publishing, and
+/// the number of the call that gives the value up. The fifth call stages a group to follow: its
+/// refusal hands the value to the sixth, which is refused as well.
 const FLUSHER_CALLS: [(u64, u64); 6] = [(2, 3), (3, 4), (4, 5), (5, 7), (6, 7), (7, 8)];
 
 /// The calls of the checkpointer that take a value: the write of the only chunk, and all up to the
