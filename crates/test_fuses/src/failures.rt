@@ -1,8 +1,10 @@
 //! Scripts run on a device that fails at each of its calls in turn, and openings of what is left
 //! that fail again.
 
+use crate::left::{Ending, Left};
 use crate::noted::{Calls, Noted};
-use crate::scripts::{Ending, Left, Script, calls_device, fronted, seen};
+use crate::scripts::{Script, fronted, seen};
+use crate::values::calls_device;
 use sector_dev::{Device, FuseDevice, MemDevice, SECTOR, Tear};
 use std::alloc::Global;
 use store_open::{OpenError, open};
@@ -74,10 +76,7 @@ fn failing_run<F: Failure>(
         Ok(store) => store,
         Err((device, e)) => {
             assert_same(rt, &e, &OpenError::Device, &"an opening");
-            let left = Left {
-                ending: Ending::Unopened,
-                ..script.none_left()
-            };
+            let left = script.none_left().unopened();
             return (left, memory_of(rt, failure, device));
         }
     };
@@ -197,7 +196,7 @@ fn next_event(rt: &impl TestHost, lines: &[Line], next: usize, ending: Ending) -
     }
 }
 
-/// Sees that the event of this number isn't before the next one; it may be that of beginning a
+/// Sees that the event of this number is not before the next one; it may be that of beginning a
 /// checkpoint again.
 fn assert_next(rt: &impl TestHost, lines: &[Line], next: usize, number: usize) {
     let behind = number.saturating_add(1);

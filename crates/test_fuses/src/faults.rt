@@ -10,7 +10,7 @@ use std::test::Fail;
 
 /// A device, with how many calls were made of it after its first fault.
 #[derive(Drop)]
-struct Watched<D> {
+pub struct Watched<D> {
     device: D,
     late: u64,
 }
@@ -57,7 +57,7 @@ impl<D: Device> Device for Watched<D> {
 }
 
 /// One call fails.
-struct Once;
+pub struct Once;
 
 impl Failure for Once {
     type On = Watched<FaultDevice>;

@@ -7,14 +7,26 @@ mod failures;
 #[cfg(test)]
 mod faults;
 #[cfg(test)]
+mod following;
+#[cfg(test)]
+mod following_runs;
+#[cfg(test)]
 mod fuses;
 #[cfg(test)]
 mod host;
+#[cfg(test)]
+mod left;
 #[cfg(test)]
 mod long_runs;
 #[cfg(test)]
 mod noted;
 #[cfg(test)]
+mod outs;
+#[cfg(test)]
+mod rounds;
+#[cfg(test)]
 mod scripts;
 #[cfg(test)]
 mod short_runs;
+#[cfg(test)]
+mod values;

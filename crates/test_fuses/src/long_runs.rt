@@ -114,7 +114,7 @@ pub const NEW: [&[Line]; 23] = [
         (Act::Purge(TWO_LATER), Said::Accepted(21)),
     ],
     &GROUP,
-    // The gate is in sector 262, and the other half isn't ready.
+    // The gate is in sector 262, and the other half is not ready.
     &[
         (Act::Redeem(21), Said::Committed(21, NINE_GONE)),
         (Act::Large(3), Said::Accepted(22)),

@@ -15,13 +15,13 @@ pub const FIRST: u64 = 255;
 pub const READS: u64 = 1;
 
 /// A group of one purge of what expires at moment 0, up to the place, and after it.
-const BEFORE_PLACE: [u8; 8] = [1, 1, 0, 0, 0, 0, 0, 13];
+pub const BEFORE_PLACE: [u8; 8] = [1, 1, 0, 0, 0, 0, 0, 13];
 
-const AFTER_PLACE: [u8; 13] = [0, 0, 0, 9, 2, 0, 0, 0, 0, 0, 0, 0, 0];
+pub const AFTER_PLACE: [u8; 13] = [0, 0, 0, 9, 2, 0, 0, 0, 0, 0, 0, 0, 0];
 
 /// The sector of the first journal's first gate. A group of one purge takes one sector, which is
 /// after its gate.
-const FIRST_GATE: u64 = 4;
+pub const FIRST_GATE: u64 = 4;
 
 /// A new store with the groups in its first journal.
 pub fn with_purges(device: MemDevice) -> MemDevice {
@@ -63,7 +63,7 @@ const SEALED: &[Line] = &[
 ];
 
 /// The first steps of the checkpoint, between those of the third segment's group: the checkpoint's
-/// half doesn't count yet.
+/// half does not count yet.
 const LAID: &[Line] = &[
     (Act::Stage, Said::Done),
     (Act::Begin, Said::Done),

@@ -142,7 +142,7 @@ const IDS: [(u8, [u8; 32]); 3] = [
     ),
 ];
 
-/// The id of the segment left by an interface; zeros where it isn't among them.
+/// The id of the segment left by an interface; zeros where it is not among them.
 fn id_of(egress: u8) -> [u8; 32] {
     for (of, id) in IDS {
         if of == egress {

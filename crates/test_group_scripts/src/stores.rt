@@ -53,7 +53,7 @@ pub const TEARS: [Tear; 6] = [
     },
 ];
 
-/// A sector that the device has; zeros where it can't be read.
+/// A sector that the device has; zeros where it cannot be read.
 pub fn read_sector<D: Device>(device: &mut D, at: u64) -> [u8; 512] {
     let mut sector = [0; SECTOR];
     if device.sectors() <= at || device.read(at, &mut sector).is_err() {

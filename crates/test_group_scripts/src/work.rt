@@ -64,7 +64,7 @@ pub enum Paid {
     Unknown(u64),
 }
 
-/// A state, the tickets that aren't redeemed, and what its actors hold.
+/// A state, the tickets that are not redeemed, and what its actors hold.
 pub struct Work<D: Device> {
     pub state: State<D, PlainShow>,
     pub tickets: Vec<Ticket>,
@@ -221,8 +221,8 @@ impl<D: Device> Work<D> {
         (work, told)
     }
 
-    /// Stages a group to follow the group in flight, whose gate was written. Where no group follows,
-    /// the value is held as before.
+    /// Stages a group to follow the group in flight, whose gate was written. Where no group
+    /// follows, the value is held as before.
     pub fn follow(self, rt: &impl TestHost) -> (Work<D>, Told) {
         let Work {
             mut state,

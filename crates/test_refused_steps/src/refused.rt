@@ -30,7 +30,7 @@ fn submit_again(
     }
 }
 
-/// Sees that the first command isn't committed yet.
+/// Sees that the first command is not committed yet.
 fn assert_waiting(rt: &Host<impl Abort>, work: &mut Work<MemDevice>) {
     assert!(rt.0; matches!(work.redeem(rt, 0), Paid::Waiting(_)));
 }

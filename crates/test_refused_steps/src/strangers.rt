@@ -148,7 +148,7 @@ fn stranger(rt: &Host<impl Abort>, answer: Redeemed<()>) -> Ticket {
     }
 }
 
-/// Sees that the fate of a command at place 1 isn't known.
+/// Sees that the fate of a command at place 1 is not known.
 fn assert_unknown(rt: &Host<impl Abort>, answer: Redeemed<()>) {
     match answer {
         Redeemed::Unknown(place) => assert_eq!(rt.0; place, 1),

@@ -45,7 +45,7 @@ const STEPS: [Line; 26] = [
     (Act::Redeem(3), Said::Waiting(4)),
 ];
 
-/// After this number of them the first group is durable, and isn't published yet.
+/// After this number of them the first group is durable, and is not published yet.
 const DURABLE: usize = 9;
 
 /// What one event is answered.

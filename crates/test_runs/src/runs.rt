@@ -87,7 +87,7 @@ const TOLD: [&[Line]; 8] = [
         (Act::WriteGroup, Said::Done),
         (Act::SyncGroup, Said::Done),
     ],
-    // The tail's gate is in sector 262 of the journal then: 257 more sectors don't fit.
+    // The tail's gate is in sector 262 of the journal then: 257 more sectors do not fit.
     &[
         (Act::OpenGate, Said::Done),
         (Act::SyncGate, Said::Done),

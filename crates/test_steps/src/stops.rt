@@ -428,7 +428,7 @@ fn assert_failed(rt: &Host<impl Abort>, alloc: Global, made: u64, work: Work<Fau
     assert_known(rt, &mut work, made);
     assert_shown(rt, &work, made);
     let device = assert_stopped(rt, work).into_mem();
-    // Of a write that failed nothing has landed; the gates that weren't synced have.
+    // Of a write that failed nothing has landed; the gates that were not synced have.
     let place = 1 + u64::from(made > 3) + u64::from(made > 16);
     let epoch = 1 + u64::from(made > 9);
     let store = opened(rt, alloc, device);

@@ -13,7 +13,7 @@ pub enum Change {
 }
 
 /// A device that counts its reads and notes its changes. After this number of reads it lies: all
-/// bits that are read are inverted. So it isn't known to be honest.
+/// bits that are read are inverted. So it is not known to be honest.
 #[derive(Drop)]
 pub struct Watched<D> {
     device: D,
