@@ -1,9 +1,11 @@
-/* What a flusher's device calls take by themselves: group by group a payload, and the sector before it, each synced.
+/* What a flusher's device calls take by themselves, where each group follows the one before it.
  *
  *     group_writes FILE FIRST BYTES GROUPS
  *
- * Each group writes BYTES behind one sector, syncs, writes that sector, and syncs. The first group's sector is the one numbered FIRST;
- * the next group's is the last of the bytes before it. It prints the seconds by the clock, and those of the processor. */
+ * The first group's BYTES are written after the sector numbered FIRST, its gate, and synced. Then each
+ * group's gate is written, and the bytes of the next group after them, and one sync serves both. The
+ * next group's gate is the last sector of the bytes before it. It prints the seconds by the clock,
+ * and those of the processor. */
 #define _GNU_SOURCE
 #include <fcntl.h>
 #include <stdio.h>
@@ -20,7 +22,7 @@ static int put(int file, const char *bytes, size_t size, off_t at) {
     size -= (size_t)done;
     at += done;
   }
-  return fdatasync(file);
+  return 0;
 }
 
 int main(int argc, char **argv) {
@@ -35,9 +37,11 @@ int main(int argc, char **argv) {
   struct timespec start, end;
   clock_t used = clock();
   clock_gettime(CLOCK_MONOTONIC, &start);
-  for (long group = 0; group < groups; group++) {
-    if (put(file, bytes, size, at + 512) || put(file, bytes, 512, at)) return 1;
+  if (put(file, bytes, size, at + 512) || fdatasync(file)) return 1;
+  for (long group = 1; group <= groups; group++) {
+    if (put(file, bytes, 512, at)) return 1;
     at += (off_t)size;
+    if ((group < groups && put(file, bytes, size, at + 512)) || fdatasync(file)) return 1;
   }
   clock_gettime(CLOCK_MONOTONIC, &end);
   double clocked = (double)(end.tv_sec - start.tv_sec) + (double)(end.tv_nsec - start.tv_nsec) / 1e9;

@@ -1,16 +1,17 @@
 #!/usr/bin/env bash
 # Durable commands: groups of 32 registrations of a segment of 4 entries each, over a store in a
-# file, submitted, flushed and redeemed by one thread. It prints commands a second by the clock,
-# beside those of the same writes and syncs alone, and beside LevelDB with as many synced batches of
-# the same segments; and the same with a step of a checkpointer behind each of the flusher's, over
+# file, submitted, flushed and redeemed by one thread, so that each group follows the one before it.
+# It prints commands a second by the clock, beside those of the same writes and syncs alone, and
+# beside LevelDB with as many synced batches of the same segments; and the same with a step of a checkpointer behind each of the flusher's, over
 # journals that are sealed behind every 36 groups. Medians of nine rounds, and of nine more each in
 # which every sync of all three takes a tenth of a millisecond more, and a millisecond, as on a
 # device that is slower to keep what it is given. Then the resident memory after 1,000 groups and
 # after 100,000, with that checkpointer, over a file in memory. It needs Python 3, gcc, g++, bc and
 # Debian's libleveldb-dev. It proves and builds a program in a temporary folder, and leaves no file
-# behind; with a folder as its third argument it copies the program there.
+# behind; with a folder as its third argument it copies the program there. A fourth argument is a
+# program that was built before, and takes its place.
 #
-#     bench/pathd-bench groups [GROUPS [MANY [FOLDER]]]
+#     bench/pathd-bench groups [GROUPS [MANY [FOLDER [PROGRAM]]]]
 source "$(dirname "${BASH_SOURCE[0]}")/common.sh"
 need rt python3 gcc g++ bc libleveldb-dev
 groups=${1:-300}
@@ -43,8 +44,13 @@ prepare "$shm/many" $((36 * sectors + 2)) "$many"
 cp -r "$work/plain/." "$work/crates/groups"
 cd "$work/crates/groups"
 echo "$area 516 10" > plan
-quietly rt run
-[ $# -lt 3 ] || cp out/groups "$3"
+if [ $# -ge 4 ]; then
+  mkdir -p out
+  cp "$4" out/groups
+else
+  quietly rt run
+  [ $# -lt 3 ] || cp out/groups "$3"
+fi
 
 ours() { # the seconds by the clock and of the processor of so many groups in a folder, and the epoch then
   (cd "$1" && "$work/crates/groups/out/groups") > "$1/told"
