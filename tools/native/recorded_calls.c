@@ -8,9 +8,10 @@
 // to one. A write that fails or is short is recorded whole by 'W', since any of it may have
 // happened.
 //
-// SWALLOWED names a kind of sync, by what the same thread wrote last: `group` (a group's payload),
-// `gate` (a gate of a journal), `chunks` (a checkpoint area), `half` (the gate of a half), `close`
-// (the two gates of a half). Every second sync of that kind isn't made, and the program isn't told.
+// SWALLOWED names a kind of sync, by what the same thread wrote last: `group` (a group's payload; of
+// a group that follows another one the sync is also that of the other one's gate), `gate` (a gate of
+// a journal alone), `chunks` (a checkpoint area), `half` (the gate of a half), `close` (the two gates
+// of a half). Every second sync of that kind isn't made, and the program isn't told.
 // CHECKPOINT and JOURNAL are the sizes of the store's parts in sectors, by which a write is judged.
 // tools/pathd_tools/recording.py uses it.
 #define _GNU_SOURCE

@@ -1,5 +1,5 @@
-"""How `pathd` reads messages that anyone may have made, written from docs/PROTOCOL.md ('Wire',
-'Messages') alone: a value, or the code of the first fault."""
+"""How `pathd` reads messages that anyone may have made, written from docs/PROTOCOL.md
+('Messages') alone: a value, or the code of the first fault."""
 from __future__ import annotations
 
 from functools import lru_cache

@@ -1,5 +1,5 @@
 """Frames and segments, as the tools and the benchmarks send and receive them, written from
-docs/PROTOCOL.md ('Wire', 'Messages').
+docs/PROTOCOL.md ('Messages').
 
 What a request has to be answered by is judged by pathd_model, which imports nothing of this module.
 """

@@ -82,6 +82,7 @@ refused show "$store"
 ends 0 "" --help
 wait "$first"
 holder="a server"
+: >"$work/ready"
 "$program" run "$store" --listen 127.0.0.1:0 --quiet >"$work/ready" &
 server=$!
 for _ in $(seq 200); do # until it listens

@@ -8,7 +8,8 @@ them several at once. The server is killed (-9) while they do, and started again
 times. The order is that of the places. It is shown that
 
 - each place up to the one at which the store opens again is that of one command; the commands
-  without a reply are read from the journal, and were sent;
+  without a reply are read from the journal, and were sent; where a checkpoint has one already, some
+  command that was sent makes that checkpoint's rows;
 - each acknowledgement has the counts that the fold of all commands before it gives;
 - within a session places rise, and a command that was acknowledged before another was sent has the
   smaller place;
@@ -35,8 +36,9 @@ import socket
 import struct
 import time
 from collections import Counter
+from collections.abc import Iterator
 from dataclasses import dataclass, replace
-from itertools import accumulate
+from itertools import accumulate, islice
 from pathlib import Path
 
 from pathd_model import model
@@ -49,6 +51,8 @@ LAYOUT = model.Layout(64, 4096)
 # of the reply.
 RECORD = struct.Struct("<QQIB24s")
 NEVER = (1 << 64) - 1
+# How many choices of the commands without a reply are tried.
+MOST_TRIES = 1000
 LOOKUPS = 1 << 31
 
 
@@ -168,18 +172,17 @@ class Checker:
             self.fault(f"a place outside of {start} to {end} was acknowledged, as the store opens to {end}")
             return None, [], []
         missing = [place for place in range(start, end) if place not in placed]
-        if missing and missing[0] < opened.place:
-            self.fault(f"the place {missing[0]} has no acknowledgement, and is folded into the checkpoint already")
-            return None, [], []
-        wanted = [opened.commands[place - opened.place] for place in missing]
+        wanted = [opened.commands[place - opened.place] if place >= opened.place else None for place in missing]
         # A command came before whatever of a later place was acknowledged.
         before = list(accumulate((placed[place].received if place in placed else NEVER for place in reversed(range(start, end))), min))
         limits = [before[end - 1 - place] for place in missing]
         unanswered = [[it for it in session if it.kind == 0 and it.request < LOOKUPS] for session in sessions]
-        found = self._senders(wanted, limits, unanswered)
+        tried = islice(self._senders(wanted, limits, unanswered), MOST_TRIES)
+        found = next((it for it in tried if self._explains({**placed, **dict(zip(missing, it))}, None in wanted, opened, start)), None)
         if found is None:
             self.fault(f"nobody sent the commands of the places {missing}")
             return None, [], []
+        self.counts["folded without an acknowledgement"] += wanted.count(None)
         self.counts["kept without an acknowledgement"] += len(missing)
         self.counts["lost without an acknowledgement"] += sum(map(len, unanswered)) - len(missing)
         by_place = {**placed, **dict(zip(missing, found))}
@@ -194,28 +197,41 @@ class Checker:
                 self.fault(f"the journal has another command at the place {place}")
         return commands, sent, received
 
-    def _senders(self, wanted: list[tuple], limits: list[int], unanswered: list[list[Asked]]) -> list[Asked] | None:
-        """The requests without a reply whose commands these are, each session's in its order, and each sent before a limit."""
+    def _explains(self, by_place: dict[int, Asked], is_folded: bool, opened: model.Opened, start: int) -> bool:
+        """Whether the commands of a round make the checkpoint's rows, where one that has no acknowledgement is folded into it."""
+        if not is_folded:
+            return True
+        rows = dict(self.db)
+        for place in range(start, opened.place):
+            model.apply(rows, self.pool[by_place[place].request])
+        return rows == opened.rows
+
+    def _senders(self, wanted: list[tuple | None], limits: list[int], unanswered: list[list[Asked]]) -> Iterator[list[Asked]]:
+        """Each choice of requests without a reply whose commands these may be: each session's in its order, and each sent
+        before a limit. Any command may be one that is None."""
         found: list[Asked] = []
         taken = [0] * len(unanswered)
         tried: list[list[int]] = []
-        while len(found) < len(wanted):
-            if len(tried) == len(found):
+        while True:
+            is_whole = len(found) == len(wanted)
+            if is_whole:
+                yield list(found)
+            elif len(tried) == len(found):
+                command = wanted[len(found)]
                 able = [it for it, session in enumerate(unanswered) if taken[it] < len(session)]
-                able = [it for it in able if self.pool[unanswered[it][taken[it]].request] == wanted[len(found)]]
+                able = [it for it in able if command is None or self.pool[unanswered[it][taken[it]].request] == command]
                 able = [it for it in able if unanswered[it][taken[it]].sent < limits[len(found)]]
                 tried.append(sorted(able, key=lambda it: unanswered[it][taken[it]].sent, reverse=True))
-            if tried[-1]:
+            if not is_whole and tried[-1]:
                 session = tried[-1].pop()
                 found.append(replace(unanswered[session][taken[session]], kind=session))
                 taken[session] += 1
             elif found:
                 # No session goes on from here: the one before was another's.
-                tried.pop()
+                del tried[len(found) :]
                 taken[found.pop().kind] -= 1
             else:
-                return None
-        return found
+                return
 
     def _check_times(self, sent: list[int], received: list[int], start: int) -> None:
         latest = 0

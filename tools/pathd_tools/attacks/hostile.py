@@ -19,6 +19,7 @@ from __future__ import annotations
 import multiprocessing
 import os
 import random
+import re
 import struct
 import subprocess
 import time
@@ -45,6 +46,15 @@ FILLED_EVERY = 20
 FAR = (0x0001_FF00_0000_0900, 0x0001_FF00_0000_0901)
 FAR_QUERY = (1 << 48, FAR[1])
 INTERESTING = [0, 1, 2, 0x7F, 0x80, 0x81, 0xA7, 0xFE, 0xFF]
+
+
+# How a standard error begins that says why a command failed, before the line that names the kind.
+REASON = re.compile(rb"pathd: [^\n]+\n")
+
+
+def kind_line(errors: bytes) -> bytes:
+    """A standard error without the line that says why, where there is one."""
+    return REASON.sub(b"", errors, count=1)
 
 
 # Frames
@@ -317,7 +327,7 @@ def try_frames(given: tuple) -> tuple[Counter, list[str]]:
             at = next((it for it, (one, other) in enumerate(zip(replies, wanted)) if one != other), min(len(replies), len(wanted)))
             got = replies[at].hex() if at < len(replies) else "nothing"
             faults.append(f"{messages.frame(*requests[at])[:200].hex()} is answered by {got[:80]}, and not {wanted[at].hex()[:80]}")
-        elif (done.returncode, done.stderr) != (1, line):
+        elif (done.returncode, kind_line(done.stderr)) != (1, line):
             faults.append(f"{last.hex()[:80]} ends a session with {done.returncode}, {done.stderr}, and not {line}")
     return counts, faults
 
@@ -406,7 +416,8 @@ def try_images(given: tuple) -> tuple[Counter, list[str]]:
         image = mutated_image(images[base], chance)
         os.ftruncate(file, len(image))
         os.pwrite(file, image, 0)
-        got = forked.run()
+        status, out, errors = forked.run()
+        got = status, out, kind_line(errors)
         wanted = judged_image(image)
         counts["images"] += 1
         counts["image: opened" if wanted[0] == 0 else f"image: {wanted[2].decode().strip()}"] += 1

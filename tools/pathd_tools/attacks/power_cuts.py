@@ -22,9 +22,10 @@ Openings that write are recorded too, and cut at each of their calls: the next o
 the same. So are upgrades of stores of version 1.
 
 With --swallowed every second sync of a kind isn't made (`group`, `gate`, `chunks`, `half`,
-`close`): the script then has to find losses, and ends with the status 0 where it does. A lost sync
-of the kind `close` is covered by the next sync of any kind before the half is used, so that none is
-found.
+`close`): the script then has to find losses, and ends with the status 0 where it does. The sync of
+a group that follows another one is of the kind `group`, and also serves the other one's gate. A
+lost sync of the kind `close` is covered by the next sync of any kind before the half is used, so
+that none is found.
 
 It needs Python 3 and gcc, and the loopback. It ends with the status 1 where an image opens to
 anything else, and prints the first ones.

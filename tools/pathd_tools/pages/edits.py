@@ -317,8 +317,8 @@ def rows_before() -> dict[tuple[str, str], list[str]]:
 
 
 def is_unchanged(edit: Edit, since: str) -> bool:
-    """Whether the edit is what it was at a commit."""
-    known = subprocess.run(["git", "diff", "--quiet", since, "--", str(edit.path)], cwd=TOP, capture_output=True)
+    """Whether the edit is what it was at a commit, but for the words of its row."""
+    known = subprocess.run(["git", "diff", "--quiet", "-I^body: ", since, "--", str(edit.path)], cwd=TOP, capture_output=True)
     return known.returncode == 0
 
 

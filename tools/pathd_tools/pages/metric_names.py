@@ -6,8 +6,9 @@ page cites; the codes of refusals are those of docs/PROTOCOL.md. It prints nothi
 - deploy/pathd.rules.yml and deploy/grafana-dashboard.json use no other name, no other value of a
   label, and `rate` and `increase` of counters alone,
 - each name is on the dashboard, or is listed here as left out,
-- the table of docs/operating/numbers.md has each name with its type, and no other, and
-  docs/WATCHING.md has a heading for each alert, and no other.
+- the table of docs/operating/numbers.md has each name with its type, and no other, and the page
+  each value of a label but the codes,
+- docs/WATCHING.md has a heading for each alert, and no other.
 """
 from __future__ import annotations
 
@@ -93,7 +94,10 @@ def problems() -> list[str]:
     drawn = names(used[DASHBOARD], known)
     found += [f"{DASHBOARD.relative_to(TOP)}: {it} is not drawn" for it in sorted(known.keys() - drawn - NOT_DRAWN.keys())]
     found += [f"{it} is drawn, and listed as left out" for it in sorted(NOT_DRAWN.keys() & drawn)]
-    table = dict(re.findall(r"^\| `(pathd_\w+)(?:\{[^}]*\})?` \| (\w+) \|", NUMBERS.read_text(), re.M))
+    page = NUMBERS.read_text()
+    table = dict(re.findall(r"^\| `(pathd_\w+)(?:\{[^}]*\})?` \| (\w+) \|", page, re.M))
+    named = sorted(set().union(*(values[label] for label in values if label != "code")))
+    found += [f"{NUMBERS.relative_to(TOP)}: `{it}` is missing" for it in named if f"`{it}`" not in page]
     found += [f"{NUMBERS.relative_to(TOP)}: the row of {it} is missing or has another type" for it in sorted(known) if table.get(it) != known[it]]
     found += [f"{NUMBERS.relative_to(TOP)}: {it} is no number of the page" for it in sorted(table.keys() - known.keys())]
     alerts = set(re.findall(r"^ *- alert: (\w+)", RULES.read_text(), re.M))

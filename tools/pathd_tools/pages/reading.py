@@ -2,12 +2,16 @@
 cite in turn.
 
     tools/pathd-tools reading                        a table, one line for each promise of docs/PROOFS.md
-    tools/pathd-tools reading --check                whether docs/PROOFS.md has this table; --write puts it there
-    tools/pathd-tools reading CONTRACT ..            the definitions of these contracts, with file and line;
-                                                     --imports: which files to split so that imports reach less
+    tools/pathd-tools reading --check                whether docs/PROOFS.md has this table, and docs/THEOREM.md the statement
+                                                     and its reading list; --write puts them there
+    tools/pathd-tools reading CONTRACT ..            the definitions of these contracts, with file and line, each after those
+                                                     that it cites; --imports: which files to split so that imports reach less;
+                                                     --together: the definitions of all these contracts as one list
 
-A definition's lines are those without blank lines and comments. 'Files by imports' are the files of
-specs/ that one gets to by following all imports of each file, in place of the words that are cited.
+A definition's lines are those without blank lines, comments and attributes. Of a type with a model
+contracts see the value alone, so that the fields and the view of such a type are not counted.
+'Files by imports' are the files of specs/ that one gets to by following all imports of each file, in
+place of the words that are cited.
 """
 from __future__ import annotations
 
@@ -20,9 +24,16 @@ from pathd_tools.pages.source import CRATES, TOP, Definition, Function
 from pathd_tools.toolbox import parser
 
 PROOFS = TOP / "docs" / "PROOFS.md"
-BEGIN, END = "<!-- tools/pathd-tools reading --write -->", "<!-- end -->"
+THEOREM = TOP / "docs" / "THEOREM.md"
+BEGIN, END = "<!-- tools/pathd-tools reading --write{} -->", "<!-- end -->"
 # What a file of code uses of a crate: the crate, and the names, whose list may take several lines.
 USE = re.compile(r"^use (\w+)::(?:\w+::)*(\{[^}]*\}|\w+);", re.M)
+
+# The contracts of docs/THEOREM.md: what survives, and what lookups are answered from. The clauses that
+# are the statement, and the file of the definitions that it quotes.
+SURVIVAL = ["prefix_recovery recovery::run_traced trace", "prefix_recovery recovery::reopen_after"]
+LOOKUPS = ["prefix_recovery recovery::run_traced lookups"]
+QUOTED = CRATES / "prefix_recovery" / "specs" / "Survival.antt"
 
 # The contracts that carry each promise.
 PROMISES = [
@@ -35,6 +46,7 @@ PROMISES = [
     ("3: `run`, its replies", ["group_recovery running::run runs"]),
     ("4: `run`, the recovery theorem", ["group_recovery running::run leaves"]),
     ("4: `run` and `open`, all clauses of the theorem", ["group_recovery running::run runs leaves", "store_open open_store::open any_moment opened"]),
+    ("4: `run_traced` and `reopen_after`, what survives", SURVIVAL),
     ("4: what a server's device holds", ["path_server running::serve_store"]),
     ("5: a lookup", ["path_hub reader::lookup", "path_hub reader::learn"]),
     ("5: `register`", ["path_hub hub::register"]),
@@ -104,6 +116,24 @@ def closure(starts: list[tuple[Path, str]]) -> dict[tuple[Path, str], Definition
     return found
 
 
+def in_reading_order(starts: list[tuple[Path, str]]) -> list[Definition]:
+    """The same definitions, each after those that it cites."""
+    found: dict[tuple[Path, str], Definition] = {}
+    entered: set[tuple[Path, str]] = set()
+
+    def read(it: Definition) -> None:
+        if key(it) not in entered:
+            entered.add(key(it))
+            for other in resolve(it.path, it.text):
+                read(other)
+            found[key(it)] = it
+
+    for path, text in starts:
+        for it in resolve(path, text):
+            read(it)
+    return list(found.values())
+
+
 def files_by_imports(starts: list[tuple[Path, str]]) -> dict[Path, Path | None]:
     """The files of specs/ that imports lead to, each with the file that imported it first."""
     found: dict[Path, Path | None] = {}
@@ -158,12 +188,46 @@ def table() -> str:
     return "\n".join(rows)
 
 
-def show(names: list[str], with_imports: bool) -> None:
-    for name in names:
-        crate, _, rest = name.rpartition(" ")
-        starts = clause_texts(name if crate else " " + name)
-        known = closure(starts)
-        for it in sorted(known.values(), key=lambda it: (str(it.path), it.line)):
+def statement() -> str:
+    """The clauses of the theorem and the definitions of its file, word for word."""
+    clauses: dict[str, list[str]] = {}
+    for spec in SURVIVAL + LOOKUPS:
+        clauses.setdefault(spec.split("::")[1].split(" ")[0], []).extend(text.strip("\n") for _, text in clause_texts(spec)[1:])
+    said = [line for name, texts in clauses.items() for line in [name, *texts]]
+    words = [it.text for it in source.definitions(QUOTED).values()]
+    return "\n".join(["```", *said, "```", "", "```", "\n\n".join(words), "```"])
+
+
+def reading_list() -> str:
+    """The definitions of the theorem, file by file: the file of the first definition that can be read comes first."""
+    survival = in_reading_order([it for spec in SURVIVAL for it in starts_of(spec)])
+    known = {key(it) for it in survival}
+    lookups = [it for it in in_reading_order([it for spec in LOOKUPS for it in starts_of(spec)]) if key(it) not in known]
+    rows = ["| file | what to read | lines |", "|---|---|---|"]
+    for name, those in [("what survives", survival), ("lookups too", lookups)]:
+        for path, words in by_file(those):
+            names = "all that is quoted above" if path == QUOTED else ", ".join(f"`{it.name}`" for it in words)
+            rows.append(f"| `{path.relative_to(TOP)}` | {names} | {sum(it.lines for it in words)} |")
+        rows.append(f"| **{name}** | {len(those)} | **{sum(it.lines for it in those)}** |")
+    return "\n".join(rows)
+
+
+def by_file(those: list[Definition]) -> list[tuple[Path, list[Definition]]]:
+    """Definitions by their files, each file where the first of its definitions is."""
+    found: dict[Path, list[Definition]] = {}
+    for it in those:
+        found.setdefault(it.path, []).append(it)
+    return list(found.items())
+
+
+def starts_of(name: str) -> list[tuple[Path, str]]:
+    return clause_texts(name if " " in name else " " + name)
+
+
+def show(names: list[str], with_imports: bool, together: bool) -> None:
+    lists = [starts_of(it) for it in names]
+    for starts in [sum(lists, [])] if together else lists:
+        for it in in_reading_order(starts):
             print(f"{it.path.relative_to(TOP)}:{it.line}: {it.name} ({it.lines} lines)")
         print("definitions, lines, types of the code, lines, files by imports, lines:", *count(starts))
         if with_imports:
@@ -224,22 +288,29 @@ def main(words: list[str]) -> int:
     options.add_argument("--check", action="store_true", help="whether docs/PROOFS.md has the table")
     options.add_argument("--write", action="store_true", help="write the table to docs/PROOFS.md")
     options.add_argument("--imports", action="store_true", help="which files to split so that imports reach less")
+    options.add_argument("--together", action="store_true", help="the definitions of all these contracts as one list")
     options.add_argument("contracts", nargs="*", metavar="CONTRACT", help="`[CRATE ]MODULE::FUNCTION[ CLAUSE ..]`, as one word")
     chosen = options.parse_args(words)
     if chosen.contracts:
-        show(chosen.contracts, chosen.imports)
+        show(chosen.contracts, chosen.imports, chosen.together)
         return 0
-    made = f"{BEGIN}\n{table()}\n{END}"
-    text = PROOFS.read_text()
-    kept = re.search(rf"{re.escape(BEGIN)}.*?{re.escape(END)}", text, re.S)
-    if chosen.write:
-        if not kept:
-            sys.exit(f"no {BEGIN} in {PROOFS}")
-        PROOFS.write_text(text.replace(kept[0], made))
-    elif chosen.check:
-        if not kept or kept[0] != made:
-            print("docs/PROOFS.md: the table of what a reader has to believe is another: run tools/pathd-tools reading --write")
-            return 1
-    else:
+    blocks = [(PROOFS, "", table), (THEOREM, ": statement", statement), (THEOREM, ": list", reading_list)]
+    if not (chosen.write or chosen.check):
         print(table())
+        return 0
+    return sum(put_block(path, BEGIN.format(which), make(), chosen.write) for path, which, make in blocks) and 1
+
+
+def put_block(path: Path, begin: str, made: str, writes: bool) -> int:
+    """Writes what is between two marks of a page, or says that the page has something else there: 1 where it has."""
+    text = path.read_text()
+    kept = re.search(rf"{re.escape(begin)}.*?{re.escape(END)}", text, re.S)
+    wanted = f"{begin}\n{made}\n{END}"
+    if not kept:
+        sys.exit(f"no {begin} in {path}")
+    if writes:
+        path.write_text(text.replace(kept[0], wanted))
+    elif kept[0] != wanted:
+        print(f"{path.relative_to(TOP)}: what is to be read is another: run tools/pathd-tools reading --write")
+        return 1
     return 0

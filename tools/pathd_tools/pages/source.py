@@ -183,7 +183,7 @@ def spec_file(module: str) -> Path | None:
 
 @cache
 def declared_type(module: str) -> Definition | None:
-    """The type of the code that a module's path declares, if it is one of this repository, with what its model's view says."""
+    """The type of the code that a module's path declares, if it is one of this repository."""
     parts = module.split(".")
     if len(parts) < 6 or parts[0] != "Rattle" or parts[3] != "declared" or not (CRATES / parts[1]).is_dir():
         return None
@@ -204,23 +204,25 @@ def type_in(path: Path, name: str) -> Definition | None:
             end = at
             while end < len(lines) and not re.match(r"^\}|.*;\s*$|.*\{\}\s*$", lines[end]):
                 end += 1
-            return Definition(path, at + 1, name, "\n".join(code_lines(lines[at:end + 1]) + model_of(lines, name)))
+            seen = model_of(lines, name) or without_attributes(code_lines(lines[at:end + 1]))
+            return Definition(path, at + 1, name, "\n".join(seen))
     return None
 
 
+def without_attributes(lines: list[str]) -> list[str]:
+    """The lines that are no attribute, such as the text of an error."""
+    return [it for it in lines if not it.strip().startswith("#[")]
+
+
 def model_of(lines: tuple[str, ...], name: str) -> list[str]:
-    """The lines of a type's model that say what contracts see of it: not those of its invariant."""
+    """What contracts see of a type with a model: the type of its values. None of its fields is seen."""
     for at, line in enumerate(lines):
         if re.match(rf"^impl.* Model for {name}\b", line):
-            kept, skips = [], False
             for text in lines[at:]:
-                if re.match(r"\s*ghost \w", text):
-                    skips = bool(re.match(r"\s*ghost invariant", text))
-                if not skips:
-                    kept.append(text)
+                if re.match(r"\s*ghost Value =", text):
+                    return [f"{line} {text.strip()} }}"]
                 if text.startswith("}"):
                     break
-            return [it for it in code_lines(kept) if "ghost use" not in it]
     return []
 
 
