@@ -5,8 +5,8 @@
 #     make uninstall [DESTDIR=..] [PREFIX=/usr/local]
 #     make deb
 #
-# `make deb` needs dpkg-deb, and writes out/pathd_VERSION_ARCH.deb. Settings that are there are kept
-# by both.
+# `make deb` needs dpkg-deb, git and readelf, and writes out/pathd_VERSION_ARCH.deb. Settings that
+# are there are kept by both.
 PREFIX = /usr/local
 PROGRAM = crates/pathd/out/pathd
 BIN = $(DESTDIR)$(PREFIX)/bin
@@ -19,12 +19,14 @@ ZSH_COMPLETIONS = $(DESTDIR)$(PREFIX)/share/zsh/site-functions
 SETTINGS = $(DESTDIR)/etc/default/pathd
 
 PAGES = README.md CHANGELOG.md docs/CLI.md docs/PROTOCOL.md docs/STORE.md docs/POWER-CUT.md \
-  docs/WATCHING.md docs/NETWORK.md docs/CAPACITY.md docs/LIMITS.md docs/segments.proto
+  docs/WATCHING.md docs/NETWORK.md docs/CAPACITY.md docs/LIMITS.md docs/segments.proto docs/load.svg
 TASKS = $(wildcard docs/operating/*.md)
 EXAMPLES = deploy/pathd.nft deploy/pathd.rules.yml deploy/grafana-dashboard.json \
   deploy/pathd-purge.service deploy/pathd-purge.timer deploy/pathd.service.d/status.conf
-# The units and the pages name the paths of the default prefix.
+# The units and the man page name the paths of the default prefix.
 PLACED = sed 's|/usr/local/|$(PREFIX)/|g'
+# Links of pages lead to where docs/ and deploy/ are installed. Other files are not installed.
+LINKED = sed -E 's|\]\(docs/|](|g; s|\]\((\.\./)?((\.\./)?)deploy/([^)]*/)?|](\2examples/|g'
 
 help:
 	@sed -n '/^#/!q; s/^# \{0,1\}//p' Makefile
@@ -45,8 +47,9 @@ install: $(PROGRAM)
 	chmod 644 $(UNITS)/pathd.service '$(UNITS)/pathd-failed@.service' $(MAN)/pathd.1
 	install -m 644 deploy/pathd.bash $(BASH_COMPLETIONS)/pathd
 	install -m 644 deploy/pathd.zsh $(ZSH_COMPLETIONS)/_pathd
-	install -m 644 $(PAGES) $(DOC)
-	install -m 644 $(TASKS) $(DOC)/operating
+	for page in $(PAGES); do $(LINKED) $$page >$(DOC)/$${page##*/} || exit; done
+	for page in $(TASKS); do $(LINKED) $$page >$(DOC)/operating/$${page##*/} || exit; done
+	chmod 644 $(patsubst %,$(DOC)/%,$(notdir $(PAGES))) $(DOC)/operating/*.md
 	install -m 644 $(EXAMPLES) $(DOC)/examples
 	test -e $(SETTINGS) || install -m 644 deploy/pathd.default $(SETTINGS)
 

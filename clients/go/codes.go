@@ -59,13 +59,13 @@ var texts = map[Code]string{
 	NullDestination: "both sides of the lookup are 0-0",
 	IsdOnlyWildcard: "a side has the ISD 0, and an AS other than 0",
 	NoCore:          "neither side is a core AS",
-	Busy:            "256 commands wait to be committed",
+	Busy:            "too many commands wait to be committed",
 	Full:            "the rows would not fit the store",
 	NoGroup:         "the command does not fit a group",
 	Stopped:         "the device of the store has failed",
 	Exhausted:       "no place is left",
 	OldStore:        "the store is of a version that has no removals",
-	NoSession:       "64 sessions are open, and the server has closed this one",
+	NoSession:       "the server has no room for the session, and has closed it",
 	Unsettled:       "the store stopped before the command was committed, which may be kept or lost",
 }
 

@@ -46,10 +46,12 @@ func started(t *testing.T) (*Client, string, context.Context) {
 		t.Fatal(err)
 	}
 	t.Cleanup(func() { run.Process.Kill(); run.Wait() })
-	line, _ := bufio.NewReader(notices).ReadString('\n')
-	found := regexp.MustCompile(` at (127\.0\.0\.1:\d+):`).FindStringSubmatch(line)
+	lines, found := bufio.NewScanner(notices), []string(nil)
+	for found == nil && lines.Scan() {
+		found = regexp.MustCompile(`^pathd: serves .* at (127\.0\.0\.1:\d+):`).FindStringSubmatch(lines.Text())
+	}
 	if found == nil {
-		t.Fatalf("the server doesn't listen: %s", line)
+		t.Fatalf("the server doesn't listen: %s", lines.Text())
 	}
 	ctx, cancel := context.WithTimeout(context.Background(), limit)
 	client, err := Dial(ctx, found[1])

@@ -57,8 +57,8 @@ REFUSALS = {
         0x55: "Exhausted: no place is left",
     }),
     **_refusals(StatusCode.UNAVAILABLE, {
-        0x51: "Busy: 256 commands wait to be committed",
-        0x61: "64 sessions are open, and the server has closed this one",
+        0x51: "Busy: too many commands wait to be committed",
+        0x61: "the server has no room for the session, and has closed it",
     }),
     **_refusals(StatusCode.FAILED_PRECONDITION, {
         0x54: "Stopped: the device of the store has failed",

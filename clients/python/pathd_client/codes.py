@@ -42,7 +42,7 @@ class Code(IntEnum):
     STOPPED = 0x54, "the store has stopped"
     EXHAUSTED = 0x55, "no place is left"
     OLD_STORE = 0x57, "the store is of a version that has no removals"
-    NO_SEAT = 0x61, "the server has 64 sessions, which is the most"
+    NO_SEAT = 0x61, "the server has no room for the session"
     OUTCOME_UNKNOWN = (
         0x62,
         "the store stopped before the command was committed: it may be kept or lost",

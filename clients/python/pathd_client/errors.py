@@ -27,7 +27,7 @@ class ConnectionEnded(SessionError):
 
 
 class TurnedAway(ConnectionEnded):
-    """The server has 64 sessions, and ended the connection. It has read no request."""
+    """The server has no room for the session, and ended the connection. It has read no request."""
 
 
 class OutcomeUnknown(SessionError):

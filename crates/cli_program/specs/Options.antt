@@ -10,8 +10,8 @@ abbrev pub IsKeyOf : Option (List ℕ) → Option (List ℕ) → Type 0
 IsKeyOf None key = key ≡ None
 IsKeyOf (Some text) key = IsSomeAnd key (λ it. decode_of text ≡ Ok it)
 
--- A number is that of the option of a name, or another one where the option is left out. A number of
--- an option is a decimal numeral below 2 to the power `bits`.
+-- A number is that of the option of a name, or another one where the option is left out. A number
+-- of an option is a decimal numeral below 2 to the power `bits`.
 pub record IsNumberOf (found : Found) (name : List ℕ) (bits other number : ℕ) : Type 0 where
   pub absent : one_text found name ≡ None → number ≡ other
   pub given : (text : List ℕ) → one_text found name ≡ Some text

@@ -3,7 +3,7 @@
 use crate::failure::Failure;
 use clap::ArgMatches;
 use cli_words::{LISTEN, STATUS_LISTEN};
-use path_server::{Listeners, bound_accepts, raised_listener};
+use path_server::{Listeners, raised_listener, set_accept_timeout};
 use std::net::{Net, SocketAddr, TcpListener, TcpStream};
 
 /// An address of the words, and its text.
@@ -61,6 +61,6 @@ fn bind<'a, R: Net<Listener = TcpListener, Stream = TcpStream>>(
     let no_listener = |error| Failure::Listen(at.text, error);
     let listener = rt.bind(at.address).map_err(no_listener)?;
     let listener = raised_listener(listener).map_err(no_listener)?;
-    bound_accepts(&listener).map_err(no_listener)?;
+    set_accept_timeout(&listener).map_err(no_listener)?;
     Ok(listener)
 }

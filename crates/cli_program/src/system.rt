@@ -40,8 +40,8 @@ impl<
         + 'static,
 > System for R {}
 
-/// The parts of the system that the threads of a server use, and those that print its lines and read
-/// its input. A thread that outlives its caller has a clone of the handle.
+/// The parts of the system that the threads of a server use, and those that print its lines and
+/// read its input. A thread that outlives its caller has a clone of the handle.
 pub(crate) trait Host: AllocGlobal
     + Eprint
     + Wait

@@ -14,7 +14,7 @@ module _ (found : Found) (name : Text) (text : Option (Bor (List ℕ))) (is : op
   plain_so value same plain =
       subst (λ (v : Option (List ℕ)). IfSome v (AllPass is_digit)) (sym same ∙ is ∙ first_value-rows found name) plain
 
-  -- an option that isn't there
+  -- an option that is not there
   pub plain_none : text ≡ None → IsPlainNumber (rows_of found) name
   plain_none none = plain_so None (ap (option_map (λ (s : Bor (List ℕ)). s.now)) none) tt
 

@@ -1,7 +1,7 @@
 -- Which program it is, as lines of a page.
 use Rattle.std.specs.Prelude.{ℕ, List, ◌++◌, codes}
 use Rattle.std.specs.Fmt.{decimal}
-use Rattle.ckpt_pair.specs.Versions.{latest}
+use Rattle.store_layout.specs.Limits.{latest}
 use Rattle.status_page.specs.Lines.{heading, labelled}
 
 -- The name of the metric.

@@ -4,8 +4,8 @@ ghost use Rattle.std.specs.Prelude.{◌≡◌, IfOk, string_bytes};
 ghost use Rattle.status_page.specs.Build.{build_label, build_lines};
 
 use crate::lines::{heading, labelled};
-use ckpt_pair::LATEST;
 use std::alloc::{AllocError, Global};
+use store_layout::LATEST;
 
 /// The version of the program.
 pub const VERSION: &str = "0.9.0";

@@ -4,9 +4,7 @@ ghost use Rattle.std.specs.Prelude.{◌≡◌, ◌<◌, IfOk, string_bytes};
 ghost use Rattle.status_page.specs.Lines.{help_line, type_line, heading, six_digits, seconds, sample, time_sample, labelled, time_labelled, counter, gauge, flag};
 
 use std::alloc::{AllocError, Global};
-
-/// The number of microseconds in a second.
-const SECOND: u64 = 1_000_000;
+use store_loops::SECOND;
 
 /// The line with what a metric says.
 #[tactic(auto, unfolding(crate::specs::Lines::help_line))]

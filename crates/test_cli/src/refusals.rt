@@ -1,4 +1,4 @@
-//! Stores that aren't made or upgraded: sizes that are refused, and devices that fail.
+//! Stores that are not made or upgraded: sizes that are refused, and devices that fail.
 
 use crate::commands::{LEAST, SECTORS, formatted_old};
 use crate::writers::{Room, with_room};

@@ -1,6 +1,6 @@
-//! Whole command lines of `pathd`, each with what it prints, on standard output and then on standard
-//! error, and its status: words that are refused, help, `once`, the commands over the file of a
-//! store, of damaged ones too, and a server with its peers in the same process, up to as many
+//! Whole command lines of `pathd`, each with what it prints, on standard output and then on
+//! standard error, and its status: words that are refused, help, `once`, the commands over the file
+//! of a store, of damaged ones too, and a server with its peers in the same process, up to as many
 //! sessions as may be open at one time. The files are made in the folder that the program runs in.
 #![tactic(auto)]
 

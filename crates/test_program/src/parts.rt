@@ -26,7 +26,7 @@ pub(crate) struct Peers {
     /// Sessions that are held one after the other, by the frames that they ask, as hexadecimal
     /// text.
     pub(crate) sessions: &'static [&'static str],
-    /// The number of sessions that are open at one time after those. If it isn't 0, one more
+    /// The number of sessions that are open at one time after those. If it is not 0, one more
     /// connection is made meanwhile, and one more session is held once these have ended.
     pub(crate) together: usize,
     /// The number of sessions after those whose peer sends nothing and waits for the server to end

@@ -66,12 +66,6 @@ pub(crate) const PARTS: &[Part] = &[
         )],
     },
     Part {
-        what: "the store that they shared",
-        before: Before::Nothing,
-        peers: NO_PEERS,
-        lines: &[("pathd status other", &[])],
-    },
-    Part {
         what: "a key, and a peer that is silent",
         before: Before::Nothing,
         peers: Peers {
