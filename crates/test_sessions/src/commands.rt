@@ -4,7 +4,6 @@ use crate::same::assert_same;
 use seg_core::{SegType, Segment};
 use session_core::{Ack, Code, FrameError, Message, Outcome, Service, serve};
 use std::alloc::{AllocError, Global};
-use std::convert::Infallible;
 use std::io::Read;
 use std::process::Abort;
 use std::test::Fail;
@@ -33,8 +32,8 @@ impl Counter {
 }
 
 impl Service for Counter {
-    /// No message is taken ahead of its reply.
-    type UnderWay = Infallible;
+    /// Nothing, as no message is taken ahead of its reply.
+    type UnderWay = ();
 
     ghost State = { Unit {0} };
 
@@ -66,12 +65,13 @@ impl Service for Counter {
         Ok(self.ack(u32::from(id[31]), 0))
     }
 
-    fn hand_in(&mut self, _alloc: Global, _message: Message<&[u8]>) -> Option<Infallible> {
+    fn hand_in(&mut self, _alloc: Global, _message: Message<&[u8]>) -> Option<()> {
         None
     }
 
-    fn settle(&mut self, under_way: Infallible) -> Result<Ack, Code> {
-        match under_way {}
+    /// Refuses, as nothing is ever under way.
+    fn settle(&mut self, _under_way: ()) -> Result<Ack, Code> {
+        Err(Code(0x2b))
     }
 }
 
