@@ -8,11 +8,11 @@ use Rattle.cli_once.specs.Memory.{Served, Answers}
 use Rattle.cli_once.specs.Session.{IsSession}
 use Rattle.cli_once.specs.HexSession.{AreAnsweredInLines}
 
-pub session_by : {R : Type 0} (gives : R → List ℕ → R → Type 0) (turns : ℕ) (start old new : Served) (source source_left : R) (input_left output output_left : Option (List ℕ)) (result : Result ℕ FrameError)
-    → old ≡ start → IsServed Answers gives turns old new source source_left input_left output output_left result → IsSession gives turns start source source_left input_left output output_left result
-session_by gives turns start old new source source_left input_left output output_left result is served = record {
+pub session_by : {R : Type 0} (gives : R → List ℕ → R → Type 0) (turns : ℕ) (start old new : Served) (source source_left : R) (input_ended : Type 0) (output output_left : Option (List ℕ)) (result : Result ℕ FrameError)
+    → old ≡ start → IsServed Answers gives turns old new source source_left input_ended output output_left result → IsSession gives turns start source source_left input_ended output output_left result
+session_by gives turns start old new source source_left input_ended output output_left result is served = record {
   left = new;
-  served = subst (λ (first : Served). IsServed Answers gives turns first new source source_left input_left output output_left result) is served;
+  served = subst (λ (first : Served). IsServed Answers gives turns first new source source_left input_ended output output_left result) is served;
 }
 
 pub lines_by : (bytes : List ℕ) (start old new : Served) (output output_left : Option (List ℕ)) (result : Result ℕ FrameError)

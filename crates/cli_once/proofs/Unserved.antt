@@ -37,9 +37,9 @@ prompt = record {
   kept = ([], refl);
 }
 
-pub unserved : {R : Type 0} (gives : R → List ℕ → R → Type 0) (turns : ℕ) (start : Served) (source : R) (input_left output : Option (List ℕ))
-    → IsSession gives turns start source source input_left output output (Err error.NoMemory)
-unserved gives turns start source input_left output = record {
+pub unserved : {R : Type 0} (gives : R → List ℕ → R → Type 0) (turns : ℕ) (start : Served) (source : R) (input_ended : Type 0) (output : Option (List ℕ))
+    → IsSession gives turns start source source input_ended output output (Err error.NoMemory)
+unserved gives turns start source input_ended output = record {
   left = start;
   served = record {
     pieces = [];

@@ -1,7 +1,7 @@
 -- A session whose input is hexadecimal text, and whose replies are lines of it.
 use Rattle.std.specs.Prelude.{◌≡◌, ℕ, ◌⊎◌, List, [], length, Option, Result, Ok, Err}
 use Rattle.std.specs.List.{concat}
-use Rattle.std.specs.Io.KnownBytes.{Appends, IsAtEnd}
+use Rattle.std.specs.Io.KnownBytes.{Appends}
 use Rattle.hex.specs.Hex.{decode_of}
 use Rattle.session_core.specs.declared.error.FrameError.{FrameError}
 use Rattle.session_core.specs.declared.error.FrameError.TheVariants as error
@@ -67,16 +67,16 @@ pub record IsAnsweredText (start : Served) (text : List ℕ) (output output_left
   pub said : result ≡ answer_for outcome
 
 -- The input was read to its end, and checked as a text before anything was answered.
-pub record IsReadText (start : Served) (text : List ℕ) (input_left output output_left : Option (List ℕ)) (result : Result ℕ Fault) : Type 0 where
-  pub end : IsAtEnd input_left
+pub record IsReadText (start : Served) (text : List ℕ) (input_ended : Type 0) (output output_left : Option (List ℕ)) (result : Result ℕ Fault) : Type 0 where
+  pub end : input_ended
   pub ended : IsNoText text output output_left result ⊎ IsAnsweredText start text output output_left result
 
 -- A session over hexadecimal text.
 pub record IsHexSession {R : Type 0} (gives : R → List ℕ → R → Type 0) (turns : ℕ) (start : Served) (source source_left : R)
-    (input_left output output_left : Option (List ℕ)) (result : Result ℕ Fault) : Type 0 where
+    (input_ended : Type 0) (output output_left : Option (List ℕ)) (result : Result ℕ Fault) : Type 0 where
   -- The pieces of the input that at most `turns` reads gave.
   pub pieces : List (List ℕ)
   -- The source was read for those pieces.
   pub read : AreReads gives turns source pieces source_left
   -- The input was not read whole, or was read and served.
-  pub ended : IsUnread turns pieces output output_left result ⊎ IsReadText start (concat pieces) input_left output output_left result
+  pub ended : IsUnread turns pieces output output_left result ⊎ IsReadText start (concat pieces) input_ended output output_left result

@@ -6,6 +6,6 @@ use Rattle.cli_once.specs.Memory.{Served, Answers}
 
 -- A session was served, from this start on.
 pub record IsSession {R : Type 0} (gives : R → List ℕ → R → Type 0) (turns : ℕ) (start : Served) (source source_left : R)
-    (input_left output output_left : Option (List ℕ)) (result : Result ℕ FrameError) : Type 0 where
+    (input_ended : Type 0) (output output_left : Option (List ℕ)) (result : Result ℕ FrameError) : Type 0 where
   pub left : Served
-  pub served : IsServed Answers gives turns start left source source_left input_left output output_left result
+  pub served : IsServed Answers gives turns start left source source_left input_ended output output_left result

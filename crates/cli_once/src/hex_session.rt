@@ -25,7 +25,7 @@ pub fn once_in_hex<R: Source, W: Write, V: Verifier>(
     turns: u64,
 ) -> Result<u64, Fault>
     ensures { IsHexSession R.gives turns (opening cores.now (V.verifies checker.now) now) reader.old reader.new
-        (R.remaining reader.new) (W.contents writer.old) (W.contents writer.new) result }
+        (R.is_at_end reader.new) (W.contents writer.old) (W.contents writer.new) result }
 {
     let text = read_all(alloc, reader, turns)?;
     let input = bytes_of(alloc, text)?;

@@ -23,7 +23,7 @@ pub fn once<R: Source, W: Write, V: Verifier>(
     turns: u64,
 ) -> Result<u64, FrameError>
     ensures { IsSession R.gives turns (opening cores.now (V.verifies checker.now) now) reader.old reader.new
-        (R.remaining reader.new) (W.contents writer.old) (W.contents writer.new) result }
+        (R.is_at_end reader.new) (W.contents writer.old) (W.contents writer.new) result }
 {
     let Ok(mut service) = OnceService::new(alloc, cores, checker, now) else {
         return Err(FrameError::NoMemory);

@@ -22,7 +22,7 @@ module _ {S : Type 0} (answers : S → MessageView → ReplyView → S → Type 
   answered_at_end : (a : S × GName) (es : List Exchange) (b : S × GName) (last : S) → (a.1 ≡ b.1 → last ≡ b.0) → AreAnswered (AnswersBehind answers) a es b → AreAnswered answers a.0 es last
   answered_at_end a es b last end h = subst (AreAnswered answers a.0 es) (sym (end (same_reference a es b h))) (answered_behind a es b h)
 
-  pub served_behind : {R : Type 0} (gives : R → List ℕ → R → Type 0) (turns : ℕ) (a b : S × GName) (last : S) (r t : R) (i o p : Option (List ℕ)) (result : Result ℕ FrameError)
+  pub served_behind : {R : Type 0} (gives : R → List ℕ → R → Type 0) (turns : ℕ) (a b : S × GName) (last : S) (r t : R) (i : Type 0) (o p : Option (List ℕ)) (result : Result ℕ FrameError)
       → (a.1 ≡ b.1 → last ≡ b.0) → IsServed (AnswersBehind answers) gives turns a b r t i o p result → IsServed answers gives turns a.0 last r t i o p result
   served_behind gives turns a b last r t i o p result end x = record {
     pieces = x.pieces;

@@ -5,7 +5,7 @@ use Rattle.std.proofs.lemmas.List.{append-nil, length-append}
 use Rattle.std.proofs.lemmas.List.Folds.{concat-append}
 use Rattle.std.proofs.lemmas.Fn.{FoldsTo-push}
 use Rattle.std.specs.List.{AllByRecursion, FoldsTo, concat}
-use Rattle.std.specs.Io.KnownBytes.{Appends, Keeps, IsAtEnd}
+use Rattle.std.specs.Io.KnownBytes.{Appends, Keeps}
 use Rattle.std.proofs.KnownBytes.{Appends-nil, Appends-trans, Appends-kept}
 use Rattle.session_core.specs.declared.error.FrameError.{FrameError}
 use Rattle.session_core.specs.declared.error.FrameError.TheVariants as error
@@ -16,7 +16,7 @@ use Rattle.session_core.specs.Service.{Exchange, messages_of, replies_of, all_to
 use Rattle.session_core.specs.declared.reply.Form.{Form}
 use Rattle.session_core.specs.declared.reply.Form.TheVariants.{Frames}
 use Rattle.session_core.specs.Source.{AreReads}
-use Rattle.session_core.specs.Session.{WritesReplies, LeavesAhead, TellsFrontOfLast, IsPrompt, EndsFor, IsServed}
+use Rattle.session_core.specs.Session.{WritesReplies, LeavesAhead, TellsFrontOfLast, IsPrompt, EndsFor, IsServed, IsSentFor}
 use Rattle.session_core.specs.Answered.{AreFrontsAnswered}
 use Rattle.session_core.specs.Lines.{IsServedInLines}
 use Rattle.session_core.proofs.AheadLemmas.{none_ahead, all_ahead}
@@ -89,6 +89,16 @@ module _ {S : Type 0} (form : Form) (answers : S → MessageView → ReplyView �
     stops = tt;
   }
 
+-- nothing is held back
+pub sent_for : (P : Type 0) (result : Result ℕ FrameError) → P → IsSentFor P result
+sent_for P (Ok count) p = p
+sent_for P (Err error.NoMemory) p = p
+sent_for P (Err error.Length) p = p
+sent_for P (Err error.Kind) p = p
+sent_for P (Err error.Read) p = p
+sent_for P (Err error.Write) p = tt
+sent_for P (Err error.Turns) p = p
+
 -- no memory for a session over bytes in memory
 pub ends_in_lines_at_once : {S : Type 0} (answers : S → MessageView → ReplyView → S → Type 0) (bytes : List ℕ) (s : S) (o : Option (List ℕ)) (e : FrameError) → e ≡ error.NoMemory → IsServedInLines answers bytes s s o o (Err e)
 ends_in_lines_at_once answers bytes s o e is = subst (λ (x : FrameError). IsServedInLines answers bytes s s o o (Err x)) (sym is) (record {
@@ -137,7 +147,7 @@ module _ {S R : Type 0} (answers : S → MessageView → ReplyView → S → Typ
   })
 
   -- no memory for the first read
-  pub ends_at_once : (turns : ℕ) (s : S) (r : R) (i o : Option (List ℕ)) (e : FrameError) → e ≡ error.NoMemory → IsServed answers gives turns s s r r i o o (Err e)
+  pub ends_at_once : (turns : ℕ) (s : S) (r : R) (i : Type 0) (o : Option (List ℕ)) (e : FrameError) → e ≡ error.NoMemory → IsServed answers gives turns s s r r i o o (Err e)
   ends_at_once turns s r i o e is = subst (λ (x : FrameError). IsServed answers gives turns s s r r i o o (Err x)) (sym is) (record {
     pieces = [];
     exchanges = [];
@@ -194,7 +204,7 @@ module _ {S R : Type 0} (answers : S → MessageView → ReplyView → S → Typ
     all_joined piece = concat-append h.pieces (piece ∷ []) ∙ ap (λ (t : List ℕ). concat h.pieces ++ t) (append-nil piece)
 
     -- the last read gave no piece, or no read was made
-    module _ (turns : ℕ) (t : R) (i : Option (List ℕ)) (last : List (List ℕ)) (nothing : concat (h.pieces ++ last) ≡ concat h.pieces) (one : length last ≤ 1) (read : AreReads gives turns r (h.pieces ++ last) t) where
+    module _ (turns : ℕ) (t : R) (i : Type 0) (last : List (List ℕ)) (nothing : concat (h.pieces ++ last) ≡ concat h.pieces) (one : length last ≤ 1) (read : AreReads gives turns r (h.pieces ++ last) t) where
       same_exchanges : h.done.exchanges ++ [] ≡ h.done.exchanges
       same_exchanges = append-nil h.done.exchanges
 
@@ -227,7 +237,7 @@ module _ {S R : Type 0} (answers : S → MessageView → ReplyView → S → Typ
         ended = ended;
       }
 
-      ends_well : IsAtEnd i → inbox ≡ [] → IsServed answers gives turns a b r t i o p (Ok count)
+      ends_well : i → inbox ≡ [] → IsServed answers gives turns a b r t i o p (Ok count)
       ends_well end none = ends_here (Ok count) refl refl (record { at_end = end; whole = none; counted = omega (arith, h.done.counted) })
 
       ends_at_read : IsServed answers gives turns a b r t i o p (Err error.Read)
@@ -240,19 +250,19 @@ module _ {S R : Type 0} (answers : S → MessageView → ReplyView → S → Typ
     nothing_more = all_joined [] ∙ append-nil (concat h.pieces)
 
     -- a read that failed
-    pub fails_to_read : (turns : ℕ) (t : R) (i : Option (List ℕ)) (e : FrameError) → turn < turns → gives s [] t → e ≡ error.Read → IsServed answers gives turns a b r t i o p (Err e)
+    pub fails_to_read : (turns : ℕ) (t : R) (i : Type 0) (e : FrameError) → turn < turns → gives s [] t → e ≡ error.Read → IsServed answers gives turns a b r t i o p (Err e)
     fails_to_read turns t i e lt one is = subst (λ (x : FrameError). IsServed answers gives turns a b r t i o p (Err x)) (sym is)
         (ends_at_read turns t i ([] ∷ []) nothing_more (omega arith) (read_more turns t [] lt one (omega arith)))
 
     -- the end of the input
-    pub ends_at_end : (turns : ℕ) (t : R) (i : Option (List ℕ)) (result : Result ℕ FrameError) → turn < turns → gives s [] t → IsAtEnd i
+    pub ends_at_end : (turns : ℕ) (t : R) (i : Type 0) (result : Result ℕ FrameError) → turn < turns → gives s [] t → i
         → IfOk result (λ n. n ≡ count) → IfOk result (λ _. inbox ≡ []) → IfErr result (λ e. e ≡ error.Read) → IsServed answers gives turns a b r t i o p result
     ends_at_end turns t i (Ok n) lt one end same none err = subst (λ (k : ℕ). IsServed answers gives turns a b r t i o p (Ok k)) (sym same)
         (ends_well turns t i ([] ∷ []) nothing_more (omega arith) (read_more turns t [] lt one (omega arith)) end none)
     ends_at_end turns t i (Err e) lt one end same none err = fails_to_read turns t i e lt one err
 
     -- the allowed number of reads was made
-    pub ends_at_turns : (i : Option (List ℕ)) → IsServed answers gives turn a b r s i o p (Err error.Turns)
+    pub ends_at_turns : (i : Type 0) → IsServed answers gives turn a b r s i o p (Err error.Turns)
     ends_at_turns i =
         let same : h.pieces ++ [] ≡ h.pieces = append-nil h.pieces in
         ends_in_time turn s i [] (ap concat same) (omega arith)
@@ -325,7 +335,7 @@ module _ {S R : Type 0} (answers : S → MessageView → ReplyView → S → Typ
     }
 
     -- the session ends within a piece, for this reason
-    ends_within : (turns : ℕ) (c : S) (t : R) (i : Option (List ℕ)) (piece left : List ℕ) (q : Option (List ℕ)) (result : Result ℕ FrameError) → turn < turns → gives s piece t → length piece ≤ MOST_PIECE
+    ends_within : (turns : ℕ) (c : S) (t : R) (i : Type 0) (piece left : List ℕ) (q : Option (List ℕ)) (result : Result ℕ FrameError) → turn < turns → gives s piece t → length piece ≤ MOST_PIECE
         → (x : AreFrontsAnswered Frames answers b (inbox ++ piece) c left p q count result)
         → EndsFor i turns (h.pieces ++ piece ∷ []) (h.done.exchanges ++ x.exchanges) x.rest result → IsServed answers gives turns a c r t i o q result
     ends_within turns c t i piece left q result lt one short x ended = record {
@@ -345,7 +355,7 @@ module _ {S R : Type 0} (answers : S → MessageView → ReplyView → S → Typ
       ended = ended;
     }
 
-    pub ends_at_piece : (turns : ℕ) (c : S) (t : R) (i : Option (List ℕ)) (piece left : List ℕ) (q : Option (List ℕ)) (e : FrameError) → turn < turns → gives s piece t → length piece ≤ MOST_PIECE
+    pub ends_at_piece : (turns : ℕ) (c : S) (t : R) (i : Type 0) (piece left : List ℕ) (q : Option (List ℕ)) (e : FrameError) → turn < turns → gives s piece t → length piece ≤ MOST_PIECE
         → AreFrontsAnswered Frames answers b (inbox ++ piece) c left p q count (Err e) → IsServed answers gives turns a c r t i o q (Err e)
     ends_at_piece turns c t i piece left q error.Length lt one short x = ends_within turns c t i piece left q (Err error.Length) lt one short x x.stops
     ends_at_piece turns c t i piece left q error.Kind lt one short x = ends_within turns c t i piece left q (Err error.Kind) lt one short x x.stops

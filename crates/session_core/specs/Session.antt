@@ -1,7 +1,7 @@
 -- What a session over any service has read, answered and written when it ends.
 use Rattle.std.specs.Prelude.{◌≡◌, ℕ, ◌-◌, ◌^◌, ◌<◌, ◌≤◌, min, List, [], ◌++◌, length, Option, Result, Ok, Err, IsSome}
 use Rattle.std.specs.List.{AllByRecursion, concat}
-use Rattle.std.specs.Io.KnownBytes.{Appends, IsAtEnd}
+use Rattle.std.specs.Io.KnownBytes.{Appends}
 use Rattle.session_core.specs.declared.error.FrameError.{FrameError}
 use Rattle.session_core.specs.declared.error.FrameError.TheVariants as error
 use Rattle.session_core.specs.declared.ahead.TheConstants.{MOST_AHEAD}
@@ -114,8 +114,8 @@ LeavesAhead (Err error.Turns) messages rest = messages ≡ []
 
 -- The reader is at its end, nothing is left over, and the count is that of the replies, at most
 -- 2^64 - 1.
-pub record EndsWell (input_left : Option (List ℕ)) (exchanges : List Exchange) (rest : List ℕ) (count : ℕ) : Type 0 where
-  pub at_end : IsAtEnd input_left
+pub record EndsWell (input_ended : Type 0) (exchanges : List Exchange) (rest : List ℕ) (count : ℕ) : Type 0 where
+  pub at_end : input_ended
   pub whole : rest ≡ []
   pub counted : count ≡ min (length exchanges) (2 ^ 64 - 1)
 
@@ -131,15 +131,28 @@ SessionEndsEarly cut out_of_turns rest error.Turns = out_of_turns
 
 -- The session ends at the end of the input, or early: at a failed read, within a frame, or when the
 -- allowed reads are made.
-abbrev pub EndsFor : Option (List ℕ) → ℕ → List (List ℕ) → List Exchange → List ℕ → Result ℕ FrameError → Type 0
-EndsFor input_left turns pieces exchanges rest (Ok count) = EndsWell input_left exchanges rest count
-EndsFor input_left turns pieces exchanges rest (Err e) = SessionEndsEarly (IsPartial rest) (IsPartial rest × (length pieces ≡ turns)) rest e
+abbrev pub EndsFor : Type 0 → ℕ → List (List ℕ) → List Exchange → List ℕ → Result ℕ FrameError → Type 0
+EndsFor input_ended turns pieces exchanges rest (Ok count) = EndsWell input_ended exchanges rest count
+EndsFor input_ended turns pieces exchanges rest (Err e) = SessionEndsEarly (IsPartial rest) (IsPartial rest × (length pieces ≡ turns)) rest e
+
+-- ---- what is held back
+
+-- After a session that ends so, nothing that was written is held back, where a write failed
+-- excepted.
+abbrev pub IsSentFor : Type 0 → Result ℕ FrameError → Type 0
+IsSentFor sent (Ok count) = sent
+IsSentFor sent (Err error.NoMemory) = sent
+IsSentFor sent (Err error.Length) = sent
+IsSentFor sent (Err error.Kind) = sent
+IsSentFor sent (Err error.Read) = sent
+IsSentFor sent (Err error.Write) = Unit {0}
+IsSentFor sent (Err error.Turns) = sent
 
 -- ---- a session
 
 -- A session was served.
 pub record IsServed {S R : Type 0} (answers : S → MessageView → ReplyView → S → Type 0) (gives : R → List ℕ → R → Type 0) (turns : ℕ)
-    (service service_left : S) (source source_left : R) (input_left output output_left : Option (List ℕ)) (result : Result ℕ FrameError) : Type 0 where
+    (service service_left : S) (source source_left : R) (input_ended : Type 0) (output output_left : Option (List ℕ)) (result : Result ℕ FrameError) : Type 0 where
   -- The pieces that at most `turns` reads gave.
   pub pieces : List (List ℕ)
   -- The messages that were answered, with their replies.
@@ -167,4 +180,4 @@ pub record IsServed {S R : Type 0} (answers : S → MessageView → ReplyView �
   -- The messages of earlier pieces were answered before the last piece was read.
   pub prompt : IsPrompt pieces exchanges written
   -- How the session ended.
-  pub ended : EndsFor input_left turns pieces exchanges rest result
+  pub ended : EndsFor input_ended turns pieces exchanges rest result

@@ -1,7 +1,6 @@
 -- Reads of a source, one after the other.
-use Rattle.std.specs.Prelude.{◌≡◌, ℕ, ◌≤◌, List, length, Option, Result, Ok, Err, Vec}
+use Rattle.std.specs.Prelude.{◌≡◌, ℕ, ◌≤◌, List, length, Result, Ok, Err, Vec}
 use Rattle.std.specs.List.{FoldsTo, AllByRecursion, concat}
-use Rattle.std.specs.Io.KnownBytes.{IsAtEnd}
 use Rattle.session_core.specs.declared.error.FrameError.{FrameError}
 use Rattle.session_core.specs.declared.error.FrameError.TheVariants as error
 use Rattle.session_core.specs.declared.source.TheConstants.{MOST_PIECE}
@@ -15,17 +14,17 @@ pub record AreReads {R : Type 0} (gives : R → List ℕ → R → Type 0) (turn
 
 -- Why reading ended: all was read up to the end of the source, or a read failed, memory was
 -- refused, or all allowed reads were made.
-abbrev pub EndsReading : {A : Type 0} → ℕ → Option (List ℕ) → List (List ℕ) → Result (Vec ℕ A) FrameError → Type 0
-EndsReading turns input_left pieces (Ok bytes) = IsAtEnd input_left × (bytes.items ≡ concat pieces)
-EndsReading turns input_left pieces (Err error.NoMemory) = Unit {0}
-EndsReading turns input_left pieces (Err error.Length) = ⊥
-EndsReading turns input_left pieces (Err error.Kind) = ⊥
-EndsReading turns input_left pieces (Err error.Read) = Unit {0}
-EndsReading turns input_left pieces (Err error.Write) = ⊥
-EndsReading turns input_left pieces (Err error.Turns) = length pieces ≡ turns
+abbrev pub EndsReading : {A : Type 0} → ℕ → Type 0 → List (List ℕ) → Result (Vec ℕ A) FrameError → Type 0
+EndsReading turns input_ended pieces (Ok bytes) = input_ended × (bytes.items ≡ concat pieces)
+EndsReading turns input_ended pieces (Err error.NoMemory) = Unit {0}
+EndsReading turns input_ended pieces (Err error.Length) = ⊥
+EndsReading turns input_ended pieces (Err error.Kind) = ⊥
+EndsReading turns input_ended pieces (Err error.Read) = Unit {0}
+EndsReading turns input_ended pieces (Err error.Write) = ⊥
+EndsReading turns input_ended pieces (Err error.Turns) = length pieces ≡ turns
 
 -- A source was read to its end, or up to an error, in at most `turns` reads.
-pub record IsAllRead {R A : Type 0} (gives : R → List ℕ → R → Type 0) (turns : ℕ) (source source_left : R) (input_left : Option (List ℕ)) (result : Result (Vec ℕ A) FrameError) : Type 0 where
+pub record IsAllRead {R A : Type 0} (gives : R → List ℕ → R → Type 0) (turns : ℕ) (source source_left : R) (input_ended : Type 0) (result : Result (Vec ℕ A) FrameError) : Type 0 where
   pub pieces : List (List ℕ)
   pub read : AreReads gives turns source pieces source_left
-  pub ended : EndsReading turns input_left pieces result
+  pub ended : EndsReading turns input_ended pieces result

@@ -21,6 +21,7 @@ mod reply;
 mod service;
 mod serving;
 mod session;
+mod sink;
 mod source;
 mod writing;
 
@@ -36,4 +37,5 @@ pub use reading::read_all;
 pub use reply::{Form, Reply, refusal_frame};
 pub use service::{Ack, Code, MOST_SEGMENTS, Service};
 pub use serving::serve;
+pub use sink::Sink;
 pub use source::{MOST_PIECE, MOST_READS, Source};

@@ -11,7 +11,7 @@ use std::alloc::Global;
 /// Reads a source to its end, in at most `turns` reads. The error is `Read`, `NoMemory`, or `Turns`
 /// after the last allowed read.
 pub fn read_all<R: Source>(alloc: Global, reader: &mut R, turns: u64) -> Result<Vec<u8>, FrameError>
-    ensures { IsAllRead R.gives turns reader.old reader.new (R.remaining reader.new) result }
+    ensures { IsAllRead R.gives turns reader.old reader.new (R.is_at_end reader.new) result }
 {
     let mut piece = new_piece(alloc)?;
     read_pieces(alloc, reader, piece.as_mut_slice(), turns)
@@ -25,7 +25,7 @@ fn read_pieces<R: Source>(
     turns: u64,
 ) -> Result<Vec<u8>, FrameError>
     requires { length piece.old ≡ MOST_PIECE }
-    ensures { IsAllRead R.gives turns reader.old reader.new (R.remaining reader.new) result }
+    ensures { IsAllRead R.gives turns reader.old reader.new (R.is_at_end reader.new) result }
 {
     let mut bytes = Vec::new(alloc);
     for _turn in 0..turns {

@@ -2,7 +2,7 @@
 
 ghost use Rattle.std.specs.Prelude.{◌≡◌, ◌++◌, [], length, IfOk, IfErr, OnOk};
 ghost use Rattle.session_core.specs.Answered.{AreFrontsAnswered};
-ghost use Rattle.session_core.specs.Session.{IsServed};
+ghost use Rattle.session_core.specs.Session.{IsServed, IsSentFor};
 
 use crate::ahead::Ahead;
 use crate::error::FrameError;
@@ -10,10 +10,10 @@ use crate::inbox::Inbox;
 use crate::reply::Form;
 use crate::service::Service;
 use crate::session::Session;
+use crate::sink::Sink;
 use crate::source::{MOST_PIECE, Source, read_once};
 use crate::writing::write_reply;
 use std::alloc::Global;
-use std::io::Write;
 
 /// Answers the messages of a reader, in at most `turns` reads. The result is the number of replies
 /// that were written, capped at 2^64 - 1.
@@ -22,20 +22,22 @@ use std::io::Write;
 /// before the first of them is answered. A message that the service does not take ahead is answered
 /// once all before it are.
 ///
-/// At any time memory has one piece of the input, less than a frame before it, and one reply. The
-/// writer is flushed before each further read, and after a failed write no message is answered: of
-/// the commands that are handed in then, it is not known whether they take effect. The contract
-/// leaves open why a read or a write failed and when memory is refused, since no call of a reader,
-/// a writer or the allocator reports that.
-pub fn serve<R: Source, W: Write, S: Service>(
+/// At any time memory has one piece of the input, less than a frame before it, and one reply. What
+/// was written is sent before each further read, and after a failed write no message is answered:
+/// of the commands that are handed in then, it is not known whether they take effect. Unless a
+/// write failed, nothing is held back at the end. The contract leaves open why a read or a write
+/// failed and when memory is refused, since no call of a reader, a writer or the allocator reports
+/// that.
+pub fn serve<R: Source, W: Sink, S: Service>(
     alloc: Global,
     reader: &mut R,
     writer: &mut W,
     service: &mut S,
     turns: u64,
 ) -> Result<u64, FrameError>
-    ensures { IsServed S.answers R.gives turns (S.state service.old) (S.state service.new) reader.old reader.new
-        (R.remaining reader.new) (W.contents writer.old) (W.contents writer.new) result }
+    ensures served { IsServed S.answers R.gives turns (S.state service.old) (S.state service.new) reader.old reader.new
+        (R.is_at_end reader.new) (W.contents writer.old) (W.contents writer.new) result }
+    ensures sent { W.is_sent writer.old → IsSentFor (W.is_sent writer.new) result }
 {
     let mut piece = new_piece(alloc)?;
     let ahead = Ahead::new(alloc)?;
@@ -53,7 +55,7 @@ pub fn serve<R: Source, W: Write, S: Service>(
 }
 
 /// Answers the messages of a reader, in a session without input, with a buffer for one read.
-fn serve_session<R: Source, W: Write, S: Service>(
+fn serve_session<R: Source, W: Sink, S: Service>(
     alloc: Global,
     reader: &mut R,
     writer: &mut W,
@@ -64,8 +66,9 @@ fn serve_session<R: Source, W: Write, S: Service>(
     requires fresh { session.old.inbox ≡ [] }
     requires none { session.old.ahead.queue.items ≡ [] }
     requires room { length piece.old ≡ MOST_PIECE }
-    ensures { IsServed S.answers R.gives turns (S.state session.old.service) (S.state session.new.service) reader.old reader.new
-        (R.remaining reader.new) (W.contents writer.old) (W.contents writer.new) result }
+    ensures served { IsServed S.answers R.gives turns (S.state session.old.service) (S.state session.new.service) reader.old reader.new
+        (R.is_at_end reader.new) (W.contents writer.old) (W.contents writer.new) result }
+    ensures sent { W.is_sent writer.old → IsSentFor (W.is_sent writer.new) result }
 {
     let mut count = 0;
     for _turn in 0..turns {
@@ -100,7 +103,7 @@ pub(crate) fn end<S: Service>(session: &Session<S>, count: u64) -> Result<u64, F
 }
 
 /// Answers the messages whose frames are whole after this piece of input.
-fn serve_piece<W: Write, S: Service>(
+fn serve_piece<W: Sink, S: Service>(
     alloc: Global,
     writer: &mut W,
     session: &mut Session<S>,
@@ -111,6 +114,7 @@ fn serve_piece<W: Write, S: Service>(
     ensures fronts { AreFrontsAnswered Form.Frames S.answers (S.state session.old.service) (session.old.inbox ++ piece.now)
         (S.state session.new.service) session.new.inbox (W.contents writer.old) (W.contents writer.new) count result }
     ensures none { OnOk result (session.new.ahead.queue.items ≡ []) }
+    ensures sent { W.is_sent writer.old → IsSentFor (W.is_sent writer.new) result }
 {
     if session.feed(piece).is_err() {
         return Err(FrameError::NoMemory);
@@ -118,8 +122,8 @@ fn serve_piece<W: Write, S: Service>(
     answer_and_flush(alloc, writer, session, Form::Frames, count)
 }
 
-/// Answers the messages whose frames are whole, and flushes the writer, unless a write failed.
-pub(crate) fn answer_and_flush<W: Write, S: Service>(
+/// Answers the messages whose frames are whole, and sends the replies, unless a write failed.
+pub(crate) fn answer_and_flush<W: Sink, S: Service>(
     alloc: Global,
     writer: &mut W,
     session: &mut Session<S>,
@@ -130,11 +134,12 @@ pub(crate) fn answer_and_flush<W: Write, S: Service>(
     ensures fronts { AreFrontsAnswered form S.answers (S.state session.old.service) session.old.inbox (S.state session.new.service)
         session.new.inbox (W.contents writer.old) (W.contents writer.new) count result }
     ensures none { OnOk result (session.new.ahead.queue.items ≡ []) }
+    ensures sent { IsSentFor (W.is_sent writer.new) result }
 {
     match answer_all(alloc, writer, session, form, count) {
         Err(FrameError::Write) => Err(FrameError::Write),
         answered => {
-            if writer.flush().is_err() {
+            if writer.send().is_err() {
                 return Err(FrameError::Write);
             }
             answered
@@ -144,7 +149,7 @@ pub(crate) fn answer_and_flush<W: Write, S: Service>(
 
 /// Answers the messages whose frames are whole, and writes each reply. The result is the count plus
 /// the number of replies.
-fn answer_all<W: Write, S: Service>(
+fn answer_all<W: Sink, S: Service>(
     alloc: Global,
     writer: &mut W,
     session: &mut Session<S>,

@@ -9,13 +9,13 @@ ghost use Rattle.session_core.specs.Answered.{FailsToWrite, ReplyWriteFails};
 use crate::error::FrameError;
 use crate::format::{PURGED, REGISTERED, REMOVED};
 use crate::reply::{Form, Reply, ack_frame, found_head, refusal_frame, response_of, whole_frame};
+use crate::sink::Sink;
 use seg_core::{SegType, Segment};
 use std::alloc::{AllocError, Global};
-use std::io::Write;
 use whole_writes::WriteFailed;
 
 /// Writes a reply. Where memory is refused, nothing of the reply is written.
-pub(crate) fn write_reply<W: Write>(
+pub(crate) fn write_reply<W: Sink>(
     alloc: Global,
     writer: &mut W,
     reply: &Reply,
@@ -32,7 +32,7 @@ pub(crate) fn write_reply<W: Write>(
 }
 
 /// Writes the hexadecimal digits of a reply's frame, and the end of the line.
-fn write_line<W: Write>(alloc: Global, writer: &mut W, reply: &Reply) -> Result<(), FrameError>
+fn write_line<W: Sink>(alloc: Global, writer: &mut W, reply: &Reply) -> Result<(), FrameError>
     requires { HasReplySize (reply_view reply.now) }
     ensures ok { OnOk result (Appends (W.contents writer.old) (W.contents writer.new) (told_as Form.Lines (reply_view reply.now))) }
     ensures err { IfErr result (FailsToWrite (W.contents writer.old) (W.contents writer.new) (told_as Form.Lines (reply_view reply.now))) }
@@ -57,7 +57,7 @@ fn line_of(alloc: Global, reply: &Reply) -> Result<String, AllocError>
 /// Writes the frame of a reply. Memory is taken for a response alone, before its first byte is
 /// written.
 #[tactic(auto, unfolding(crate::specs::Reply::reply_frame))]
-fn write_frame<W: Write>(alloc: Global, writer: &mut W, reply: &Reply) -> Result<(), FrameError>
+fn write_frame<W: Sink>(alloc: Global, writer: &mut W, reply: &Reply) -> Result<(), FrameError>
     requires { HasReplySize (reply_view reply.now) }
     ensures ok { OnOk result (Appends (W.contents writer.old) (W.contents writer.new) (reply_frame (reply_view reply.now))) }
     ensures err { IfErr result (FailsToWrite (W.contents writer.old) (W.contents writer.new) (reply_frame (reply_view reply.now))) }
@@ -73,7 +73,7 @@ fn write_frame<W: Write>(alloc: Global, writer: &mut W, reply: &Reply) -> Result
 
 /// Writes the frame of a response.
 #[tactic(auto, unfolding(crate::specs::Reply::reply_frame))]
-fn write_found<W: Write>(
+fn write_found<W: Sink>(
     alloc: Global,
     writer: &mut W,
     kind: SegType,
@@ -90,7 +90,7 @@ fn write_found<W: Write>(
 }
 
 /// Writes all bytes of two byte strings.
-fn write_both<W: Write>(writer: &mut W, head: &[u8], body: &[u8]) -> Result<(), FrameError>
+fn write_both<W: Sink>(writer: &mut W, head: &[u8], body: &[u8]) -> Result<(), FrameError>
     ensures ok { OnOk result (Appends (W.contents writer.old) (W.contents writer.new) (head.now ++ body.now)) }
     ensures err { IfErr result (ReplyWriteFails (W.contents writer.old) (W.contents writer.new) (head.now ++ body.now)) }
 {
@@ -100,11 +100,11 @@ fn write_both<W: Write>(writer: &mut W, head: &[u8], body: &[u8]) -> Result<(), 
 
 /// Writes all of the bytes. A write that takes no byte is an error, and no failed write is
 /// repeated.
-pub(crate) fn write_all<W: Write>(writer: &mut W, bytes: &[u8]) -> Result<(), FrameError>
+pub(crate) fn write_all<W: Sink>(writer: &mut W, bytes: &[u8]) -> Result<(), FrameError>
     ensures ok { OnOk result (Appends (W.contents writer.old) (W.contents writer.new) bytes.now) }
     ensures err { IfErr result (ReplyWriteFails (W.contents writer.old) (W.contents writer.new) bytes.now) }
 {
-    match whole_writes::write_all(writer, bytes) {
+    match writer.write_whole(bytes) {
         Ok(()) => Ok(()),
         Err(WriteFailed) => Err(FrameError::Write),
     }

@@ -6,4 +6,4 @@ pub returns-in_default : goal.returns-in_default
 returns-in_default g c = unserved _ _ _ _ _ _
 
 pub returns : goal.returns
-returns g c = session_by _ _ _ _ _ _ _ _ _ _ _ c.in-Ok.ensures c.serve-served.ensures
+returns g c = session_by _ _ _ _ _ _ _ _ _ _ _ c.in-Ok.ensures c.serve-served.ensures.served

@@ -6,7 +6,7 @@ use Rattle.session_core.proofs.serving.answer_all.Given as goal
 abbrev pub invariant-loop-reply : goal.invariant-loop-reply
 invariant-loop-reply g l = record {
   answered : HasAnswered l.form g.S.Service.answers (g.S.Service.state l.fn.session.service) l.fn.session.inbox (g.S.Service.state l.session.service) l.session.inbox
-      (g.W.Write.contents l.fn.writer) (g.W.Write.contents l.writer) l.count l.sum;
+      (g.W.Sink.contents l.fn.writer) (g.W.Sink.contents l.writer) l.count l.sum;
   ahead : AreHandedIn g.S.Service.is_for (g.S.Service.state l.session.service) l.session.ahead.queue.items l.session.inbox;
   few : length l.session.ahead.queue.items ≤ 32;
 }

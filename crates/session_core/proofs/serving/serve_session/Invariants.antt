@@ -7,5 +7,6 @@ invariant-loop-turn g l = record {
   piece : length l.piece ≡ 65536;
   none : l.session.ahead.queue.items ≡ [];
   so_far : SoFar g.S.Service.answers g.R.Source.gives (g.S.Service.state l.fn.session.service) (g.S.Service.state l.session.service) l.fn.reader l.reader l.session.inbox
-      (g.W.Write.contents l.fn.writer) (g.W.Write.contents l.writer) l.count l._turn;
+      (g.W.Sink.contents l.fn.writer) (g.W.Sink.contents l.writer) l.count l._turn;
+  sent : g.W.Sink.is_sent l.fn.writer → g.W.Sink.is_sent l.writer;
 }
