@@ -3,7 +3,7 @@
 ghost use Rattle.std.specs.Prelude.{◌≡◌, ◌++◌, OnOk, IfOk, IfSome};
 ghost use Rattle.status_server.specs.Requests.{IsRead, IsPieceTaken};
 
-use crate::deadline::Deadline;
+use paced_stream::Deadline;
 use status_page::{Asked, read_head};
 use std::alloc::{AllocError, Global};
 use std::io::{ErrorKind, Read, Write};

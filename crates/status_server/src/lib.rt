@@ -8,7 +8,6 @@
 mod answers;
 mod connection;
 mod counted;
-mod deadline;
 mod refusals;
 mod replies;
 mod reply_kind;
@@ -16,6 +15,5 @@ mod reply_kind;
 pub use answers::answer;
 pub use connection::{MOST_HEAD, part, read_request, send};
 pub use counted::{Counted, CountedCommand};
-pub use deadline::Deadline;
 pub use replies::Replies;
 pub use reply_kind::ReplyKind;

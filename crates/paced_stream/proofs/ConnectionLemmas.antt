@@ -1,0 +1,141 @@
+-- A session over a connection, by the session over what reads it and what writes it: for
+-- `serve_connection`.
+use Rattle.std.proofs.Common.{◌≡◌, ℕ, List, [], ◌∷◌, ◌++◌, Some, Result, Ok, Err, refl, sym, ap, subst, arith}
+use Rattle.std.specs.List.{FoldsTo}
+use Rattle.session_core.specs.declared.error.FrameError.{FrameError}
+use Rattle.session_core.specs.declared.error.FrameError.TheVariants as error
+use Rattle.session_core.specs.declared.source.TheConstants.{MOST_READS}
+use Rattle.session_core.specs.Frames.{MessageView, IsPartial, AreWholeFrames}
+use Rattle.session_core.specs.Reply.{ReplyView}
+use Rattle.session_core.specs.Session.{IsServed, IsSentFor, IsPrompt, AreAhead}
+use Rattle.paced_stream.specs.Connection.{IsConnectionServed}
+
+-- ---- before the first read
+
+nothing_is_partial : IsPartial []
+nothing_is_partial = record { length_is_right = λ h. absurd (omega (arith, h)); kind_is_right = λ h. absurd (omega (arith, h)); incomplete = λ h. absurd (omega (arith, h)) }
+
+no_frames : AreWholeFrames [] [] []
+no_frames = record { joined = refl; sized = tt }
+
+no_prompt : IsPrompt [] [] []
+no_prompt = record {
+  earlier = [];
+  last = [];
+  pieces_are = refl;
+  one = omega arith;
+  told = [];
+  others = [];
+  exchanges_are = refl;
+  rest = [];
+  framed = record { rest = []; whole = no_frames; ends = (refl, nothing_is_partial) };
+  kept = ([], refl);
+}
+
+none_ahead : AreAhead [] []
+none_ahead = record { commands = tt; few = omega arith; behind = []; framed = no_frames }
+
+module _ {S T : Type 0} (answers : S → MessageView → ReplyView → S → Type 0) (given taken : T → List ℕ) (is_at_end : T → Type 0) where
+  -- the connection could not be set up
+  pub not_set_up : (s : S) (input output : T) → IsConnectionServed answers given taken is_at_end s s input input output output (Err error.Read)
+  not_set_up s input output = record {
+    unsent = [];
+    sent = refl;
+    served = record {
+      pieces = [];
+      exchanges = [];
+      rest = [];
+      handed = [];
+      written = [];
+      read = record { made = refl; few = omega arith; short = tt };
+      framed = no_frames;
+      answered = refl;
+      ahead = refl;
+      sized = tt;
+      appended = refl;
+      told = refl;
+      prompt = no_prompt;
+      ended = nothing_is_partial;
+    };
+  }
+
+  -- there is no memory for the buffer
+  pub without_buffer : (s : S) (input output : T) → IsConnectionServed answers given taken is_at_end s s input input output output (Err error.NoMemory)
+  without_buffer s input output = record {
+    unsent = [];
+    sent = refl;
+    served = record {
+      pieces = [];
+      exchanges = [];
+      rest = [];
+      handed = [];
+      written = [];
+      read = record { made = refl; few = omega arith; short = tt };
+      framed = no_frames;
+      answered = refl;
+      ahead = none_ahead;
+      sized = tt;
+      appended = refl;
+      told = record { before = []; last = []; parts = refl; one = omega arith; written_is = refl };
+      prompt = no_prompt;
+      ended = tt;
+    };
+  }
+
+-- ---- a whole session
+
+-- what is not held back is sent
+pub sent_through : (P Q : Type 0) (result : Result ℕ FrameError) → (P → Q) → IsSentFor P result → IsSentFor Q result
+sent_through P Q (Ok count) f p = f p
+sent_through P Q (Err error.NoMemory) f p = f p
+sent_through P Q (Err error.Length) f p = f p
+sent_through P Q (Err error.Kind) f p = f p
+sent_through P Q (Err error.Read) f p = f p
+sent_through P Q (Err error.Write) f p = tt
+sent_through P Q (Err error.Turns) f p = f p
+
+module _ {S P T : Type 0} (answers : S → MessageView → ReplyView → S → Type 0) (given taken : T → List ℕ) (is_at_end : T → Type 0) (stream : P → T) where
+  -- reads of what reads the connection are reads of the connection
+  reads_through : (old : P) (pieces : List (List ℕ)) (new : P)
+      → FoldsTo (λ a bytes b. given (stream b) ≡ given (stream a) ++ bytes) old pieces new → FoldsTo (λ a bytes b. given b ≡ given a ++ bytes) (stream old) pieces (stream new)
+  reads_through old [] new same = ap stream same
+  reads_through old (piece ∷ pieces) new (next, first, rest) = (stream next, first, reads_through next pieces new rest)
+
+  abbrev Over : S → S → T → T → List ℕ → List ℕ → Result ℕ FrameError → Type 0
+  Over s t input input_left written written_left result = IsServed answers (λ a bytes b. given b ≡ given a ++ bytes) MOST_READS s t input input_left (is_at_end input_left) (Some written) (Some written_left) result
+
+  over_stream : (s t : S) (reader reader_left : P) (written written_left : List ℕ) (result : Result ℕ FrameError)
+      → IsServed answers (λ a bytes b. given (stream b) ≡ given (stream a) ++ bytes) MOST_READS s t reader reader_left (is_at_end (stream reader_left)) (Some written) (Some written_left) result
+      → Over s t (stream reader) (stream reader_left) written written_left result
+  over_stream s t reader reader_left written written_left result x = record {
+    pieces = x.pieces;
+    exchanges = x.exchanges;
+    rest = x.rest;
+    handed = x.handed;
+    written = x.written;
+    read = record { made = reads_through reader x.pieces reader_left x.read.made; few = x.read.few; short = x.read.short };
+    framed = x.framed;
+    answered = x.answered;
+    ahead = x.ahead;
+    sized = x.sized;
+    appended = x.appended;
+    told = x.told;
+    prompt = x.prompt;
+    ended = x.ended;
+  }
+
+  pub served_through : (s t : S) (reader reader_left : P) (input input_left output output_left : T) (written written_left unsent : List ℕ) (Held : Type 0) (result : Result ℕ FrameError)
+      → IsServed answers (λ a bytes b. given (stream b) ≡ given (stream a) ++ bytes) MOST_READS s t reader reader_left (is_at_end (stream reader_left)) (Some written) (Some written_left) result
+      → IsSentFor Held result
+      → stream reader ≡ input → input_left ≡ stream reader_left → written ≡ taken output → taken output_left ++ unsent ≡ written_left → (Held → unsent ≡ [])
+      → IsConnectionServed answers given taken is_at_end s t input input_left output output_left result
+  served_through s t reader reader_left input input_left output output_left written written_left unsent Held result x sent begins ends first last none = record {
+    unsent = unsent;
+    sent = sent_through Held (unsent ≡ []) result none sent;
+    served =
+        subst (λ (o : List ℕ). Over s t input input_left o (taken output_left ++ unsent) result) first
+        (subst (λ (o : List ℕ). Over s t input input_left written o result) (sym last)
+        (subst (λ (u : T). Over s t input u written written_left result) (sym ends)
+        (subst (λ (u : T). Over s t u (stream reader_left) written written_left result) begins
+        (over_stream s t reader reader_left written written_left result x))));
+  }

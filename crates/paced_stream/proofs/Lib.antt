@@ -1,0 +1,3 @@
+mod ConnectionLemmas
+pub mod FrameLemmas
+mod TrackerLemmas

@@ -1,0 +1,23 @@
+use Rattle.std.proofs.Common.{◌≡◌, [], ◌++◌, ap, ◌∙◌}
+use Rattle.std.proofs.lemmas.List.{append-nil}
+use Rattle.paced_stream.proofs.ConnectionLemmas.{not_set_up, without_buffer, served_through}
+use Rattle.paced_stream.proofs.connection.serve_connection.Goals as goal
+
+pub returns-then-is_err : goal.returns-then-is_err
+returns-then-is_err g c = not_set_up _ _ _ _ _ _ _
+
+pub returns-in_default : goal.returns-in_default
+returns-in_default g c = without_buffer _ _ _ _ _ _ _
+
+pub returns : goal.returns
+returns g c =
+    let taken = g.T.StreamCalls.taken in
+    let buffered = c.new-output.result in
+    let nothing : buffered.held.items ≡ [] = ap (λ held. held.items) c.new-output.ensures.1 ∙ c.in-Ok.ensures.items in
+    let first : taken buffered.paced.stream ++ buffered.held.items ≡ taken c.args.output =
+    ap (λ bytes. taken buffered.paced.stream ++ bytes) nothing ∙ append-nil (taken buffered.paced.stream)
+    ∙ ap (λ paced. taken paced.stream) c.new-output.ensures.0 ∙ ap taken c.new.ensures in
+    let left = c.into_paced-output.ensures in
+    let last = ap (λ stream. taken stream ++ left.0) c.into_stream-2.ensures ∙ left.1 in
+    served_through g.S.Service.answers g.T.StreamCalls.given taken g.T.StreamCalls.is_at_end (λ paced. paced.stream) _ _ _ _ _ _ _ _ _ _ left.0 _ _
+    c.serve-replies.ensures.served (c.serve-replies.ensures.sent nothing) c.new-input.ensures c.into_stream.ensures first last left.2

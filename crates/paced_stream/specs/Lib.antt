@@ -1,0 +1,3 @@
+pub mod Connection
+pub mod Grown
+pub mod Tracking

@@ -1,0 +1,78 @@
+//! One session over a connection.
+
+ghost use Rattle.paced_stream.specs.Connection.{IsConnectionServed};
+
+use crate::buffered::{BUFFER, Buffered};
+use crate::paced::Paced;
+use crate::stream_calls::StreamCalls;
+use session_core::{FrameError, MOST_READS, Service, serve};
+use std::alloc::Global;
+use std::io;
+use std::time::{Clock, Duration};
+
+/// A session that has ended.
+#[derive(Drop)]
+pub struct Ended<T> {
+    /// The number of replies, or why the session ended.
+    pub replies: Result<u64, FrameError>,
+    /// Whether a read or a write failed because its time was over.
+    pub is_late: bool,
+    /// The connection for reads.
+    pub input: T,
+    /// The connection for writes.
+    pub output: T,
+}
+
+/// Answers the messages of a connection, and returns the number of replies, a count that stays at
+/// 2^64 - 1. Replies are sent when all messages that have arrived are answered, or the buffer of
+/// 8,192 bytes is full. The session ends where a frame does not begin within the idle time, is not
+/// whole within the idle time of its first byte, or where a reply is not taken within it.
+///
+/// The connection is given for reads and for writes. The error is `Read` too where it cannot be set
+/// up.
+pub fn serve_connection<C: Clock, T: StreamCalls, S: Service>(
+    clock: &C,
+    alloc: Global,
+    input: T,
+    output: T,
+    service: &mut S,
+    idle: Option<Duration>,
+) -> Ended<T>
+    ensures { IsConnectionServed S.answers T.given T.taken T.is_at_end (S.state service.old) (S.state service.new)
+        input result.input output result.output result.replies }
+{
+    if set_up(&input, &output, idle).is_err() {
+        return Ended {
+            replies: Err(FrameError::Read),
+            is_late: false,
+            input,
+            output,
+        };
+    }
+    let Ok(held) = Vec::with_capacity(alloc, BUFFER) else {
+        return Ended {
+            replies: Err(FrameError::NoMemory),
+            is_late: false,
+            input,
+            output,
+        };
+    };
+    let mut input = Paced::new(clock, input, idle);
+    let mut output = Buffered::new(Paced::new(clock, output, idle), held);
+    let replies = serve(alloc, &mut input, &mut output, service, MOST_READS);
+    let output = output.into_paced();
+    Ended {
+        replies,
+        is_late: input.is_late() || output.is_late(),
+        input: input.into_stream(),
+        output: output.into_stream(),
+    }
+}
+
+/// Sets up a connection. Small replies are sent at once, since they are gathered before, and reads
+/// and writes have a timeout.
+fn set_up<T: StreamCalls>(input: &T, output: &T, idle: Option<Duration>) -> io::Result<()> {
+    output.set_nodelay(true)?;
+    input.set_read_timeout(idle)?;
+    output.set_write_timeout(idle)
+}

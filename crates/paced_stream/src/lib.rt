@@ -1,0 +1,23 @@
+//! Sessions over a connection that has to keep its frames' times.
+//!
+//! To the layer above, `serve_connection` serves a session over the calls of a connection
+//! (`StreamCalls`): what the connection took are the frames of the replies to the messages that its
+//! reads gave. `SystemStream` has the calls of a socket. A `Deadline` is a moment by which all has
+//! to be done.
+#![tactic(auto)]
+
+mod buffered;
+mod bytes_note;
+mod connection;
+mod deadline;
+pub mod laws;
+mod pace;
+mod paced;
+mod stream_calls;
+mod system_stream;
+mod tracker;
+
+pub use connection::{Ended, serve_connection};
+pub use deadline::Deadline;
+pub use stream_calls::StreamCalls;
+pub use system_stream::SystemStream;
