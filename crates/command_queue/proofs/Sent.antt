@@ -1,7 +1,7 @@
 -- What goes from one thread to another: a claim, and a queue of what may go there.
 use denote.RattleType.{RattleType}
 use denote.Builtin.{u64}
-use denote.Param.Send.{IsSend, IsSync, sendable, recorded_send, struct_send}
+use denote.Param.Send.{IsSend, sendable, recorded_send, struct_send}
 use denote.Struct.Declared.{shape}
 use Rattle.std.proofs.Crossing.{crosses, Deque-send}
 use Rattle.logbook.proofs.tokens.Seen.TheSendSync as seen
@@ -11,6 +11,7 @@ use Rattle.command_queue.specs.declared.history.QueueName.{Ghosts}
 use Rattle.command_queue.specs.contracts.claim.Claim as Claim
 use Rattle.command_queue.specs.contracts.history.History as History
 use Rattle.command_queue.specs.contracts.history.HistoryRuleCommandU64.TheImpl as rule
+use Rattle.command_queue.specs.contracts.numbers.Numbers as Numbers
 use Rattle.command_queue.specs.contracts.queue.HandedIn as HandedIn
 use Rattle.command_queue.specs.contracts.queue.CommandQueue as CommandQueue
 
@@ -27,5 +28,8 @@ module _ (N T : RattleType) (g : Ghosts N.Denot) (n : IsSend N) (t : IsSend T) w
   whole_send : IsSend (HandedIn.the_row N T g)
   whole_send = recorded_send _ _ _ (HandedIn.the_type N T g).to_one handed_send
 
+  numbers_send : IsSend (Numbers.the_field N g).row
+  numbers_send = struct_send (shape (Numbers.the_type N g)) (search sendable, (seen.the_send Command.the_row u64 History.the_row rule.ghosts, (word.the_send Command.the_row u64 History.the_row rule.ghosts, (search (sendable, crosses), tt))))
+
   pub queue_send : IsSend (CommandQueue.the_field N T g).row
-  queue_send = struct_send (shape (CommandQueue.the_type N T g)) (search sendable, (search sendable, (Deque-send (HandedIn.the_row N T g) whole_send, (seen.the_send Command.the_row u64 History.the_row rule.ghosts, (word.the_send Command.the_row u64 History.the_row rule.ghosts, (search (sendable, crosses), tt))))))
+  queue_send = struct_send (shape (CommandQueue.the_type N T g)) (numbers_send, (search sendable, (Deque-send (HandedIn.the_row N T g) whole_send, (search (sendable, crosses), tt))))

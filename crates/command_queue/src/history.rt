@@ -59,14 +59,25 @@ impl Plain<Command, Command, u64> for Add {
 /// Names one queue by its history. The call that makes a queue picks the name, so a claim of one
 /// queue is refused by the types of another.
 pub trait QueueName {
+    ghost use Rattle.std.specs.Prelude.{Bool};
     ghost use Rattle.logbook.specs.Pages.{Book};
+    ghost use Rattle.path_rows.specs.declared.command.Command.{Command};
 
     /// The book that the history is in.
     ghost history: { Book };
+
+    /// It is known that a command was refused. Code over any name learns this of a command from
+    /// two sources alone: the queue did not take the command, or the command was taken out of the
+    /// queue, and whoever has it may refuse it.
+    ghost refused: { Command → Bool };
 }
 
 impl QueueName for Brand {
+    ghost use Rattle.std.specs.Prelude.{true};
+
     ghost history = { record { number = 0; log_name = 0; cells_name = 0 } };
+
+    ghost refused = { λ _. true };
 }
 
 /// An empty history, which no queue has yet.

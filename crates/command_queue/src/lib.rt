@@ -12,8 +12,12 @@
 
 mod claim;
 mod history;
+mod leave;
+mod not_queued;
+mod numbers;
 mod queue;
 
 pub use claim::Claim;
 pub use history::{History, NewHistory, QueueName};
-pub use queue::{CommandQueue, HandedIn, MOST_WAITING, NotQueued};
+pub use not_queued::{MOST_WAITING, NotQueued};
+pub use queue::{CommandQueue, HandedIn};

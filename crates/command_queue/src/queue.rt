@@ -1,32 +1,18 @@
 //! The queue: commands that were handed in and not taken yet.
 
-ghost use Rattle.std.specs.Prelude.{◌≡◌, ◌+◌, ◌++◌, ◌∷◌, [], length, map, true, false, IsErr, IfOk, IfErr, OnOk, OnErr, MatchOption, IfNone};
-ghost use Rattle.command_queue.specs.History.{head_of};
-ghost use Rattle.command_queue.specs.declared.queue.NotQueued.TheVariants.{Closed};
+ghost use Rattle.std.specs.Prelude.{◌≡◌, ◌==◌, ◌+◌, ◌-◌, ◌^◌, ◌<◌, ◌≤◌, ◌++◌, ◌∷◌, [], length, map, true, false, Some, None, unwrap_or, IfOk, IfErr, IfSome, OnOk, OnErr, MatchOption, IfNone};
+ghost use Rattle.command_queue.specs.Numbers.{last_numbers};
+ghost use Rattle.command_queue.specs.Refusals.{queue_refusal};
+ghost use Rattle.command_queue.specs.declared.not_queued.NotQueued.TheVariants.{NoMemory};
 
 use crate::claim::Claim;
-use crate::history::{Add, History, NewHistory, Nothing, QueueName};
-use logbook::{Offer, Seen, Word};
+use crate::history::{NewHistory, QueueName};
+use crate::leave::Leave;
+use crate::not_queued::{NotQueued, refusal};
+use crate::numbers::Numbers;
 use path_db::Command;
 use std::alloc::Global;
 use std::collections::VecDeque;
-use std::marker::PhantomData;
-use std::snapshot::Snapshot;
-
-/// The most commands that wait: as many as may be pending in a state, and 32 for each of 64
-/// sessions.
-pub const MOST_WAITING: usize = 256 + 64 * 32;
-
-/// Why a command was not queued.
-#[derive(Clone, Copy, Debug, PartialEq, Eq)]
-pub enum NotQueued {
-    /// The queue is closed.
-    Closed,
-    /// 2,304 commands wait, or no number is left.
-    Full,
-    /// Memory was refused.
-    NoMemory,
-}
 
 /// A command that waits, its claim, and where its answer goes.
 #[derive(Drop)]
@@ -38,108 +24,96 @@ pub struct HandedIn<J: QueueName, T> {
     /// Where the answer goes.
     pub reply_to: T,
     ghost same: { command ≡ claim.command.value },
+    // Whoever has taken the command may refuse it.
+    ghost refusable: { J.refused claim.command.value ≡ true },
 }
 
-/// Commands that wait, the longest one first. The next number is the number of commands that were
-/// ever handed in, so that no number is used twice.
+/// Commands that wait, the longest one first. Each has the number after that of the one before it,
+/// and the last one the number before the next.
 #[derive(Drop)]
 pub struct CommandQueue<J: QueueName, T> {
-    next: u64,
+    numbers: Numbers<J>,
     is_closed: bool,
     waiting: VecDeque<HandedIn<J, T>>,
-    seen: Seen<Command, u64, History>,
-    head: Word<Command, u64, History>,
-    of: PhantomData<J>,
-    ghost history_is: { seen.book ≡ J.history },
-    ghost head_is: { head ≡ head_of J.history },
-    ghost counted: { next ≡ length seen.log },
+    leave: Leave<J>,
+    ghost fits: { length waiting.items ≤ numbers.next },
+    ghost numbered: { map (λ w. w.claim.number) waiting.items ≡ last_numbers numbers.next (length waiting.items) },
 }
 
 impl<J: QueueName, T: Drop> CommandQueue<J, T> {
+    ghost use Rattle.path_rows.specs.declared.command.Command.{Command};
+
     /// A queue in which no command waits.
     pub fn new(alloc: Global, history: NewHistory) -> CommandQueue<J, T>
-        requires { history.seen.book ≡ J.history }
-        ensures { (result.next ≡ 0) × (result.waiting.items ≡ []) × (result.is_closed ≡ false) }
+        requires history { history.seen.book ≡ J.history }
+        requires refusals { (command : Command) → J.refused command ≡ true }
+        ensures { (result.numbers.next ≡ 0) × (result.waiting.items ≡ []) × (result.is_closed ≡ false) }
     {
-        let NewHistory { head, seen } = history;
         CommandQueue {
-            next: 0,
+            numbers: Numbers::new(history),
             is_closed: false,
             waiting: VecDeque::new(alloc),
-            seen,
-            head,
-            of: PhantomData,
+            leave: Leave::new(),
         }
     }
 
     /// Hands a command in, and returns a claim of that command with the next number. A command that
-    /// is not queued is returned, and the queue is as it was.
+    /// is not queued is returned, and the queue is as it was. The error is the first of `Closed`,
+    /// `Full` and `Exhausted` that is due, and otherwise `NoMemory`.
+    #[tactic(auto, using(crate::proofs::Waiting::waits))]
     pub fn hand_in(
         &mut self,
         command: Command,
         reply_to: T,
     ) -> Result<Claim<J>, (Command, NotQueued)>
-        ensures claim { IfOk result (λ c. (c.command.value ≡ command) × (c.number ≡ self.old.next)) }
-        ensures next { OnOk result (self.new.next ≡ self.old.next + 1) }
+        ensures claim { IfOk result (λ c. (c.command.value ≡ command) × (c.number ≡ self.old.numbers.next)) }
+        ensures next { OnOk result (self.new.numbers.next ≡ self.old.numbers.next + 1) }
 
         // The command waits after all others, and its answer goes where the caller says.
         ensures commands { OnOk result (map (λ w. w.command) self.new.waiting.items ≡ map (λ w. w.command) self.old.waiting.items ++ command ∷ []) }
         ensures places { OnOk result (map (λ w. w.reply_to) self.new.waiting.items ≡ map (λ w. w.reply_to) self.old.waiting.items ++ reply_to ∷ []) }
+        ensures open { OnOk result (queue_refusal self.old.is_closed (length self.old.waiting.items) self.old.numbers.next ≡ None) }
         ensures back { IfErr result (λ e. e.0 ≡ command) }
-        ensures same { OnErr result ((self.new.next ≡ self.old.next) × (self.new.waiting.items ≡ self.old.waiting.items)) }
-        ensures closed { self.old.is_closed ≡ true → IsErr result }
-        ensures why { IfErr result (λ e. e.1 ≡ Closed → self.old.is_closed ≡ true) }
+        ensures same { OnErr result ((self.new.numbers.next ≡ self.old.numbers.next) × (self.new.waiting.items ≡ self.old.waiting.items)) }
+        ensures why { IfErr result (λ e. e.1 ≡ unwrap_or (queue_refusal self.old.is_closed (length self.old.waiting.items) self.old.numbers.next) NoMemory) }
+        ensures refused { OnErr result (J.refused command ≡ true) }
         ensures door { self.new.is_closed ≡ self.old.is_closed }
     {
-        if self.is_closed {
-            return Err((command, NotQueued::Closed));
-        }
-        if self.next == u64::MAX || self.waiting.len() >= MOST_WAITING {
-            return Err((command, NotQueued::Full));
+        if let Some(why) = self.refusal() {
+            return Err(self.back(command, why));
         }
         if self.waiting.reserve(1).is_err() {
-            return Err((command, NotQueued::NoMemory));
+            return Err(self.back(command, NotQueued::NoMemory));
         }
-        let number = self.next;
-        let mut seen = self.seen.again();
-        let mut pen = seen.no_pen();
-        let mut offer: Offer<Command, u64, History, Nothing> = seen.plain::<Nothing, Command, Add>(
-            &command,
-        );
-        let found = self
-            .head
-            .compare_exchange::<Add, Nothing>(number, number + 1, &mut seen, &mut offer, &mut pen);
-        if found != number {
-            // Only this queue changes the word, so the word is its number.
-            return Err((command, NotQueued::Full));
-        }
-        let claim = Claim {
-            number,
-            command: Snapshot::of(&command),
-            seen: seen.again(),
-            of: PhantomData,
+        let Some((claim, theirs)) = self.numbers.give(&command) else {
+            return Err(self.back(command, NotQueued::NoMemory));
         };
-        let theirs = Claim {
-            number,
-            command: Snapshot::of(&command),
-            seen: seen.again(),
-            of: PhantomData,
-        };
+        self.leave.refuse(&command);
         self.waiting.push_back_reserved(HandedIn {
             claim: theirs,
             command,
             reply_to,
         });
-        self.seen = seen;
-        self.next = number + 1;
         Ok(claim)
     }
 
-    /// Takes the command that waits longest.
+    /// Why a command is refused for whose answer there is no memory: it is not handed in. The result
+    /// is that of `hand_in`, or `NoMemory` where that would queue the command.
+    pub fn turn_away(&self, command: &Command) -> NotQueued
+        ensures why { result ≡ unwrap_or (queue_refusal self.now.is_closed (length self.now.waiting.items) self.now.numbers.next) NoMemory }
+        ensures refused { J.refused command.now ≡ true }
+    {
+        self.leave.refuse(command);
+        self.refusal().unwrap_or(NotQueued::NoMemory)
+    }
+
+    /// Takes the command that waits longest. Its number and the number of commands that waited make
+    /// the next number, so the numbers of the commands that are taken follow each other.
     pub fn take(&mut self) -> Option<HandedIn<J, T>>
         ensures taken { MatchOption result (self.old.waiting.items ≡ []) (λ h. self.old.waiting.items ≡ h ∷ self.new.waiting.items) }
         ensures none { IfNone result (self.new.waiting.items ≡ []) }
-        ensures same { (self.new.next ≡ self.old.next) × (self.new.is_closed ≡ self.old.is_closed) }
+        ensures number { IfSome result (λ h. h.claim.number + length self.old.waiting.items ≡ self.old.numbers.next) }
+        ensures same { (self.new.numbers.next ≡ self.old.numbers.next) × (self.new.is_closed ≡ self.old.is_closed) }
     {
         self.waiting.pop_front()
     }
@@ -147,7 +121,7 @@ impl<J: QueueName, T: Drop> CommandQueue<J, T> {
     /// Closes the queue: no command is handed in from then on. What waits may still be taken.
     pub fn close(&mut self)
         ensures closed { self.new.is_closed ≡ true }
-        ensures same { (self.new.next ≡ self.old.next) × (self.new.waiting ≡ self.old.waiting) }
+        ensures same { (self.new.numbers.next ≡ self.old.numbers.next) × (self.new.waiting ≡ self.old.waiting) }
     {
         self.is_closed = true;
     }
@@ -160,7 +134,26 @@ impl<J: QueueName, T: Drop> CommandQueue<J, T> {
     }
 
     /// Whether no command waits.
-    pub fn is_empty(&self) -> bool {
+    pub fn is_empty(&self) -> bool
+        ensures { result ≡ (length self.now.waiting.items == 0) }
+    {
         self.waiting.is_empty()
+    }
+
+    /// Why the queue takes no command, apart from want of memory.
+    fn refusal(&self) -> Option<NotQueued>
+        ensures number { IfNone result (self.now.numbers.next < 2 ^ 64 - 1) }
+        ensures why { result ≡ queue_refusal self.now.is_closed (length self.now.waiting.items) self.now.numbers.next }
+    {
+        refusal(self.is_closed, self.waiting.len(), self.numbers.next())
+    }
+
+    /// A command that is refused goes back.
+    fn back(&self, command: Command, why: NotQueued) -> (Command, NotQueued)
+        ensures result { (result.0 ≡ command) × (result.1 ≡ why) }
+        ensures refused { J.refused command ≡ true }
+    {
+        self.leave.refuse(&command);
+        (command, why)
     }
 }

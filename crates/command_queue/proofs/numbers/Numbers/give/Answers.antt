@@ -1,7 +1,6 @@
-use Rattle.std.proofs.Common.{◌≡◌, ◌==◌, ◌++◌, ◌∷◌, [], length, slice_get, Some, sym, ap, ◌∙◌, subst, rules, arith}
+use Rattle.std.proofs.Common.{length, sym, ap, ◌∙◌}
 use Rattle.command_queue.proofs.Adding.{adds_moves}
-use Rattle.command_queue.proofs.Fronts.{get_last}
-use Rattle.command_queue.proofs.queue.CommandQueue.hand_in.Goals as goal
+use Rattle.command_queue.proofs.numbers.Numbers.give.Goals as goal
 
 pub compare_exchange-found-requires : goal.compare_exchange-found-requires
 compare_exchange-found-requires g c =
@@ -15,5 +14,5 @@ compare_exchange-found-requires g c =
       book ∙ sym (ap (λ w. w.book) h),
       pen.0 ∙ (book ∙ sym (ap (λ w. w.book) h)),
       offer.0,
-      rw (ap (λ w. w.key) h, pen.1, offer.1, offer.3) (adds_moves c.again-seen.result.log c.args.command l.next (ap (λ s. length s.log) s ∙ sym l.counted)),
+      rw (ap (λ w. w.key) h, pen.1, offer.1, offer.3) (adds_moves c.again-seen.result.log c.args.command.now l.next (ap (λ s. length s.log) s ∙ sym l.counted)),
     )
